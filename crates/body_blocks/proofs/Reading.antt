@@ -2,7 +2,7 @@
 use Rattle.std.proofs.Common.{◌≡◌, ◌∙◌, ◌≤◌, ◌++◌, ◌∷◌, ◌⊎◌, ℕ, suc, Bool, true, false, List, Option, Some, None, map, refl, sym, ap, subst, arith, inl, inr}
 use Rattle.std.proofs.lemmas.Option.{none-some, same_Some, slice_get-map}
 use Rattle.std.specs.Prelude.{slice_get, option_map}
-use Rattle.cfg_build.specs.Build.{Frame, Rest, Building}
+use Rattle.cfg_build.specs.Build.{LoweringFrame, BlockRest, Building}
 use Rattle.cfg_build.specs.Codes.{lowers, lowers_arm, lowers_arms}
 use Rattle.cfg_build.specs.Lower.{LowersArm}
 use Rattle.cfg_code.specs.Spots.{Ways}
@@ -21,11 +21,11 @@ use Rattle.scope_code.specs.declared.code.Condition as asking
 use Rattle.scope_code.specs.declared.code.Op as words
 use Rattle.cfg_graph.specs.Places.{named}
 use Rattle.code_passes.specs.Spans.{OneBefore, TwoBefore, Stands, StandArms, StandsArm}
-use Rattle.code_passes.specs.declared.marks.Mark.{Mark}
+use Rattle.code_passes.specs.declared.marks.CodeMark.{CodeMark}
 use Rattle.code_passes.proofs.Reading.{reads, IsOne, IsTwo, IsMatch, arm_within}
 use Rattle.body_blocks.specs.Builds.{leaf_of, arms_then, ends_arm, ArmsStand, IsLast, TakenStands}
 
-module _ (f : Frame) (all : List Op) (marks : List Mark) (c : Code) (s e : ℕ) (stands : Stands f all marks c s e) where
+module _ (f : LoweringFrame) (all : List Op) (marks : List CodeMark) (c : Code) (s e : ℕ) (stands : Stands f all marks c s e) where
   leaf_by : (word : Op) (other : Code) → c ≡ other → leaf_of word ≡ Some other → leaf_of word ≡ Some c
   leaf_by word other is leaf = leaf ∙ ap (λ (d : Code). Some d) (sym is)
 
@@ -54,7 +54,7 @@ module _ (f : Frame) (all : List Op) (marks : List Mark) (c : Code) (s e : ℕ) 
   leaf words.Op.EmptyArm at a b d g h i j = absurd (reads f all marks c s e ops.EmptyArm stands at)
   leaf (words.Op.Matches node) at a b d g h i j = absurd (j node refl)
 
-  module _ (W : Ways) (S : Scopes) (k : Rest) (b : Building) (new : Rest × Building) where
+  module _ (W : Ways) (S : Scopes) (k : BlockRest) (b : Building) (new : BlockRest × Building) where
     abbrev IsOf : Code → Type 0
     IsOf other = new ≡ (lowers f other).build W S k b
 
@@ -98,11 +98,11 @@ module _ (f : Frame) (all : List Op) (marks : List Mark) (c : Code) (s e : ℕ) 
 
 -- Arms.
 
-pub arms_behind : (f : Frame) (rest : Arms) (last : Arm) (others : List LowersArm) → lowers_arms f (arms_then rest last) ++ others ≡ lowers_arms f rest ++ (lowers_arm f last ∷ others)
+pub arms_behind : (f : LoweringFrame) (rest : Arms) (last : Arm) (others : List LowersArm) → lowers_arms f (arms_then rest last) ++ others ≡ lowers_arms f rest ++ (lowers_arm f last ∷ others)
 arms_behind f no_arm last others = refl
 arms_behind f (an_arm first rest) last others = ap (λ (all : List LowersArm). lowers_arm f first ∷ all) (arms_behind f rest last others)
 
-module _ (f : Frame) (all : List Op) (marks : List Mark) where
+module _ (f : LoweringFrame) (all : List Op) (marks : List CodeMark) where
   abbrev HasLast : Arms → (s e : ℕ) → Type 0
   HasLast arms s e =
       (rest : Arms) × ((last : Arm) × ((m : ℕ) × ((d : ℕ) × ((arms ≡ arms_then rest last) × ((e ≡ suc d)
@@ -120,7 +120,7 @@ module _ (f : Frame) (all : List Op) (marks : List Mark) where
       inr (behind_first first rest s is.0 e is.1.0 (last_arm rest (suc is.0) e is.1.1))
 
   -- the word of an arm
-  pub arm_word : (one : Arm) (s e : ℕ) → StandsArm f all marks one s e → (word : Op) × ((slice_get all e ≡ Some word) × ((ends_arm word ≡ true) × ((m : Mark) × ((slice_get marks e ≡ Some m) × (m.start ≡ s)))))
+  pub arm_word : (one : Arm) (s e : ℕ) → StandsArm f all marks one s e → (word : Op) × ((slice_get all e ≡ Some word) × ((ends_arm word ≡ true) × ((m : CodeMark) × ((slice_get marks e ≡ Some m) × (m.start ≡ s)))))
   arm_word (Taken tests no_guard inner) s e is = (ops.IsArm tests None, (is.0.0, (refl, is.0.1)))
   arm_word (Taken tests (a_guard key guard) inner) s e is = (ops.IsArm tests (Some key), (is.0.0, (refl, is.0.1)))
   arm_word Empty s e is = (ops.EmptyArm, (is.0.0, (refl, is.0.1)))
@@ -136,7 +136,7 @@ module _ (f : Frame) (all : List Op) (marks : List Mark) where
   pub none_last : (arms : Arms) (begin e d : ℕ) → e ≡ suc d → ArmsStand f all marks arms begin e → ((word : Op) → slice_get all d ≡ Some word → ends_arm word ≡ true → ⊥) → IsLast f all marks arms begin None
   none_last arms begin e d ends is other = none_of arms begin e d ends other (last_arm arms (suc begin) e is.1)
 
-  last_of : (arms : Arms) (begin e d start : ℕ) (word : Op) → e ≡ suc d → slice_get all begin ≡ Some ops.BeforeArms → slice_get all d ≡ Some word → ends_arm word ≡ true → ((mark : Mark) → slice_get marks d ≡ Some mark → mark.start ≤ d → start ≡ mark.start) → ((arms ≡ no_arm) × (suc begin ≡ e)) ⊎ HasLast arms (suc begin) e → IsLast f all marks arms begin (Some (record { start = start; end = d }))
+  last_of : (arms : Arms) (begin e d start : ℕ) (word : Op) → e ≡ suc d → slice_get all begin ≡ Some ops.BeforeArms → slice_get all d ≡ Some word → ends_arm word ≡ true → ((mark : CodeMark) → slice_get marks d ≡ Some mark → mark.start ≤ d → start ≡ mark.start) → ((arms ≡ no_arm) × (suc begin ≡ e)) ⊎ HasLast arms (suc begin) e → IsLast f all marks arms begin (Some (record { start = start; end = d }))
   last_of arms begin e d start word ends first at arm marked (inl is) =
       let same : d ≡ begin = (let up : suc begin ≡ e = is.1 in omega arith) in
       let other : ops.BeforeArms ≡ word = same_Some ops.BeforeArms word (sym first ∙ ap (λ (i : ℕ). slice_get all i) (sym same) ∙ at) in
@@ -153,7 +153,7 @@ module _ (f : Frame) (all : List Op) (marks : List Mark) where
       (is.0, (is.1.0, (is.1.1.1.1.0, (subst (λ (m : ℕ). StandArms f all marks is.0 (suc begin) m) start_is is.1.1.1.1.1.1.0, subst (λ (m : ℕ). StandsArm f all marks is.1.0 m d) start_is last))))
 
   -- an arm ends where its word stands, and begins where its mark says
-  pub is_last : (arms : Arms) (begin e d start : ℕ) (word : Op) → e ≡ suc d → ArmsStand f all marks arms begin e → slice_get all d ≡ Some word → ends_arm word ≡ true → ((mark : Mark) → slice_get marks d ≡ Some mark → mark.start ≤ d → start ≡ mark.start) → IsLast f all marks arms begin (Some (record { start = start; end = d }))
+  pub is_last : (arms : Arms) (begin e d start : ℕ) (word : Op) → e ≡ suc d → ArmsStand f all marks arms begin e → slice_get all d ≡ Some word → ends_arm word ≡ true → ((mark : CodeMark) → slice_get marks d ≡ Some mark → mark.start ≤ d → start ≡ mark.start) → IsLast f all marks arms begin (Some (record { start = start; end = d }))
   is_last arms begin e d start word ends is at arm marked = last_of arms begin e d start word ends is.0 at arm marked (last_arm arms (suc begin) e is.1)
 
   -- what an arm is, by its word
@@ -223,7 +223,7 @@ never_taken all number words.Op.EmptyArm is other = let apart : ops.IsArm all nu
 never_taken all number (words.Op.Matches node) is other = let apart : ops.IsArm all number ≡ op_of (words.Op.Matches node) = is in cc
 
 -- an arm that ends with another word than that of an arm that is taken
-pub empty_is : (f : Frame) (ws : List words.Op) (marks : List Mark) (one : Arm) (s e : ℕ) (w : words.Op) → StandsArm f (map op_of ws) marks one s e → slice_get ws e ≡ Some w → ((tests : List Test) (guard : Option Key) → w ≡ words.Op.Arm tests guard → ⊥) → one ≡ Empty
+pub empty_is : (f : LoweringFrame) (ws : List words.Op) (marks : List CodeMark) (one : Arm) (s e : ℕ) (w : words.Op) → StandsArm f (map op_of ws) marks one s e → slice_get ws e ≡ Some w → ((tests : List Test) (guard : Option Key) → w ≡ words.Op.Arm tests guard → ⊥) → one ≡ Empty
 empty_is f ws marks Empty s e w is at other = refl
 empty_is f ws marks (Taken tests no_guard inner) s e w is at other =
     absurd (never_taken tests None w (same_Some (ops.IsArm tests None) (op_of w) (sym is.0.0 ∙ word_here ws e w at)) other)

@@ -3,7 +3,7 @@ use Rattle.std.specs.Prelude.{ℕ, suc, Bool, true, false, ◌≡◌, ◌++◌, 
 use Rattle.cfg_graph.specs.declared.graph.Kind.{Kind}
 use Rattle.cfg_graph.specs.declared.terminator.Term.{Term}
 use Rattle.cfg_build.specs.Build as build
-use Rattle.cfg_build.specs.Build.{Frame, Lowers, Rest, Building}
+use Rattle.cfg_build.specs.Build.{LoweringFrame, Lowers, BlockRest, Building}
 use Rattle.cfg_build.specs.Codes.{lowers, built_from, with_guard}
 use Rattle.cfg_build.specs.Lower.{LowersArm}
 use Rattle.cfg_code.specs.Spots as spots
@@ -21,11 +21,11 @@ use Rattle.code_passes.specs.Framed.{frame_of}
 use Rattle.code_passes.specs.Reaching.{AreReaches}
 use Rattle.code_passes.specs.Scoped.{scopes_of}
 use Rattle.code_passes.specs.Spans as spans
-use Rattle.code_passes.specs.declared.marks.Mark.{Mark}
+use Rattle.code_passes.specs.declared.marks.CodeMark.{CodeMark}
 use Rattle.body_blocks.specs.declared.arms.ArmSpan.{ArmSpan}
 use Rattle.body_blocks.specs.declared.setting.Setting.{Setting}
 
-abbrev pub frame_at : Setting → Frame
+abbrev pub frame_at : Setting → LoweringFrame
 frame_at at = frame_of at.frame
 
 -- code stands among the words of the body
@@ -37,14 +37,15 @@ OneAt at c = spans.OneBefore (frame_at at) (map op_of at.code.words.now) at.code
 
 abbrev pub TwoAt : Setting → (one another : Code) → (start end : ℕ) → Type 0
 TwoAt at one another =
-    spans.TwoBefore (frame_at at) (map op_of at.code.words.now) at.code.marks.now (StandsAt at one) (StandsAt at another)
+    spans.TwoBefore (frame_at at) (map op_of at.code.words.now) at.code.marks.now (StandsAt at one)
+    (StandsAt at another)
 
 -- what is noted of the words, of how many scopes code may change, holds
 abbrev pub IsReached : Setting → Type 0
-IsReached at = (f : Frame) → AreReaches f (map op_of at.code.words.now) at.code.marks.now at.reaches.now
+IsReached at = (f : LoweringFrame) → AreReaches f (map op_of at.code.words.now) at.code.marks.now at.reaches.now
 
 -- what is built before a rest
-abbrev pub IsBuiltBefore : Setting → Lowers → Rest → Building → (after : Blocks) → Type 0
+abbrev pub IsBuiltBefore : Setting → Lowers → BlockRest → Building → (after : Blocks) → Type 0
 IsBuiltBefore at P k s after = built_of after ≡ P.build (ways_of at.ways) (scopes_of at.scopes.now) k s
 
 -- and before what was open
@@ -58,7 +59,7 @@ IsBuiltToward at c to node before after =
     IsBuiltBefore at (lowers (frame_at at) c) (build.ending (Term.Goto to) node) (building_of before) after
 
 -- what is built of code behind another, if that has an end
-abbrev pub behind : Bool → Lowers → Lowers → spots.Ways → Scopes → Rest → Building → Rest × Building
+abbrev pub behind : Bool → Lowers → Lowers → spots.Ways → Scopes → BlockRest → Building → BlockRest × Building
 behind true P Q c S k s = Q.build c (P.after S) k s
 behind false P Q c S k s = (k, s)
 
@@ -68,7 +69,7 @@ IsBuiltBehind at P Q before after =
     ≡ behind P.has_end P Q (ways_of at.ways) (scopes_of at.scopes.now) (rest_of before.rest) (building_of before)
 
 -- the turn of a loop, whose turn block is given out already
-abbrev pub turn_at : Setting → LoopWay → Code → Building → Rest × Building
+abbrev pub turn_at : Setting → LoopWay → Code → Building → BlockRest × Building
 turn_at at way turn s =
     (lowers (frame_at at) turn).build
     (spots.ways_in_loop way.id.0 way.base way.exit way.turn way.is_left (ways_of at.ways)) (scopes_of at.scopes.now)
@@ -95,7 +96,7 @@ ends_arm (ops.IsArm tests guard) = true
 ends_arm ops.EmptyArm = true
 ends_arm word = false
 
-module _ (f : Frame) (words : List ops.Op) (marks : List Mark) where
+module _ (f : LoweringFrame) (words : List ops.Op) (marks : List CodeMark) where
   -- arms stand behind the word before them
   abbrev pub ArmsStand : Arms → (begin end : ℕ) → Type 0
   ArmsStand arms begin end =
@@ -126,7 +127,7 @@ abbrev pub ArmStandsAt : Setting → Arm → (start end : ℕ) → Type 0
 ArmStandsAt at = spans.StandsArm (frame_at at) (map op_of at.code.words.now) at.code.marks.now
 
 -- before arms that are built already, others are
-abbrev pub arms_at : Setting → (node to : ℕ) → List LowersArm → Building → Rest × Building
+abbrev pub arms_at : Setting → (node to : ℕ) → List LowersArm → Building → BlockRest × Building
 arms_at at node to arms s =
     built_from (frame_at at) node arms (ways_of at.ways) (scopes_of at.scopes.now) (build.ending (Term.Goto to) node) s
 
@@ -147,12 +148,14 @@ guarded_by at key guard inner =
 
 -- what is built behind a guard, if that has an end: the code of the arm, and the test of the guard
 abbrev pub behind_guard :
-    Frame → Bool → (key : ℕ) → Lowers → spots.Ways → Scopes → (otherwise : ℕ) → Rest → Building → Rest × Building
+    LoweringFrame → Bool → (key : ℕ) → Lowers → spots.Ways → Scopes → (otherwise : ℕ) → BlockRest → Building →
+    BlockRest × Building
 behind_guard f true key P c S otherwise k s =
     let yes = build.closing (P.build c S k s) in build.if_true f (moved key key) key yes.0 otherwise yes.1
 behind_guard f false key P c S otherwise k s = (k, s)
 
-abbrev pub IsBuiltBehindGuard : Setting → (key : ℕ) → (guard inner : Code) → (otherwise : ℕ) → (before after : Blocks) → Type 0
+abbrev pub IsBuiltBehindGuard : Setting → (key : ℕ) → (guard inner : Code) → (otherwise : ℕ) → (before after : Blocks) →
+    Type 0
 IsBuiltBehindGuard at key guard inner otherwise before after =
     built_of after
     ≡ behind_guard (frame_at at) (lowers (frame_at at) guard).has_end key (lowers (frame_at at) inner)

@@ -1,9 +1,9 @@
 //! Arms among the words of a body.
 ghost use Rattle.std.specs.Prelude.{◌≡◌, ◌≤◌, ◌<◌, ℕ, IfSome, Some, map, slice_get};
-ghost use Rattle.cfg_build.specs.Build.{Frame};
+ghost use Rattle.cfg_build.specs.Build.{LoweringFrame};
 ghost use Rattle.scope_code.specs.Code as plain;
 ghost use Rattle.scope_code.specs.View.{op_of};
-ghost use Rattle.code_passes.specs.declared.marks.Mark as declared;
+ghost use Rattle.code_passes.specs.declared.marks.CodeMark as declared;
 ghost use Rattle.body_blocks.specs.Builds as builds;
 ghost use Rattle.body_blocks.specs.Builds.{ArmsStand, IsLast};
 
@@ -27,7 +27,7 @@ fn ends_arm(word: &Op) -> bool
 /// The first word of what ends with a word.
 fn start_of(code: Spans, end: usize) -> usize
     ensures within { result ≤ end }
-    ensures start { (mark : declared.Mark) → slice_get code.entry.marks.now end ≡ Some mark → mark.start ≤ end →
+    ensures start { (mark : declared.CodeMark) → slice_get code.entry.marks.now end ≡ Some mark → mark.start ≤ end →
         result ≡ mark.start }
 {
     match code.marks.get(end) {
@@ -39,7 +39,7 @@ fn start_of(code: Spans, end: usize) -> usize
 /// Where the last arm stands that ends just before a word; `None` where the word before all arms stands there.
 pub fn arm_before(code: Spans, end: usize) -> Option<ArmSpan>
     ensures below { IfSome result (λ last. (last.start ≤ last.end) × (last.end < end)) }
-    ensures last { (f : Frame) (arms : plain.Arms) (begin : ℕ) →
+    ensures last { (f : LoweringFrame) (arms : plain.Arms) (begin : ℕ) →
         ArmsStand f (map op_of code.entry.words.now) code.entry.marks.now arms begin end →
         IsLast f (map op_of code.entry.words.now) code.entry.marks.now arms begin result }
 {

@@ -10,12 +10,12 @@ ghost use Rattle.body_blocks.specs.Builds.{StandsAt, OneAt, IsBuiltBehind, IsRea
 use crate::Setting;
 use cfg_graph::Kind;
 use code_blocks::{Blocks, leave};
-use code_passes::{Two, after, has_end};
+use code_passes::{TwoCodes, after, has_end};
 use mir_base::NoMemory;
 use std::alloc::Global;
 
 /// Whether a run comes behind one of two codes.
-pub fn one_has_end(at: &Setting, two: Two) -> bool
+pub fn one_has_end(at: &Setting, two: TwoCodes) -> bool
     ensures { (c d : plain.Code) (start : ℕ) →
         StandsAt at.entry.now c start two.one → StandsAt at.entry.now d (suc two.one) two.another →
         result ≡ ((lowers (frame_at at.entry.now) c).has_end || (lowers (frame_at at.entry.now) d).has_end) }

@@ -2,7 +2,7 @@
 use Rattle.std.proofs.Common.{◌≡◌, ◌∙◌, ◌∷◌, ℕ, List, map, refl, sym, ap}
 use Rattle.cfg_code.specs.Code.{field_keys}
 use Rattle.mir_ty.specs.ItemTable.{ItemTable}
-use Rattle.store_model.specs.Effects.{Site, Operand, Action}
+use Rattle.store_model.specs.Effects.{EffectSite, Operand, Action}
 use Rattle.src_meaning.specs.Forms.{moved}
 use Rattle.src_meaning.specs.Shape.{shape}
 use Rattle.typed_tree.specs.declared.node.Node.{Node}
@@ -10,7 +10,7 @@ use Rattle.typed_tree.specs.Tree as tree
 use Rattle.typed_tree.specs.Tree.{Fields}
 use Rattle.typed_tree.specs.View.{tree_of, nodes_from}
 use Rattle.scope_code.specs.Code.{Code}
-use Rattle.scope_code.specs.Forms.{NodeCode, code, codes, codes_of_fields, keys_of, all_moved, operand, operands, acting, deliver}
+use Rattle.scope_code.specs.Forms.{NodeWords, code, codes, codes_of_fields, keys_of, all_moved, operand, operands, acting, deliver}
 use Rattle.scope_code.specs.Ops.{Op, Then, onto, operated_onto}
 use Rattle.scope_code.specs.View.{around_of, destination_of}
 use Rattle.scope_code.specs.Wanted.{AsOperand, codes_for}
@@ -21,26 +21,26 @@ pub shape_is : (items : ItemTable) (n : tree.Node) → (code items n).shape ≡ 
 shape_is items (tree.node id at ty by form) = refl
 
 -- operands are taken, and an action of them goes to the destination
-abbrev pub on_all : Context → List NodeCode → (Site → List Operand → Action) → Code
+abbrev pub on_all : Context → List NodeWords → (EffectSite → List Operand → Action) → Code
 on_all at ms action =
     acting at.head.id.0 (around_of at.around) at.own ms
     (deliver at.head.id.0 (λ site. action site (all_moved at.head.id.0 ms)) (destination_of at.to))
 
 -- the words behind those of the operands
-abbrev pub taken_onto : Context → List ℕ → (Site → List Operand → Action) → List Op → List Op
+abbrev pub taken_onto : Context → List ℕ → (EffectSite → List Operand → Action) → List Op → List Op
 taken_onto at keys action made =
     operated_onto at.head.id.0 at.own keys
     (onto (deliver at.head.id.0 (λ site. action site (map (moved at.head.id.0) keys)) (destination_of at.to)) made)
 
-of_operands : (at : Context) (ms : List NodeCode) (keys : List ℕ) (action : Site → List Operand → Action) (before made after : List Op) → after ≡ taken_onto at keys action made → made ≡ onto (operands (around_of at.around) ms) before → keys ≡ keys_of ms → after ≡ onto (on_all at ms action) before
+of_operands : (at : Context) (ms : List NodeWords) (keys : List ℕ) (action : EffectSite → List Operand → Action) (before made after : List Op) → after ≡ taken_onto at keys action made → made ≡ onto (operands (around_of at.around) ms) before → keys ≡ keys_of ms → after ≡ onto (on_all at ms action) before
 of_operands at ms keys action before made after taken is are =
     taken ∙ ap (taken_onto at keys action) is
     ∙ ap (λ (ks : List ℕ). taken_onto at ks action (onto (operands (around_of at.around) ms) before)) are
 
-abbrev pub each : ItemTable → List Node → List NodeCode
+abbrev pub each : ItemTable → List Node → List NodeWords
 each items nodes = codes items (nodes_from (map tree_of nodes))
 
-module _ (items : ItemTable) (at : Context) (nodes : List Node) (keys : List ℕ) (action : Site → List Operand → Action) (before : List Op) where
+module _ (items : ItemTable) (at : Context) (nodes : List Node) (keys : List ℕ) (action : EffectSite → List Operand → Action) (before : List Op) where
   -- nodes are made one after the other
   pub of_nodes : (made after : List Op) → after ≡ taken_onto at keys action made → made ≡ onto (codes_for AsOperand (each items nodes) (around_of at.around)) before → keys ≡ map (λ n. n.id.0) nodes → after ≡ onto (on_all at (each items nodes) action) before
   of_nodes made after taken is are =
@@ -59,7 +59,7 @@ module _ (items : ItemTable) (at : Context) (nodes : List Node) (keys : List ℕ
       (are ∙ sym (keys_are items (first ∷ nodes)))
 
 -- the values of fields are made one after the other
-pub of_fields : (items : ItemTable) (at : Context) (fields : Fields) (action : Site → Action) (before made after : List Op) → after ≡ operated_onto at.head.id.0 at.own (map (λ f. f.1) (field_keys fields)) (onto (deliver at.head.id.0 action (destination_of at.to)) made) → made ≡ onto (operands (around_of at.around) (codes_of_fields items fields)) before → after ≡ onto (acting at.head.id.0 (around_of at.around) at.own (codes_of_fields items fields) (deliver at.head.id.0 action (destination_of at.to))) before
+pub of_fields : (items : ItemTable) (at : Context) (fields : Fields) (action : EffectSite → Action) (before made after : List Op) → after ≡ operated_onto at.head.id.0 at.own (map (λ f. f.1) (field_keys fields)) (onto (deliver at.head.id.0 action (destination_of at.to)) made) → made ≡ onto (operands (around_of at.around) (codes_of_fields items fields)) before → after ≡ onto (acting at.head.id.0 (around_of at.around) at.own (codes_of_fields items fields) (deliver at.head.id.0 action (destination_of at.to))) before
 of_fields items at fields action before made after taken is =
     let onto_keys : List ℕ → List Op → List Op =
     λ keys made. operated_onto at.head.id.0 at.own keys (onto (deliver at.head.id.0 action (destination_of at.to)) made) in

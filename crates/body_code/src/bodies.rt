@@ -13,8 +13,8 @@ use mir_base::{Key, List, NoMemory};
 use mir_ty::Items;
 use pattern_lower::bindings;
 use scope_code::{
-    Around, Change, Code, Destination, Entry, Op, ScopeAt, Wanted, bind, is_one_name, place_under,
-    scope_behind,
+    Around, Change, Code, Destination, Entry, Op, ScopeAt, WantedCode, bind, is_one_name,
+    place_under, scope_behind,
 };
 use std::alloc::Global;
 use typed_tree::{Param, TBody};
@@ -100,7 +100,7 @@ pub fn body_code(alloc: Global, items: &Items, body: &TBody, room: usize) -> Res
         items,
         &body.block,
         around,
-        Wanted::UnderOwnKey,
+        WantedCode::UnderOwnKey,
         &mut code,
     )?;
     code.push(Op::Then)?;

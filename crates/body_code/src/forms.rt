@@ -17,13 +17,13 @@ use mir_base::{Key, NoMemory};
 use mir_ty::Items;
 use pattern_lower::bindings;
 use scope_code::{
-    Action, Around, Built, Code, Context, Destination, Exit, Head, Op, ScopeAt, Wanted, assigning,
-    bind, borrowing, built_of_keys, called, called_virtual, coerced_to, comparing, computing,
-    conditional, declared, destination_in, destination_of_loop, dropping, element, ends_loop,
-    evaluated, finished, head_at, in_guard, in_loop, in_own_scope, is_one_name, is_own_scope,
-    joined, jump, keys_behind, keys_of, leaf_code, let_name, let_parts, made, moved_from,
-    names_taken, on_one, on_two, one_gives_unit, otherwise_leaves, own_destination, place_of,
-    place_under, put_unit, result_place, scrutinised, shortcut, taken_arm, taken_if,
+    Action, Around, Built, Code, Context, Destination, Exit, NodeHead, Op, ScopeAt, WantedCode,
+    assigning, bind, borrowing, built_of_keys, called, called_virtual, coerced_to, comparing,
+    computing, conditional, declared, destination_in, destination_of_loop, dropping, element,
+    ends_loop, evaluated, finished, head_at, in_guard, in_loop, in_own_scope, is_one_name,
+    is_own_scope, joined, jump, keys_behind, keys_of, leaf_code, let_name, let_parts, made,
+    moved_from, names_taken, on_one, on_two, one_gives_unit, otherwise_leaves, own_destination,
+    place_of, place_under, put_unit, result_place, scrutinised, shortcut, taken_arm, taken_if,
     unit_unless_never,
 };
 use std::alloc::Global;
@@ -36,7 +36,7 @@ pub fn node_code(
     items: &Items,
     node: &Node,
     around: Around,
-    wanted: Wanted,
+    wanted: WantedCode,
     code: &mut Code,
 ) -> Result<(), NoMemory>
     ensures { OnOk result (ops_of code.new ≡ onto
@@ -114,7 +114,7 @@ fn part_code(
     let around = at.around;
     match form {
         Form::Field { base, .. } | Form::Deref(base) => {
-            node_code(alloc, items, base, around, Wanted::AsPlace, code)?;
+            node_code(alloc, items, base, around, WantedCode::AsPlace, code)?;
         }
         Form::Index {
             base,
@@ -123,8 +123,8 @@ fn part_code(
         } => {
             let base: &Node = base;
             let index: &Node = index;
-            node_code(alloc, items, base, around, Wanted::AsPlace, code)?;
-            node_code(alloc, items, index, around, Wanted::UnderOwnKey, code)?;
+            node_code(alloc, items, base, around, WantedCode::AsPlace, code)?;
+            node_code(alloc, items, index, around, WantedCode::UnderOwnKey, code)?;
             let place = place_of(alloc, items, base, around.aliases)?;
             let array = array_around(alloc, &place)?;
             element(alloc, at.head.id, index.id, array, *length, code)?;
@@ -148,13 +148,13 @@ fn reaching_code(
     let around = at.around;
     match form {
         Form::Borrow { unique, base } => {
-            node_code(alloc, items, base, around, Wanted::AsPlace, code)?;
+            node_code(alloc, items, base, around, WantedCode::AsPlace, code)?;
             let place = place_of(alloc, items, base, around.aliases)?;
             borrowing(alloc, at, base.id, *unique, place, code)?;
         }
         Form::Assign { place, value } => {
-            node_code(alloc, items, value, around, Wanted::AsOperand, code)?;
-            node_code(alloc, items, place, around, Wanted::AsPlace, code)?;
+            node_code(alloc, items, value, around, WantedCode::AsOperand, code)?;
+            node_code(alloc, items, place, around, WantedCode::AsPlace, code)?;
             let to = place_of(alloc, items, place, around.aliases)?;
             let drops = items.needs_drop(place.ty);
             assigning(alloc, at, drops, place.id, to, value.id, code)?;
@@ -195,24 +195,24 @@ fn unary_code(
     let around = at.around;
     match form {
         Form::Not(operand) => {
-            node_code(alloc, items, operand, around, Wanted::AsOperand, code)?;
+            node_code(alloc, items, operand, around, WantedCode::AsOperand, code)?;
             let stmt = Stmt::Not(result_place(alloc, at.to), moved_from(alloc, operand.id));
             on_one(alloc, at, operand.id, Action::Stmt(stmt), code)?;
         }
         Form::Negate(operand) => {
-            node_code(alloc, items, operand, around, Wanted::AsOperand, code)?;
+            node_code(alloc, items, operand, around, WantedCode::AsOperand, code)?;
             let to = result_place(alloc, at.to);
             let of = moved_from(alloc, operand.id);
             on_one(alloc, at, operand.id, Action::Negate { to, of }, code)?;
         }
         Form::NewBox(content) => {
-            node_code(alloc, items, content, around, Wanted::AsOperand, code)?;
+            node_code(alloc, items, content, around, WantedCode::AsOperand, code)?;
             let stmt = Stmt::NewBox(result_place(alloc, at.to), moved_from(alloc, content.id));
             on_one(alloc, at, content.id, Action::Stmt(stmt), code)?;
         }
         Form::Unsize { trait_no, operand } => {
             let to = coerced_to(operand.id, *trait_no, at.to);
-            let wanted = Wanted::Value { own: at.own, to };
+            let wanted = WantedCode::Value { own: at.own, to };
             node_code(alloc, items, operand, around, wanted, code)?;
         }
         _ => return Ok(false),
@@ -234,17 +234,17 @@ fn using_code(
     let around = at.around;
     match form {
         Form::Print(operand) => {
-            node_code(alloc, items, operand, around, Wanted::AsOperand, code)?;
+            node_code(alloc, items, operand, around, WantedCode::AsOperand, code)?;
             let stmt = Stmt::Print(moved_from(alloc, operand.id));
             one_gives_unit(alloc, at, operand.id, Action::Stmt(stmt), code)?;
         }
         Form::Forget(operand) => {
-            node_code(alloc, items, operand, around, Wanted::AsOperand, code)?;
+            node_code(alloc, items, operand, around, WantedCode::AsOperand, code)?;
             let stmt = Stmt::Forget(moved_from(alloc, operand.id));
             one_gives_unit(alloc, at, operand.id, Action::Stmt(stmt), code)?;
         }
         Form::DropValue(operand) => {
-            node_code(alloc, items, operand, around, Wanted::AsOperand, code)?;
+            node_code(alloc, items, operand, around, WantedCode::AsOperand, code)?;
             dropping(alloc, at, code)?;
         }
         _ => return Ok(false),
@@ -270,8 +270,8 @@ fn binary_code(
             left,
             right,
         } => {
-            node_code(alloc, items, left, around, Wanted::AsOperand, code)?;
-            node_code(alloc, items, right, around, Wanted::AsOperand, code)?;
+            node_code(alloc, items, left, around, WantedCode::AsOperand, code)?;
+            node_code(alloc, items, right, around, WantedCode::AsOperand, code)?;
             let action = computing(alloc, at.to, *operator, left.id, right.id);
             on_two(alloc, at, left.id, right.id, action, code)?;
         }
@@ -280,8 +280,8 @@ fn binary_code(
             left,
             right,
         } => {
-            node_code(alloc, items, left, around, Wanted::AsOperand, code)?;
-            node_code(alloc, items, right, around, Wanted::AsOperand, code)?;
+            node_code(alloc, items, left, around, WantedCode::AsOperand, code)?;
+            node_code(alloc, items, right, around, WantedCode::AsOperand, code)?;
             let action = comparing(alloc, at.to, *operator, left.id, right.id);
             on_two(alloc, at, left.id, right.id, action, code)?;
         }
@@ -321,7 +321,7 @@ fn call_code(
     match form {
         Form::Call { body, args } => {
             let args = args.as_slice();
-            nodes_code(alloc, items, args, around, Wanted::AsOperand, code)?;
+            nodes_code(alloc, items, args, around, WantedCode::AsOperand, code)?;
             let keys = keys_of(alloc, args)?;
             called(alloc, at, *body, keys, code)?;
         }
@@ -337,8 +337,8 @@ fn call_code(
         } => {
             let first: &Node = first;
             let args = args.as_slice();
-            node_code(alloc, items, first, around, Wanted::AsOperand, code)?;
-            nodes_code(alloc, items, args, around, Wanted::AsOperand, code)?;
+            node_code(alloc, items, first, around, WantedCode::AsOperand, code)?;
+            nodes_code(alloc, items, args, around, WantedCode::AsOperand, code)?;
             code.push(Op::Then)?;
             let keys = keys_behind(alloc, first.id, args)?;
             called(alloc, at, *body, keys, code)?;
@@ -351,8 +351,8 @@ fn call_code(
         } => {
             let receiver: &Node = receiver;
             let args = args.as_slice();
-            node_code(alloc, items, receiver, around, Wanted::AsOperand, code)?;
-            nodes_code(alloc, items, args, around, Wanted::AsOperand, code)?;
+            node_code(alloc, items, receiver, around, WantedCode::AsOperand, code)?;
+            nodes_code(alloc, items, args, around, WantedCode::AsOperand, code)?;
             code.push(Op::Then)?;
             let keys = keys_behind(alloc, receiver.id, args)?;
             called_virtual(alloc, at, *trait_no, *method, keys, code)?;
@@ -386,19 +386,19 @@ fn make_code(
         }
         Form::Tuple(parts) => {
             let parts = parts.as_slice();
-            nodes_code(alloc, items, parts, around, Wanted::AsOperand, code)?;
+            nodes_code(alloc, items, parts, around, WantedCode::AsOperand, code)?;
             let keys = keys_of(alloc, parts)?;
             built_of_keys(alloc, at, Built::Tuple, keys, code)?;
         }
         Form::Array(elements) => {
             let elements = elements.as_slice();
-            nodes_code(alloc, items, elements, around, Wanted::AsOperand, code)?;
+            nodes_code(alloc, items, elements, around, WantedCode::AsOperand, code)?;
             let keys = keys_of(alloc, elements)?;
             built_of_keys(alloc, at, Built::Array, keys, code)?;
         }
         Form::Closure { closure, captures } => {
             let captures = captures.as_slice();
-            nodes_code(alloc, items, captures, around, Wanted::AsOperand, code)?;
+            nodes_code(alloc, items, captures, around, WantedCode::AsOperand, code)?;
             let keys = keys_of(alloc, captures)?;
             built_of_keys(alloc, at, Built::Closure(*closure), keys, code)?;
         }
@@ -441,16 +441,30 @@ fn condition_code(
     ensures { IfOk result (λ is. IsScopedIn is_condition items.now (form_of form.now) at.entry code.old code.new is) }
 {
     let around = at.around;
-    let alone = Wanted::Alone(at.to);
+    let alone = WantedCode::Alone(at.to);
     match form {
         Form::And { left, right } => {
-            node_code(alloc, items, left, around, Wanted::AloneUnderOwnKey, code)?;
+            node_code(
+                alloc,
+                items,
+                left,
+                around,
+                WantedCode::AloneUnderOwnKey,
+                code,
+            )?;
             node_code(alloc, items, right, around, alone, code)?;
             shortcut(alloc, at, false, code)?;
             conditional(left.id, code)?;
         }
         Form::Or { left, right } => {
-            node_code(alloc, items, left, around, Wanted::AloneUnderOwnKey, code)?;
+            node_code(
+                alloc,
+                items,
+                left,
+                around,
+                WantedCode::AloneUnderOwnKey,
+                code,
+            )?;
             shortcut(alloc, at, true, code)?;
             node_code(alloc, items, right, around, alone, code)?;
             conditional(left.id, code)?;
@@ -465,7 +479,7 @@ fn condition_code(
                 items,
                 condition,
                 around,
-                Wanted::AloneUnderOwnKey,
+                WantedCode::AloneUnderOwnKey,
                 code,
             )?;
             node_code(alloc, items, then, around, alone, code)?;
@@ -496,16 +510,16 @@ fn pattern_code(
             then,
             otherwise,
         } => {
-            node_code(alloc, items, scrutinee, around, Wanted::AsPlace, code)?;
+            node_code(alloc, items, scrutinee, around, WantedCode::AsPlace, code)?;
             names_taken(alloc, items, pattern, scrutinee, around, code)?;
-            node_code(alloc, items, then, around, Wanted::Alone(at.to), code)?;
+            node_code(alloc, items, then, around, WantedCode::Alone(at.to), code)?;
             otherwise_leaves(code)?;
             otherwise_code(alloc, items, otherwise, at, code)?;
             taken_if(alloc, items, at.head.id, pattern, scrutinee, around, code)?;
         }
         Form::Match { scrutinee, arms } => {
             let scrutinee: &Node = scrutinee;
-            node_code(alloc, items, scrutinee, around, Wanted::AsPlace, code)?;
+            node_code(alloc, items, scrutinee, around, WantedCode::AsPlace, code)?;
             let place = place_of(alloc, items, scrutinee, around.aliases)?;
             scrutinised(alloc, items, scrutinee, &place, code)?;
             code.push(Op::BeforeArms)?;
@@ -537,7 +551,14 @@ fn loop_code(
                 loops: loops.as_slice(),
                 ..at.around
             };
-            node_code(alloc, items, body, inner, Wanted::AloneUnderOwnKey, code)?;
+            node_code(
+                alloc,
+                items,
+                body,
+                inner,
+                WantedCode::AloneUnderOwnKey,
+                code,
+            )?;
             code.push(Op::Loops(id))?;
         }
         Form::While { condition, body } => {
@@ -551,10 +572,17 @@ fn loop_code(
                 items,
                 condition,
                 inner,
-                Wanted::AloneUnderOwnKey,
+                WantedCode::AloneUnderOwnKey,
                 code,
             )?;
-            node_code(alloc, items, body, inner, Wanted::AloneUnderOwnKey, code)?;
+            node_code(
+                alloc,
+                items,
+                body,
+                inner,
+                WantedCode::AloneUnderOwnKey,
+                code,
+            )?;
             ends_loop(alloc, id, at.to, code)?;
             conditional(condition.id, code)?;
             code.push(Op::Loops(id))?;
@@ -587,9 +615,16 @@ fn while_let_code(
                 loops: loops.as_slice(),
                 ..at.around
             };
-            node_code(alloc, items, scrutinee, inner, Wanted::AsPlace, code)?;
+            node_code(alloc, items, scrutinee, inner, WantedCode::AsPlace, code)?;
             names_taken(alloc, items, pattern, scrutinee, inner, code)?;
-            node_code(alloc, items, body, inner, Wanted::AloneUnderOwnKey, code)?;
+            node_code(
+                alloc,
+                items,
+                body,
+                inner,
+                WantedCode::AloneUnderOwnKey,
+                code,
+            )?;
             otherwise_leaves(code)?;
             ends_loop(alloc, id, at.to, code)?;
             taken_if(alloc, items, id, pattern, scrutinee, inner, code)?;
@@ -648,7 +683,7 @@ fn statement_code(
                 items,
                 statements.as_slice(),
                 around,
-                Wanted::UnderOwnKey,
+                WantedCode::UnderOwnKey,
                 code,
             )?;
             tail_code(alloc, items, tail, at, code)?;
@@ -663,7 +698,14 @@ fn statement_code(
             initialiser,
         } => let_code(alloc, items, initialiser, pattern, at, code)?,
         Form::Evaluate(expression) => {
-            node_code(alloc, items, expression, around, Wanted::UnderOwnKey, code)?;
+            node_code(
+                alloc,
+                items,
+                expression,
+                around,
+                WantedCode::UnderOwnKey,
+                code,
+            )?;
             evaluated(id, expression, code)?;
         }
         _ => return Ok(false),
@@ -693,13 +735,13 @@ fn let_code(
         }
         Some(value) if is_one_name(items, pattern) => {
             let to = Destination::Into(Key(pattern.id.0));
-            let wanted = Wanted::Value { own: false, to };
+            let wanted = WantedCode::Value { own: false, to };
             node_code(alloc, items, value, at.around, wanted, code)?;
             let_name(at.head.id, pattern, code)
         }
         Some(value) => {
             let value: &Node = value;
-            node_code(alloc, items, value, at.around, Wanted::AsPlace, code)?;
+            node_code(alloc, items, value, at.around, WantedCode::AsPlace, code)?;
             let place = place_of(alloc, items, value, at.around.aliases)?;
             let names = bindings(alloc, pattern, &place)?;
             let_parts(alloc, items, at.head.id, value, names.as_slice(), code)
@@ -722,7 +764,14 @@ fn otherwise_code(
         (forms.put_unit at.entry.head.id.0 (destination_of at.entry.to))) (ops_of code.old)) }
 {
     match otherwise {
-        Some(node) => node_code(alloc, items, node, at.around, Wanted::Alone(at.to), code),
+        Some(node) => node_code(
+            alloc,
+            items,
+            node,
+            at.around,
+            WantedCode::Alone(at.to),
+            code,
+        ),
         None => put_unit(alloc, at.head.id, at.to, code),
     }
 }
@@ -742,7 +791,7 @@ fn value_of_jump(
 {
     match value {
         Some(node) => {
-            let wanted = Wanted::Value {
+            let wanted = WantedCode::Value {
                 own: false,
                 to: at.to,
             };
@@ -766,7 +815,14 @@ fn tail_code(
         (around_of at.entry.around) (destination_of at.entry.to)) (ops_of code.old)) }
 {
     match tail {
-        Some(node) => node_code(alloc, items, node, at.around, Wanted::Alone(at.to), code),
+        Some(node) => node_code(
+            alloc,
+            items,
+            node,
+            at.around,
+            WantedCode::Alone(at.to),
+            code,
+        ),
         None => unit_unless_never(alloc, items, at.head, at.to, code),
     }
 }
@@ -778,7 +834,7 @@ fn nodes_code(
     items: &Items,
     nodes: &[Node],
     around: Around,
-    wanted: Wanted,
+    wanted: WantedCode,
     code: &mut Code,
 ) -> Result<(), NoMemory>
     ensures { OnOk result (ops_of code.new ≡ onto
@@ -805,7 +861,14 @@ fn fields_code(
         (ops_of code.old)) }
 {
     for field in fields {
-        node_code(alloc, items, &field.value, around, Wanted::AsOperand, code)?;
+        node_code(
+            alloc,
+            items,
+            &field.value,
+            around,
+            WantedCode::AsOperand,
+            code,
+        )?;
     }
     joined(fields.len(), code)
 }
@@ -846,7 +909,7 @@ fn arm_code(
     alloc: Global,
     items: &Items,
     form: &Form,
-    head: Head,
+    head: NodeHead,
     matched: &Place,
     around: Around,
     to: Destination,
@@ -871,13 +934,20 @@ fn arm_code(
                         aliases: aliases.as_slice(),
                         ..around
                     };
-                    node_code(alloc, items, guard, inner, Wanted::AloneUnderOwnKey, code)?;
+                    node_code(
+                        alloc,
+                        items,
+                        guard,
+                        inner,
+                        WantedCode::AloneUnderOwnKey,
+                        code,
+                    )?;
                     Some(Key(guard.id.0))
                 }
                 None => None,
             };
             bind(alloc, ScopeAt::Innermost, names.as_slice(), code)?;
-            node_code(alloc, items, body, around, Wanted::Alone(to), code)?;
+            node_code(alloc, items, body, around, WantedCode::Alone(to), code)?;
             taken_arm(alloc, items, head.id, pattern, matched, key, code)
         }
         _ => code.push(Op::EmptyArm),

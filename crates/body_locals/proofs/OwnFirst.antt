@@ -16,27 +16,27 @@ use Rattle.typed_tree.specs.Tree as tree
 use Rattle.src_meaning.specs.Locals.OfBody as of_body
 use Rattle.body_locals.specs.Own.{own_local}
 use Rattle.body_locals.specs.View.{locals_of, locals_if_any, asked_of_initialiser}
-use Rattle.body_locals.specs.declared.own.Asked.{Asked}
+use Rattle.body_locals.specs.declared.own.AskedAs.{AskedAs}
 
 module _ (items : ItemTable) (id : ℕ) (at : Pos) (ty : TyId) (by : Option Use) where
-  by_type : (asked : Asked) (never : Bool) (form : Form) → is_never items ty ≡ never → locals_of items asked (node id at ty by form) ≡ own_local items asked id ty form ++ cells_in items form
-  by_type Asked.Reached never (tree.Variable key) e = refl
-  by_type Asked.Reached never (tree.Captured closure part name) e = refl
-  by_type Asked.Reached never (tree.Field base part) e = refl
-  by_type Asked.Reached never (tree.Index base index length) e = refl
-  by_type Asked.Reached never (tree.Deref base) e = refl
-  by_type Asked.Own true (tree.Variable key) e = rw e refl
-  by_type Asked.Own true form e = rw e refl
-  by_type Asked.Own false (tree.Variable key) e = rw e refl
-  by_type Asked.Own false form e = rw e refl
-  by_type Asked.Around true (tree.Variable key) e = rw e refl
-  by_type Asked.Around true form e = rw e refl
-  by_type Asked.Around false (tree.Variable key) e = rw e refl
-  by_type Asked.Around false form e = rw e refl
-  by_type Asked.Reached true form e = rw e refl
-  by_type Asked.Reached false form e = rw e refl
+  by_type : (asked : AskedAs) (never : Bool) (form : Form) → is_never items ty ≡ never → locals_of items asked (node id at ty by form) ≡ own_local items asked id ty form ++ cells_in items form
+  by_type AskedAs.Reached never (tree.Variable key) e = refl
+  by_type AskedAs.Reached never (tree.Captured closure part name) e = refl
+  by_type AskedAs.Reached never (tree.Field base part) e = refl
+  by_type AskedAs.Reached never (tree.Index base index length) e = refl
+  by_type AskedAs.Reached never (tree.Deref base) e = refl
+  by_type AskedAs.Own true (tree.Variable key) e = rw e refl
+  by_type AskedAs.Own true form e = rw e refl
+  by_type AskedAs.Own false (tree.Variable key) e = rw e refl
+  by_type AskedAs.Own false form e = rw e refl
+  by_type AskedAs.Around true (tree.Variable key) e = rw e refl
+  by_type AskedAs.Around true form e = rw e refl
+  by_type AskedAs.Around false (tree.Variable key) e = rw e refl
+  by_type AskedAs.Around false form e = rw e refl
+  by_type AskedAs.Reached true form e = rw e refl
+  by_type AskedAs.Reached false form e = rw e refl
 
-  pub own_first : (asked : Asked) (form : Form) → locals_of items asked (node id at ty by form) ≡ own_local items asked id ty form ++ cells_in items form
+  pub own_first : (asked : AskedAs) (form : Form) → locals_of items asked (node id at ty by form) ≡ own_local items asked id ty form ++ cells_in items form
   own_first asked form = by_type asked (is_never items ty) form refl
 
 -- the value of a `let`

@@ -8,54 +8,54 @@ use Rattle.src_meaning.specs.Locals.OfBody.{bool_ty}
 use Rattle.src_meaning.specs.Scopes.{Entry}
 use Rattle.typed_tree.specs.Tree as tree
 use Rattle.typed_tree.specs.Tree.{Form}
-use Rattle.body_locals.specs.declared.own.Asked.{Asked}
-use Rattle.body_locals.specs.declared.own.Kind.{Kind}
+use Rattle.body_locals.specs.declared.own.AskedAs.{AskedAs}
+use Rattle.body_locals.specs.declared.own.OwnKind.{OwnKind}
 
-abbrev pub kind : Form → Kind
-kind (tree.Variable key) = Kind.Place
-kind (tree.Captured closure part name) = Kind.Place
-kind (tree.Field base part) = Kind.Place
-kind (tree.Index base index length) = Kind.Place
-kind (tree.Deref base) = Kind.Place
-kind (tree.Call body args) = Kind.Always
-kind (tree.MethodCall body receiver args) = Kind.Always
-kind (tree.VirtualCall trait_no method receiver args) = Kind.Always
-kind (tree.ClosureCall body callee args) = Kind.Always
-kind (tree.Binding name) = Kind.Always
-kind (tree.NumberPattern value) = Kind.Test
-kind (tree.TruthPattern value) = Kind.Test
-kind (tree.Let pattern initialiser) = Kind.NoValue
-kind (tree.Evaluate expression) = Kind.NoValue
-kind (tree.Arm pattern guard body) = Kind.NoValue
-kind tree.Wildcard = Kind.NoValue
-kind (tree.StructPattern fields) = Kind.NoValue
-kind (tree.VariantPattern variant is_test fields) = Kind.NoValue
-kind (tree.TuplePattern parts) = Kind.NoValue
-kind (tree.ArrayPattern elements) = Kind.NoValue
-kind (tree.OrPattern alternatives) = Kind.NoValue
-kind form = Kind.Value
+abbrev pub kind : Form → OwnKind
+kind (tree.Variable key) = OwnKind.Place
+kind (tree.Captured closure part name) = OwnKind.Place
+kind (tree.Field base part) = OwnKind.Place
+kind (tree.Index base index length) = OwnKind.Place
+kind (tree.Deref base) = OwnKind.Place
+kind (tree.Call body args) = OwnKind.Always
+kind (tree.MethodCall body receiver args) = OwnKind.Always
+kind (tree.VirtualCall trait_no method receiver args) = OwnKind.Always
+kind (tree.ClosureCall body callee args) = OwnKind.Always
+kind (tree.Binding name) = OwnKind.Always
+kind (tree.NumberPattern value) = OwnKind.Test
+kind (tree.TruthPattern value) = OwnKind.Test
+kind (tree.Let pattern initialiser) = OwnKind.NoValue
+kind (tree.Evaluate expression) = OwnKind.NoValue
+kind (tree.Arm pattern guard body) = OwnKind.NoValue
+kind tree.Wildcard = OwnKind.NoValue
+kind (tree.StructPattern fields) = OwnKind.NoValue
+kind (tree.VariantPattern variant is_test fields) = OwnKind.NoValue
+kind (tree.TuplePattern parts) = OwnKind.NoValue
+kind (tree.ArrayPattern elements) = OwnKind.NoValue
+kind (tree.OrPattern alternatives) = OwnKind.NoValue
+kind form = OwnKind.Value
 
 -- Under each kind, for a node that is asked for in one of the three ways, of type `!` or not.
-abbrev pub has_local : Kind → Asked → (is_never : Bool) → Bool
-has_local Kind.Place Asked.Own never = true
-has_local Kind.Place Asked.Around never = never
-has_local Kind.Place Asked.Reached never = false
-has_local Kind.Always Asked.Own never = true
-has_local Kind.Always Asked.Around never = never
-has_local Kind.Always Asked.Reached never = true
-has_local Kind.NoValue asked never = false
-has_local kind Asked.Around never = false
+abbrev pub has_local : OwnKind → AskedAs → (is_never : Bool) → Bool
+has_local OwnKind.Place AskedAs.Own never = true
+has_local OwnKind.Place AskedAs.Around never = never
+has_local OwnKind.Place AskedAs.Reached never = false
+has_local OwnKind.Always AskedAs.Own never = true
+has_local OwnKind.Always AskedAs.Around never = never
+has_local OwnKind.Always AskedAs.Reached never = true
+has_local OwnKind.NoValue asked never = false
+has_local kind AskedAs.Around never = false
 has_local kind asked never = not never
 
-abbrev pub ty_of_local : ItemTable → Kind → TyId → TyId
-ty_of_local items Kind.Test ty = bool_ty items
+abbrev pub ty_of_local : ItemTable → OwnKind → TyId → TyId
+ty_of_local items OwnKind.Test ty = bool_ty items
 ty_of_local items kind ty = ty
 
 abbrev pub where_true : Bool → List Entry → List Entry
 where_true true entries = entries
 where_true false entries = []
 
-abbrev pub own_local : ItemTable → Asked → ℕ → TyId → Form → List Entry
+abbrev pub own_local : ItemTable → AskedAs → ℕ → TyId → Form → List Entry
 own_local items asked id ty form =
     where_true (has_local (kind form) asked (is_never items ty))
     ((record { key = id; ty = ty_of_local items (kind form) ty }) ∷ [])

@@ -6,7 +6,7 @@ use Rattle.src_meaning.specs.Locals.OfBody.{cells, reached_cells, cells_in, para
 use Rattle.src_meaning.specs.Scopes.{Entry}
 use Rattle.typed_tree.specs.Tree.{Node, node, Form, MaybeNode, absent, present, Binding, ParamTree}
 use Rattle.body_locals.specs.declared.local.Local.{Local}
-use Rattle.body_locals.specs.declared.own.Asked.{Asked}
+use Rattle.body_locals.specs.declared.own.AskedAs.{AskedAs}
 
 abbrev pub entry_of : Local → Entry
 entry_of local = record { key = local.key.0; ty = local.ty }
@@ -15,19 +15,19 @@ abbrev pub key_of : Local → ℕ
 key_of local = local.key.0
 
 -- the locals of a node that is asked for in one of the three ways, and of the nodes in it
-abbrev pub locals_of : ItemTable → Asked → Node → List Entry
-locals_of items Asked.Own = cells items true
-locals_of items Asked.Around = cells items false
-locals_of items Asked.Reached = reached_cells items
+abbrev pub locals_of : ItemTable → AskedAs → Node → List Entry
+locals_of items AskedAs.Own = cells items true
+locals_of items AskedAs.Around = cells items false
+locals_of items AskedAs.Reached = reached_cells items
 
-abbrev pub locals_if_any : ItemTable → Asked → MaybeNode → List Entry
+abbrev pub locals_if_any : ItemTable → AskedAs → MaybeNode → List Entry
 locals_if_any items asked absent = []
 locals_if_any items asked (present value) = locals_of items asked value
 
 -- the value of a `let` of one name is made in the local of the name
-abbrev pub asked_of_initialiser : Form → Asked
-asked_of_initialiser (Binding name) = Asked.Around
-asked_of_initialiser form = Asked.Reached
+abbrev pub asked_of_initialiser : Form → AskedAs
+asked_of_initialiser (Binding name) = AskedAs.Around
+asked_of_initialiser form = AskedAs.Reached
 
 -- the local of a parameter, and those of the nodes in the pattern of each
 abbrev pub param_entry : ParamTree → Entry

@@ -13,7 +13,7 @@ use typed_tree::{Form, Node};
 
 /// How a node is asked for.
 #[derive(Clone, Copy)]
-pub enum Asked {
+pub enum AskedAs {
     /// For its value, in a local of its own.
     Own,
     /// For its value, in the destination of what is around it.
@@ -24,7 +24,7 @@ pub enum Asked {
 
 /// What a form is for the local of its node.
 #[derive(Clone, Copy)]
-enum Kind {
+enum OwnKind {
     Place,
     /// A call or a name of a pattern, whose value has a local even of type `!`.
     Always,
@@ -36,7 +36,7 @@ enum Kind {
 }
 
 /// What a form is for the local of its node.
-fn kind_of(form: &Form) -> Kind
+fn kind_of(form: &Form) -> OwnKind
     ensures { result ≡ rules.kind (form_of form.now) }
 {
     match form {
@@ -44,13 +44,13 @@ fn kind_of(form: &Form) -> Kind
         | Form::Captured { .. }
         | Form::Field { .. }
         | Form::Index { .. }
-        | Form::Deref(_) => Kind::Place,
+        | Form::Deref(_) => OwnKind::Place,
         Form::Call { .. }
         | Form::MethodCall { .. }
         | Form::VirtualCall { .. }
         | Form::ClosureCall { .. }
-        | Form::Binding(_) => Kind::Always,
-        Form::NumberPattern(_) | Form::TruthPattern(_) => Kind::Test,
+        | Form::Binding(_) => OwnKind::Always,
+        Form::NumberPattern(_) | Form::TruthPattern(_) => OwnKind::Test,
         Form::Let { .. }
         | Form::Evaluate(_)
         | Form::Arm { .. }
@@ -59,20 +59,20 @@ fn kind_of(form: &Form) -> Kind
         | Form::VariantPattern { .. }
         | Form::TuplePattern(_)
         | Form::ArrayPattern(_)
-        | Form::OrPattern(_) => Kind::NoValue,
-        _ => Kind::Value,
+        | Form::OrPattern(_) => OwnKind::NoValue,
+        _ => OwnKind::Value,
     }
 }
 
 /// Whether a node has a local for its value.
-fn has_local(kind: Kind, asked: Asked, is_never: bool) -> bool
+fn has_local(kind: OwnKind, asked: AskedAs, is_never: bool) -> bool
     ensures { result ≡ rules.has_local kind asked is_never }
 {
     match (kind, asked) {
-        (Kind::NoValue, _) | (Kind::Place, Asked::Reached) => false,
-        (Kind::Place | Kind::Always, Asked::Around) => is_never,
-        (Kind::Place | Kind::Always, _) => true,
-        (_, Asked::Around) => false,
+        (OwnKind::NoValue, _) | (OwnKind::Place, AskedAs::Reached) => false,
+        (OwnKind::Place | OwnKind::Always, AskedAs::Around) => is_never,
+        (OwnKind::Place | OwnKind::Always, _) => true,
+        (_, AskedAs::Around) => false,
         _ => !is_never,
     }
 }
@@ -85,11 +85,11 @@ fn is_never(items: &Items, ty: TyId) -> bool
 }
 
 /// The type of the local of a node of this type.
-fn ty_of_local(items: &Items, kind: Kind, ty: TyId) -> TyId
+fn ty_of_local(items: &Items, kind: OwnKind, ty: TyId) -> TyId
     ensures { result ≡ rules.ty_of_local items.now kind ty }
 {
     match kind {
-        Kind::Test => bool_ty(items),
+        OwnKind::Test => bool_ty(items),
         _ => ty,
     }
 }
@@ -97,7 +97,7 @@ fn ty_of_local(items: &Items, kind: Kind, ty: TyId) -> TyId
 /// Puts the local that a node has for its own value, where it has one, behind those found before.
 pub fn add_own(
     items: &Items,
-    asked: Asked,
+    asked: AskedAs,
     node: &Node,
     found: &mut List<Local>,
 ) -> Result<(), NoMemory>

@@ -8,7 +8,7 @@ ghost use Rattle.body_locals.specs.View as view;
 ghost use Rattle.body_locals.specs.View.{entry_of, locals_of, locals_if_any};
 
 use crate::Local;
-use crate::own::{Asked, add_own};
+use crate::own::{AskedAs, add_own};
 use mir_base::{List, NoMemory};
 use mir_ty::Items;
 use std::alloc::Global;
@@ -18,7 +18,7 @@ use typed_tree::{Form, Node, NumberedField};
 #[cycle(parts)]
 fn add_node(
     items: &Items,
-    asked: Asked,
+    asked: AskedAs,
     node: &Node,
     found: &mut List<Local>,
 ) -> Result<(), NoMemory>
@@ -55,14 +55,14 @@ fn add_operands(items: &Items, form: &Form, found: &mut List<Local>) -> Result<(
         | Form::Print(operand)
         | Form::DropValue(operand)
         | Form::Forget(operand)
-        | Form::Unsize { operand, .. } => add_node(items, Asked::Own, operand, found),
+        | Form::Unsize { operand, .. } => add_node(items, AskedAs::Own, operand, found),
         Form::Arithmetic { left, right, .. } | Form::Comparison { left, right, .. } => {
-            add_node(items, Asked::Own, left, found)?;
-            add_node(items, Asked::Own, right, found)
+            add_node(items, AskedAs::Own, left, found)?;
+            add_node(items, AskedAs::Own, right, found)
         }
         Form::And { left, right } | Form::Or { left, right } => {
-            add_node(items, Asked::Own, left, found)?;
-            add_node(items, Asked::Around, right, found)
+            add_node(items, AskedAs::Own, left, found)?;
+            add_node(items, AskedAs::Around, right, found)
         }
         _ => Ok(()),
     }
@@ -76,7 +76,7 @@ fn add_in_place(items: &Items, form: &Form, found: &mut List<Local>) -> Result<(
 {
     match form {
         Form::Field { base, .. } | Form::Deref(base) | Form::Borrow { base, .. } => {
-            add_node(items, Asked::Reached, base, found)
+            add_node(items, AskedAs::Reached, base, found)
         }
         Form::Index {
             base: place,
@@ -84,8 +84,8 @@ fn add_in_place(items: &Items, form: &Form, found: &mut List<Local>) -> Result<(
             ..
         }
         | Form::Assign { place, value } => {
-            add_node(items, Asked::Reached, place, found)?;
-            add_node(items, Asked::Own, value, found)
+            add_node(items, AskedAs::Reached, place, found)?;
+            add_node(items, AskedAs::Own, value, found)
         }
         _ => Ok(()),
     }
@@ -115,7 +115,7 @@ fn add_members(items: &Items, form: &Form, found: &mut List<Local>) -> Result<()
             args,
             ..
         } => {
-            add_node(items, Asked::Own, receiver, found)?;
+            add_node(items, AskedAs::Own, receiver, found)?;
             add_nodes(items, args.as_slice(), found)
         }
         Form::Make { fields, .. }
@@ -137,9 +137,9 @@ fn add_branches(items: &Items, form: &Form, found: &mut List<Local>) -> Result<(
             then,
             otherwise,
         } => {
-            add_node(items, Asked::Own, condition, found)?;
-            add_node(items, Asked::Around, then, found)?;
-            add_if_any(items, Asked::Around, otherwise, found)
+            add_node(items, AskedAs::Own, condition, found)?;
+            add_node(items, AskedAs::Around, then, found)?;
+            add_if_any(items, AskedAs::Around, otherwise, found)
         }
         Form::IfLet {
             pattern,
@@ -147,13 +147,13 @@ fn add_branches(items: &Items, form: &Form, found: &mut List<Local>) -> Result<(
             then,
             otherwise,
         } => {
-            add_node(items, Asked::Own, pattern, found)?;
-            add_node(items, Asked::Reached, scrutinee, found)?;
-            add_node(items, Asked::Around, then, found)?;
-            add_if_any(items, Asked::Around, otherwise, found)
+            add_node(items, AskedAs::Own, pattern, found)?;
+            add_node(items, AskedAs::Reached, scrutinee, found)?;
+            add_node(items, AskedAs::Around, then, found)?;
+            add_if_any(items, AskedAs::Around, otherwise, found)
         }
         Form::Match { scrutinee, arms } => {
-            add_node(items, Asked::Reached, scrutinee, found)?;
+            add_node(items, AskedAs::Reached, scrutinee, found)?;
             add_nodes(items, arms.as_slice(), found)
         }
         Form::Arm {
@@ -161,9 +161,9 @@ fn add_branches(items: &Items, form: &Form, found: &mut List<Local>) -> Result<(
             guard,
             body,
         } => {
-            add_node(items, Asked::Own, pattern, found)?;
-            add_if_any(items, Asked::Own, guard, found)?;
-            add_node(items, Asked::Around, body, found)
+            add_node(items, AskedAs::Own, pattern, found)?;
+            add_if_any(items, AskedAs::Own, guard, found)?;
+            add_node(items, AskedAs::Around, body, found)
         }
         _ => Ok(()),
     }
@@ -178,13 +178,13 @@ fn add_statements(items: &Items, form: &Form, found: &mut List<Local>) -> Result
     match form {
         Form::Block { statements, tail } => {
             add_nodes(items, statements.as_slice(), found)?;
-            add_if_any(items, Asked::Around, tail, found)
+            add_if_any(items, AskedAs::Around, tail, found)
         }
         Form::Let {
             pattern,
             initialiser,
         } => {
-            add_node(items, Asked::Own, pattern, found)?;
+            add_node(items, AskedAs::Own, pattern, found)?;
             add_if_any(
                 items,
                 asked_of_initialiser(&pattern.form),
@@ -193,35 +193,35 @@ fn add_statements(items: &Items, form: &Form, found: &mut List<Local>) -> Result
             )
         }
         Form::Evaluate(expression) | Form::Loop(expression) => {
-            add_node(items, Asked::Own, expression, found)
+            add_node(items, AskedAs::Own, expression, found)
         }
         Form::While { condition, body } => {
-            add_node(items, Asked::Own, condition, found)?;
-            add_node(items, Asked::Own, body, found)
+            add_node(items, AskedAs::Own, condition, found)?;
+            add_node(items, AskedAs::Own, body, found)
         }
         Form::WhileLet {
             pattern,
             scrutinee,
             body,
         } => {
-            add_node(items, Asked::Own, pattern, found)?;
-            add_node(items, Asked::Reached, scrutinee, found)?;
-            add_node(items, Asked::Own, body, found)
+            add_node(items, AskedAs::Own, pattern, found)?;
+            add_node(items, AskedAs::Reached, scrutinee, found)?;
+            add_node(items, AskedAs::Own, body, found)
         }
         Form::Break { value, .. } | Form::Return(value) => {
-            add_if_any(items, Asked::Around, value, found)
+            add_if_any(items, AskedAs::Around, value, found)
         }
         _ => Ok(()),
     }
 }
 
 /// How the value of a `let` with this pattern is asked for: that of one name is made in the local of the name.
-fn asked_of_initialiser(pattern: &Form) -> Asked
+fn asked_of_initialiser(pattern: &Form) -> AskedAs
     ensures { result ≡ view.asked_of_initialiser (form_of pattern.now) }
 {
     match pattern {
-        Form::Binding(_) => Asked::Around,
-        _ => Asked::Reached,
+        Form::Binding(_) => AskedAs::Around,
+        _ => AskedAs::Reached,
     }
 }
 
@@ -231,7 +231,7 @@ fn add_nodes(items: &Items, nodes: &[Node], found: &mut List<Local>) -> Result<(
         map entry_of found.old ++ all_cells items.now (nodes_from (map tree_of nodes.now))) }
 {
     for node in nodes {
-        add_node(items, Asked::Own, node, found)?;
+        add_node(items, AskedAs::Own, node, found)?;
     }
     Ok(())
 }
@@ -246,7 +246,7 @@ fn add_fields(
         map entry_of found.old ++ cells_of_fields items.now (fields_from (map field_of fields.now))) }
 {
     for field in fields {
-        add_node(items, Asked::Own, &field.value, found)?;
+        add_node(items, AskedAs::Own, &field.value, found)?;
     }
     Ok(())
 }
@@ -254,7 +254,7 @@ fn add_fields(
 #[cycle(parts)]
 fn add_if_any(
     items: &Items,
-    asked: Asked,
+    asked: AskedAs,
     node: &Option<Box<Node, Global>>,
     found: &mut List<Local>,
 ) -> Result<(), NoMemory>

@@ -9,7 +9,7 @@ use std::collections::HashMap;
 /// A number for each of some keys. Those from the first one on, up to so many, stand in a row by their distance from it,
 /// where finding one is a step: 0 stands for none, and else one more than the number. The others stand in a table.
 #[derive(Drop)]
-pub struct Places {
+pub struct NumbersByKey {
     pub first: u32,
     pub near: List<u32>,
     pub far: HashMap<u32, u32>,
@@ -22,12 +22,12 @@ fn of_row(stored: u32) -> Option<u32>
     if stored == 0 { None } else { Some(stored - 1) }
 }
 
-impl Places {
+impl NumbersByKey {
     /// No key has a number yet; there is a row for so many keys from the first one on.
-    pub fn new(alloc: Global, first: Key, count: usize) -> Result<Places, NoMemory>
+    pub fn new(alloc: Global, first: Key, count: usize) -> Result<NumbersByKey, NoMemory>
         ensures { IfOk result (λ places. (key : ℕ) → found places key ≡ None) }
     {
-        Ok(Places {
+        Ok(NumbersByKey {
             first: first.0,
             near: List::from_vec(vec![in alloc; 0u32; count]?),
             far: HashMap::new(alloc),

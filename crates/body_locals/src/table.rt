@@ -6,7 +6,7 @@ ghost use Rattle.body_locals.specs.Places.{found};
 ghost use Rattle.body_locals.specs.View.{entry_of, key_of, keys, tys};
 
 use crate::Local;
-use crate::places::Places;
+use crate::places::NumbersByKey;
 use mir_base::{Key, List, NoMemory};
 use mir_ty::TyId;
 use std::alloc::Global;
@@ -17,7 +17,7 @@ use std::marker::Model;
 pub struct Locals {
     locals: List<Local>,
     /// For each key, the first local that has it.
-    places: Places,
+    places: NumbersByKey,
 }
 
 impl Model for Locals {
@@ -95,7 +95,7 @@ fn row_of(locals: &[Local]) -> (Key, usize) {
 
 /// The first place of each key among locals. A place that is put in takes the place of the one before, so they are put
 /// in from the last to the first.
-fn first_places(alloc: Global, locals: &[Local]) -> Result<Places, NoMemory>
+fn first_places(alloc: Global, locals: &[Local]) -> Result<NumbersByKey, NoMemory>
     ensures { IfOk result (λ places. (key : ℕ) →
         found places key ≡ position (λ k. k == key) (map key_of locals.now)) }
 {
@@ -103,7 +103,7 @@ fn first_places(alloc: Global, locals: &[Local]) -> Result<Places, NoMemory>
         return Err(NoMemory);
     }
     let (first, count) = row_of(locals);
-    let mut places = Places::new(alloc, first, count)?;
+    let mut places = NumbersByKey::new(alloc, first, count)?;
     for number in (0..locals.len()).rev() {
         places.put(locals[number].key, number as u32)?;
     }

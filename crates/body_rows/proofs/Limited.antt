@@ -9,10 +9,10 @@ use Rattle.typed_tree.specs.Tree.{BodyTree}
 use Rattle.typed_tree.specs.View.{body_of}
 use Rattle.typed_tree.specs.declared.body.TBody.{TBody}
 use Rattle.typing_rules.specs.Bodies.{within_limit}
-use Rattle.typing_rules.specs.Check.{State}
+use Rattle.typing_rules.specs.Check.{TypingState}
 use Rattle.body_rows.specs.Whole.{IsWithin}
 
-pub gives : (at : Pos) (made body : BodyTree) (s : State) (r : Result TBody RuleError) (after : Checker) → made ≡ body → state after ≡ s →
+pub gives : (at : Pos) (made body : BodyTree) (s : TypingState) (r : Result TBody RuleError) (after : Checker) → made ≡ body → state after ≡ s →
     IsWithin at made s r → GivesValue body_of (within_limit at body s) r after
 gives at made body s (Ok b) after same stays h =
     ap (λ x. within_limit at x s) (sym same) ∙ h.0

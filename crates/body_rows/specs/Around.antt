@@ -4,11 +4,11 @@ use Rattle.mir_ty.specs.declared.ty.TyId.{TyId}
 use Rattle.type_env.specs.Walked.{break_of}
 use Rattle.typed_tree.specs.Tree.{BodyTree}
 use Rattle.typed_tree.specs.View.{body_of}
-use Rattle.typing_rules.specs.Check.{State}
+use Rattle.typing_rules.specs.Check.{TypingState}
 use Rattle.body_rows.specs.declared.around.Outer.{Outer}
 
 -- the same state, with what was put aside of it: the next number of a node, the breaks, and the bodies that are whole
-abbrev pub with_outer : Outer → State → State
+abbrev pub with_outer : Outer → TypingState → TypingState
 with_outer outer s =
     record s {
       next_node = outer.next_node;
@@ -17,11 +17,11 @@ with_outer outer s =
     }
 
 -- a state where a body of its own begins
-abbrev pub in_body : State → State
+abbrev pub in_body : TypingState → TypingState
 in_body s = record s { next_node = 0; breaks = []; bodies = [] }
 
 -- a state behind a body: the body stands behind those that were whole before it, and before those inside it
-abbrev pub behind_body : Outer → BodyTree → State → State
+abbrev pub behind_body : Outer → BodyTree → TypingState → TypingState
 behind_body outer body s =
     record s {
       next_node = outer.next_node;

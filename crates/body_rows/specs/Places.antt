@@ -1,7 +1,7 @@
 -- Where numbers stand in a list, by a table.
 use Rattle.std.specs.Prelude.{◌≡◌, ℕ, ◌+◌, List, drop, slice_get}
 use Rattle.std.specs.Option.{option_map_or}
-use Rattle.body_rows.specs.declared.places.Places.{Places}
+use Rattle.body_rows.specs.declared.places.NumberPlaces.{NumberPlaces}
 use Rattle.typing_rules.specs.Numbered.{place_among}
 
 -- what a table says of a number, in a list of so many
@@ -13,5 +13,5 @@ abbrev pub IsPlacedFrom : List ℕ → ℕ → ℕ → List ℕ → Type 0
 IsPlacedFrom numbers count start table =
     (k : ℕ) → place_by table count k ≡ start + place_among (drop start numbers) k
 
-abbrev pub placed : Places → ℕ → ℕ
+abbrev pub placed : NumberPlaces → ℕ → ℕ
 placed places k = place_by places.table places.count k

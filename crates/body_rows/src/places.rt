@@ -8,7 +8,7 @@ use std::alloc::Global;
 
 /// Where the numbers of a list stand in it.
 #[derive(Drop)]
-pub struct Places {
+pub struct NumberPlaces {
     /// By a number: its first place in the list; how many the list has for one that is not in it.
     table: List<u32>,
     /// How many numbers the list has.
@@ -44,9 +44,9 @@ fn fill(table: &mut List<u32>, numbers: &[u32], count: u32) -> Result<(), NoMemo
     Ok(())
 }
 
-impl Places {
+impl NumberPlaces {
     /// The places of the numbers of a list. It takes memory by the greatest of them.
-    pub fn of(alloc: Global, numbers: &[u32]) -> Result<Places, NoMemory>
+    pub fn of(alloc: Global, numbers: &[u32]) -> Result<NumberPlaces, NoMemory>
         ensures { IfOk result (λ places. (k : ℕ) → place_by places.table places.count k ≡ place_among numbers.now k) }
     {
         let Ok(count) = u32::try_from(numbers.len()) else {
@@ -54,7 +54,7 @@ impl Places {
         };
         let mut table = List::new(alloc);
         fill(&mut table, numbers, count)?;
-        Ok(Places { table, count })
+        Ok(NumberPlaces { table, count })
     }
 
     /// The first place of a number in the list, and how many the list has where it is not in it.

@@ -5,7 +5,7 @@ ghost use Rattle.body_rows.specs.Places.{placed};
 ghost use Rattle.typed_tree.specs.View.{field_of, fields_from, form_of, maybe_of, nodes_from, tree_of};
 ghost use Rattle.typing_rules.specs.Numbered.{fields_renumbered, form_renumbered, maybe_renumbered, nodes_renumbered, renumbered};
 
-use crate::places::Places;
+use crate::places::NumberPlaces;
 use mir_base::{Key, List, NodeId};
 use std::alloc::Global;
 use std::mem;
@@ -13,7 +13,7 @@ use typed_tree::{Form, Node, NumberedField};
 
 /// A node gets another number, and those below it, and so does what it names.
 #[cycle(renumber)]
-pub fn renumber(node: &mut Node, places: &Places)
+pub fn renumber(node: &mut Node, places: &NumberPlaces)
     ensures { tree_of node.new ≡ renumbered (placed places.now) (tree_of node.old) }
 {
     let form = mem::replace(&mut node.form, Form::UnitValue);
@@ -22,7 +22,7 @@ pub fn renumber(node: &mut Node, places: &Places)
 }
 
 #[cycle(renumber)]
-fn child(node: Box<Node, Global>, places: &Places) -> Box<Node, Global>
+fn child(node: Box<Node, Global>, places: &NumberPlaces) -> Box<Node, Global>
     ensures { tree_of result.value ≡ renumbered (placed places.now) (tree_of node.value) }
 {
     let mut node = node;
@@ -31,7 +31,7 @@ fn child(node: Box<Node, Global>, places: &Places) -> Box<Node, Global>
 }
 
 #[cycle(renumber)]
-fn child_if_any(node: Option<Box<Node, Global>>, places: &Places) -> Option<Box<Node, Global>>
+fn child_if_any(node: Option<Box<Node, Global>>, places: &NumberPlaces) -> Option<Box<Node, Global>>
     ensures { maybe_of result ≡ maybe_renumbered (placed places.now) (maybe_of node) }
 {
     match node {
@@ -45,7 +45,7 @@ fn child_if_any(node: Option<Box<Node, Global>>, places: &Places) -> Option<Box<
 }
 
 #[cycle(renumber)]
-fn children(nodes: List<Node>, places: &Places) -> List<Node>
+fn children(nodes: List<Node>, places: &NumberPlaces) -> List<Node>
     ensures { nodes_from (map tree_of result) ≡ nodes_renumbered (placed places.now) (nodes_from (map tree_of nodes)) }
 {
     let mut nodes = nodes.into_vec();
@@ -56,7 +56,7 @@ fn children(nodes: List<Node>, places: &Places) -> List<Node>
 }
 
 #[cycle(renumber)]
-fn fields_with(fields: List<NumberedField>, places: &Places) -> List<NumberedField>
+fn fields_with(fields: List<NumberedField>, places: &NumberPlaces) -> List<NumberedField>
     ensures { fields_from (map field_of result) ≡ fields_renumbered (placed places.now) (fields_from (map field_of fields)) }
 {
     let mut fields = fields.into_vec();
@@ -66,7 +66,7 @@ fn fields_with(fields: List<NumberedField>, places: &Places) -> List<NumberedFie
     List::from_vec(fields)
 }
 
-fn key(key: Key, places: &Places) -> Key
+fn key(key: Key, places: &NumberPlaces) -> Key
     ensures { result.0 ≡ placed places.now key.0 }
 {
     Key(places.get(key.0))
@@ -74,7 +74,7 @@ fn key(key: Key, places: &Places) -> Key
 
 /// A form whose parts have other numbers.
 #[cycle(renumber)]
-fn form_with(form: Form, places: &Places) -> Form
+fn form_with(form: Form, places: &NumberPlaces) -> Form
     ensures { form_of result ≡ form_renumbered (placed places.now) (form_of form) }
 {
     match form {

@@ -7,7 +7,7 @@ ghost use Rattle.typed_tree.specs.View.{body_of, param_tree, tree_of};
 ghost use Rattle.typing_rules.specs.Numbered.{in_text_order, param_renumbered};
 ghost use Rattle.body_nodes.specs.Listed.{trees};
 
-use crate::places::Places;
+use crate::places::NumberPlaces;
 use crate::renumbering::renumber;
 use body_nodes::all_nodes;
 use mir_base::{List, NoMemory};
@@ -33,7 +33,7 @@ fn numbers_in(alloc: Global, body: &TBody) -> Result<List<u32>, NoMemory>
     numbers(alloc, nodes.as_slice())
 }
 
-fn renumber_params(params: List<Param>, places: &Places) -> List<Param>
+fn renumber_params(params: List<Param>, places: &NumberPlaces) -> List<Param>
     ensures { map param_tree result ≡ map (param_renumbered (placed places.now)) (map param_tree params) }
 {
     let mut params = params.into_vec();
@@ -43,7 +43,7 @@ fn renumber_params(params: List<Param>, places: &Places) -> List<Param>
     List::from_vec(params)
 }
 
-fn renumber_body(alloc: Global, body: &mut TBody, places: &Places)
+fn renumber_body(alloc: Global, body: &mut TBody, places: &NumberPlaces)
     ensures { body_of body.new ≡ renumbered_body (placed places.now) (body_of body.old) }
 {
     let params = mem::replace(&mut body.params, List::new(alloc));
@@ -63,7 +63,7 @@ pub fn number_in_text_order(alloc: Global, body: &mut TBody) -> Result<(), NoMem
     ensures kept { OnErr result (body_of body.new ≡ body_of body.old) }
 {
     let numbers = numbers_in(alloc, body)?;
-    let places = Places::of(alloc, numbers.as_slice())?;
+    let places = NumberPlaces::of(alloc, numbers.as_slice())?;
     renumber_body(alloc, body, &places);
     Ok(())
 }

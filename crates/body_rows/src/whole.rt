@@ -5,7 +5,7 @@ ghost use Rattle.call_rows.specs.Lists.{below_all};
 ghost use Rattle.type_rows.specs.Stand.{GivesValue, Stays, below, stack, state};
 ghost use Rattle.typed_tree.specs.Nodes.{numbers_of};
 ghost use Rattle.typed_tree.specs.View.{body_of, nodes_from, param_tree, tree_of};
-ghost use Rattle.typing_rules.specs.Check.{State};
+ghost use Rattle.typing_rules.specs.Check.{TypingState};
 ghost use Rattle.typing_rules.specs.Numbered.{in_text_order};
 ghost use Rattle.body_rows.specs.Whole.{IsWithin, body_on, one_param, params_from, plain_body_on};
 
@@ -75,7 +75,7 @@ fn count_of(alloc: Global, body: &TBody) -> Result<usize, RuleError>
 /// A body of at most 2,048 nodes, which has so many.
 fn of_count(at: Pos, body: TBody, count: usize) -> Result<TBody, RuleError>
     requires { count ≡ length (numbers_of (body_of body)) }
-    ensures { (s : State) → IsWithin at (body_of body) s result }
+    ensures { (s : TypingState) → IsWithin at (body_of body) s result }
 {
     if count > 2048 {
         drop(body);
@@ -87,7 +87,7 @@ fn of_count(at: Pos, body: TBody, count: usize) -> Result<TBody, RuleError>
 
 /// A body of at most 2,048 nodes.
 fn limited(alloc: Global, at: Pos, body: TBody) -> Result<TBody, RuleError>
-    ensures { (s : State) → IsWithin at (body_of body) s result }
+    ensures { (s : TypingState) → IsWithin at (body_of body) s result }
 {
     match count_of(alloc, &body) {
         Ok(count) => of_count(at, body, count),

@@ -7,12 +7,12 @@ use Rattle.typed_tree.specs.Nodes.{number_of}
 use Rattle.well_typed.specs.Nodes.{is_drop_body}
 use Rattle.typing_rules.specs.Borrows.{all_broken, broken, of_self, overlaps, replaced_self, replacements, replacing}
 use Rattle.typing_rules.specs.Check.{Broken}
-use Rattle.typing_rules.specs.Replaced.{Param, Passing, bodies_of, is_among, passings, replaceable, stores}
+use Rattle.typing_rules.specs.Replaced.{BodyParameter, Passing, bodies_of, is_among, passings, replaceable, stores}
 use Rattle.borrow_rules.proofs.Sets.{any_alike, filter_map_alike, flat_map_alike}
 use Rattle.borrow_rules.specs.Answers.{faults_of}
 use Rattle.borrow_rules.specs.Found.{IsFound}
 
-module _ (p : ProgramTree) (params : List Param) (found : IsFound p params) where
+module _ (p : ProgramTree) (params : List BodyParameter) (found : IsFound p params) where
   replacing_alike : (x : Passing) → replacing p.items params x ≡ replacing p.items (replaceable p) x
   replacing_alike x =
       ap (λ (b : Bool). if b then Some x.at else None)

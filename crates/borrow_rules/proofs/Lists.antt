@@ -9,7 +9,7 @@ use Rattle.mir_ty.specs.declared.def.ImplDef.{ImplDef}
 use Rattle.typed_tree.specs.Tree.{BodyTree}
 use Rattle.typed_tree.specs.View.{param_tree}
 use Rattle.typed_tree.specs.declared.body.Param as rust
-use Rattle.typing_rules.specs.Replaced.{Param, Facts, facts_from, facts_of, is_among, method_in}
+use Rattle.typing_rules.specs.Replaced.{BodyParameter, Facts, facts_from, facts_of, is_among, method_in}
 use Rattle.borrow_rules.specs.Found.{method_found}
 
 some_none : {X : Type 0} (x : X) → ◌≡◌ {A = Option X} (Some x) None → ⊥
@@ -32,7 +32,7 @@ any_next test xs n x at = next_of (list_any test) xs n x at
 
 -- ---- methods of impls
 
-module _ (params : List Param) (trait_no method number : ℕ) where
+module _ (params : List BodyParameter) (trait_no method number : ℕ) where
   one : (b : Bool) (o : Option ℕ) (rest : List ℕ) → list_any (is_among params number) (cons_option (if b then o else None) rest) ≡ ((b && option_map_or (is_among params number) o false) || list_any (is_among params number) rest)
   one true (Some body) rest = refl
   one true None rest = refl

@@ -7,10 +7,10 @@ use Rattle.std.proofs.lemmas.Bool.Decides.{nat_tests}
 use Rattle.std.proofs.lemmas.Grind.{common_steps}
 use Rattle.std.proofs.lemmas.List.Folds.{Any-from_list_any}
 use Rattle.mir_ty.specs.ItemTable.{ItemTable}
-use Rattle.typing_rules.specs.Replaced.{Param, Facts, Replaceable, by_store, by_call, is_among, is_param, is_replaced, bodies_of}
+use Rattle.typing_rules.specs.Replaced.{BodyParameter, Facts, Replaceable, by_store, by_call, is_among, is_param, is_replaced, bodies_of}
 use Rattle.borrow_rules.specs.Found.{AreSettled, IsMore, IsSettled, IsSound, Notes, Swept, index_of, is_missing, is_shown, missing}
 use Rattle.std.proofs.lemmas.List.{length-map}
-use Rattle.borrow_rules.specs.declared.facts.Fact.{Fact}
+use Rattle.borrow_rules.specs.declared.facts.ParameterFact.{ParameterFact}
 use Rattle.borrow_rules.specs.View.{fact_in, param_in, params_in}
 use Rattle.borrow_rules.specs.declared.facts.ParamNo.{ParamNo}
 use Rattle.borrow_rules.proofs.Sets.{any_map, fewer, put}
@@ -38,7 +38,7 @@ settled_by false false h s = absurd (cc)
 -- ---- soundness
 
 module _ (items : ItemTable) (facts : List Facts) where
-  shown_replaceable : (params : List Param) → IsSound items facts params → (f : Facts) → Contains facts f → IsTrue (is_shown items params f) → Replaceable items facts f.param.number f.param.body
+  shown_replaceable : (params : List BodyParameter) → IsSound items facts params → (f : Facts) → Contains facts f → IsTrue (is_shown items params f) → Replaceable items facts f.param.number f.param.body
   shown_replaceable params sound f has shown = by (or_cases f.is_stored (list_any (is_replaced items params) f.passed) shown)
     where
       by : (f.is_stored ≡ true) ⊎ (list_any (is_replaced items params) f.passed ≡ true) → Replaceable items facts f.param.number f.param.body
@@ -56,7 +56,7 @@ module _ (items : ItemTable) (facts : List Facts) where
   and_second true b h = h
   and_second false b h = absurd (cc)
 
-  still_sound : (f : Facts) (old new : List Param) → Contains facts f → IsSound items facts old → Notes items f old new true → IsSound items facts new
+  still_sound : (f : Facts) (old new : List BodyParameter) → Contains facts f → IsSound items facts old → Notes items f old new true → IsSound items facts new
   still_sound f old new has sound noted number body h =
       by (or_cases (is_among old number body) (is_param body number f.param) (sym (noted.2 number body) ∙ h))
     where
@@ -69,14 +69,14 @@ module _ (items : ItemTable) (facts : List Facts) where
 
   -- ---- fewer are missing
 
-  param_self : (q : Param) → is_param q.body q.number q ≡ true
+  param_self : (q : BodyParameter) → is_param q.body q.number q ≡ true
   param_self q = grind (arith, common_steps)
 
   not_either : (a b : Bool) → not (a || b) ≡ true → not a ≡ true
   not_either true b h = h
   not_either false b h = refl
 
-  pub fewer_missing : (f : Facts) (old new : List Param) → Contains facts f → Notes items f old new true → missing facts new < missing facts old
+  pub fewer_missing : (f : Facts) (old new : List BodyParameter) → Contains facts f → Notes items f old new true → missing facts new < missing facts old
   fewer_missing f old new has noted =
       fewer (is_missing new) (is_missing old)
       (λ g h. not_either (is_among old g.param.number g.param.body) (is_param g.param.body g.param.number f.param)
@@ -91,7 +91,7 @@ module _ (items : ItemTable) (facts : List Facts) where
 
   -- ---- a sweep
 
-  pub begins : (start : List Param) (is_back : Bool) → IsSound items facts start → Swept items facts start is_back 0 false start
+  pub begins : (start : List BodyParameter) (is_back : Bool) → IsSound items facts start → Swept items facts start is_back 0 false start
   begins start is_back sound =
       record { sound = sound; grown = refl; steady = λ quiet k less f at. absurd (omega (arith, less)) }
 
@@ -99,7 +99,7 @@ module _ (items : ItemTable) (facts : List Facts) where
   more true now before start h l = omega (arith, h, l)
   more false now before start h l = omega (arith, h, l)
 
-  pub finds : (start : List Param) (is_back : Bool) (turn : ℕ) (grew : Bool) (now new : List Param) (f : Facts) → Contains facts f → Swept items facts start is_back turn grew now → Notes items f now new true → Swept items facts start is_back (turn + 1) true new
+  pub finds : (start : List BodyParameter) (is_back : Bool) (turn : ℕ) (grew : Bool) (now new : List BodyParameter) (f : Facts) → Contains facts f → Swept items facts start is_back turn grew now → Notes items f now new true → Swept items facts start is_back (turn + 1) true new
   finds start is_back turn grew now new f has swept noted =
       record {
         sound = still_sound f now new has swept.sound noted;
@@ -110,7 +110,7 @@ module _ (items : ItemTable) (facts : List Facts) where
   same_fact : (n : ℕ) (f g : Facts) → n < length facts → get_or facts n f ≡ f → get_or facts n g ≡ g → f ≡ g
   same_fact n f g within a b = grind (arith, common_steps)
 
-  pub finds_nothing : (start : List Param) (is_back : Bool) (turn : ℕ) (grew : Bool) (now new : List Param) (f : Facts) → index_of turn (length facts) is_back < length facts → get_or facts (index_of turn (length facts) is_back) f ≡ f → Swept items facts start is_back turn grew now → Notes items f now new false → Swept items facts start is_back (turn + 1) grew new
+  pub finds_nothing : (start : List BodyParameter) (is_back : Bool) (turn : ℕ) (grew : Bool) (now new : List BodyParameter) (f : Facts) → index_of turn (length facts) is_back < length facts → get_or facts (index_of turn (length facts) is_back) f ≡ f → Swept items facts start is_back turn grew now → Notes items f now new false → Swept items facts start is_back (turn + 1) grew new
   finds_nothing start is_back turn grew now new f within at swept noted =
       subst (λ params. Swept items facts start is_back (turn + 1) grew params) (sym noted.0)
       (record {
@@ -131,14 +131,14 @@ module _ (items : ItemTable) (facts : List Facts) where
       by quiet k g here (inr is) =
           subst (IsSettled items now) (same_fact (index_of turn (length facts) is_back) f g within at (ap (λ n. get_or facts (index_of n (length facts) is_back) g) (sym is) ∙ here)) noted.1
 
-  pub ends : (start : List Param) (is_back : Bool) (now : List Param) → Swept items facts start is_back (length facts) false now → AreSettled false items facts now
+  pub ends : (start : List BodyParameter) (is_back : Bool) (now : List BodyParameter) → Swept items facts start is_back (length facts) false now → AreSettled false items facts now
   ends start true now swept f has =
       swept.steady refl (length facts - 1 - has.0) (let l : length facts - 1 - has.0 < length facts = omega (arith, has.1) in l) f
       (ap (λ n. get_or facts n f) (let e : length facts - 1 - (length facts - 1 - has.0) ≡ has.0 = omega (arith, has.1) in e) ∙ has.2)
   ends start false now swept f has = swept.steady refl has.0 has.1 f has.2
 
 -- a fact among those that are seen so
-pub fact_at : (facts : List Fact) (n : ℕ) (f : Fact) → n < length facts → f ≡ get_or facts n f → (n < length (map fact_in facts)) × (get_or (map fact_in facts) n (fact_in f) ≡ fact_in f)
+pub fact_at : (facts : List ParameterFact) (n : ℕ) (f : ParameterFact) → n < length facts → f ≡ get_or facts n f → (n < length (map fact_in facts)) × (get_or (map fact_in facts) n (fact_in f) ≡ fact_in f)
 fact_at facts n f within is = (
   subst (λ k. n < k) (sym (length-map facts fact_in)) within,
   grind (arith, common_steps),

@@ -8,10 +8,10 @@ use Rattle.typed_tree.specs.declared.body.Param as rust
 use Rattle.typed_tree.specs.declared.body.TBody.{TBody}
 use Rattle.typing_rules.specs.Borrows.{of_self, replaced_self, replacements}
 use Rattle.typing_rules.specs.Check.{Broken}
-use Rattle.typing_rules.specs.Replaced.{Param}
+use Rattle.typing_rules.specs.Replaced.{BodyParameter}
 use Rattle.well_typed.specs.Nodes.{is_drop_body}
 
-module _ (items : ItemTable) (params : List Param) (body : TBody) where
+module _ (items : ItemTable) (params : List BodyParameter) (body : TBody) where
   abbrev B : BodyTree
   B = body_of body
 

@@ -6,10 +6,10 @@ use Rattle.mir_ty.specs.ItemTable.{ItemTable}
 use Rattle.typed_tree.specs.Tree.{BodyTree}
 use Rattle.typing_rules.specs.Borrows.{overlaps, replaced_self}
 use Rattle.typing_rules.specs.Check.{Broken}
-use Rattle.typing_rules.specs.Replaced.{Param}
-use Rattle.borrow_rules.specs.declared.first_broken.Fault.{Fault}
+use Rattle.typing_rules.specs.Replaced.{BodyParameter}
+use Rattle.borrow_rules.specs.declared.first_broken.BrokenRule.{BrokenRule}
 
-abbrev pub fault_in : Fault → Broken
+abbrev pub fault_in : BrokenRule → Broken
 fault_in f = record { rule = f.rule; at = f.at }
 
 -- nothing is broken, or this is the first; want of memory says nothing
@@ -19,5 +19,5 @@ Answers outcome (Err (RuleError.Broken rule at)) = outcome ≡ Some (record { ru
 Answers outcome (Err RuleError.Memory) = ⊤
 
 -- all that is broken in bodies, by the parameters that may be replaced
-abbrev pub faults_of : ItemTable → List Param → List BodyTree → List Broken
+abbrev pub faults_of : ItemTable → List BodyParameter → List BodyTree → List Broken
 faults_of items params bodies = flat_map (λ body. overlaps body ++ replaced_self items params body) bodies

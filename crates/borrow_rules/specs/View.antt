@@ -10,9 +10,9 @@ use Rattle.typed_tree.specs.Tree.{Form, If, IfLet, Arm, WhileLet, node, Variable
 use Rattle.typed_tree.specs.View.{tree_of}
 use Rattle.typing_rules.specs.Replaced as rules
 use Rattle.typing_rules.specs.Replaced.{OfBody, OfTrait, is_some_pos, store_of, passings_of}
-use Rattle.borrow_rules.specs.declared.facts.Fact.{Fact}
+use Rattle.borrow_rules.specs.declared.facts.ParameterFact.{ParameterFact}
 use Rattle.borrow_rules.specs.declared.facts.ParamNo.{ParamNo}
-use Rattle.borrow_rules.specs.declared.passings.Callee as rust
+use Rattle.borrow_rules.specs.declared.passings.CalledBody as rust
 use Rattle.borrow_rules.specs.declared.passings.Passing.{Passing}
 
 abbrev pub tree_in : Bor Node → tree.Node
@@ -29,20 +29,20 @@ abbrev pub variable_key : tree.Node → Option ℕ
 variable_key (node id at ty by (Variable key)) = Some key
 variable_key _ = None
 
-abbrev pub callee_in : rust.Callee → rules.Callee
-callee_in (rust.Callee.OfBody body) = OfBody body
-callee_in (rust.Callee.OfTrait trait_no method) = OfTrait trait_no method
+abbrev pub callee_in : rust.CalledBody → rules.CalledBody
+callee_in (rust.CalledBody.OfBody body) = OfBody body
+callee_in (rust.CalledBody.OfTrait trait_no method) = OfTrait trait_no method
 
 abbrev pub passing_in : Passing → rules.Passing
 passing_in p = record { at = p.at; callee = callee_in p.callee; number = p.number }
 
-abbrev pub param_in : ParamNo → rules.Param
+abbrev pub param_in : ParamNo → rules.BodyParameter
 param_in p = record { body = p.body; number = p.number }
 
-abbrev pub params_in : List ParamNo → List rules.Param
+abbrev pub params_in : List ParamNo → List rules.BodyParameter
 params_in params = map param_in params
 
-abbrev pub fact_in : Fact → rules.Facts
+abbrev pub fact_in : ParameterFact → rules.Facts
 fact_in f = record { param = param_in f.param; is_stored = f.is_stored; passed = map passing_in f.passed }
 
 -- what is known of a parameter, by the nodes of its body

@@ -19,7 +19,7 @@ pub struct ParamNo {
 
 /// Whether its body stores into exactly what a parameter names, and for what it passes the parameter on.
 #[derive(Drop)]
-pub struct Fact {
+pub struct ParameterFact {
     pub param: ParamNo,
     pub is_stored: bool,
     pub passed: List<Passing>,
@@ -32,13 +32,13 @@ fn fact_of(
     body: u32,
     number: u32,
     param: &Param,
-) -> Result<Fact, NoMemory>
+) -> Result<ParameterFact, NoMemory>
     ensures { IfOk result (λ fact. fact_in fact ≡ facts_with (map tree_in nodes.now) body number (param_tree param.now)) }
 {
     let key = Key(param.pattern.id.0);
     let stores = stores(alloc, key, nodes)?;
     let passed = passings(alloc, key, nodes)?;
-    Ok(Fact {
+    Ok(ParameterFact {
         param: ParamNo { body, number },
         is_stored: !stores.is_empty(),
         passed,
@@ -46,7 +46,7 @@ fn fact_of(
 }
 
 /// What is known of the parameters of a body.
-fn add_facts(alloc: Global, body: &TBody, facts: &mut List<Fact>) -> Result<(), NoMemory>
+fn add_facts(alloc: Global, body: &TBody, facts: &mut List<ParameterFact>) -> Result<(), NoMemory>
     ensures { OnOk result (map fact_in facts.new ≡
         map fact_in facts.old ++ rules.facts_from (body_of body.now) 0 (body_of body.now).params) }
 {
@@ -64,7 +64,7 @@ fn add_facts(alloc: Global, body: &TBody, facts: &mut List<Fact>) -> Result<(), 
 }
 
 /// What is known of all parameters.
-pub fn all_facts(alloc: Global, bodies: &[TBody]) -> Result<List<Fact>, NoMemory>
+pub fn all_facts(alloc: Global, bodies: &[TBody]) -> Result<List<ParameterFact>, NoMemory>
     ensures { IfOk result (λ facts. map fact_in facts ≡ rules.all_facts (map body_of bodies.now)) }
 {
     let mut facts = List::new(alloc);

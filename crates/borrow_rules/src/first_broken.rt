@@ -14,35 +14,35 @@ use crate::replaceable::{is_replaced, replaceable};
 use body_nodes::nodes_of;
 use mir_base::{Key, NoMemory, Pos, Rule, RuleError};
 use mir_ty::Items;
-use place_accesses::{Told, tell};
+use place_accesses::{ToldAccesses, tell};
 use std::alloc::Global;
 use std::collections::HashSet;
 use typed_tree::{TBody, Typed};
 
 /// A rule that is broken, and where.
 #[derive(Clone, Copy)]
-pub struct Fault {
+pub struct BrokenRule {
     pub rule: Rule,
     pub at: Pos,
 }
 
 /// One rule is broken at places.
-fn add_faults(rule: Rule, places: &[Pos], faults: &mut Vec<Fault>) -> Result<(), NoMemory>
+fn add_faults(rule: Rule, places: &[Pos], faults: &mut Vec<BrokenRule>) -> Result<(), NoMemory>
     ensures { OnOk result (map fault_in faults.new.items ≡
         map fault_in faults.old.items ++ map (rules.broken rule) places.now) }
 {
     for at in places {
-        faults.push(Fault { rule, at: *at })?;
+        faults.push(BrokenRule { rule, at: *at })?;
     }
     Ok(())
 }
 
 /// Where references overlap in a body.
-fn add_overlaps(alloc: Global, body: &TBody, faults: &mut Vec<Fault>) -> Result<(), NoMemory>
+fn add_overlaps(alloc: Global, body: &TBody, faults: &mut Vec<BrokenRule>) -> Result<(), NoMemory>
     ensures { OnOk result (map fault_in faults.new.items ≡
         map fault_in faults.old.items ++ rules.overlaps (body_of body.now)) }
 {
-    let mut told = Told::quiet(alloc);
+    let mut told = ToldAccesses::quiet(alloc);
     tell(alloc, &[], &body.block, &mut told)?;
     add_faults(Rule::T14, told.conflicts.as_slice(), faults)
 }
@@ -72,7 +72,7 @@ fn add_replacements(
     found: &HashSet<ParamNo>,
     key: Key,
     body: &TBody,
-    faults: &mut Vec<Fault>,
+    faults: &mut Vec<BrokenRule>,
 ) -> Result<(), NoMemory>
     ensures { OnOk result (map fault_in faults.new.items ≡ map fault_in faults.old.items ++
         rules.replacements items.now (params_in found.now.keys) key.0 (body_of body.now)) }
@@ -91,7 +91,7 @@ fn add_replaced_self(
     drops: &HashSet<u32>,
     found: &HashSet<ParamNo>,
     body: &TBody,
-    faults: &mut Vec<Fault>,
+    faults: &mut Vec<BrokenRule>,
 ) -> Result<(), NoMemory>
     requires { HasDropBodies items.now drops.now.keys }
     ensures { OnOk result (map fault_in faults.new.items ≡ map fault_in faults.old.items ++
@@ -116,7 +116,7 @@ fn add_bodies(
     drops: &HashSet<u32>,
     found: &HashSet<ParamNo>,
     bodies: &[TBody],
-    faults: &mut Vec<Fault>,
+    faults: &mut Vec<BrokenRule>,
 ) -> Result<(), NoMemory>
     requires { HasDropBodies items.now drops.now.keys }
     ensures { OnOk result (map fault_in faults.new.items ≡ map fault_in faults.old.items ++
@@ -130,7 +130,7 @@ fn add_bodies(
 }
 
 /// All that is broken in a program.
-fn all_faults(alloc: Global, typed: &Typed) -> Result<Vec<Fault>, NoMemory>
+fn all_faults(alloc: Global, typed: &Typed) -> Result<Vec<BrokenRule>, NoMemory>
     ensures { IfOk result (λ faults. map fault_in faults.items ≡ rules.all_broken (program_of typed.now)) }
 {
     let found = replaceable(alloc, typed)?;
@@ -163,13 +163,13 @@ fn is_overlap(rule: Rule) -> bool
 }
 
 /// Whether a fault is told before another one: it stands before it, or at its place and is of the lower rule.
-fn comes_first(a: Fault, b: Fault) -> bool
+fn comes_first(a: BrokenRule, b: BrokenRule) -> bool
     ensures { result ≡ rules.comes_first (fault_in a) (fault_in b) }
 {
     is_before(a.at, b.at) || (!is_before(b.at, a.at) && is_overlap(a.rule))
 }
 
-fn earlier(a: Fault, b: Option<Fault>) -> Fault
+fn earlier(a: BrokenRule, b: Option<BrokenRule>) -> BrokenRule
     ensures { fault_in result ≡ rules.earlier (fault_in a) (option_map fault_in b) }
 {
     match b {
@@ -179,7 +179,7 @@ fn earlier(a: Fault, b: Option<Fault>) -> Fault
 }
 
 /// The first fault in the text.
-fn first_of(faults: &[Fault]) -> Option<Fault>
+fn first_of(faults: &[BrokenRule]) -> Option<BrokenRule>
     ensures { option_map fault_in result ≡ rules.first_of (map fault_in faults.now) }
 {
     let mut first = None;
@@ -189,7 +189,7 @@ fn first_of(faults: &[Fault]) -> Option<Fault>
     first
 }
 
-fn answer(first: Option<Fault>) -> Result<(), RuleError>
+fn answer(first: Option<BrokenRule>) -> Result<(), RuleError>
     ensures { Answers (option_map fault_in first) result }
 {
     match first {

@@ -12,7 +12,7 @@ use typed_tree::{Form, Node};
 
 /// What is called: a body, or a method of a trait.
 #[derive(Clone, Copy)]
-pub enum Callee {
+pub enum CalledBody {
     OfBody(u32),
     OfTrait { trait_no: u32, method: u32 },
 }
@@ -21,7 +21,7 @@ pub enum Callee {
 #[derive(Clone, Copy)]
 pub struct Passing {
     pub at: Pos,
-    pub callee: Callee,
+    pub callee: CalledBody,
     pub number: u32,
 }
 
@@ -96,7 +96,7 @@ pub fn stores(alloc: Global, key: Key, nodes: &[&Node]) -> Result<Vec<Pos>, NoMe
 fn add_numbers(
     key: Key,
     at: Pos,
-    callee: Callee,
+    callee: CalledBody,
     from: u32,
     nodes: &[Node],
     passings: &mut List<Passing>,
@@ -121,7 +121,7 @@ fn add_numbers(
 fn add_receiver(
     key: Key,
     at: Pos,
-    callee: Callee,
+    callee: CalledBody,
     receiver: &Node,
     nodes: &[Node],
     passings: &mut List<Passing>,
@@ -149,7 +149,7 @@ fn add_passings(key: Key, node: &Node, passings: &mut List<Passing>) -> Result<(
             add_numbers(
                 key,
                 node.at,
-                Callee::OfBody(*body),
+                CalledBody::OfBody(*body),
                 0,
                 args.as_slice(),
                 passings,
@@ -160,7 +160,7 @@ fn add_passings(key: Key, node: &Node, passings: &mut List<Passing>) -> Result<(
             receiver,
             args,
         } => {
-            let callee = Callee::OfBody(*body);
+            let callee = CalledBody::OfBody(*body);
             add_receiver(key, node.at, callee, receiver, args.as_slice(), passings)
         }
         Form::VirtualCall {
@@ -169,7 +169,7 @@ fn add_passings(key: Key, node: &Node, passings: &mut List<Passing>) -> Result<(
             receiver,
             args,
         } => {
-            let callee = Callee::OfTrait {
+            let callee = CalledBody::OfTrait {
                 trait_no: *trait_no,
                 method: *method,
             };

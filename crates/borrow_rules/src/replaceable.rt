@@ -4,12 +4,12 @@ ghost use Rattle.std.specs.Prelude.{◌≡◌, ◌<◌, ◌+◌, IfOk, List, len
 ghost use Rattle.std.specs.List.{list_any};
 ghost use Rattle.typed_tree.specs.View.{program_of};
 ghost use Rattle.typing_rules.specs.Replaced as rules;
-ghost use Rattle.typing_rules.specs.Replaced.{Param};
+ghost use Rattle.typing_rules.specs.Replaced.{BodyParameter};
 ghost use Rattle.borrow_rules.specs.Found.{IsFound, IsSound, Notes, Swept, index_of, is_shown, method_found};
 ghost use Rattle.borrow_rules.specs.View.{fact_in, params_in, passing_in};
 
-use crate::facts::{Fact, ParamNo, all_facts};
-use crate::passings::{Callee, Passing};
+use crate::facts::{ParamNo, ParameterFact, all_facts};
+use crate::passings::{CalledBody, Passing};
 use mir_base::NoMemory;
 use mir_ty::{ImplDef, Items};
 use std::alloc::Global;
@@ -67,8 +67,8 @@ pub fn is_replaced(items: &Items, found: &HashSet<ParamNo>, passing: &Passing) -
     ensures { result ≡ rules.is_replaced items.now (params_in found.now.keys) (passing_in passing.now) }
 {
     match passing.callee {
-        Callee::OfBody(body) => is_found(found, body, passing.number),
-        Callee::OfTrait { trait_no, method } => {
+        CalledBody::OfBody(body) => is_found(found, body, passing.number),
+        CalledBody::OfTrait { trait_no, method } => {
             is_any_found(items, found, trait_no, method, passing.number)
         }
     }
@@ -86,14 +86,14 @@ fn is_any_replaced(items: &Items, found: &HashSet<ParamNo>, passed: &[Passing]) 
 }
 
 /// Whether what was found shows that a parameter may be replaced.
-fn is_told(items: &Items, found: &HashSet<ParamNo>, fact: &Fact) -> bool
+fn is_told(items: &Items, found: &HashSet<ParamNo>, fact: &ParameterFact) -> bool
     ensures { result ≡ is_shown items.now (params_in found.now.keys) (fact_in fact.now) }
 {
     fact.is_stored || is_any_replaced(items, found, fact.passed.as_slice())
 }
 
 /// Notes a parameter that is shown and was not found yet. Answers whether it did.
-fn note(items: &Items, fact: &Fact, found: &mut HashSet<ParamNo>) -> Result<bool, NoMemory>
+fn note(items: &Items, fact: &ParameterFact, found: &mut HashSet<ParamNo>) -> Result<bool, NoMemory>
     ensures { IfOk result (λ is_news. Notes items.now (fact_in fact.now) (params_in found.old.keys) (params_in found.new.keys) is_news) }
 {
     let param = fact.param;
@@ -115,14 +115,14 @@ fn index_at(turn: usize, count: usize, is_back: bool) -> usize
 /// One turn of a sweep, in which what is known of one parameter is looked at. Answers whether the sweep has found any.
 fn take_turn(
     items: &Items,
-    facts: &[Fact],
+    facts: &[ParameterFact],
     is_back: bool,
     turn: usize,
     grew: bool,
     found: &mut HashSet<ParamNo>,
 ) -> Result<bool, NoMemory>
     requires { turn < length facts.now }
-    ensures { IfOk result (λ grows. (start : List Param) → Swept items.now (map fact_in facts.now) start is_back turn grew (params_in found.old.keys) →
+    ensures { IfOk result (λ grows. (start : List BodyParameter) → Swept items.now (map fact_in facts.now) start is_back turn grew (params_in found.old.keys) →
         Swept items.now (map fact_in facts.now) start is_back (turn + 1) grows (params_in found.new.keys)) }
 {
     let n = index_at(turn, facts.len(), is_back);
@@ -135,7 +135,7 @@ fn take_turn(
 /// Goes once over what is known of parameters, and notes which are shown. Answers whether it found any.
 fn sweep(
     items: &Items,
-    facts: &[Fact],
+    facts: &[ParameterFact],
     is_back: bool,
     found: &mut HashSet<ParamNo>,
 ) -> Result<bool, NoMemory>

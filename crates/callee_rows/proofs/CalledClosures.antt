@@ -7,7 +7,7 @@ use Rattle.mir_ty.specs.declared.def.Sig.{Sig}
 use Rattle.mir_ty.specs.declared.ty.TyId.{TyId}
 use Rattle.member_rows.specs.Calls.{Arguments}
 use Rattle.typed_tree.specs.Tree.{Node}
-use Rattle.typing_rules.specs.Check.{State, ◌>>=◌}
+use Rattle.typing_rules.specs.Check.{TypingState, ◌>>=◌}
 use Rattle.typing_rules.specs.Rows.{with_closure}
 use Rattle.well_typed.specs.Places.{ty_of}
 use Rattle.well_typed.specs.Types.{closure_of}
@@ -15,7 +15,7 @@ use Rattle.callee_rows.specs.Closures.{body_seen, closure_seen}
 use Rattle.callee_rows.specs.Rests.{callee_rest, closure_rest}
 use Rattle.callee_rows.specs.declared.closures.ClosureCallee.{ClosureCallee}
 
-module _ (id : ℕ) (at : Pos) (want : Option TyId) (c : Node) (count : ℕ) (args : Arguments) (s : State) where
+module _ (id : ℕ) (at : Pos) (want : Option TyId) (c : Node) (count : ℕ) (args : Arguments) (s : TypingState) where
   by_head : (body : ℕ) (head : Option Sig) → with_closure at id c count args want body head s ≡ (args (closure_seen body head).params >>= callee_rest id at want (closure_seen body head) c count) s
   by_head body None = refl
   by_head body (Some head) = refl

@@ -2,7 +2,7 @@
 use Rattle.std.proofs.Common.{◌≡◌, ℕ, suc, ◌<◌, ◌==◌, Bool, true, false, Option, Some, None, refl, arith}
 use Rattle.mir_ty.specs.ItemTable.{ItemTable}
 use Rattle.mir_ty.specs.declared.def.Sig.{Sig}
-use Rattle.src_tree.specs.declared.node.Node.{Node}
+use Rattle.src_tree.specs.declared.node.SyntaxNode.{SyntaxNode}
 use Rattle.src_ast.specs.Seen.{syn_of}
 use Rattle.src_ast.specs.Sorts.{expression_part, some_if, sort_of}
 use Rattle.src_ast.specs.Syntax.{Syn, syn, Shape, shape_of, Ident, LabelOf, Literal, TruthLiteral, Path, Minus, Bang, Star, Ampersand, Calculate, Compare, Both, Either, Store, CallOf, MethodOf, FieldOf, PartOf, ElementOf, StructOf, FieldInit, Parens, TupleOf, ArrayOf, Braces, IfElse, IfLetElse, MatchOn, ArmOf, LoopOf, WhileOf, WhileLetOf, BreakOf, ContinueOf, ReturnOf, MoveOf, PanicOf, LetOf, Empty, Semi, AnyPattern, BindPattern, LiteralPattern, TruthPattern, PathPattern, PartsPattern, FieldsPattern, FieldPattern, ParensPattern, TuplePattern, ArrayPattern, Alternatives, NamedType, GenericType, DynType, SelfType, ParensType, TupleType, ArrayType, NeverType, RefType, StructItem, EnumItem, FieldDecl, VariantDecl, TraitItem, ImplItem, FnItem, ParamOf, SelfParam, Odd}
@@ -91,7 +91,7 @@ form_seen items env Odd = refl
 by_form : (items : ItemTable) (env : Env) (x : Syn) → callee_of items env x ≡ callee_seen_by items env (expression_part (shape_of x))
 by_form items env (syn at form) = form_seen items env form
 
-pub callee_as : (items : ItemTable) (env : Env) (n : Node) → callee_of items env (syn_of n) ≡ callee_seen_by items env (expression_part (shape_of (syn_of n)))
+pub callee_as : (items : ItemTable) (env : Env) (n : SyntaxNode) → callee_of items env (syn_of n) ≡ callee_seen_by items env (expression_part (shape_of (syn_of n)))
 callee_as items env n = by_form items env (syn_of n)
 
 -- what stands in parentheses has fewer of them around it
@@ -102,5 +102,5 @@ part_parens false form = omega arith
 syn_parens : (x : Syn) → parens_seen (expression_part (shape_of x)) < suc (parens x)
 syn_parens (syn at form) = part_parens (sort_of form == 13) form
 
-pub fewer_parens : (n : Node) → parens_seen (expression_part (shape_of (syn_of n))) < suc (parens (syn_of n))
+pub fewer_parens : (n : SyntaxNode) → parens_seen (expression_part (shape_of (syn_of n))) < suc (parens (syn_of n))
 fewer_parens n = syn_parens (syn_of n)

@@ -8,40 +8,40 @@ use Rattle.struct_rows.specs.Rests.{GivesFields}
 use Rattle.type_rows.specs.Stand.{Gives, stack, state, top}
 use Rattle.type_rows.specs.declared.checker.Checker.{Checker}
 use Rattle.typed_tree.specs.Tree.{Fields, Node, Nodes}
-use Rattle.typing_rules.specs.Check.{Broken, Check, State, and_then}
+use Rattle.typing_rules.specs.Check.{Broken, Check, TypingState, and_then}
 use Rattle.typing_rules.specs.Rows.{Given}
 
-refused : {A B : Type 0} (o : Result (A × State) Broken) (f : A → Check B) (e : RuleError) → Refuses o e → Refuses (and_then o f) e
+refused : {A B : Type 0} (o : Result (A × TypingState) Broken) (f : A → Check B) (e : RuleError) → Refuses o e → Refuses (and_then o f) e
 refused o f (RuleError.Broken rule at) h = ap (λ r. and_then r f) h
 refused o f RuleError.Memory h = tt
 
 -- ---- calls
 
-module _ {B : Type 0} (check : ℕ → Arguments → Check Node) (s : State) (params : B → List TyId)
+module _ {B : Type 0} (check : ℕ → Arguments → Check Node) (s : TypingState) (params : B → List TyId)
     (rest : B → Node → ℕ → Nodes → Check Node) (b : B) (between : Checker) (count : ℕ) (args : Arguments)
     (given : GivesCall check s params rest (Ok b) between) where
-  pub call_joined : (nodes : Nodes) (t : State) (r : Result (Unit {0}) RuleError) (after : Checker) →
+  pub call_joined : (nodes : Nodes) (t : TypingState) (r : Result (Unit {0}) RuleError) (after : Checker) →
       args (params b) (state between) ≡ Ok (nodes, t) → Gives (rest b (top (stack between)) count nodes t) r after → Gives (check count args s) r after
   call_joined nodes t r after e h =
-      subst (λ (o : Result (Node × State) Broken). Gives o r after)
+      subst (λ (o : Result (Node × TypingState) Broken). Gives o r after)
       (sym (given count args ∙ ap (λ o. and_then o (rest b (top (stack between)) count)) e)) h
 
   pub call_refused : (e : RuleError) → Refuses (args (params b) (state between)) e → Refuses (check count args s) e
   call_refused e h =
-      subst (λ (o : Result (Node × State) Broken). Refuses o e) (sym (given count args))
+      subst (λ (o : Result (Node × TypingState) Broken). Refuses o e) (sym (given count args))
       (refused (args (params b) (state between)) (rest b (top (stack between)) count) e h)
 
 -- ---- struct expressions
 
-module _ {B : Type 0} (check : Check (Fields × Given) → Check Node) (s : State) (rest : B → Fields × Given → Check Node) (b : B)
+module _ {B : Type 0} (check : Check (Fields × Given) → Check Node) (s : TypingState) (rest : B → Fields × Given → Check Node) (b : B)
     (between : Checker) (fields : Check (Fields × Given)) (given : GivesFields check s rest (Ok b) between) where
-  pub fields_joined : (fs : Fields × Given) (t : State) (r : Result (Unit {0}) RuleError) (after : Checker) →
+  pub fields_joined : (fs : Fields × Given) (t : TypingState) (r : Result (Unit {0}) RuleError) (after : Checker) →
       fields (state between) ≡ Ok (fs, t) → Gives (rest b fs t) r after → Gives (check fields s) r after
   fields_joined fs t r after e h =
-      subst (λ (o : Result (Node × State) Broken). Gives o r after)
+      subst (λ (o : Result (Node × TypingState) Broken). Gives o r after)
       (sym (given fields ∙ ap (λ o. and_then o (rest b)) e)) h
 
   pub fields_refused : (e : RuleError) → Refuses (fields (state between)) e → Refuses (check fields s) e
   fields_refused e h =
-      subst (λ (o : Result (Node × State) Broken). Refuses o e) (sym (given fields))
+      subst (λ (o : Result (Node × TypingState) Broken). Refuses o e) (sym (given fields))
       (refused (fields (state between)) (rest b) e h)

@@ -15,32 +15,32 @@ use Rattle.typing_rules.specs.Rows as rows
 use Rattle.typing_rules.specs.Rows.{box_by, first_node, with_closure}
 use Rattle.well_typed.specs.Places.{ty_of}
 use Rattle.well_typed.specs.Types.{closure_of}
-use Rattle.callee_rows.specs.declared.begun.Begun.{Begun}
-use Rattle.callee_rows.specs.declared.begun.Ending.{Ending}
+use Rattle.callee_rows.specs.declared.begun.BegunCall.{BegunCall}
+use Rattle.callee_rows.specs.declared.begun.CallEnding.{CallEnding}
 use Rattle.callee_rows.specs.declared.closures.ClosureCallee.{ClosureCallee}
 use Rattle.callee_rows.specs.declared.closures.CalledClosure.{CalledClosure}
 
 -- ---- functions, constructors and built-ins
 
 -- a call by how it ends, with its arguments, of which there are so many, and whether that is as many as parameters
-abbrev pub ending_rest : ℕ → Pos → Option TyId → Ending → Bool → ℕ → Nodes → Check Node
-ending_rest id at want (Ending.Function body answer is_drop) is_count count given =
+abbrev pub ending_rest : ℕ → Pos → Option TyId → CallEnding → Bool → ℕ → Nodes → Check Node
+ending_rest id at want (CallEnding.Function body answer is_drop) is_count count given =
     call_rest id at answer (tree.Call body given) is_count (not is_drop) want
-ending_rest id at want (Ending.Make adt variant ty) is_count count given =
+ending_rest id at want (CallEnding.Make adt variant ty) is_count count given =
     call_rest id at ty (rows.make adt variant given) is_count true want
-ending_rest id at want Ending.Print is_count count given =
+ending_rest id at want CallEnding.Print is_count count given =
     counted_rest id at unit (rows.print_form given) Rule.T04 (count == 1) want
-ending_rest id at want Ending.Ask is_count count given =
+ending_rest id at want CallEnding.Ask is_count count given =
     counted_rest id at (int IntKind.I32) (rows.ask_form given) Rule.T04 (count == 0) want
-ending_rest id at want Ending.DropValue is_count count given =
+ending_rest id at want CallEnding.DropValue is_count count given =
     counted_rest id at unit (rows.drop_form given) Rule.T04 (count == 1) want
-ending_rest id at want Ending.Forget is_count count given =
+ending_rest id at want CallEnding.Forget is_count count given =
     counted_rest id at unit (rows.forget_form given) Rule.T04 (count == 1) want
-ending_rest id at want (Ending.NewBox content) is_count count given =
+ending_rest id at want (CallEnding.NewBox content) is_count count given =
     box_by at id count want content (first_node given)
-ending_rest id at want Ending.Refused is_count count given = breaks Rule.T13 at
+ending_rest id at want CallEnding.Refused is_count count given = breaks Rule.T13 at
 
-abbrev pub begun_rest : Pos → Option TyId → Begun → Node → ℕ → Nodes → Check Node
+abbrev pub begun_rest : Pos → Option TyId → BegunCall → Node → ℕ → Nodes → Check Node
 begun_rest at want b last count given = ending_rest b.id.0 at want b.ending (count == length b.params) count given
 
 -- ---- closures
@@ -59,4 +59,5 @@ closure_by id at want (Some called) is_count c given =
     counted_rest id at called.answer (tree.ClosureCall called.body c given) Rule.T04 is_count want
 
 abbrev pub callee_rest : ℕ → Pos → Option TyId → ClosureCallee → Node → ℕ → Nodes → Check Node
-callee_rest id at want callee c count given = closure_by id at want callee.called (count == length callee.params) c given
+callee_rest id at want callee c count given = closure_by id at want callee.called (count == length callee.params) c
+    given

@@ -30,7 +30,7 @@ use type_rows::Checker;
 
 /// How a call ends behind its arguments.
 #[derive(Clone, Copy)]
-pub enum Ending {
+pub enum CallEnding {
     /// A call of a body, which answers this type.
     Function {
         body: u32,
@@ -55,33 +55,37 @@ pub enum Ending {
 
 /// A call that waits for its arguments.
 #[derive(Drop)]
-pub struct Begun {
+pub struct BegunCall {
     /// The number of its node.
     pub id: NodeId,
     /// The types of its parameters, as far as one is required of an argument.
     pub params: List<TyId>,
-    pub ending: Ending,
+    pub ending: CallEnding,
 }
 
-fn started(checker: &mut Checker, params: List<TyId>, ending: Ending) -> Result<Begun, RuleError>
+fn started(
+    checker: &mut Checker,
+    params: List<TyId>,
+    ending: CallEnding,
+) -> Result<BegunCall, RuleError>
     ensures number { GivesValue (λ b. b.id.0) (number (state checker.old)) result checker.new }
     ensures params { IfOk result (λ b. b.params ≡ params) }
     ensures ending { IfOk result (λ b. b.ending ≡ ending) }
     ensures same { Same checker.old checker.new }
 {
     let id = checker.number()?;
-    Ok(Begun { id, params, ending })
+    Ok(BegunCall { id, params, ending })
 }
 
 /// A call that is refused behind its arguments.
-fn refused(checker: &Checker) -> Begun
+fn refused(checker: &Checker) -> BegunCall
     ensures params { result.params ≡ [] }
-    ensures ending { result.ending ≡ Ending.Refused }
+    ensures ending { result.ending ≡ CallEnding.Refused }
 {
-    Begun {
+    BegunCall {
         id: NodeId(0),
         params: List::new(checker.alloc),
-        ending: Ending::Refused,
+        ending: CallEnding::Refused,
     }
 }
 
@@ -92,7 +96,7 @@ fn is_drop(checker: &Checker, body: u32) -> bool
     checker.tables.drop_bodies.contains(&body)
 }
 
-fn function(checker: &mut Checker, body: u32) -> Result<Begun, RuleError>
+fn function(checker: &mut Checker, body: u32) -> Result<BegunCall, RuleError>
     ensures gives { (at : Pos) (want : Option TyId) (value : Check tree.Node) →
         GivesCall (λ count args. typed.called_by at count value args (named.function_by checker.old.walk.items body (slice_get checker.old.walk.items.bodies body)) want) (state checker.old) (λ b. b.params) (begun_rest at want) result checker.new }
     ensures same { Same checker.old checker.new }
@@ -102,7 +106,7 @@ fn function(checker: &mut Checker, body: u32) -> Result<Begun, RuleError>
             let params = copied(checker.alloc, sig.params.as_slice())?;
             let answer = sig.result;
             let is_drop = is_drop(checker, body);
-            let ending = Ending::Function {
+            let ending = CallEnding::Function {
                 body,
                 answer,
                 is_drop,
@@ -113,14 +117,14 @@ fn function(checker: &mut Checker, body: u32) -> Result<Begun, RuleError>
     }
 }
 
-fn constructor(checker: &mut Checker, adt: u32, variant: u32) -> Result<Begun, RuleError>
+fn constructor(checker: &mut Checker, adt: u32, variant: u32) -> Result<BegunCall, RuleError>
     ensures gives { (at : Pos) (want : Option TyId) (value : Check tree.Node) →
         GivesCall (λ count args. typed.called_by at count value args (named.Constructor adt variant (option_map_or (λ v. v.fields) (types.variant_at checker.old.walk.items adt variant) [])) want) (state checker.old) (λ b. b.params) (begun_rest at want) result checker.new }
     ensures same { Same checker.old checker.new }
 {
     let params = variant_types(checker, adt, variant)?;
     let ty = checker.interned(Ty::Adt(adt))?;
-    started(checker, params, Ending::Make { adt, variant, ty })
+    started(checker, params, CallEnding::Make { adt, variant, ty })
 }
 
 /// The types of parameters, of which there is one or none.
@@ -135,7 +139,11 @@ fn listed(alloc: Global, ty: Option<TyId>) -> Result<List<TyId>, RuleError>
     Ok(types)
 }
 
-fn built_in(checker: &mut Checker, ending: Ending, param: Option<TyId>) -> Result<Begun, RuleError>
+fn built_in(
+    checker: &mut Checker,
+    ending: CallEnding,
+    param: Option<TyId>,
+) -> Result<BegunCall, RuleError>
     ensures number { GivesValue (λ b. b.id.0) (number (state checker.old)) result checker.new }
     ensures params { IfOk result (λ b. b.params ≡ rows.listed param) }
     ensures ending { IfOk result (λ b. b.ending ≡ ending) }
@@ -170,12 +178,12 @@ fn content_wanted(items: &Items, want: Option<TyId>) -> Option<TyId>
     }
 }
 
-fn new_box(checker: &mut Checker, want: Option<TyId>) -> Result<Begun, RuleError>
+fn new_box(checker: &mut Checker, want: Option<TyId>) -> Result<BegunCall, RuleError>
     ensures gives { (at : Pos) → GivesCall (λ count args. rows.new_box at count args want) (state checker.old) (λ b. b.params) (begun_rest at want) result checker.new }
     ensures same { Same checker.old checker.new }
 {
     let content = content_wanted(&checker.walk.items, want);
-    built_in(checker, Ending::NewBox(content), content)
+    built_in(checker, CallEnding::NewBox(content), content)
 }
 
 /// How a call begins, before its arguments. A value that is called begins by [`crate::closure_callee`], and is answered
@@ -185,17 +193,17 @@ pub fn begin(
     at: Pos,
     callee: Callee,
     want: Option<TyId>,
-) -> Result<Begun, RuleError>
+) -> Result<BegunCall, RuleError>
     ensures gives { (value : Check tree.Node) → GivesCall (λ count args. typed.called_by at count value args (callee_seen checker.old.walk.items callee) want) (state checker.old) (λ b. b.params) (begun_rest at want) result checker.new }
     ensures same { Same checker.old checker.new }
 {
     match callee {
         Callee::Function(body) => function(checker, body),
         Callee::Constructor { adt, variant } => constructor(checker, adt, variant),
-        Callee::Prints => built_in(checker, Ending::Print, Some(TyId(3))),
-        Callee::Asks => built_in(checker, Ending::Ask, None),
-        Callee::Drops => built_in(checker, Ending::DropValue, None),
-        Callee::Forgets => built_in(checker, Ending::Forget, None),
+        Callee::Prints => built_in(checker, CallEnding::Print, Some(TyId(3))),
+        Callee::Asks => built_in(checker, CallEnding::Ask, None),
+        Callee::Drops => built_in(checker, CallEnding::DropValue, None),
+        Callee::Forgets => built_in(checker, CallEnding::Forget, None),
         Callee::Boxes => new_box(checker, want),
         Callee::Unnamed(rule) => Err(broken(rule, at)),
         Callee::NoCallee => Ok(refused(checker)),

@@ -18,7 +18,7 @@ use name_rows::{
     adt_at_head, adt_named, body_named, kind_at, method_of, variable, variant_of_enum,
 };
 use src_ast::{ExpressionForm, FieldKind, PathForm, expression_form};
-use src_tree::Node;
+use src_tree::SyntaxNode;
 use type_env::{closure_of, is_enum};
 use type_rows::Checker;
 
@@ -218,7 +218,7 @@ fn path_callee(checker: &Checker, path: PathForm) -> Result<Callee, RuleError>
 
 /// What an expression is as a callee, in parentheses or not.
 #[tactic(auto, using(crate::proofs::CalleeForms::callee_as, crate::proofs::CalleeForms::fewer_parens))]
-pub fn callee_of(checker: &Checker, node: &Node) -> Result<Callee, RuleError>
+pub fn callee_of(checker: &Checker, node: &SyntaxNode) -> Result<Callee, RuleError>
     ensures found { IfOk result (λ callee. callee_seen checker.now.walk.items callee ≡ named.callee_of checker.now.walk.items (env checker.now) (syn_of node.now)) }
     ensures short { IfErr result (λ e. e ≡ RuleError.Memory) }
 {

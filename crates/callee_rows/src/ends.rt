@@ -13,7 +13,7 @@ ghost use Rattle.typed_tree.specs.Tree as tree;
 ghost use Rattle.typing_rules.specs.Places as places;
 ghost use Rattle.typing_rules.specs.Rows as rows;
 
-use crate::begun::{Begun, Ending};
+use crate::begun::{BegunCall, CallEnding};
 use call_rows::{Many, box_end, call_end as body_end, let_go};
 use item_heads::{broken, obeys, pushed};
 use mir_base::{List, NodeId, Pos, Rule, RuleError};
@@ -182,7 +182,7 @@ fn ended(
     checker: &mut Checker,
     id: NodeId,
     at: Pos,
-    ending: Ending,
+    ending: CallEnding,
     is_count: bool,
     count: usize,
     want: Option<TyId>,
@@ -191,7 +191,7 @@ fn ended(
     ensures kept { Keeps (below_all count (stack checker.old)) checker.old result checker.new }
 {
     match ending {
-        Ending::Function {
+        CallEnding::Function {
             body,
             answer,
             is_drop,
@@ -201,15 +201,15 @@ fn ended(
                 checker, id, at, answer, many, count, is_count, !is_drop, want,
             )
         }
-        Ending::Make { adt, variant, ty } => {
+        CallEnding::Make { adt, variant, ty } => {
             make_end(checker, id, at, ty, adt, variant, count, is_count, want)
         }
-        Ending::Print => one_end(checker, id, at, One::Print, count, want),
-        Ending::Ask => ask_end(checker, id, at, count, want),
-        Ending::DropValue => one_end(checker, id, at, One::DropValue, count, want),
-        Ending::Forget => one_end(checker, id, at, One::Forget, count, want),
-        Ending::NewBox(content) => new_box_end(checker, id, at, content, count, want),
-        Ending::Refused => Err(broken(Rule::T13, at)),
+        CallEnding::Print => one_end(checker, id, at, One::Print, count, want),
+        CallEnding::Ask => ask_end(checker, id, at, count, want),
+        CallEnding::DropValue => one_end(checker, id, at, One::DropValue, count, want),
+        CallEnding::Forget => one_end(checker, id, at, One::Forget, count, want),
+        CallEnding::NewBox(content) => new_box_end(checker, id, at, content, count, want),
+        CallEnding::Refused => Err(broken(Rule::T13, at)),
     }
 }
 
@@ -217,7 +217,7 @@ fn ended(
 pub fn call_end(
     checker: &mut Checker,
     at: Pos,
-    begun: &Begun,
+    begun: &BegunCall,
     count: usize,
     want: Option<TyId>,
 ) -> Result<(), RuleError>

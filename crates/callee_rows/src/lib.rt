@@ -7,7 +7,7 @@ mod closures;
 mod ends;
 mod paths;
 
-pub use begun::{Begun, Ending, begin};
+pub use begun::{BegunCall, CallEnding, begin};
 pub use callees::{Callee, callee_of};
 pub use closures::{ClosureCallee, closure_callee, closure_end};
 pub use ends::call_end;

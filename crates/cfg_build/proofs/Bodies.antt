@@ -36,8 +36,8 @@ use Rattle.cfg_code.proofs.FreeWalks.{walks_as_it_runs_freely}
 use Rattle.cfg_code.proofs.Runs.{runs_as_its_source}
 use Rattle.cfg_code.specs.Code.{BodyAt, FunctionAt}
 use Rattle.cfg_code.specs.Laws.{target_of, HoldsBody, HoldsProgram}
-use Rattle.cfg_code.specs.Spots.{Target, body_ways, StepAt, stays, goes, Joins}
-use Rattle.cfg_build.specs.Build.{Frame, Rest, Made, Building, ending, made, reserved, Lowers}
+use Rattle.cfg_code.specs.Spots.{CodeTarget, body_ways, StepAt, stays, goes, Joins}
+use Rattle.cfg_build.specs.Build.{LoweringFrame, BlockRest, MadeBlock, Building, ending, made, reserved, Lowers}
 use Rattle.cfg_build.specs.Laws.{NamesItsLoops, AllNameTheirLoops, LoweredRunsAsItsSource, LoweredWalksAsItRunsFreely, LoweredIsRanked, LoweredKeepsToCleanup, LoweredIsPrepared, IsRefilledIn, LoweredRefillsParts}
 use Rattle.cfg_build.specs.Lower as lower
 use Rattle.cfg_build.specs.Lower.{frame, entire_function, start, built, blocks_of, nodes_of, body_of, node_in, node_of, graph_of}
@@ -75,7 +75,7 @@ first_found p key keys d e =
     at b = cond (not b) (1 + prefix_len (λ x. not (p x)) keys) 0
 
 module _ (items : ItemTable) (tree : BodyTree) (named : NamesItsLoops tree) where
-  abbrev F : Frame
+  abbrev F : LoweringFrame
   F = frame items tree
 
   abbrev P : Lowers
@@ -87,16 +87,16 @@ module _ (items : ItemTable) (tree : BodyTree) (named : NamesItsLoops tree) wher
   abbrev S : Scopes
   S = lower.answer_scope F tree
 
-  abbrev last : Rest
+  abbrev last : BlockRest
   last = ending (Term.Goto 1) (answer_key tree)
 
-  abbrev r : Rest × Building
+  abbrev r : BlockRest × Building
   r = P.build (body_ways 1) S last begun
 
   abbrev z : Building
   z = built F tree
 
-  abbrev t : Target
+  abbrev t : CodeTarget
   t = target_of items tree (body_of items tree) (node_of items tree)
 
   lowered : rules.Lowered t P (function_at t tree)
@@ -137,7 +137,7 @@ module _ (items : ItemTable) (tree : BodyTree) (named : NamesItsLoops tree) wher
   used = (refl, subst (λ jumps. rules.AllWays IsUsed (body_ways 1) jumps) (sym (no_jumps F tree named)) tt)
 
   -- block 1 returns
-  abbrev returning : Made
+  abbrev returning : MadeBlock
   returning = made Kind.Plain 1 (ending Term.Return (answer_key tree))
 
   return_at : (slice_get (body_of items tree).blocks 1 ≡ Some returning.block) × rules.NodesAt t 1 0 returning.nodes
@@ -169,7 +169,7 @@ module _ (items : ItemTable) (tree : BodyTree) (named : NamesItsLoops tree) wher
   reserved_begins : Ranked (reserved (record { blocks = []; chains = [] }))
   reserved_begins = record { blocks = λ n m e. not_made n m e; chains = λ es n e. absurd (none-some n e); begun = omega arith }
     where
-      not_made : (n : ℕ) (m : Made) → ◌≡◌ {A = Option (Option Made)} (slice_get (None ∷ []) n) (Some (Some m)) → rules.MadeWell n m
+      not_made : (n : ℕ) (m : MadeBlock) → ◌≡◌ {A = Option (Option MadeBlock)} (slice_get (None ∷ []) n) (Some (Some m)) → rules.MadeWell n m
       not_made zero m e = absurd (none-some m (same_Some None (Some m) e))
       not_made (suc n) m e = absurd (none-some (Some m) e)
 
@@ -183,7 +183,7 @@ module _ (items : ItemTable) (tree : BodyTree) (named : NamesItsLoops tree) wher
   abbrev Well : ℕ → Block → Type 0
   Well n block = AllGiven block.rank (targets block.term) × (0 < n → is_turn block ≡ false → block.rank ≤ n)
 
-  made_well : (n : ℕ) (m : Made) → slice_get z.blocks n ≡ Some (Some m) → Well n m.block
+  made_well : (n : ℕ) (m : MadeBlock) → slice_get z.blocks n ≡ Some (Some m) → Well n m.block
   made_well n m e = by_place (rules.set_cases t r.1.blocks 0 n (Some (made Kind.Plain (length r.1.blocks) r.0)) (Some m) e)
     where
       by_place : (slice_get r.1.blocks n ≡ Some (Some m)) ⊎ ((n ≡ 0) × (Some (made Kind.Plain (length r.1.blocks) r.0) ≡ Some m)) → Well n m.block
@@ -195,7 +195,7 @@ module _ (items : ItemTable) (tree : BodyTree) (named : NamesItsLoops tree) wher
   block_well : (n : ℕ) (block : Block) → slice_get (body_of items tree).blocks n ≡ Some block → Well n block
   block_well n block e = let h = from_mapped _ z.blocks n block e in by_made h.0 h.1 h.2
     where
-      by_made : (o : Option Made) → slice_get z.blocks n ≡ Some o → (unwrap_or o lower.unmade).block ≡ block → Well n block
+      by_made : (o : Option MadeBlock) → slice_get z.blocks n ≡ Some o → (unwrap_or o lower.unmade).block ≡ block → Well n block
       by_made None e h = subst (Well n) h (tt, λ l plain. omega arith)
       by_made (Some m) e h = subst (Well n) h (made_well n m e)
 
@@ -295,7 +295,7 @@ module _ (items : ItemTable) (tree : BodyTree) (named : NamesItsLoops tree) wher
   block_tidy : (n : ℕ) (block : Block) → slice_get (body_of items tree).blocks n ≡ Some block → rules.BlockWell t block
   block_tidy n block e = let h = from_mapped _ z.blocks n block e in by_made h.0 h.1 h.2
     where
-      by_made : (o : Option Made) → slice_get z.blocks n ≡ Some o → (unwrap_or o lower.unmade).block ≡ block → rules.BlockWell t block
+      by_made : (o : Option MadeBlock) → slice_get z.blocks n ≡ Some o → (unwrap_or o lower.unmade).block ≡ block → rules.BlockWell t block
       by_made None e h = subst (rules.BlockWell t) h ((tt, tt, refl, tt), tt)
       by_made (Some m) e h = subst (rules.BlockWell t) h ((rules.filled_tidy t Kind.Plain 0 r.0 r.1 code_tidy.0 code_tidy.1).blocks n m e)
 

@@ -13,7 +13,7 @@ use Rattle.mir_base.specs.declared.trace.Why.{Why}
 use Rattle.mir_ty.specs.Facts.{needs_drop}
 use Rattle.mir_ty.specs.ItemTable.{ItemTable}
 use Rattle.store_model.specs.Effects as effects
-use Rattle.store_model.specs.Effects.{Site, Action, OfTuple, OfArray, OfVariant, OfClosure}
+use Rattle.store_model.specs.Effects.{EffectSite, Action, OfTuple, OfArray, OfVariant, OfClosure}
 use Rattle.store_model.specs.Places.Place.{Step, ToPart, ToField, Place, whole_local}
 use Rattle.typed_tree.specs.Nodes.{number_of, nodes_of, nodes_in, nodes_among, nodes_of_fields, nodes_if_any, param_nodes, body_nodes, first_with}
 use Rattle.typed_tree.specs.Tree as tree
@@ -22,11 +22,11 @@ use Rattle.src_meaning.specs.Evaluation.{in_number_order, to_own_key}
 use Rattle.src_meaning.specs.Forms.{Destination, Into, Coerced, coerced, Around, in_loop, loop_destination, in_guard, entry_of, bound_entry, site_in, site_of_key, moved, is_never}
 use Rattle.src_meaning.specs.Locals.OfBody.{param_key, answer_key}
 use Rattle.src_meaning.specs.Scopes.{Scope, Scopes, innermost, around_innermost, nearest_temporary, with_entry, with_pending, without_pending, becomes_entry, Breaks, Continues, Returns}
-use Rattle.src_meaning.specs.Shape.{Head, head, Shape, Bound, PatternTests, no_test, a_test, followed_by, kind_of, shape, shape_of, in_fields, in_parts, alternatives_at, extended, site_at, operand_of_bound, operand_at}
+use Rattle.src_meaning.specs.Shape.{NodeHead, head, Shape, BoundName, PatternTests, no_test, a_test, followed_by, kind_of, shape, shape_of, in_fields, in_parts, alternatives_at, extended, site_at, operand_of_bound, operand_at}
 use Rattle.cfg_code.specs.Code.{field_keys, moved_fields}
 use Rattle.cfg_code.specs.Spots.{Ways, body_ways}
 use Rattle.cfg_build.specs.Build as build
-use Rattle.cfg_build.specs.Build.{Frame, Rest, Made, Building, ending, closed, closing, Lowers, Done, ByStmt, ByTerm, change, nothing, from_changed, back_in, then_lower, joined, branches, looped, outer, act, done_by, drop_one, leave, in_scope, jump, panics, if_true, tests, taken, panic_drops, place_of}
+use Rattle.cfg_build.specs.Build.{LoweringFrame, BlockRest, MadeBlock, Building, ending, closed, closing, Lowers, Done, ByStmt, ByTerm, change, nothing, from_changed, back_in, then_lower, joined, branches, looped, outer, act, done_by, drop_one, leave, in_scope, jump, panics, if_true, tests, taken, panic_drops, place_of}
 use Rattle.cfg_build.specs.Laws.{LoweredHasSites}
 use Rattle.cfg_build.specs.Lower as lower
 use Rattle.cfg_build.specs.Lower.{Evaluates, Reaches, LowersArm, NodeLower, LowerIfAny, no_lower, a_lower}
@@ -35,7 +35,7 @@ use Rattle.cfg_build.proofs.Lines as lines
 use Rattle.cfg_build.proofs.Lines.{Wanted}
 use Rattle.cfg_build.proofs.Stops as stops
 
-module _ (f : Frame) (known : List tree.Node) (own : ℕ → Type 0) where
+module _ (f : LoweringFrame) (known : List tree.Node) (own : ℕ → Type 0) where
   -- a node of the body has this number
   abbrev pub In : ℕ → Type 0
   In n = (found : tree.Node) × (first_with n known ≡ Some found)
@@ -66,9 +66,9 @@ module _ (f : Frame) (known : List tree.Node) (own : ℕ → Type 0) where
   Sound = lines.Sound f wanted
 
   abbrev ArmSound : LowersArm → Type 0
-  ArmSound a = (c : Ways) → c.returns.block ≡ 1 → (S : Scopes) (r : ℕ) (k : Rest) (s : Building) → lines.ScopesOk f wanted S → lines.Ok f wanted s → lines.RestOk f wanted k → lines.Both f wanted (a.build c S r k s)
+  ArmSound a = (c : Ways) → c.returns.block ≡ 1 → (S : Scopes) (r : ℕ) (k : BlockRest) (s : Building) → lines.ScopesOk f wanted S → lines.Ok f wanted s → lines.RestOk f wanted k → lines.Both f wanted (a.build c S r k s)
 
-  abbrev BoundsIn : List Bound → Type 0
+  abbrev BoundsIn : List BoundName → Type 0
   BoundsIn [] = Unit {0}
   BoundsIn (b ∷ bounds) = In b.key × BoundsIn bounds
 
@@ -96,7 +96,7 @@ module _ (f : Frame) (known : List tree.Node) (own : ℕ → Type 0) where
   followed_in no_test ys h k = k
   followed_in (a_test x xs) ys h k = (h.0, followed_in xs ys h.1 k)
 
-  bounds_append : (xs ys : List Bound) → BoundsIn xs → BoundsIn ys → BoundsIn (xs ++ ys)
+  bounds_append : (xs ys : List BoundName) → BoundsIn xs → BoundsIn ys → BoundsIn (xs ++ ys)
   bounds_append [] ys h k = k
   bounds_append (b ∷ xs) ys h k = (h.0, bounds_append xs ys h.1 k)
 
@@ -137,7 +137,7 @@ module _ (f : Frame) (known : List tree.Node) (own : ℕ → Type 0) where
     node_shaped : (n : tree.Node) → AllIn (nodes_of n) → Shaped (shape f.items n)
     node_shaped (tree.node id at ty by form) a = form_shaped form (head id ty by) a.0 a.1
 
-    form_shaped : (form : Form) (h : Head) → In h.id → AllIn (nodes_in form) → Shaped (shape_of f.items form h)
+    form_shaped : (form : Form) (h : NodeHead) → In h.id → AllIn (nodes_in form) → Shaped (shape_of f.items form h)
     form_shaped (tree.Number value) h j a = ((λ place. tt), λ place. tt)
     form_shaped (tree.Truth value) h j a = ((λ place. tt), λ place. tt)
     form_shaped tree.UnitValue h j a = ((λ place. tt), λ place. tt)
@@ -249,35 +249,35 @@ module _ (f : Frame) (known : List tree.Node) (own : ℕ → Type 0) where
   and_then P Q p q = lines.then_sound f wanted P Q p (λ e. q)
 
   -- an effect copies as it may, whatever local its answer goes to
-  abbrev DoesCopy : Head → (Site → Action) → Type 0
+  abbrev DoesCopy : NodeHead → (EffectSite → Action) → Type 0
   DoesCopy h action = (key : ℕ) → stops.DoneCopies (done_by f (action (site_in h.id key)))
 
-  deliver_sites : (n : ℕ) (h : Head) (action : Site → Action) (to : Destination) → In n → In h.id → DoesCopy h action → Sound (lower.deliver_at f n h action to)
+  deliver_sites : (n : ℕ) (h : NodeHead) (action : EffectSite → Action) (to : Destination) → In n → In h.id → DoesCopy h action → Sound (lower.deliver_at f n h action to)
   deliver_sites n h action (Into key) i j p = acts n (action (site_in h.id key)) i (p key)
   deliver_sites n h action (Coerced key trait_no to) i j p =
       and_then _ _ (acts n (action (site_in h.id key)) i (p key)) (acts h.id (effects.Unsize (site_in h.id to) trait_no (moved h.id key)) j tt)
 
-  unit_sites : (h : Head) (to : Destination) → In h.id → Sound (lower.put_unit f h to)
+  unit_sites : (h : NodeHead) (to : Destination) → In h.id → Sound (lower.put_unit f h to)
   unit_sites h to j = deliver_sites h.id h (λ site. effects.Put site effects.UnitValue) to j j (λ key. inl refl)
 
-  own_sites : (h : Head) (own : Bool) (P : Lowers) → Sound P → Sound (lower.in_own_scope f h own P)
+  own_sites : (h : NodeHead) (own : Bool) (P : Lowers) → Sound P → Sound (lower.in_own_scope f h own P)
   own_sites h true P p = lines.scope_sound f wanted h.id true P p
   own_sites h false P p = p
 
   abbrev InThat : ((Scope → Scope) → Scopes → Scopes) → Type 0
   InThat in_that = (g : Scope → Scope) → lines.KeepsOk f wanted g → (S : Scopes) → lines.ScopesOk f wanted S → lines.ScopesOk f wanted (in_that g S)
 
-  pending_ok : (b : Bool) (in_that : (Scope → Scope) → Scopes → Scopes) (h : Head) → InThat in_that → In h.id → (S : Scopes) → lines.ScopesOk f wanted S → lines.ScopesOk f wanted (lower.pending_if f b in_that h S)
+  pending_ok : (b : Bool) (in_that : (Scope → Scope) → Scopes → Scopes) (h : NodeHead) → InThat in_that → In h.id → (S : Scopes) → lines.ScopesOk f wanted S → lines.ScopesOk f wanted (lower.pending_if f b in_that h S)
   pending_ok true in_that h keeps j S o = keeps (with_pending (entry_of h)) (lines.pending_keeps f wanted (entry_of h) j) S o
   pending_ok false in_that h keeps j S o = o
 
-  completed_ok : (in_that : (Scope → Scope) → Scopes → Scopes) (h : Head) → InThat in_that → In h.id → (S : Scopes) → lines.ScopesOk f wanted S → lines.ScopesOk f wanted (lower.completed f in_that h S)
+  completed_ok : (in_that : (Scope → Scope) → Scopes → Scopes) (h : NodeHead) → InThat in_that → In h.id → (S : Scopes) → lines.ScopesOk f wanted S → lines.ScopesOk f wanted (lower.completed f in_that h S)
   completed_ok in_that h keeps j S o = keeps (becomes_entry (entry_of h)) (lines.becomes_keeps f wanted (entry_of h) j) S o
 
   inner : InThat innermost
   inner = lines.innermost_ok f wanted
 
-  pended : (b : Bool) (in_that : (Scope → Scope) → Scopes → Scopes) (h : Head) (P : Lowers) → InThat in_that → In h.id → Sound P →
+  pended : (b : Bool) (in_that : (Scope → Scope) → Scopes → Scopes) (h : NodeHead) (P : Lowers) → InThat in_that → In h.id → Sound P →
       Sound (from_changed (lower.pending_if f b in_that h) (then_lower P (change (lower.completed f in_that h))))
   pended b in_that h P keeps j p =
       lines.changed_sound f wanted (lower.pending_if f b in_that h) _ (pending_ok b in_that h keeps j) (and_then P _ p (lines.change_sound f wanted (lower.completed f in_that h) (completed_ok in_that h keeps j)))
@@ -289,7 +289,7 @@ module _ (f : Frame) (known : List tree.Node) (own : ℕ → Type 0) where
   operands_sites _ none_sites around = lines.nothing_sound f wanted
   operands_sites _ (one_sites x xs p ps) around = and_then _ _ (operand_sites x p around) (operands_sites xs ps around)
 
-  acting_sites : (h : Head) (around : Around) (own : Bool) (xs : List NodeLower) → AllSites xs → (P : Lowers) → Sound P → Sound (lower.acting f h around own xs P)
+  acting_sites : (h : NodeHead) (around : Around) (own : Bool) (xs : List NodeLower) → AllSites xs → (P : Lowers) → Sound P → Sound (lower.acting f h around own xs P)
   acting_sites h around own xs ps P p =
       lines.scope_sound f wanted h.id own _ (and_then _ _ (operands_sites xs ps around) (lines.changed_sound f wanted (taken f (lower.keys_of xs)) P (lines.taken_ok f wanted (lower.keys_of xs)) p))
 
@@ -300,7 +300,7 @@ module _ (f : Frame) (known : List tree.Node) (own : ℕ → Type 0) where
   no_arm_sites : (matched : Place) (around : Around) (to : Destination) → ArmSound (lower.no_arm f matched around to)
   no_arm_sites matched around to c t S r k s o h l = (h, l)
 
-  value_sites : (h : Head) (s : Shape) → Inside h.id → Shaped s → (e : Evaluates) → EvalSites e → NodeSites (lower.a_value f h s e)
+  value_sites : (h : NodeHead) (s : Shape) → Inside h.id → Shaped s → (e : Evaluates) → EvalSites e → NodeSites (lower.a_value f h s e)
   value_sites h s j shaped e p = record {
     here = j.0;
     owned = j.1;
@@ -310,7 +310,7 @@ module _ (f : Frame) (known : List tree.Node) (own : ℕ → Type 0) where
     shaped = shaped;
   }
 
-  place_sites : (h : Head) (s : Shape) → Inside h.id → Shaped s → (r : Reaches) → ((around : Around) → Sound (r around)) → NodeSites (lower.a_place f h s r)
+  place_sites : (h : NodeHead) (s : Shape) → Inside h.id → Shaped s → (r : Reaches) → ((around : Around) → Sound (r around)) → NodeSites (lower.a_place f h s r)
   place_sites h s j shaped r p = record {
     here = j.0;
     owned = j.1;
@@ -320,13 +320,13 @@ module _ (f : Frame) (known : List tree.Node) (own : ℕ → Type 0) where
     shaped = shaped;
   }
 
-  scoped_sites : (h : Head) (s : Shape) → Inside h.id → Shaped s → (does : lower.MakesInto) → ((around : Around) (to : Destination) → Sound (does around to)) → NodeSites (lower.a_scope f h s does)
+  scoped_sites : (h : NodeHead) (s : Shape) → Inside h.id → Shaped s → (does : lower.MakesInto) → ((around : Around) (to : Destination) → Sound (does around to)) → NodeSites (lower.a_scope f h s does)
   scoped_sites h s j shaped does p = value_sites h s j shaped _ (λ around own to. own_sites h own _ (p around to))
 
-  on_operands_sites : (h : Head) (s : Shape) → Inside h.id → Shaped s → (xs : List NodeLower) → AllSites xs → (action : Site → Action) → DoesCopy h action → NodeSites (lower.on_operands f h s xs action)
+  on_operands_sites : (h : NodeHead) (s : Shape) → Inside h.id → Shaped s → (xs : List NodeLower) → AllSites xs → (action : EffectSite → Action) → DoesCopy h action → NodeSites (lower.on_operands f h s xs action)
   on_operands_sites h s j shaped xs ps action q = value_sites h s j shaped _ (λ around own to. acting_sites h around own xs ps _ (deliver_sites h.id h action to j.0 j.0 q))
 
-  gives_unit_sites : (h : Head) (s : Shape) → Inside h.id → Shaped s → (x : NodeLower) → NodeSites x → (action : effects.Operand → Action) → stops.DoneCopies (done_by f (action (moved h.id x.head.id))) → NodeSites (lower.gives_unit f h s x action)
+  gives_unit_sites : (h : NodeHead) (s : Shape) → Inside h.id → Shaped s → (x : NodeLower) → NodeSites x → (action : effects.Operand → Action) → stops.DoneCopies (done_by f (action (moved h.id x.head.id))) → NodeSites (lower.gives_unit f h s x action)
   gives_unit_sites h s j shaped x p action q =
       value_sites h s j shaped _ (λ around own to. acting_sites h around own (x ∷ []) (one_sites x [] p none_sites) _ (and_then _ _ (acts h.id (action (moved h.id x.head.id)) j.0 q) (unit_sites h to j.0)))
 
@@ -339,11 +339,11 @@ module _ (f : Frame) (known : List tree.Node) (own : ℕ → Type 0) where
       and_then _ _ (alone_sites x p around (Into x.head.id))
       (lines.branches_sound f wanted x.head.id (if_true f (moved x.head.id x.head.id) x.head.id) P Q (lines.if_ok f wanted (moved x.head.id x.head.id) x.head.id (λ y n. (p.here, tt))) cp cq)
 
-  otherwise_sites : (h : Head) → In h.id → (x : LowerIfAny) → IfAnySites x → (around : Around) (to : Destination) → Sound (lower.otherwise_unit f h x around to)
+  otherwise_sites : (h : NodeHead) → In h.id → (x : LowerIfAny) → IfAnySites x → (around : Around) (to : Destination) → Sound (lower.otherwise_unit f h x around to)
   otherwise_sites h j _ without around to = unit_sites h to j
   otherwise_sites h j _ (with_one x p) around to = alone_sites x p around to
 
-  bind_sites : (in_that : (Scope → Scope) → Scopes → Scopes) → InThat in_that → (bounds : List Bound) → BoundsIn bounds → Sound (lower.bind f in_that bounds)
+  bind_sites : (in_that : (Scope → Scope) → Scopes → Scopes) → InThat in_that → (bounds : List BoundName) → BoundsIn bounds → Sound (lower.bind f in_that bounds)
   bind_sites in_that keeps [] b = lines.nothing_sound f wanted
   bind_sites in_that keeps (x ∷ bounds) b =
       and_then _ _ (acts x.key (effects.Put (site_of_key x.key) (operand_of_bound x)) b.0 (inl refl))
@@ -356,7 +356,7 @@ module _ (f : Frame) (known : List tree.Node) (own : ℕ → Type 0) where
       touched true = acts x.head.id (effects.Touch (lower.site_of x around)) p.here tt
       touched false = lines.nothing_sound f wanted
 
-  if_taken_sites : (h : Head) (around : Around) (p x : NodeLower) → NodeSites p → NodeSites x → (P Q : Lowers) → Sound P → Sound Q → Sound (lower.if_taken f h around p x P Q)
+  if_taken_sites : (h : NodeHead) (around : Around) (p x : NodeLower) → NodeSites p → NodeSites x → (P Q : Lowers) → Sound P → Sound Q → Sound (lower.if_taken f h around p x P Q)
   if_taken_sites h around p x sp sx P Q p1 p2 =
       let place = lower.place_in x around in
       lines.entered_sound f wanted h.id true _ (and_then _ _ (scrutinised_sites x sx around)
@@ -365,7 +365,7 @@ module _ (f : Frame) (known : List tree.Node) (own : ℕ → Type 0) where
       (and_then _ Q (lines.leave_sound f wanted) p2)))
 
   -- ---- arms
-  guarded_sites : (around : Around) (bounds : List Bound) (g : LowerIfAny) → IfAnySites g → (P : Lowers) → Sound P → ArmSound (lower.guarded f around bounds g P)
+  guarded_sites : (around : Around) (bounds : List BoundName) (g : LowerIfAny) → IfAnySites g → (P : Lowers) → Sound P → ArmSound (lower.guarded f around bounds g P)
   guarded_sites around bounds _ without P p c t S r k s o h l = p.lines c t S k s o h l
   guarded_sites around bounds _ (with_one x q) P p c t S r k s o h l = by_end (back_in (x.evaluates (in_guard bounds around) true (Into x.head.id))).has_end
     where
@@ -385,10 +385,10 @@ module _ (f : Frame) (known : List tree.Node) (own : ℕ → Type 0) where
           asks.lines c t S test.0 test.1 o i.0 i.1
       by_end false = asks.lines c t S k s o h l
 
-  taken_sites : (h : Head) (around : Around) (bounds : List Bound) → BoundsIn bounds → (x : NodeLower) → NodeSites x → (to : Destination) → Sound (lower.taken_arm f h around bounds x to)
+  taken_sites : (h : NodeHead) (around : Around) (bounds : List BoundName) → BoundsIn bounds → (x : NodeLower) → NodeSites x → (to : Destination) → Sound (lower.taken_arm f h around bounds x to)
   taken_sites h around bounds b x p to = lines.scope_sound f wanted h.id false _ (and_then _ _ (bind_sites innermost inner bounds b) (alone_sites x p around to))
 
-  arm_sites : (h : Head) (p : NodeLower) (g : LowerIfAny) (x : NodeLower) → NodeSites p → IfAnySites g → NodeSites x → (matched : Place) (around : Around) (to : Destination) → ArmSound (lower.arm f h p g x matched around to)
+  arm_sites : (h : NodeHead) (p : NodeLower) (g : LowerIfAny) (x : NodeLower) → NodeSites p → IfAnySites g → NodeSites x → (matched : Place) (around : Around) (to : Destination) → ArmSound (lower.arm f h p g x matched around to)
   arm_sites h p g x sp sg sx matched around to c t S r k s o hs l =
       let bounds = p.shape.bindings matched in
       let code = lower.guarded f around bounds g (lower.taken_arm f h around bounds x to) in
@@ -396,7 +396,7 @@ module _ (f : Frame) (known : List tree.Node) (own : ℕ → Type 0) where
       let d = code.build c S r k s in
       lines.tests_ok f wanted (p.shape.tests matched) (sp.shaped.0 matched) (length d.1.blocks) r (closed Kind.Plain d.0 d.1) (lines.closed_ok f wanted Kind.Plain d.0 d.1 i.0 i.1)
 
-  arms_from_sites : (number : ℕ) (xs : List NodeLower) → AllSites xs → (matched : Place) (around : Around) (to : Destination) (c : Ways) → c.returns.block ≡ 1 → (S : Scopes) (k : Rest) (s : Building) → lines.ScopesOk f wanted S → lines.Ok f wanted s →
+  arms_from_sites : (number : ℕ) (xs : List NodeLower) → AllSites xs → (matched : Place) (around : Around) (to : Destination) (c : Ways) → c.returns.block ≡ 1 → (S : Scopes) (k : BlockRest) (s : Building) → lines.ScopesOk f wanted S → lines.Ok f wanted s →
       lines.RestOk f wanted k → lines.Both f wanted (lower.arms_from f number xs matched around to c S k s)
   arms_from_sites number _ none_sites matched around to c t S k s o h l = lines.panic_both f wanted (Term.Panic Why.Match) number (λ u. (tt, tt)) S o s h
   arms_from_sites number _ (one_sites x xs p ps) matched around to c t S k s o h l =
@@ -419,7 +419,7 @@ module _ (f : Frame) (known : List tree.Node) (own : ℕ → Type 0) where
   statements_sites _ none_sites around = lines.nothing_sound f wanted
   statements_sites _ (one_sites x xs p ps) around = and_then _ _ (p.evaluates around false (Into x.head.id)) (statements_sites xs ps around)
 
-  tail_sites : (h : Head) → In h.id → (x : LowerIfAny) → IfAnySites x → (around : Around) (to : Destination) → Sound (lower.tail_of f h x around to)
+  tail_sites : (h : NodeHead) → In h.id → (x : LowerIfAny) → IfAnySites x → (around : Around) (to : Destination) → Sound (lower.tail_of f h x around to)
   tail_sites h j _ without around to = by_never (is_never f.items h.ty)
     where
       by_never : (b : Bool) → Sound (lower.put_unit_if f b h to)
@@ -427,14 +427,14 @@ module _ (f : Frame) (known : List tree.Node) (own : ℕ → Type 0) where
       by_never false = unit_sites h to j
   tail_sites h j _ (with_one x p) around to = alone_sites x p around to
 
-  let_sites : (h : Head) → In h.id → (p : NodeLower) → NodeSites p → (x : LowerIfAny) → IfAnySites x → (around : Around) → Sound (lower.letting f h p x around)
+  let_sites : (h : NodeHead) → In h.id → (p : NodeLower) → NodeSites p → (x : LowerIfAny) → IfAnySites x → (around : Around) → Sound (lower.letting f h p x around)
   let_sites h j p sp _ without around = declared (p.shape.bindings (whole_local 0)) (sp.shaped.1 (whole_local 0))
     where
       emptied : (x : Bool) (key : ℕ) → In key → Sound (lower.emptied f x key)
       emptied true key i = lines.nothing_sound f wanted
       emptied false key i = lines.drop_sound f wanted (site_of_key key) (λ n u. (i, tt))
 
-      declared : (bounds : List Bound) → BoundsIn bounds → Sound (lower.declared f bounds)
+      declared : (bounds : List BoundName) → BoundsIn bounds → Sound (lower.declared f bounds)
       declared [] b = lines.nothing_sound f wanted
       declared (x ∷ bounds) b =
           and_then _ _ (emptied (needs_drop f.items x.ty) x.key b.0)
@@ -455,18 +455,18 @@ module _ (f : Frame) (known : List tree.Node) (own : ℕ → Type 0) where
           lines.scope_sound f wanted h.id true _ (lines.changed_sound f wanted (lower.pending_if f b innermost x.head) _ (pending_ok b innermost x.head inner sx.here)
           (and_then _ _ (sx.reaches around) (bind_sites around_innermost (lines.around_ok f wanted) (p.shape.bindings (lower.place_in x around)) (sp.shaped.1 (lower.place_in x around)))))
 
-  jump_value_sites : (h : Head) → In h.id → (x : LowerIfAny) → IfAnySites x → (around : Around) (to : Destination) → Sound (lower.value_of_jump f h x around to)
+  jump_value_sites : (h : NodeHead) → In h.id → (x : LowerIfAny) → IfAnySites x → (around : Around) (to : Destination) → Sound (lower.value_of_jump f h x around to)
   jump_value_sites h j _ without around to = unit_sites h to j
   jump_value_sites h j _ (with_one x p) around to = p.evaluates around false to
 
-  ends_loop_sites : (h : Head) (to : Destination) → In h.id → Sound (lower.ends_loop f h to)
+  ends_loop_sites : (h : NodeHead) (to : Destination) → In h.id → Sound (lower.ends_loop f h to)
   ends_loop_sites h to j = lines.jump_sound f wanted h.id (Breaks h.id) _ (unit_sites h to j)
 
-  pattern_sites : (h : Head) (s : Shape) → Inside h.id → Shaped s → NodeSites (lower.a_pattern f h s)
+  pattern_sites : (h : NodeHead) (s : Shape) → Inside h.id → Shaped s → NodeSites (lower.a_pattern f h s)
   pattern_sites h s j shaped = value_sites h s j shaped _ (λ around own to. lines.nothing_sound f wanted)
 
   -- ---- the forms
-  abbrev S_of : Form → Head → Shape
+  abbrev S_of : Form → NodeHead → Shape
   S_of form h = shape_of f.items form h
 
   abbrev L : tree.Node → NodeLower
@@ -476,7 +476,7 @@ module _ (f : Frame) (known : List tree.Node) (own : ℕ → Type 0) where
     pub node_sites : (n : tree.Node) → AllInside (nodes_of n) → NodeSites (lower.lower f n)
     node_sites (tree.node id at ty by form) a = form_sites form (head id ty by) a.0 a.1 (form_shaped form (head id ty by) a.0.0 (known_inside (nodes_in form) a.1))
 
-    form_sites : (form : Form) (h : Head) → Inside h.id → AllInside (nodes_in form) → Shaped (S_of form h) → NodeSites (lower.lower_form f form h (S_of form h))
+    form_sites : (form : Form) (h : NodeHead) → Inside h.id → AllInside (nodes_in form) → Shaped (S_of form h) → NodeSites (lower.lower_form f form h (S_of form h))
     form_sites (tree.Number value) h j a s = scoped_sites h (S_of (tree.Number value) h) j s _ (λ around to. deliver_sites h.id h (λ site. effects.Put site (effects.Number value (kind_of f.items h.ty))) to j.0 j.0 (λ key. inl refl))
     form_sites (tree.Truth value) h j a s = scoped_sites h (S_of (tree.Truth value) h) j s _ (λ around to. deliver_sites h.id h (λ site. effects.Put site (effects.Truth value)) to j.0 j.0 (λ key. inl refl))
     form_sites tree.UnitValue h j a s = scoped_sites h (S_of tree.UnitValue h) j s _ (λ around to. deliver_sites h.id h (λ site. effects.Put site effects.UnitValue) to j.0 j.0 (λ key. inl refl))
@@ -615,7 +615,7 @@ equal_itself : (n : ℕ) → (n == n) ≡ true
 equal_itself n = elim (eqb_tells n n) [ inl same ↦ same.0 | inr other ↦ absurd (let apart = other.1 in let never : ⊥ = omega arith in never) ]
 
 -- each of some nodes is found by its number
-found_in : (pre ns : List tree.Node) (f : Frame) (own : ℕ → Type 0) → AllIn f (pre ++ ns) own ns
+found_in : (pre ns : List tree.Node) (f : LoweringFrame) (own : ℕ → Type 0) → AllIn f (pre ++ ns) own ns
 found_in pre [] f own = tt
 found_in pre (n ∷ ns) f own = (found pre, subst (λ all. AllIn f all own ns) (one_more pre) (found_in (pre ++ n ∷ []) ns f own))
   where
@@ -638,13 +638,13 @@ AllOwn own [] = Unit {0}
 AllOwn own (n ∷ ns) = own (number_of n) × AllOwn own ns
 
 module _ (items : ItemTable) (body : BodyTree) (own : ℕ → Type 0) (owned : AllOwn own (nodes_of body.block)) where
-  abbrev F : Frame
+  abbrev F : LoweringFrame
   F = lower.frame items body
 
   abbrev W : Wanted F
   W = wanted F (body_nodes body) own
 
-  abbrev last : Rest
+  abbrev last : BlockRest
   last = ending (Term.Goto 1) (answer_key body)
 
   begun_ok : lines.Ok F W (lower.start F body)
@@ -735,7 +735,7 @@ module _ (items : ItemTable) (body : BodyTree) (own : ℕ → Type 0) (owned : A
   has_sites : (n : ℕ) (block : Block) → slice_get (lower.body_of items body).blocks n ≡ Some block → HasSites n block
   has_sites n block e = let h = from_mapped _ (lower.built F body).blocks n block e in by_made h.0 h.1 h.2
     where
-      by_made : (o : Option Made) → slice_get (lower.built F body).blocks n ≡ Some o → (unwrap_or o lower.unmade).block ≡ block → HasSites n block
+      by_made : (o : Option MadeBlock) → slice_get (lower.built F body).blocks n ≡ Some o → (unwrap_or o lower.unmade).block ≡ block → HasSites n block
       by_made None e h = subst (HasSites n) h ((λ line stmt d some. absurd (none-some stmt d)), λ some. absurd (some refl))
       by_made (Some m) e h =
           let ok = built_ok.blocks n m e in
@@ -760,7 +760,7 @@ lowered_stops items body own owned n block e = let h = from_mapped items body ow
     in_block (x ∷ stmts) term [] h = absurd h
     in_block (x ∷ stmts) term (n ∷ nodes) h = ((h.0.0.1, h.0.1), in_block stmts term nodes h.1)
 
-    by_made : (o : Option Made) → slice_get (lower.built (lower.frame items body) body).blocks n ≡ Some o → (unwrap_or o lower.unmade).block ≡ block → Stop block
+    by_made : (o : Option MadeBlock) → slice_get (lower.built (lower.frame items body) body).blocks n ≡ Some o → (unwrap_or o lower.unmade).block ≡ block → Stop block
     by_made None e h = subst Stop h tt
     by_made (Some m) e h = subst Stop h (in_block m.block.stmts m.block.term m.nodes ((built_ok items body own owned).blocks n m e))
 

@@ -8,7 +8,7 @@ use Rattle.mir_base.specs.declared.trace.Why.{Why}
 use Rattle.mir_ty.specs.Facts.{needs_drop}
 use Rattle.mir_ty.specs.ItemTable.{ItemTable}
 use Rattle.store_model.specs.Effects as effects
-use Rattle.store_model.specs.Effects.{Site, Action, OfTuple, OfArray, OfVariant, OfClosure}
+use Rattle.store_model.specs.Effects.{EffectSite, Action, OfTuple, OfArray, OfVariant, OfClosure}
 use Rattle.store_model.specs.Places.Place.{Step, ToPart, ToField, Place, whole_local}
 use Rattle.typed_tree.specs.Nodes.{nodes_of, nodes_in, nodes_among, nodes_of_fields, nodes_if_any, param_nodes, body_nodes}
 use Rattle.typed_tree.specs.Tree as tree
@@ -17,11 +17,11 @@ use Rattle.src_meaning.specs.Evaluation.{in_number_order, to_own_key}
 use Rattle.src_meaning.specs.Forms.{Destination, Into, Coerced, coerced, Around, in_loop, loop_destination, in_guard, entry_of, bound_entry, site_in, site_of_key, moved, is_never}
 use Rattle.src_meaning.specs.Locals.OfBody.{param_key, answer_key}
 use Rattle.src_meaning.specs.Scopes.{Scope, Scopes, innermost, around_innermost, nearest_temporary, with_entry, with_pending, without_pending, becomes_entry, Exit, Breaks, Continues, Returns}
-use Rattle.src_meaning.specs.Shape.{Head, head, Shape, Bound, PatternTests, no_test, a_test, followed_by, kind_of, shape, shape_of, in_fields, in_parts, alternatives_at, extended, site_at, operand_of_bound, operand_at}
+use Rattle.src_meaning.specs.Shape.{NodeHead, head, Shape, BoundName, PatternTests, no_test, a_test, followed_by, kind_of, shape, shape_of, in_fields, in_parts, alternatives_at, extended, site_at, operand_of_bound, operand_at}
 use Rattle.cfg_code.specs.Code.{field_keys, moved_fields}
 use Rattle.cfg_code.specs.Spots.{Ways, body_ways}
 use Rattle.cfg_build.specs.Build as build
-use Rattle.cfg_build.specs.Build.{Frame, Rest, Building, ending, closed, closing, Lowers, change, nothing, from_changed, back_in, then_lower, joined, branches, looped, outer, act, drop_one, leave, in_scope, jump, panics, if_true, tests, taken, panic_drops}
+use Rattle.cfg_build.specs.Build.{LoweringFrame, BlockRest, Building, ending, closed, closing, Lowers, change, nothing, from_changed, back_in, then_lower, joined, branches, looped, outer, act, drop_one, leave, in_scope, jump, panics, if_true, tests, taken, panic_drops}
 use Rattle.cfg_build.specs.Laws.{LoweredIsSmall}
 use Rattle.cfg_build.specs.Lower as lower
 use Rattle.cfg_build.specs.Lower.{Evaluates, Reaches, LowersArm, NodeLower, LowerIfAny, no_lower, a_lower}
@@ -68,11 +68,11 @@ no_names : (m : ℕ) → (0 ≤ suc m) × (0 ≤ m)
 no_names m = (omega arith, omega arith)
 
 module _ (items : ItemTable) where
-  abbrev Pattern : Form → Head → Type 0
+  abbrev Pattern : Form → NodeHead → Type 0
   Pattern form h = Tested (shape_of items form h) (length (nodes_in form)) × Binds (shape_of items form h) (length (nodes_in form))
 
   -- nothing is tested or named
-  plain : (form : Form) (h : Head) → ((place : Place) → (shape_of items form h).tests place ≡ no_test) → ((place : Place) → (shape_of items form h).bindings place ≡ []) → Pattern form h
+  plain : (form : Form) (h : NodeHead) → ((place : Place) → (shape_of items form h).tests place ≡ no_test) → ((place : Place) → (shape_of items form h).bindings place ≡ []) → Pattern form h
   plain form h e d = (
     (λ place. let i = ap tests_size (e place) in omega arith),
     ((λ place. let i = ap length (d place) in omega arith), λ x place. let i = ap length (d place) in omega arith),
@@ -84,7 +84,7 @@ module _ (items : ItemTable) where
         let p = form_pattern form (head id ty by) in
         ((λ place. let i = p.0 place in omega arith), λ place. let i = p.1.0 place in omega arith)
 
-    pub form_pattern : (form : Form) (h : Head) → Pattern form h
+    pub form_pattern : (form : Form) (h : NodeHead) → Pattern form h
     form_pattern (tree.Number value) h = plain (tree.Number value) h (λ place. refl) (λ place. refl)
     form_pattern (tree.Truth value) h = plain (tree.Truth value) h (λ place. refl) (λ place. refl)
     form_pattern tree.UnitValue h = plain tree.UnitValue h (λ place. refl) (λ place. refl)
@@ -213,7 +213,7 @@ node_shape : (items : ItemTable) (n : tree.Node) → Tested (shape items n) (ins
 node_shape items (tree.node id at ty by form) = form_pattern items form (head id ty by)
 
 -- Scopes never have more than W entries. A node costs B blocks, and twelve for two entries of its own.
-module _ (f : Frame) (W B : ℕ) (enough : 12 * (W + 2) ≤ B) where
+module _ (f : LoweringFrame) (W B : ℕ) (enough : 12 * (W + 2) ≤ B) where
   abbrev C : ℕ → ℕ → Lowers → Type 0
   C = sizes.Costs f W
 
@@ -221,7 +221,7 @@ module _ (f : Frame) (W B : ℕ) (enough : 12 * (W + 2) ≤ B) where
   T n = times (B + 12) n
 
   abbrev ArmCost : ℕ → ℕ → LowersArm → Type 0
-  ArmCost b e a = (c : Ways) (S : Scopes) (r : ℕ) (k : Rest) (s : Building) → all S + e ≤ W → length (a.build c S r k s).1.blocks ≤ length s.blocks + b
+  ArmCost b e a = (c : Ways) (S : Scopes) (r : ℕ) (k : BlockRest) (s : Building) → all S + e ≤ W → length (a.build c S r k s).1.blocks ≤ length s.blocks + b
 
   pub record NodeCosts (m : ℕ) (x : NodeLower) : Type 0 where
     pub evaluates : (around : Around) (own : Bool) (to : Destination) → C (B + T m) (m + m) (x.evaluates around own to)
@@ -241,20 +241,20 @@ module _ (f : Frame) (W B : ℕ) (enough : 12 * (W + 2) ≤ B) where
   weaker = sizes.costs_most f W
 
   -- ---- values and destinations
-  deliver_costs : (n : ℕ) (h : Head) (action : Site → Action) (to : Destination) → C (2 * (W + 2)) 0 (lower.deliver_at f n h action to)
+  deliver_costs : (n : ℕ) (h : NodeHead) (action : EffectSite → Action) (to : Destination) → C (2 * (W + 2)) 0 (lower.deliver_at f n h action to)
   deliver_costs n h action (Into key) = weaker (W + 2) 0 (2 * (W + 2)) 0 _ (omega arith) (omega arith) (sizes.act_costs f W n (action (site_in h.id key)))
   deliver_costs n h action (Coerced key trait_no to) =
       weaker (W + 2 + (W + 2)) 0 (2 * (W + 2)) 0 _ (omega arith) (omega arith)
       (sizes.then_costs f W (W + 2) 0 (W + 2) 0 _ _ (sizes.act_costs f W n (action (site_in h.id key))) (sizes.act_costs f W h.id (effects.Unsize (site_in h.id to) trait_no (moved h.id key))))
 
-  unit_costs : (h : Head) (to : Destination) → C (2 * (W + 2)) 0 (lower.put_unit f h to)
+  unit_costs : (h : NodeHead) (to : Destination) → C (2 * (W + 2)) 0 (lower.put_unit f h to)
   unit_costs h to = deliver_costs h.id h (λ site. effects.Put site effects.UnitValue) to
 
-  own_costs : (b e : ℕ) (h : Head) (own : Bool) (P : Lowers) → C b e P → C (W + 1 + b) e (lower.in_own_scope f h own P)
+  own_costs : (b e : ℕ) (h : NodeHead) (own : Bool) (P : Lowers) → C b e P → C (W + 1 + b) e (lower.in_own_scope f h own P)
   own_costs b e h true P p = sizes.scope_costs f W b e h.id true P p
   own_costs b e h false P p = weaker b e (W + 1 + b) e P (omega arith) (omega arith) p
 
-  pending_grew : (b : Bool) (in_that : (Scope → Scope) → Scopes → Scopes) (h : Head) → ((g : Scope → Scope) → sizes.Adds 1 g → (S : Scopes) → Grew S (in_that g S) 1) →
+  pending_grew : (b : Bool) (in_that : (Scope → Scope) → Scopes → Scopes) (h : NodeHead) → ((g : Scope → Scope) → sizes.Adds 1 g → (S : Scopes) → Grew S (in_that g S) 1) →
       (S : Scopes) → Grew S (lower.pending_if f b in_that h S) 1
   pending_grew true in_that h grew S = grew (with_pending (entry_of h)) (pending_adds (entry_of h)) S
   pending_grew false in_that h grew S = grew_not S 1
@@ -267,7 +267,7 @@ module _ (f : Frame) (W B : ℕ) (enough : 12 * (W + 2) ≤ B) where
       (sizes.changed_costs f W 1 (B + T m + 6 * 1) (m + m + 1) before (then_lower P (change after)) g
       (sizes.then_costs f W (B + T m) (m + m) (6 * 1) 1 P (change after) p (sizes.change_costs f W 1 after h)))
 
-  completed_grew : (in_that : (Scope → Scope) → Scopes → Scopes) (h : Head) → ((g : Scope → Scope) → sizes.Adds 1 g → (S : Scopes) → Grew S (in_that g S) 1) → (S : Scopes) → Grew S (lower.completed f in_that h S) 1
+  completed_grew : (in_that : (Scope → Scope) → Scopes → Scopes) (h : NodeHead) → ((g : Scope → Scope) → sizes.Adds 1 g → (S : Scopes) → Grew S (in_that g S) 1) → (S : Scopes) → Grew S (lower.completed f in_that h S) 1
   completed_grew in_that h grew S = grew (becomes_entry (entry_of h)) (becomes_adds (entry_of h)) S
 
   operand_costs : (m : ℕ) (x : NodeLower) → NodeCosts m x → (around : Around) → C (T (suc m)) (suc m + suc m) (lower.operand f around x)
@@ -281,7 +281,7 @@ module _ (f : Frame) (W B : ℕ) (enough : 12 * (W + 2) ≤ B) where
       weaker (T (suc m) + T n) (suc m + suc m + (n + n)) (T (suc m + n)) (suc m + n + (suc m + n)) _ (let i = times_add (B + 12) (suc m) n in omega arith) (omega arith)
       (sizes.then_costs f W (T (suc m)) (suc m + suc m) (T n) (n + n) _ _ (operand_costs m x p around) (operands_cost n xs ps around))
 
-  acting_costs : (n b : ℕ) (xs : List NodeLower) → AllCost n xs → (h : Head) (around : Around) (own : Bool) (P : Lowers) → C b 0 P → C (W + 1 + (T n + b)) (n + n) (lower.acting f h around own xs P)
+  acting_costs : (n b : ℕ) (xs : List NodeLower) → AllCost n xs → (h : NodeHead) (around : Around) (own : Bool) (P : Lowers) → C b 0 P → C (W + 1 + (T n + b)) (n + n) (lower.acting f h around own xs P)
   acting_costs n b xs ps h around own P p =
       weaker (W + 1 + (T n + b)) (n + n + 0) (W + 1 + (T n + b)) (n + n) _ (omega arith) (omega arith)
       (sizes.scope_costs f W (T n + b) (n + n + 0) h.id own _ (sizes.then_costs f W (T n) (n + n) b 0 _ _ (operands_cost n xs ps around) (sizes.taken_costs f W b 0 (lower.keys_of xs) P p)))
@@ -293,12 +293,12 @@ module _ (f : Frame) (W B : ℕ) (enough : 12 * (W + 2) ≤ B) where
   abbrev Shaped : ℕ → Shape → Type 0
   Shaped m s = Tested s m × Binds s m
 
-  temporary_costs : (m : ℕ) (h : Head) (s : Shape) (e : Evaluates) → EvalCosts m e → (around : Around) → C (T (suc m)) (suc m + suc m) (lower.temporary f h s e around)
+  temporary_costs : (m : ℕ) (h : NodeHead) (s : Shape) (e : Evaluates) → EvalCosts m e → (around : Around) → C (T (suc m)) (suc m + suc m) (lower.temporary f h s e around)
   temporary_costs m h s e p around =
       pended m (lower.pending_if f s.in_destination nearest_temporary h) (lower.completed f nearest_temporary h) (e around false (Into h.id))
       (pending_grew s.in_destination nearest_temporary h (nearest_grew 1)) (completed_grew nearest_temporary h (nearest_grew 1)) (p around false (Into h.id))
 
-  value_costs : (m : ℕ) (h : Head) (s : Shape) → Shaped m s → (e : Evaluates) → EvalCosts m e → NodeCosts m (lower.a_value f h s e)
+  value_costs : (m : ℕ) (h : NodeHead) (s : Shape) → Shaped m s → (e : Evaluates) → EvalCosts m e → NodeCosts m (lower.a_value f h s e)
   value_costs m h s shaped e p = record {
     evaluates = λ around own to. p around own (to_own_key (is_never f.items h.ty) h.id to);
     reaches = temporary_costs m h s (lower.made_in f h e) (λ around own to. p around own (to_own_key (is_never f.items h.ty) h.id to));
@@ -306,7 +306,7 @@ module _ (f : Frame) (W B : ℕ) (enough : 12 * (W + 2) ≤ B) where
     shaped = shaped;
   }
 
-  place_costs : (m b e : ℕ) (h : Head) (s : Shape) → Shaped m s → (r : Reaches) → ((around : Around) → C b e (r around)) → b + 3 * (W + 2) ≤ B + T m → e ≤ m + m → NodeCosts m (lower.a_place f h s r)
+  place_costs : (m b e : ℕ) (h : NodeHead) (s : Shape) → Shaped m s → (r : Reaches) → ((around : Around) → C b e (r around)) → b + 3 * (W + 2) ≤ B + T m → e ≤ m + m → NodeCosts m (lower.a_place f h s r)
   place_costs m b e h s shaped r p lb le = record {
     evaluates = λ around own to.
         weaker (W + 1 + (b + 2 * (W + 2))) (e + 0) (B + T m) (m + m) _ (omega arith) (omega arith)
@@ -318,24 +318,24 @@ module _ (f : Frame) (W B : ℕ) (enough : 12 * (W + 2) ≤ B) where
   }
 
   -- in a scope of its own or not, into a destination
-  scoped_value_costs : (m b e : ℕ) (h : Head) (s : Shape) → Shaped m s → (does : lower.MakesInto) → ((around : Around) (to : Destination) → C b e (does around to)) → b + (W + 2) ≤ B + T m → e ≤ m + m →
+  scoped_value_costs : (m b e : ℕ) (h : NodeHead) (s : Shape) → Shaped m s → (does : lower.MakesInto) → ((around : Around) (to : Destination) → C b e (does around to)) → b + (W + 2) ≤ B + T m → e ≤ m + m →
       NodeCosts m (lower.a_scope f h s does)
   scoped_value_costs m b e h s shaped does p lb le =
       value_costs m h s shaped _ (λ around own to. weaker (W + 1 + b) e (B + T m) (m + m) _ (omega arith) (omega arith) (own_costs b e h own _ (p around to)))
 
-  effect_costs : (h : Head) (s : Shape) → Shaped 0 s → (action : Site → Action) → NodeCosts 0 (lower.effect f h s action)
+  effect_costs : (h : NodeHead) (s : Shape) → Shaped 0 s → (action : EffectSite → Action) → NodeCosts 0 (lower.effect f h s action)
   effect_costs h s shaped action = scoped_value_costs 0 (2 * (W + 2)) 0 h s shaped _ (λ around to. deliver_costs h.id h action to) (omega arith) (omega arith)
 
   as_many : (m m' : ℕ) (x : NodeLower) → m ≡ m' → NodeCosts m x → NodeCosts m' x
   as_many m m' x e p = subst (λ n. NodeCosts n x) e p
 
-  on_operands_cost : (n : ℕ) (h : Head) (s : Shape) → Shaped n s → (xs : List NodeLower) → AllCost n xs → (action : Site → Action) → NodeCosts n (lower.on_operands f h s xs action)
+  on_operands_cost : (n : ℕ) (h : NodeHead) (s : Shape) → Shaped n s → (xs : List NodeLower) → AllCost n xs → (action : EffectSite → Action) → NodeCosts n (lower.on_operands f h s xs action)
   on_operands_cost n h s shaped xs ps action =
       value_costs n h s shaped _ (λ around own to.
       weaker (W + 1 + (T n + 2 * (W + 2))) (n + n) (B + T n) (n + n) _ (omega arith) (omega arith)
       (acting_costs n (2 * (W + 2)) xs ps h around own _ (deliver_costs h.id h action to)))
 
-  gives_unit_costs : (n : ℕ) (h : Head) (s : Shape) → Shaped n s → (x : NodeLower) → AllCost n (x ∷ []) → (action : effects.Operand → Action) → NodeCosts n (lower.gives_unit f h s x action)
+  gives_unit_costs : (n : ℕ) (h : NodeHead) (s : Shape) → Shaped n s → (x : NodeLower) → AllCost n (x ∷ []) → (action : effects.Operand → Action) → NodeCosts n (lower.gives_unit f h s x action)
   gives_unit_costs n h s shaped x p action =
       value_costs n h s shaped _ (λ around own to.
       weaker (W + 1 + (T n + (W + 2 + 2 * (W + 2)))) (n + n) (B + T n) (n + n) _ (omega arith) (omega arith)
@@ -355,11 +355,11 @@ module _ (f : Frame) (W B : ℕ) (enough : 12 * (W + 2) ≤ B) where
       sizes.then_costs f W (B + T m) (m + m) (3 + (b1 + b2)) (e1 + e2) _ _ (alone_costs m x p around (Into x.head.id))
       (sizes.branches_costs f W 0 b1 e1 b2 e2 x.head.id (if_true f (moved x.head.id x.head.id) x.head.id) P Q (λ y n s. omega arith) cp cq)
 
-  otherwise_costs : (n : ℕ) (h : Head) (x : LowerIfAny) → IfAnyCost n x → (around : Around) (to : Destination) → C (T n + 2 * (W + 2)) (n + n) (lower.otherwise_unit f h x around to)
+  otherwise_costs : (n : ℕ) (h : NodeHead) (x : LowerIfAny) → IfAnyCost n x → (around : Around) (to : Destination) → C (T n + 2 * (W + 2)) (n + n) (lower.otherwise_unit f h x around to)
   otherwise_costs _ h _ without around to = weaker (2 * (W + 2)) 0 (T 0 + 2 * (W + 2)) 0 _ (omega arith) (omega arith) (unit_costs h to)
   otherwise_costs _ h _ (with_one m x p) around to = weaker (B + T m) (m + m) (T (suc m) + 2 * (W + 2)) (suc m + suc m) _ (omega arith) (omega arith) (alone_costs m x p around to)
 
-  bind_costs : (in_that : (Scope → Scope) → Scopes → Scopes) → ((g : Scope → Scope) → sizes.Adds 1 g → (S : Scopes) → Grew S (in_that g S) 1) → (bounds : List Bound) →
+  bind_costs : (in_that : (Scope → Scope) → Scopes → Scopes) → ((g : Scope → Scope) → sizes.Adds 1 g → (S : Scopes) → Grew S (in_that g S) 1) → (bounds : List BoundName) →
       C (6 * length bounds) (length bounds) (lower.bind f in_that bounds)
   bind_costs in_that grew [] = weaker 0 0 (6 * 0) 0 _ (omega arith) (omega arith) (sizes.nothing_costs f W)
   bind_costs in_that grew (b ∷ bounds) =
@@ -373,12 +373,12 @@ module _ (f : Frame) (W B : ℕ) (enough : 12 * (W + 2) ≤ B) where
       weaker (T (suc m) + 0) (suc m + suc m + 0) (T (suc m)) (suc m + suc m) _ (omega arith) (omega arith)
       (sizes.then_costs f W (T (suc m)) (suc m + suc m) 0 0 _ _ (p.reaches around) (touched x.shape.is_place (lower.site_of x around)))
     where
-      touched : (b : Bool) (site : Site) → C 0 0 (lower.touched f b site)
+      touched : (b : Bool) (site : EffectSite) → C 0 0 (lower.touched f b site)
       touched true site = sizes.stmt_costs f W (build.is_last f (effects.Touch site)) site.node _
       touched false site = sizes.nothing_costs f W
 
   -- with the tests of a pattern and its names
-  if_taken_costs : (mp ms b1 e1 b2 e2 : ℕ) (h : Head) (around : Around) (p x : NodeLower) → NodeCosts mp p → NodeCosts ms x → (P Q : Lowers) → C b1 e1 P → C b2 e2 Q →
+  if_taken_costs : (mp ms b1 e1 b2 e2 : ℕ) (h : NodeHead) (around : Around) (p x : NodeLower) → NodeCosts mp p → NodeCosts ms x → (P Q : Lowers) → C b1 e1 P → C b2 e2 Q →
       C (T (suc ms) + (suc (mp + mp) + 3 + (6 * suc mp + b1 + (W + 1) + (b2 + (W + 1))))) (suc ms + suc ms + (suc mp + e1 + e2)) (lower.if_taken f h around p x P Q)
   if_taken_costs mp ms b1 e1 b2 e2 h around p x cp cx P Q p1 p2 =
       let place = lower.place_in x around in
@@ -392,7 +392,7 @@ module _ (f : Frame) (W B : ℕ) (enough : 12 * (W + 2) ≤ B) where
       (sizes.leaves_then f W b2 e2 Q p2))
 
   -- ---- arms
-  guarded_costs : (n b e : ℕ) (around : Around) (bounds : List Bound) (g : LowerIfAny) → IfAnyCost n g → (P : Lowers) → C b e P → ArmCost (b + T n + 1) (e + (n + n)) (lower.guarded f around bounds g P)
+  guarded_costs : (n b e : ℕ) (around : Around) (bounds : List BoundName) (g : LowerIfAny) → IfAnyCost n g → (P : Lowers) → C b e P → ArmCost (b + T n + 1) (e + (n + n)) (lower.guarded f around bounds g P)
   guarded_costs _ b e around bounds _ without P p c S r k s w =
       let x = p c S k s (omega (arith, w)) in let most = x.most in omega arith
   guarded_costs _ b e around bounds _ (with_one m x q) P p c S r k s w = by_end (back_in (x.evaluates (in_guard bounds around) true (Into x.head.id))).has_end
@@ -414,14 +414,14 @@ module _ (f : Frame) (W B : ℕ) (enough : 12 * (W + 2) ≤ B) where
           omega arith
       by_end false = let z = asks c S k s (omega (arith, w)) in let m2 = z.most in omega arith
 
-  taken_costs : (mp m : ℕ) (h : Head) (around : Around) (bounds : List Bound) → length bounds ≤ suc mp → (x : NodeLower) → NodeCosts m x → (to : Destination) →
+  taken_costs : (mp m : ℕ) (h : NodeHead) (around : Around) (bounds : List BoundName) → length bounds ≤ suc mp → (x : NodeLower) → NodeCosts m x → (to : Destination) →
       C (W + 1 + (6 * suc mp + (B + T m))) (suc mp + (m + m)) (lower.taken_arm f h around bounds x to)
   taken_costs mp m h around bounds few x p to =
       sizes.scope_costs f W (6 * suc mp + (B + T m)) (suc mp + (m + m)) h.id false _
       (sizes.then_costs f W (6 * suc mp) (suc mp) (B + T m) (m + m) _ _
       (weaker (6 * length bounds) (length bounds) (6 * suc mp) (suc mp) _ (omega arith) (omega arith) (bind_costs innermost (innermost_grew 1) bounds)) (alone_costs m x p around to))
 
-  arm_costs : (mp n m : ℕ) (h : Head) (p : NodeLower) (g : LowerIfAny) (x : NodeLower) → NodeCosts mp p → IfAnyCost n g → NodeCosts m x → (matched : Place) (around : Around) (to : Destination) →
+  arm_costs : (mp n m : ℕ) (h : NodeHead) (p : NodeLower) (g : LowerIfAny) (x : NodeLower) → NodeCosts mp p → IfAnyCost n g → NodeCosts m x → (matched : Place) (around : Around) (to : Destination) →
       ArmCost (B + T (suc mp + (n + suc m))) (suc mp + (n + suc m) + (suc mp + (n + suc m))) (lower.arm f h p g x matched around to)
   arm_costs mp n m h p g x cp cg cx matched around to c S r k s w =
       let bounds = p.shape.bindings matched in
@@ -437,7 +437,7 @@ module _ (f : Frame) (W B : ℕ) (enough : 12 * (W + 2) ≤ B) where
       let tw = twelve (B + 12) mp (omega arith) in
       omega (arith, enough)
 
-  arms_most : (number n : ℕ) (xs : List NodeLower) → AllCost n xs → (matched : Place) (around : Around) (to : Destination) (c : Ways) (S : Scopes) (k : Rest) (s : Building) → all S + (n + n) ≤ W →
+  arms_most : (number n : ℕ) (xs : List NodeLower) → AllCost n xs → (matched : Place) (around : Around) (to : Destination) (c : Ways) (S : Scopes) (k : BlockRest) (s : Building) → all S + (n + n) ≤ W →
       length (lower.arms_from f number xs matched around to c S k s).1.blocks ≤ length s.blocks + (T n + (W + 1))
   arms_most number _ _ none_cost matched around to c S k s w =
       let m = sizes.panic_most f W (Term.Panic Why.Match) number S s (omega (arith, w)) in omega arith
@@ -464,7 +464,7 @@ module _ (f : Frame) (W B : ℕ) (enough : 12 * (W + 2) ≤ B) where
       weaker (B + T m + T n) (m + m + (n + n)) (T (suc m + n)) (suc m + n + (suc m + n)) _ (let i = times_add (B + 12) (suc m) n in omega arith) (omega arith)
       (sizes.then_costs f W (B + T m) (m + m) (T n) (n + n) _ _ (p.evaluates around false (Into x.head.id)) (statements_cost n xs ps around))
 
-  tail_costs : (n : ℕ) (h : Head) (x : LowerIfAny) → IfAnyCost n x → (around : Around) (to : Destination) → C (T n + 2 * (W + 2)) (n + n) (lower.tail_of f h x around to)
+  tail_costs : (n : ℕ) (h : NodeHead) (x : LowerIfAny) → IfAnyCost n x → (around : Around) (to : Destination) → C (T n + 2 * (W + 2)) (n + n) (lower.tail_of f h x around to)
   tail_costs _ h _ without around to = by_never (is_never f.items h.ty)
     where
       by_never : (b : Bool) → C (T 0 + 2 * (W + 2)) 0 (lower.put_unit_if f b h to)
@@ -472,29 +472,29 @@ module _ (f : Frame) (W B : ℕ) (enough : 12 * (W + 2) ≤ B) where
       by_never false = weaker (2 * (W + 2)) 0 (T 0 + 2 * (W + 2)) 0 _ (omega arith) (omega arith) (unit_costs h to)
   tail_costs _ h _ (with_one m x p) around to = weaker (B + T m) (m + m) (T (suc m) + 2 * (W + 2)) (suc m + suc m) _ (omega arith) (omega arith) (alone_costs m x p around to)
 
-  block_costs : (n n' : ℕ) (h : Head) (xs : List NodeLower) → AllCost n xs → (x : LowerIfAny) → IfAnyCost n' x → EvalCosts (n + n') (lower.block f h xs x)
+  block_costs : (n n' : ℕ) (h : NodeHead) (xs : List NodeLower) → AllCost n xs → (x : LowerIfAny) → IfAnyCost n' x → EvalCosts (n + n') (lower.block f h xs x)
   block_costs n n' h xs ps x p around own to =
       weaker (W + 1 + (T n + (T n' + 2 * (W + 2)))) (n + n + (n' + n')) (B + T (n + n')) (n + n' + (n + n')) _ (let i = times_add (B + 12) n n' in omega (arith, enough)) (omega arith)
       (sizes.scope_costs f W (T n + (T n' + 2 * (W + 2))) (n + n + (n' + n')) h.id own _
       (sizes.then_costs f W (T n) (n + n) (T n' + 2 * (W + 2)) (n' + n') _ _ (statements_cost n xs ps around) (tail_costs n' h x p around to)))
 
-  evaluating_costs : (m : ℕ) (h : Head) (x : NodeLower) → NodeCosts m x → (around : Around) → C (W + 1 + T (suc m)) (suc m + suc m) (lower.evaluating f h x around)
+  evaluating_costs : (m : ℕ) (h : NodeHead) (x : NodeLower) → NodeCosts m x → (around : Around) → C (W + 1 + T (suc m)) (suc m + suc m) (lower.evaluating f h x around)
   evaluating_costs m h x p around =
       sizes.scope_costs f W (T (suc m)) (suc m + suc m) h.id true _
       (pended m (lower.pending_if f true innermost x.head) (lower.completed f innermost x.head) _
       (pending_grew true innermost x.head (innermost_grew 1)) (completed_grew innermost x.head (innermost_grew 1)) (p.evaluates around false (Into x.head.id)))
 
-  named_grew : (x : Head) (S : Scopes) → Grew S (lower.named f x S) 1
+  named_grew : (x : NodeHead) (S : Scopes) → Grew S (lower.named f x S) 1
   named_grew x S =
       grew_on S (innermost (without_pending (entry_of x)) S) (lower.named f x S) 0 1 (innermost_grew 0 (without_pending (entry_of x)) (without_adds (entry_of x)) S)
       (around_grew 1 (with_entry (entry_of x)) (entry_adds (entry_of x)) (innermost (without_pending (entry_of x)) S))
 
-  let_name_costs : (m : ℕ) (h y : Head) (x : NodeLower) → NodeCosts m x → (around : Around) → C (W + 1 + T (suc m)) (suc m + suc m) (lower.let_name f h y x around)
+  let_name_costs : (m : ℕ) (h y : NodeHead) (x : NodeLower) → NodeCosts m x → (around : Around) → C (W + 1 + T (suc m)) (suc m + suc m) (lower.let_name f h y x around)
   let_name_costs m h y x p around =
       sizes.scope_costs f W (T (suc m)) (suc m + suc m) h.id true _
       (pended m (lower.pending_if f true innermost y) (lower.named f y) _ (pending_grew true innermost y (innermost_grew 1)) (named_grew y) (p.evaluates around false (Into y.id)))
 
-  let_parts_costs : (mp m : ℕ) (h : Head) (p x : NodeLower) → NodeCosts mp p → NodeCosts m x → (around : Around) →
+  let_parts_costs : (mp m : ℕ) (h : NodeHead) (p x : NodeLower) → NodeCosts mp p → NodeCosts m x → (around : Around) →
       C (W + 1 + (6 * 1 + (T (suc m) + 6 * suc mp))) (1 + (suc m + suc m + suc mp)) (lower.let_parts f h p x around)
   let_parts_costs mp m h p x cp cx around =
       let bounds = p.shape.bindings (lower.place_in x around) in
@@ -509,7 +509,7 @@ module _ (f : Frame) (W B : ℕ) (enough : 12 * (W + 2) ≤ B) where
   emptied_costs true key = weaker 0 0 (W + 2) 0 _ (omega arith) (omega arith) (sizes.nothing_costs f W)
   emptied_costs false key = sizes.emptied_costs f W (site_of_key key)
 
-  declared_costs : (bounds : List Bound) → C (times (W + 8) (length bounds)) (length bounds) (lower.declared f bounds)
+  declared_costs : (bounds : List BoundName) → C (times (W + 8) (length bounds)) (length bounds) (lower.declared f bounds)
   declared_costs [] = sizes.nothing_costs f W
   declared_costs (b ∷ bounds) =
       weaker (W + 2 + (6 * 1 + times (W + 8) (length bounds))) (0 + (1 + length bounds)) (times (W + 8) (length (b ∷ bounds))) (length (b ∷ bounds)) _ (omega arith) (omega arith)
@@ -520,7 +520,7 @@ module _ (f : Frame) (W B : ℕ) (enough : 12 * (W + 2) ≤ B) where
   times_wide zero = omega arith
   times_wide (suc n) = let i = times_wide n in omega (arith, enough)
 
-  letting_costs : (mp n : ℕ) (h : Head) (p : NodeLower) (x : LowerIfAny) → NodeCosts mp p → IfAnyCost n x → (around : Around) → C (B + T (suc mp + n)) (suc mp + n + (suc mp + n)) (lower.letting f h p x around)
+  letting_costs : (mp n : ℕ) (h : NodeHead) (p : NodeLower) (x : LowerIfAny) → NodeCosts mp p → IfAnyCost n x → (around : Around) → C (B + T (suc mp + n)) (suc mp + n + (suc mp + n)) (lower.letting f h p x around)
   letting_costs mp _ h p _ cp without around =
       let bounds = p.shape.bindings (whole_local 0) in
       let few = cp.shaped.1.0 (whole_local 0) in
@@ -542,22 +542,22 @@ module _ (f : Frame) (W B : ℕ) (enough : 12 * (W + 2) ≤ B) where
           let j = room in
           weaker (W + 1 + (6 * 1 + (T (suc m) + 6 * suc mp))) (1 + (suc m + suc m + suc mp)) _ _ _ (omega (arith, enough)) (omega arith) (let_parts_costs mp m h p x cp cx around)
 
-  jump_value_costs : (n : ℕ) (h : Head) (x : LowerIfAny) → IfAnyCost n x → (around : Around) (to : Destination) → C (T n + 2 * (W + 2)) (n + n) (lower.value_of_jump f h x around to)
+  jump_value_costs : (n : ℕ) (h : NodeHead) (x : LowerIfAny) → IfAnyCost n x → (around : Around) (to : Destination) → C (T n + 2 * (W + 2)) (n + n) (lower.value_of_jump f h x around to)
   jump_value_costs _ h _ without around to = weaker (2 * (W + 2)) 0 (T 0 + 2 * (W + 2)) 0 _ (omega arith) (omega arith) (unit_costs h to)
   jump_value_costs _ h _ (with_one m x p) around to = weaker (B + T m) (m + m) (T (suc m) + 2 * (W + 2)) (suc m + suc m) _ (omega arith) (omega arith) (p.evaluates around false to)
 
-  ends_loop_costs : (h : Head) (to : Destination) → C (2 * (W + 2) + (3 * W + 1)) (0 + 0) (lower.ends_loop f h to)
+  ends_loop_costs : (h : NodeHead) (to : Destination) → C (2 * (W + 2) + (3 * W + 1)) (0 + 0) (lower.ends_loop f h to)
   ends_loop_costs h to = sizes.jump_costs f W (2 * (W + 2)) 0 h.id (Breaks h.id) _ (unit_costs h to)
 
   body_costs : (m : ℕ) (x : NodeLower) → NodeCosts m x → (around : Around) → C (B + T m) (m + m) (lower.body_in f x around)
   body_costs m x p around = alone_costs m x p around (Into x.head.id)
 
-  pattern_costs : (m : ℕ) (h : Head) (s : Shape) → Shaped m s → NodeCosts m (lower.a_pattern f h s)
+  pattern_costs : (m : ℕ) (h : NodeHead) (s : Shape) → Shaped m s → NodeCosts m (lower.a_pattern f h s)
   pattern_costs m h s shaped = value_costs m h s shaped _ (λ around own to. weaker 0 0 (B + T m) (m + m) _ (omega arith) (omega arith) (sizes.nothing_costs f W))
 
   -- ---- the forms
   abbrev FormCosts : Form → Type 0
-  FormCosts form = (h : Head) → NodeCosts (length (nodes_in form)) (lower.lower_form f form h (shape_of f.items form h))
+  FormCosts form = (h : NodeHead) → NodeCosts (length (nodes_in form)) (lower.lower_form f form h (shape_of f.items form h))
 
   two : (a b : tree.Node) → suc (inside a) + suc (inside b) ≡ length (nodes_of a ++ nodes_of b)
   two a b = let i = length-append (nodes_of a) (nodes_of b) in let j = counted a in let k = counted b in omega arith
@@ -568,23 +568,23 @@ module _ (f : Frame) (W B : ℕ) (enough : 12 * (W + 2) ≤ B) where
   one_of : (a : tree.Node) → suc (inside a) ≡ length (nodes_of a)
   one_of a = sym (counted a)
 
-  shape_at : (form : Form) (h : Head) (n : ℕ) → n ≡ length (nodes_in form) → Shaped n (shape_of f.items form h)
+  shape_at : (form : Form) (h : NodeHead) (n : ℕ) → n ≡ length (nodes_in form) → Shaped n (shape_of f.items form h)
   shape_at form h n e = subst (λ m. Shaped m (shape_of f.items form h)) (sym e) (form_pattern f.items form h)
 
-  abbrev S_of : Form → Head → Shape
+  abbrev S_of : Form → NodeHead → Shape
   S_of form h = shape_of f.items form h
 
-  arm_form : (m : ℕ) (h : Head) (s : Shape) → Shaped m s → (a : Place → Around → Destination → LowersArm) → ((matched : Place) (around : Around) (to : Destination) → ArmCost (B + T m) (m + m) (a matched around to)) →
+  arm_form : (m : ℕ) (h : NodeHead) (s : Shape) → Shaped m s → (a : Place → Around → Destination → LowersArm) → ((matched : Place) (around : Around) (to : Destination) → ArmCost (B + T m) (m + m) (a matched around to)) →
       NodeCosts m (record (lower.a_pattern f h s) { arm = a })
   arm_form m h s shaped a p = let v = pattern_costs m h s shaped in record { evaluates = v.evaluates; reaches = v.reaches; arm = p; shaped = shaped }
 
-  on_base : (form : Form) (h : Head) (base : tree.Node) → suc (inside base) ≡ length (nodes_in form) → NodeCosts (inside base) (lower.lower f base) →
+  on_base : (form : Form) (h : NodeHead) (base : tree.Node) → suc (inside base) ≡ length (nodes_in form) → NodeCosts (inside base) (lower.lower f base) →
       NodeCosts (length (nodes_in form)) (lower.a_place f h (S_of form h) (lower.lower f base).reaches)
   on_base form h base e c =
       as_many (suc (inside base)) _ _ e
       (place_costs (suc (inside base)) (T (suc (inside base))) (suc (inside base) + suc (inside base)) h (S_of form h) (shape_at form h (suc (inside base)) e) (lower.lower f base).reaches c.reaches (omega (arith, enough)) (omega arith))
 
-  on_element : (h : Head) (base index : tree.Node) (count : ℕ) → NodeCosts (inside base) (lower.lower f base) → NodeCosts (inside index) (lower.lower f index) →
+  on_element : (h : NodeHead) (base index : tree.Node) (count : ℕ) → NodeCosts (inside base) (lower.lower f base) → NodeCosts (inside index) (lower.lower f index) →
       NodeCosts (length (nodes_of base ++ nodes_of index)) (lower.a_place f h (S_of (tree.Index base index count) h) (lower.reach_element f h (S_of (tree.Index base index count) h) (lower.lower f base) (lower.lower f index) count))
   on_element h base index count cb ci =
       let mb = inside base in
@@ -599,29 +599,29 @@ module _ (f : Frame) (W B : ℕ) (enough : 12 * (W + 2) ≤ B) where
       (sizes.then_costs f W (W + 2) 0 (W + 2) 0 _ _ (sizes.act_costs f W h.id (effects.Touch (site_at h (lower.array_around f (s.place around.aliases)))))
       (sizes.act_costs f W (lower.lower f index).head.id (effects.Bounds (effects.Copied (site_of_key (lower.lower f index).head.id)) count))))) (omega (arith, enough)) (omega arith))
 
-  on_node : (form : Form) (h : Head) (x : tree.Node) → suc (inside x) ≡ length (nodes_in form) → NodeCosts (inside x) (lower.lower f x) → (action : Site → Action) →
+  on_node : (form : Form) (h : NodeHead) (x : tree.Node) → suc (inside x) ≡ length (nodes_in form) → NodeCosts (inside x) (lower.lower f x) → (action : EffectSite → Action) →
       NodeCosts (length (nodes_in form)) (lower.on_operands f h (S_of form h) (lower.lower f x ∷ []) action)
   on_node form h x e c action =
       as_many (suc (inside x)) _ _ e (on_operands_cost (suc (inside x)) h (S_of form h) (shape_at form h (suc (inside x)) e) (lower.lower f x ∷ []) (single (inside x) _ c) action)
 
-  on_nodes : (form : Form) (h : Head) (x y : tree.Node) → suc (inside x) + suc (inside y) ≡ length (nodes_in form) → NodeCosts (inside x) (lower.lower f x) → NodeCosts (inside y) (lower.lower f y) → (action : Site → Action) →
+  on_nodes : (form : Form) (h : NodeHead) (x y : tree.Node) → suc (inside x) + suc (inside y) ≡ length (nodes_in form) → NodeCosts (inside x) (lower.lower f x) → NodeCosts (inside y) (lower.lower f y) → (action : EffectSite → Action) →
       NodeCosts (length (nodes_in form)) (lower.on_operands f h (S_of form h) (lower.lower f x ∷ lower.lower f y ∷ []) action)
   on_nodes form h x y e cx cy action =
       as_many (suc (inside x) + suc (inside y)) _ _ e
       (on_operands_cost (suc (inside x) + suc (inside y)) h (S_of form h) (shape_at form h (suc (inside x) + suc (inside y)) e) (lower.lower f x ∷ lower.lower f y ∷ []) (one_costs (inside x) (suc (inside y)) _ _ cx (single (inside y) _ cy)) action)
 
-  on_first : (form : Form) (h : Head) (x : tree.Node) (ns : Nodes) → suc (inside x) + length (nodes_among ns) ≡ length (nodes_in form) → NodeCosts (inside x) (lower.lower f x) → AllCost (length (nodes_among ns)) (lower.lower_all f ns) →
-      (action : Site → Action) → NodeCosts (length (nodes_in form)) (lower.on_operands f h (S_of form h) (lower.lower f x ∷ lower.lower_all f ns) action)
+  on_first : (form : Form) (h : NodeHead) (x : tree.Node) (ns : Nodes) → suc (inside x) + length (nodes_among ns) ≡ length (nodes_in form) → NodeCosts (inside x) (lower.lower f x) → AllCost (length (nodes_among ns)) (lower.lower_all f ns) →
+      (action : EffectSite → Action) → NodeCosts (length (nodes_in form)) (lower.on_operands f h (S_of form h) (lower.lower f x ∷ lower.lower_all f ns) action)
   on_first form h x ns e cx cs action =
       as_many (suc (inside x) + length (nodes_among ns)) _ _ e
       (on_operands_cost (suc (inside x) + length (nodes_among ns)) h (S_of form h) (shape_at form h (suc (inside x) + length (nodes_among ns)) e) (lower.lower f x ∷ lower.lower_all f ns) (one_costs (inside x) (length (nodes_among ns)) _ _ cx cs) action)
 
-  to_unit : (form : Form) (h : Head) (x : tree.Node) → suc (inside x) ≡ length (nodes_in form) → NodeCosts (inside x) (lower.lower f x) → (action : effects.Operand → Action) →
+  to_unit : (form : Form) (h : NodeHead) (x : tree.Node) → suc (inside x) ≡ length (nodes_in form) → NodeCosts (inside x) (lower.lower f x) → (action : effects.Operand → Action) →
       NodeCosts (length (nodes_in form)) (lower.gives_unit f h (S_of form h) (lower.lower f x) action)
   to_unit form h x e c action =
       as_many (suc (inside x)) _ _ e (gives_unit_costs (suc (inside x)) h (S_of form h) (shape_at form h (suc (inside x)) e) (lower.lower f x) (single (inside x) _ c) action)
 
-  of_jump : (form : Form) (h : Head) (value : MaybeNode) → length (nodes_if_any value) ≡ length (nodes_in form) → IfAnyCost (length (nodes_if_any value)) (lower.lower_if_any f value) → (exit : Exit) (to : Around → Destination) →
+  of_jump : (form : Form) (h : NodeHead) (value : MaybeNode) → length (nodes_if_any value) ≡ length (nodes_in form) → IfAnyCost (length (nodes_if_any value)) (lower.lower_if_any f value) → (exit : Exit) (to : Around → Destination) →
       NodeCosts (length (nodes_in form)) (lower.a_scope f h (S_of form h) (λ around own_to. jump f h.id exit (lower.value_of_jump f h (lower.lower_if_any f value) around (to around))))
   of_jump form h value e c exit to =
       let n = length (nodes_if_any value) in
@@ -920,7 +920,7 @@ lowered_is_small items tree =
     let code = (lower.entire_function f tree).build (body_ways 1) S last begun in
     let most = x.most in
     let z = sizes.set_length code.1.blocks 0 (Some (build.made Kind.Plain (length code.1.blocks) code.0)) in
-    let l = length_map (λ (o : Option build.Made). (unwrap_or o lower.unmade).block) (lower.built f tree).blocks in
+    let l = length_map (λ (o : Option build.MadeBlock). (unwrap_or o lower.unmade).block) (lower.built f tree).blocks in
     let sum = times_add (30 * k + 48 + 12) p (suc m) in
     let all_nodes = ap (times (30 * k + 48 + 12)) (let i = counts in let j = block in let e : k ≡ p + suc m = omega arith in e) in
     let t = times_nodes k k in

@@ -2,7 +2,7 @@
 use Rattle.std.proofs.Common.{◌≡◌, ℕ, Bool, true, false, ◌&&◌, ◌||◌, ◌==◌, List, [], ◌∷◌, ◌++◌, refl, ap, inl, inr, arith, if◌then◌else◌}
 use Rattle.std.proofs.lemmas.Bool.Decides.{eqb_tells}
 use Rattle.store_model.specs.Effects as effects
-use Rattle.store_model.specs.Effects.{Site, Action}
+use Rattle.store_model.specs.Effects.{EffectSite, Action}
 use Rattle.store_model.specs.Places.Place.{Place, whole_local}
 use Rattle.typed_tree.specs.Tree as tree
 use Rattle.typed_tree.specs.Tree.{Form, Nodes, no_node, a_node, Fields, no_field, a_field, MaybeNode, absent, present, ParamTree, BodyTree}
@@ -12,10 +12,10 @@ use Rattle.src_meaning.specs.Evaluation.{in_number_order, to_own_key}
 use Rattle.src_meaning.specs.Forms.{Destination, Into, Coerced, Around, in_loop, loop_destination, in_guard, coerced, bound_entry, site_in, site_of_key, moved, is_never}
 use Rattle.src_meaning.specs.Locals.OfBody.{param_key, answer_key}
 use Rattle.src_meaning.specs.Scopes.{Scope, Scopes, with_scope, innermost, around_innermost, with_entry, Exit, Value, Breaks, Continues, Returns, Panics}
-use Rattle.src_meaning.specs.Shape.{Head, head, Shape, Bound, kind_of, shape, shape_of, site_at, operand_of_bound, operand_at}
+use Rattle.src_meaning.specs.Shape.{NodeHead, head, Shape, BoundName, kind_of, shape, shape_of, site_at, operand_of_bound, operand_at}
 use Rattle.cfg_code.specs.Code.{field_keys, moved_fields}
 use Rattle.cfg_build.specs.Build as build
-use Rattle.cfg_build.specs.Build.{Frame, Lowers, act, act_by, is_last, done_by, names, outside, jumps_if}
+use Rattle.cfg_build.specs.Build.{LoweringFrame, Lowers, act, act_by, is_last, done_by, names, outside, jumps_if}
 use Rattle.cfg_build.specs.Loops.{has_loop, names_loops, names_loops_in, all_name_loops, fields_name_loops, if_any_names, names_its_loops}
 use Rattle.cfg_build.specs.Lower as lower
 use Rattle.cfg_build.specs.Lower.{Evaluates, Reaches, LowersArm, NodeLower, LowerIfAny, no_lower, a_lower}
@@ -66,7 +66,7 @@ both false y e = absurd (let never : false ≡ true = e in cc)
 pub record JumpsIn (loops : List ℕ) (P : Lowers) : Type 0 where
   pub named : AllIn loops P.jumps
 
-module _ (f : Frame) (loops : List ℕ) where
+module _ (f : LoweringFrame) (loops : List ℕ) where
   nothing_in : JumpsIn loops build.nothing
   nothing_in = record { named = tt }
 
@@ -92,13 +92,13 @@ module _ (f : Frame) (loops : List ℕ) where
   scope_in : (node : ℕ) (own : Bool) (P : Lowers) → JumpsIn loops P → JumpsIn loops (build.in_scope f node own P)
   scope_in node own P h = changed_in (with_scope node own) _ (then_in P (build.leave f) h (record { named = tt }))
 
-  deliver_in : (n : ℕ) (h : Head) (action : Site → Action) (to : Destination) → JumpsIn loops (lower.deliver_at f n h action to)
+  deliver_in : (n : ℕ) (h : NodeHead) (action : EffectSite → Action) (to : Destination) → JumpsIn loops (lower.deliver_at f n h action to)
   deliver_in n h action (Into key) = act_in n (action (site_in h.id key))
   deliver_in n h action (Coerced key trait_no to) =
       then_in (act f n (action (site_in h.id key))) (act f h.id (effects.Unsize (site_in h.id to) trait_no (moved h.id key))) (act_in n (action (site_in h.id key)))
       (act_in h.id (effects.Unsize (site_in h.id to) trait_no (moved h.id key)))
 
-  own_in : (h : Head) (own : Bool) (P : Lowers) → JumpsIn loops P → JumpsIn loops (lower.in_own_scope f h own P)
+  own_in : (h : NodeHead) (own : Bool) (P : Lowers) → JumpsIn loops P → JumpsIn loops (lower.in_own_scope f h own P)
   own_in h true P l = scope_in h.id true P l
   own_in h false P l = l
 
@@ -123,46 +123,46 @@ module _ (f : Frame) (loops : List ℕ) where
   operands_in around _ none_in = nothing_in
   operands_in around _ (one_in m ms l all) = then_in _ _ (operand_in around m l) (operands_in around ms all)
 
-  acting_in : (h : Head) (around : Around) (own : Bool) (ms : List NodeLower) → AllNodesIn ms → (P : Lowers) → JumpsIn loops P → JumpsIn loops (lower.acting f h around own ms P)
+  acting_in : (h : NodeHead) (around : Around) (own : Bool) (ms : List NodeLower) → AllNodesIn ms → (P : Lowers) → JumpsIn loops P → JumpsIn loops (lower.acting f h around own ms P)
   acting_in h around own ms all P l = scope_in h.id own _ (then_in _ _ (operands_in around ms all) (changed_in (build.taken f (lower.keys_of ms)) P l))
 
-  value_in : (h : Head) (s : Shape) (e : Evaluates) → ((around : Around) (own : Bool) (to : Destination) → JumpsIn loops (e around own to)) → NodeIn (lower.a_value f h s e)
+  value_in : (h : NodeHead) (s : Shape) (e : Evaluates) → ((around : Around) (own : Bool) (to : Destination) → JumpsIn loops (e around own to)) → NodeIn (lower.a_value f h s e)
   value_in h s e l = record {
     evaluated = λ around own to. l around own (to_own_key (is_never f.items h.ty) h.id to);
     reached = λ around. changed_in _ _ (then_in _ _ (l around false (to_own_key (is_never f.items h.ty) h.id (Into h.id))) (record { named = tt }));
     armed = λ matched around to. tt;
   }
 
-  place_in : (h : Head) (s : Shape) (r : Reaches) → ((around : Around) → JumpsIn loops (r around)) → NodeIn (lower.a_place f h s r)
+  place_in : (h : NodeHead) (s : Shape) (r : Reaches) → ((around : Around) → JumpsIn loops (r around)) → NodeIn (lower.a_place f h s r)
   place_in h s r l = record {
     evaluated = λ around own to. own_in h own _ (then_in _ _ (l around) (deliver_in h.id h (λ site. effects.Put site (operand_at h (s.place around.aliases))) (to_own_key (is_never f.items h.ty) h.id to)));
     reached = l;
     armed = λ matched around to. tt;
   }
 
-  scope_value_in : (h : Head) (s : Shape) (e : lower.MakesInto) → ((around : Around) (to : Destination) → JumpsIn loops (e around to)) → NodeIn (lower.a_scope f h s e)
+  scope_value_in : (h : NodeHead) (s : Shape) (e : lower.MakesInto) → ((around : Around) (to : Destination) → JumpsIn loops (e around to)) → NodeIn (lower.a_scope f h s e)
   scope_value_in h s e l = value_in h s (λ around own to. lower.in_own_scope f h own (e around to)) (λ around own to. own_in h own _ (l around to))
 
-  operands_value_in : (h : Head) (s : Shape) (ms : List NodeLower) → AllNodesIn ms → (action : Site → Action) → NodeIn (lower.on_operands f h s ms action)
+  operands_value_in : (h : NodeHead) (s : Shape) (ms : List NodeLower) → AllNodesIn ms → (action : EffectSite → Action) → NodeIn (lower.on_operands f h s ms action)
   operands_value_in h s ms all action =
       value_in h s (λ around own to. lower.acting f h around own ms (lower.deliver f h action to)) (λ around own to. acting_in h around own ms all _ (deliver_in h.id h action to))
 
-  effect_value_in : (h : Head) (s : Shape) (action : Site → Action) → NodeIn (lower.effect f h s action)
+  effect_value_in : (h : NodeHead) (s : Shape) (action : EffectSite → Action) → NodeIn (lower.effect f h s action)
   effect_value_in h s action = scope_value_in h s (λ around to. lower.deliver f h action to) (λ around to. deliver_in h.id h action to)
 
-  unit_in : (h : Head) (to : Destination) → JumpsIn loops (lower.put_unit f h to)
+  unit_in : (h : NodeHead) (to : Destination) → JumpsIn loops (lower.put_unit f h to)
   unit_in h to = deliver_in h.id h (λ site. effects.Put site effects.UnitValue) to
 
-  unit_if_in : (x : Bool) (h : Head) (to : Destination) → JumpsIn loops (lower.put_unit_if f x h to)
+  unit_if_in : (x : Bool) (h : NodeHead) (to : Destination) → JumpsIn loops (lower.put_unit_if f x h to)
   unit_if_in true h to = nothing_in
   unit_if_in false h to = unit_in h to
 
-  gives_unit_in : (h : Head) (s : Shape) (m : NodeLower) → NodeIn m → (action : effects.Operand → Action) → NodeIn (lower.gives_unit f h s m action)
+  gives_unit_in : (h : NodeHead) (s : Shape) (m : NodeLower) → NodeIn m → (action : effects.Operand → Action) → NodeIn (lower.gives_unit f h s m action)
   gives_unit_in h s m l action =
       value_in h s (λ around own to. lower.acting f h around own (m ∷ []) (lower.unit_after f h (action (moved h.id m.head.id)) to))
       (λ around own to. acting_in h around own (m ∷ []) (one_in m [] l none_in) _ (then_in _ _ (act_in h.id (action (moved h.id m.head.id))) (unit_in h to)))
 
-  branches_in : (node : ℕ) (x : ℕ → ℕ → build.Building → build.Rest × build.Building) (P Q : Lowers) → JumpsIn loops P → JumpsIn loops Q → JumpsIn loops (build.branches node x P Q)
+  branches_in : (node : ℕ) (x : ℕ → ℕ → build.Building → build.BlockRest × build.Building) (P Q : Lowers) → JumpsIn loops P → JumpsIn loops Q → JumpsIn loops (build.branches node x P Q)
   branches_in node x P Q p q = record { named = in_append loops P.jumps Q.jumps p.named q.named }
 
   condition_in : (around : Around) (m : NodeLower) → NodeIn m → (P Q : Lowers) → JumpsIn loops P → JumpsIn loops Q → JumpsIn loops (lower.condition f around m P Q)
@@ -173,12 +173,12 @@ module _ (f : Frame) (loops : List ℕ) where
   branch_in around to _ without P l = l
   branch_in around to _ (with_one m h) P l = back_in _ (h.evaluated around true to)
 
-  bind_in : (in_that : (Scope → Scope) → Scopes → Scopes) (bounds : List Bound) → JumpsIn loops (lower.bind f in_that bounds)
+  bind_in : (in_that : (Scope → Scope) → Scopes → Scopes) (bounds : List BoundName) → JumpsIn loops (lower.bind f in_that bounds)
   bind_in in_that [] = nothing_in
   bind_in in_that (b ∷ bounds) =
       then_in _ _ (act_in b.key (effects.Put (site_of_key b.key) (operand_of_bound b))) (changed_in (in_that (with_entry (bound_entry b))) _ (bind_in in_that bounds))
 
-  touched_in : (x : Bool) (site : Site) → JumpsIn loops (lower.touched f x site)
+  touched_in : (x : Bool) (site : EffectSite) → JumpsIn loops (lower.touched f x site)
   touched_in true site = act_in site.node (effects.Touch site)
   touched_in false site = nothing_in
 
@@ -188,17 +188,17 @@ module _ (f : Frame) (loops : List ℕ) where
   leave_in : JumpsIn loops (build.leave f)
   leave_in = record { named = tt }
 
-  if_taken_in : (h : Head) (around : Around) (pattern scrutinee : NodeLower) → NodeIn scrutinee → (P Q : Lowers) → JumpsIn loops P → JumpsIn loops Q →
+  if_taken_in : (h : NodeHead) (around : Around) (pattern scrutinee : NodeLower) → NodeIn scrutinee → (P Q : Lowers) → JumpsIn loops P → JumpsIn loops Q →
       JumpsIn loops (lower.if_taken f h around pattern scrutinee P Q)
   if_taken_in h around pattern scrutinee l P Q p q =
       changed_in (with_scope h.id true) _ (then_in _ _ (scrutinised_in around scrutinee l)
       (branches_in h.id (build.tests f (pattern.shape.tests (lower.place_in scrutinee around))) _ _
       (then_in _ _ (then_in _ _ (bind_in innermost (pattern.shape.bindings (lower.place_in scrutinee around))) p) leave_in) (then_in _ _ leave_in q)))
 
-  taken_in : (h : Head) (around : Around) (bounds : List Bound) (m : NodeLower) → NodeIn m → (to : Destination) → JumpsIn loops (lower.taken_arm f h around bounds m to)
+  taken_in : (h : NodeHead) (around : Around) (bounds : List BoundName) (m : NodeLower) → NodeIn m → (to : Destination) → JumpsIn loops (lower.taken_arm f h around bounds m to)
   taken_in h around bounds m l to = scope_in h.id false _ (then_in _ _ (bind_in innermost bounds) (back_in _ (l.evaluated around true to)))
 
-  guarded_in : (around : Around) (bounds : List Bound) (g : LowerIfAny) → IfAnyIn g → (P : Lowers) → JumpsIn loops P → AllIn loops (lower.guarded f around bounds g P).jumps
+  guarded_in : (around : Around) (bounds : List BoundName) (g : LowerIfAny) → IfAnyIn g → (P : Lowers) → JumpsIn loops P → AllIn loops (lower.guarded f around bounds g P).jumps
   guarded_in around bounds _ without P p = p.named
   guarded_in around bounds _ (with_one g l) P p =
       let asked = lower.alone f (in_guard bounds around) g (Into g.head.id) in
@@ -213,16 +213,16 @@ module _ (f : Frame) (loops : List ℕ) where
   emptied_in true key = nothing_in
   emptied_in false key = record { named = tt }
 
-  declared_in : (bounds : List Bound) → JumpsIn loops (lower.declared f bounds)
+  declared_in : (bounds : List BoundName) → JumpsIn loops (lower.declared f bounds)
   declared_in [] = nothing_in
   declared_in (b ∷ bounds) = then_in _ _ (emptied_in (needs_drop f.items b.ty) b.key) (changed_in (innermost (with_entry (bound_entry b))) _ (declared_in bounds))
 
-  let_value_in : (x : Bool) (h : Head) (pattern m : NodeLower) → NodeIn m → (around : Around) → JumpsIn loops (lower.let_value f x h pattern m around)
+  let_value_in : (x : Bool) (h : NodeHead) (pattern m : NodeLower) → NodeIn m → (around : Around) → JumpsIn loops (lower.let_value f x h pattern m around)
   let_value_in true h pattern m l around = scope_in h.id true _ (changed_in _ _ (then_in _ _ (l.evaluated around false (Into pattern.head.id)) (change_in (lower.named f pattern.head))))
   let_value_in false h pattern m l around =
       scope_in h.id true _ (changed_in _ _ (then_in _ _ (l.reached around) (bind_in around_innermost (pattern.shape.bindings (lower.place_in m around)))))
 
-  letting_in : (h : Head) (pattern : NodeLower) (m : LowerIfAny) → IfAnyIn m → (around : Around) → JumpsIn loops (lower.letting f h pattern m around)
+  letting_in : (h : NodeHead) (pattern : NodeLower) (m : LowerIfAny) → IfAnyIn m → (around : Around) → JumpsIn loops (lower.letting f h pattern m around)
   letting_in h pattern _ without around = declared_in (pattern.shape.bindings (whole_local 0))
   letting_in h pattern _ (with_one m l) around = let_value_in pattern.shape.is_binding h pattern m l around
 
@@ -230,22 +230,22 @@ module _ (f : Frame) (loops : List ℕ) where
   statements_in around _ none_in = nothing_in
   statements_in around _ (one_in m ms l all) = then_in _ _ (l.evaluated around false (Into m.head.id)) (statements_in around ms all)
 
-  tail_in : (h : Head) (m : LowerIfAny) → IfAnyIn m → (around : Around) (to : Destination) → JumpsIn loops (lower.tail_of f h m around to)
+  tail_in : (h : NodeHead) (m : LowerIfAny) → IfAnyIn m → (around : Around) (to : Destination) → JumpsIn loops (lower.tail_of f h m around to)
   tail_in h _ without around to = unit_if_in (is_never f.items h.ty) h to
   tail_in h _ (with_one m l) around to = back_in _ (l.evaluated around true to)
 
-  jump_value_in : (h : Head) (m : LowerIfAny) → IfAnyIn m → (around : Around) (to : Destination) → JumpsIn loops (lower.value_of_jump f h m around to)
+  jump_value_in : (h : NodeHead) (m : LowerIfAny) → IfAnyIn m → (around : Around) (to : Destination) → JumpsIn loops (lower.value_of_jump f h m around to)
   jump_value_in h _ without around to = unit_in h to
   jump_value_in h _ (with_one m l) around to = l.evaluated around false to
 
   jump_in : (node : ℕ) (exit : Exit) → AllIn loops (build.naming exit) → (P : Lowers) → JumpsIn loops P → JumpsIn loops (build.jump f node exit P)
   jump_in node exit e P l = then_in P (build.exits f node exit) l (record { named = e })
 
-  replaces_in : (x : Bool) (site : Site) (key : ℕ) → JumpsIn loops (build.replaces f x site key)
+  replaces_in : (x : Bool) (site : EffectSite) (key : ℕ) → JumpsIn loops (build.replaces f x site key)
   replaces_in true site key = record { named = tt }
   replaces_in false site key = changed_in (build.taken f (key ∷ [])) _ (act_in site.node (effects.Put site (moved site.node key)))
 
-module _ (f : Frame) where
+module _ (f : LoweringFrame) where
   -- a loop: the jumps that name it are gone behind it
   looped_in : (loops : List ℕ) (id : ℕ) (turn : Lowers) → JumpsIn (id ∷ loops) turn → JumpsIn loops (build.looped id turn)
   looped_in loops id turn l = record { named = in_outside id loops turn.jumps l.named }
@@ -254,7 +254,7 @@ module _ (f : Frame) where
   has_itself : (id : ℕ) (loops : List ℕ) → has_loop id (id ∷ loops) ≡ true
   has_itself id loops = ap (λ b. b || has_loop id loops) (equal_itself id)
 
-  ends_loop_in : (loops : List ℕ) (h : Head) (to : Destination) → JumpsIn (h.id ∷ loops) (lower.ends_loop f h to)
+  ends_loop_in : (loops : List ℕ) (h : NodeHead) (to : Destination) → JumpsIn (h.id ∷ loops) (lower.ends_loop f h to)
   ends_loop_in loops h to = jump_in f (h.id ∷ loops) h.id (Breaks h.id) (has_itself h.id loops, tt) _ (unit_in f (h.id ∷ loops) h to)
 
   abbrev M : tree.Node → NodeLower
@@ -264,7 +264,7 @@ module _ (f : Frame) where
     pub node_in : (loops : List ℕ) (n : tree.Node) → names_loops loops n ≡ true → NodeIn f loops (M n)
     node_in loops (tree.node id at ty by form) e = form_in loops form (head id ty by) (shape_of f.items form (head id ty by)) e
 
-    form_in : (loops : List ℕ) (form : Form) (h : Head) (s : Shape) → names_loops_in loops h.id form ≡ true → NodeIn f loops (lower.lower_form f form h s)
+    form_in : (loops : List ℕ) (form : Form) (h : NodeHead) (s : Shape) → names_loops_in loops h.id form ≡ true → NodeIn f loops (lower.lower_form f form h s)
     form_in loops (tree.Number value) h s e = effect_value_in f loops h s (λ site. effects.Put site (effects.Number value (kind_of f.items h.ty)))
     form_in loops (tree.Truth value) h s e = effect_value_in f loops h s (λ site. effects.Put site (effects.Truth value))
     form_in loops tree.UnitValue h s e = effect_value_in f loops h s (λ site. effects.Put site effects.UnitValue)
@@ -431,7 +431,7 @@ module _ (f : Frame) where
     if_any_in loops (present value) e = with_one _ (node_in loops value e)
 
   -- ---- bodies
-  names_in : (x : Bool) (bounds : List Bound) → JumpsIn [] (lower.names_of_param f x bounds)
+  names_in : (x : Bool) (bounds : List BoundName) → JumpsIn [] (lower.names_of_param f x bounds)
   names_in true bounds = nothing_in f []
   names_in false bounds = bind_in f [] innermost bounds
 

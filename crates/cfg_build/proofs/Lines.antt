@@ -10,12 +10,12 @@ use Rattle.cfg_graph.specs.declared.terminator.Unwind.{Unwind}
 use Rattle.mir_base.specs.declared.trace.Why.{Why}
 use Rattle.mir_ty.specs.Facts.{needs_drop}
 use Rattle.store_model.specs.Effects as effects
-use Rattle.store_model.specs.Effects.{Site, Action}
+use Rattle.store_model.specs.Effects.{EffectSite, Action}
 use Rattle.src_meaning.specs.Forms.{moved}
 use Rattle.src_meaning.specs.Scopes.{Entry, Scope, Scopes, with_scope, innermost, around_innermost, nearest_from, nearest_temporary, with_entry, with_pending, without_pending, without_key, without_keys, becomes_entry, without_operands, all_entries, needing_drop, entry_site, Exit}
 use Rattle.src_meaning.specs.Shape.{PatternTest, IsVariant, IsNumber, IsTruth, AnyOf, PatternTests, no_test, a_test, Alternatives, no_alternative, an_alternative}
-use Rattle.cfg_code.specs.Spots.{Way, Ways, ways_in_loop}
-use Rattle.cfg_build.specs.Build.{Frame, Line, Rest, Made, Building, ending, with_line, made, closed, reserved, filled, chain_among, kept_chain, chain_or, way_of, is_left_by, Lowers, Done, ByStmt, ByTerm, change, nothing, from_changed, back_in, then_build, then_lower, joined, after_either, branches, with_exit, looped, place_of, operand_of, done_by, chain, unwind_to, unwinding, done, is_last, act_by, act, panic_drops, drop_one, drop_all, outer, leave_from, leave, in_scope, leaves_one, leaves_to, exits, jump, panics, if_true, compared, tests, test, any_test, taken, put_into, replaces}
+use Rattle.cfg_code.specs.Spots.{JumpWay, Ways, ways_in_loop}
+use Rattle.cfg_build.specs.Build.{LoweringFrame, NodeLine, BlockRest, MadeBlock, Building, ending, with_line, made, closed, reserved, filled, chain_among, kept_chain, chain_or, way_of, is_left_by, Lowers, Done, ByStmt, ByTerm, change, nothing, from_changed, back_in, then_build, then_lower, joined, after_either, branches, with_exit, looped, place_of, operand_of, done_by, chain, unwind_to, unwinding, done, is_last, act_by, act, panic_drops, drop_one, drop_all, outer, leave_from, leave, in_scope, leaves_one, leaves_to, exits, jump, panics, if_true, compared, tests, test, any_test, taken, put_into, replaces}
 
 -- what is to hold of the statement of an effect: with anything behind it, or, where no run comes behind it, with the way to
 -- the block that returns
@@ -26,7 +26,7 @@ Follows behind returns (ByTerm term) is_last = Unit {0}
 
 -- what is to hold of a statement and of a terminator with the numbers of their nodes, of an entry, and of a statement with
 -- what stands behind it in its block, where this block returns
-pub record Wanted (f : Frame) : Type 1 where
+pub record Wanted (f : LoweringFrame) : Type 1 where
   pub stmt : Stmt → ℕ → Type 0
   pub term : Term → ℕ → Type 0
   pub entry : Entry → Type 0
@@ -36,7 +36,7 @@ pub record Wanted (f : Frame) : Type 1 where
   pub resume : (node : ℕ) → term Term.Resume node
   pub drop : (e : Entry) → entry e → needs_drop f.items e.ty ≡ true → (n : ℕ) (u : Unwind) → term (Term.DropAt (place_of f (entry_site e)) n u) e.key
   pub follows : (action : Action) → Follows behind returns (done_by f action) (is_last f action)
-  pub compares : (site : Site) (value : effects.Operand) (stmts : List Stmt) (term : Term) → behind (compared f site value) stmts term
+  pub compares : (site : EffectSite) (value : effects.Operand) (stmts : List Stmt) (term : Term) → behind (compared f site value) stmts term
 
 -- where nothing is wanted of what stands behind a statement
 pub follows_any : (by : Done) (is_last : Bool) → Follows (λ stmt stmts term. Unit {0}) 1 by is_last
@@ -44,12 +44,12 @@ follows_any (ByStmt stmt) true = tt
 follows_any (ByStmt stmt) false = λ stmts term. tt
 follows_any (ByTerm term) is_last = tt
 
-module _ (f : Frame) (w : Wanted f) where
-  abbrev pub LinesOk : List Line → Term → Type 0
+module _ (f : LoweringFrame) (w : Wanted f) where
+  abbrev pub LinesOk : List NodeLine → Term → Type 0
   LinesOk [] term = Unit {0}
   LinesOk (l ∷ ls) term = (w.stmt l.stmt l.node × w.behind l.stmt (map (λ l. l.stmt) ls) term) × LinesOk ls term
 
-  abbrev pub RestOk : Rest → Type 0
+  abbrev pub RestOk : BlockRest → Type 0
   RestOk k = LinesOk k.lines k.term × w.term k.term k.node
 
   -- of the lines of a block, with the nodes of all of them
@@ -59,11 +59,11 @@ module _ (f : Frame) (w : Wanted f) where
   BlockOk (stmt ∷ stmts) term [] = ⊥
   BlockOk (stmt ∷ stmts) term (n ∷ ns) = (w.stmt stmt n × w.behind stmt stmts term) × BlockOk stmts term ns
 
-  abbrev pub MadeOk : Made → Type 0
+  abbrev pub MadeOk : MadeBlock → Type 0
   MadeOk m = BlockOk m.block.stmts m.block.term m.nodes
 
   pub record Ok (s : Building) : Type 0 where
-    pub blocks : (n : ℕ) (m : Made) → slice_get s.blocks n ≡ Some (Some m) → MadeOk m
+    pub blocks : (n : ℕ) (m : MadeBlock) → slice_get s.blocks n ≡ Some (Some m) → MadeOk m
 
   abbrev pub EntriesOk : List Entry → Type 0
   EntriesOk [] = Unit {0}
@@ -162,35 +162,35 @@ module _ (f : Frame) (w : Wanted f) where
   set_cases (z ∷ xs) x (suc i) zero y e = inl e
   set_cases (z ∷ xs) x (suc i) (suc n) y e = set_cases xs x i n y e
 
-  lines_ok : (ls : List Line) (term : Term) (node : ℕ) → LinesOk ls term → w.term term node → BlockOk (map (λ l. l.stmt) ls) term (map (λ l. l.node) ls ++ node ∷ [])
+  lines_ok : (ls : List NodeLine) (term : Term) (node : ℕ) → LinesOk ls term → w.term term node → BlockOk (map (λ l. l.stmt) ls) term (map (λ l. l.node) ls ++ node ∷ [])
   lines_ok [] term node h t = t
   lines_ok (l ∷ ls) term node h t = (h.0, lines_ok ls term node h.1 t)
 
-  made_ok : (kind : Kind) (rank : ℕ) (k : Rest) → RestOk k → MadeOk (made kind rank k)
+  made_ok : (kind : Kind) (rank : ℕ) (k : BlockRest) → RestOk k → MadeOk (made kind rank k)
   made_ok kind rank k h = lines_ok k.lines k.term k.node h.0 h.1
 
-  pub closed_ok : (kind : Kind) (k : Rest) (s : Building) → Ok s → RestOk k → Ok (closed kind k s)
+  pub closed_ok : (kind : Kind) (k : BlockRest) (s : Building) → Ok s → RestOk k → Ok (closed kind k s)
   closed_ok kind k s h l = record { blocks = λ n m e. by_place n m (push_cases s.blocks (Some (made kind (length s.blocks) k)) n (Some m) e) }
     where
-      by_place : (n : ℕ) (m : Made) → (slice_get s.blocks n ≡ Some (Some m)) ⊎ (Some (made kind (length s.blocks) k) ≡ Some m) → MadeOk m
+      by_place : (n : ℕ) (m : MadeBlock) → (slice_get s.blocks n ≡ Some (Some m)) ⊎ (Some (made kind (length s.blocks) k) ≡ Some m) → MadeOk m
       by_place n m (inl e) = h.blocks n m e
       by_place n m (inr e) = subst MadeOk (same_Some (made kind (length s.blocks) k) m e) (made_ok kind (length s.blocks) k l)
 
-  pub filled_ok : (kind : Kind) (i : ℕ) (k : Rest) (s : Building) → Ok s → RestOk k → Ok (filled kind i k s)
+  pub filled_ok : (kind : Kind) (i : ℕ) (k : BlockRest) (s : Building) → Ok s → RestOk k → Ok (filled kind i k s)
   filled_ok kind i k s h l = record { blocks = λ n m e. by_place n m (set_cases s.blocks (Some (made kind (length s.blocks) k)) i n (Some m) e) }
     where
-      by_place : (n : ℕ) (m : Made) → (slice_get s.blocks n ≡ Some (Some m)) ⊎ (Some (made kind (length s.blocks) k) ≡ Some m) → MadeOk m
+      by_place : (n : ℕ) (m : MadeBlock) → (slice_get s.blocks n ≡ Some (Some m)) ⊎ (Some (made kind (length s.blocks) k) ≡ Some m) → MadeOk m
       by_place n m (inl e) = h.blocks n m e
       by_place n m (inr e) = subst MadeOk (same_Some (made kind (length s.blocks) k) m e) (made_ok kind (length s.blocks) k l)
 
   pub reserved_ok : (s : Building) → Ok s → Ok (reserved s)
   reserved_ok s h = record { blocks = λ n m e. by_place n m (push_cases s.blocks None n (Some m) e) }
     where
-      by_place : (n : ℕ) (m : Made) → (slice_get s.blocks n ≡ Some (Some m)) ⊎ (None ≡ Some m) → MadeOk m
+      by_place : (n : ℕ) (m : MadeBlock) → (slice_get s.blocks n ≡ Some (Some m)) ⊎ (None ≡ Some m) → MadeOk m
       by_place n m (inl e) = h.blocks n m e
       by_place n m (inr e) = absurd (none-some m e)
 
-  kept_ok : (es : List Entry) (k : Rest) (s : Building) → Ok s → RestOk k → Ok (kept_chain es k s).1
+  kept_ok : (es : List Entry) (k : BlockRest) (s : Building) → Ok s → RestOk k → Ok (kept_chain es k s).1
   kept_ok es k s h l = record { blocks = (closed_ok Kind.Cleanup k s h l).blocks }
 
   chain_ok : (es : List Entry) → DropsOk es → (s : Building) → Ok s → Ok (chain f es s).1
@@ -201,7 +201,7 @@ module _ (f : Frame) (w : Wanted f) where
       by_kept None = kept_ok [] (ending Term.Resume 0) s h (tt, w.resume 0)
   chain_ok (x ∷ es) d s h = by_kept (chain_ok es d.1 s h) (chain_among (x ∷ es) s.chains)
     where
-      drop_rest : ℕ × Building → Rest
+      drop_rest : ℕ × Building → BlockRest
       drop_rest rest = ending (Term.DropAt (place_of f (entry_site x)) rest.0 Unwind.Abort) x.key
 
       by_kept : Ok (chain f es s).1 → (o : Option ℕ) → Ok (chain_or o s (λ s. let rest = chain f es s in kept_chain (x ∷ es) (drop_rest rest) rest.1)).1
@@ -212,13 +212,13 @@ module _ (f : Frame) (w : Wanted f) where
   unwind_ok [] d s h = h
   unwind_ok (x ∷ es) d s h = chain_ok (x ∷ es) d s h
 
-  abbrev pub Both : Rest × Building → Type 0
+  abbrev pub Both : BlockRest × Building → Type 0
   Both r = Ok r.1 × RestOk r.0
 
   unwinding_ok : (term : Unwind → Term) (node : ℕ) → ((u : Unwind) → w.term (term u) node) → (es : List Entry) → DropsOk es → (s : Building) → Ok s → Both (unwinding f term node es s)
   unwinding_ok term node t es d s h = (unwind_ok es d s h, (tt, t (unwind_to f es s).0))
 
-  drops_ok : (es : List Entry) → DropsOk es → (S : Scopes) → ScopesOk S → (k : Rest) (s : Building) → Ok s → RestOk k → Both (drop_all f es S k s)
+  drops_ok : (es : List Entry) → DropsOk es → (S : Scopes) → ScopesOk S → (k : BlockRest) (s : Building) → Ok s → RestOk k → Both (drop_all f es S k s)
   drops_ok [] d S o k s h l = (h, l)
   drops_ok (e ∷ es) d S o k s h l =
       let r = drop_all f es S k s in
@@ -226,7 +226,7 @@ module _ (f : Frame) (w : Wanted f) where
       unwinding_ok (Term.DropAt (place_of f (entry_site e)) (length r.1.blocks)) e.key (w.drop e d.0.0 d.0.1 (length r.1.blocks)) (es ++ panic_drops f S) (drops_append es (panic_drops f S) d.1 (panic_ok S o))
       (closed Kind.Plain r.0 r.1) (closed_ok Kind.Plain r.0 r.1 ih.0 ih.1)
 
-  leave_ok : (S : Scopes) → ScopesOk S → (k : Rest) (s : Building) → Ok s → RestOk k → Both (leave_from f S k s)
+  leave_ok : (S : Scopes) → ScopesOk S → (k : BlockRest) (s : Building) → Ok s → RestOk k → Both (leave_from f S k s)
   leave_ok [] o k s h l = (h, l)
   leave_ok (x ∷ S) o k s h l = drops_ok (needing_drop f.items x.entries) (needing_ok x.entries o.1) S o.2 k s h l
 
@@ -234,7 +234,7 @@ module _ (f : Frame) (w : Wanted f) where
   outer_ok [] h = h
   outer_ok (s ∷ S) h = h.2
 
-  jumped_ok : (node : ℕ) (way : Way) (S : Scopes) → ScopesOk S → (s : Building) → Ok s → Both (leaves_to f node way S s)
+  jumped_ok : (node : ℕ) (way : JumpWay) (S : Scopes) → ScopesOk S → (s : Building) → Ok s → Both (leaves_to f node way S s)
   jumped_ok node way [] o s h = (h, (tt, w.goto way.block node))
   jumped_ok node way (x ∷ S) o s h = by_base (jumped_ok node way S o.2 s h) (not (nat_lt (length S) way.base))
     where
@@ -246,7 +246,7 @@ module _ (f : Frame) (w : Wanted f) where
   -- ---- what is lowered: its lines are as wanted, where the scopes and the lines around it are
   pub record Sound (P : Lowers) : Type 0 where
     pub after : P.has_end ≡ true → (S : Scopes) → ScopesOk S → ScopesOk (P.after S)
-    pub lines : (c : Ways) → c.returns.block ≡ w.returns → (S : Scopes) (k : Rest) (s : Building) → ScopesOk S → Ok s → RestOk k → Both (P.build c S k s)
+    pub lines : (c : Ways) → c.returns.block ≡ w.returns → (S : Scopes) (k : BlockRest) (s : Building) → ScopesOk S → Ok s → RestOk k → Both (P.build c S k s)
 
   pub change_sound : (g : Scopes → Scopes) → ((S : Scopes) → ScopesOk S → ScopesOk (g S)) → Sound (change g)
   change_sound g keeps = record { after = λ e S o. keeps S o; lines = λ c t S k s o h l. (h, l) }
@@ -274,7 +274,7 @@ module _ (f : Frame) (w : Wanted f) where
     lines = λ c t S k s o h l. by_end c t S k s o h l P.has_end refl;
   }
     where
-      by_end : (c : Ways) → c.returns.block ≡ w.returns → (S : Scopes) (k : Rest) (s : Building) → ScopesOk S → Ok s → RestOk k → (z : Bool) → P.has_end ≡ z → Both (then_build z P Q c S k s)
+      by_end : (c : Ways) → c.returns.block ≡ w.returns → (S : Scopes) (k : BlockRest) (s : Building) → ScopesOk S → Ok s → RestOk k → (z : Bool) → P.has_end ≡ z → Both (then_build z P Q c S k s)
       by_end c t S k s o h l true e =
           let r = Q.build c (P.after S) k s in
           let y = (q e).lines c t (P.after S) k s (p.after e S o) h l in
@@ -289,10 +289,10 @@ module _ (f : Frame) (w : Wanted f) where
   DoneOk node (ByStmt stmt) = w.stmt stmt node
   DoneOk node (ByTerm term) = (n : ℕ) (u : Unwind) → w.term (term n u) node
 
-  stmt_ok : (node : ℕ) (stmt : Stmt) → w.stmt stmt node → (k : Rest) (s : Building) → w.behind stmt (map (λ l. l.stmt) k.lines) k.term → Ok s → RestOk k → Both (with_line stmt node k, s)
+  stmt_ok : (node : ℕ) (stmt : Stmt) → w.stmt stmt node → (k : BlockRest) (s : Building) → w.behind stmt (map (λ l. l.stmt) k.lines) k.term → Ok s → RestOk k → Both (with_line stmt node k, s)
   stmt_ok node stmt d k s b h l = (h, (((d, b), l.0), l.1))
 
-  term_ok : (node : ℕ) (term : (onward : ℕ) → Unwind → Term) → DoneOk node (ByTerm term) → (S : Scopes) → ScopesOk S → (k : Rest) (s : Building) → Ok s → RestOk k → Both (done f node (ByTerm term) S k s)
+  term_ok : (node : ℕ) (term : (onward : ℕ) → Unwind → Term) → DoneOk node (ByTerm term) → (S : Scopes) → ScopesOk S → (k : BlockRest) (s : Building) → Ok s → RestOk k → Both (done f node (ByTerm term) S k s)
   term_ok node term d S o k s h l = unwinding_ok (term (length s.blocks)) node (d (length s.blocks)) (panic_drops f S) (panic_ok S o) (closed Kind.Plain k s) (closed_ok Kind.Plain k s h l)
 
   by_sound : (x : Bool) (node : ℕ) (by : Done) → DoneOk node by → Follows w.behind w.returns by x → Sound (act_by f x node by)
@@ -313,7 +313,7 @@ module _ (f : Frame) (w : Wanted f) where
   pub act_sound : (node : ℕ) (action : Action) → ActOk node action → Sound (act f node action)
   act_sound node action d = by_sound (is_last f action) node (done_by f action) d (w.follows action)
 
-  pub drop_sound : (site : Site) → ((n : ℕ) (u : Unwind) → w.term (Term.DropAt (place_of f site) n u) site.node) → Sound (record nothing { build = λ c S. drop_one f site (panic_drops f S) })
+  pub drop_sound : (site : EffectSite) → ((n : ℕ) (u : Unwind) → w.term (Term.DropAt (place_of f site) n u) site.node) → Sound (record nothing { build = λ c S. drop_one f site (panic_drops f S) })
   drop_sound site d = record {
     after = λ e S o. o;
     lines = λ c t S k s o h l. unwinding_ok (Term.DropAt (place_of f site) (length s.blocks)) site.node (d (length s.blocks)) (panic_drops f S) (panic_ok S o) (closed Kind.Plain k s) (closed_ok Kind.Plain k s h l);
@@ -329,10 +329,10 @@ module _ (f : Frame) (w : Wanted f) where
   scope_sound node own P p = entered_sound node own (then_lower P (leave f)) (then_sound P (leave f) p (λ e. leave_sound))
 
   -- ---- branches, loops, jumps, panics
-  abbrev pub TestOk : (ℕ → ℕ → Building → Rest × Building) → Type 0
+  abbrev pub TestOk : (ℕ → ℕ → Building → BlockRest × Building) → Type 0
   TestOk test = (y n : ℕ) (s : Building) → Ok s → Both (test y n s)
 
-  pub joined_ok : (x : Bool) (node : ℕ) (k : Rest) (s : Building) → Ok s → RestOk k → Both (joined x node k s)
+  pub joined_ok : (x : Bool) (node : ℕ) (k : BlockRest) (s : Building) → Ok s → RestOk k → Both (joined x node k s)
   joined_ok true node k s h l = (closed_ok Kind.Plain k s h l, (tt, w.goto (length s.blocks) node))
   joined_ok false node k s h l = (h, l)
 
@@ -340,7 +340,7 @@ module _ (f : Frame) (w : Wanted f) where
   either_after true y P Q S p q e = p refl
   either_after false y P Q S p q e = q e
 
-  pub branches_sound : (node : ℕ) (test : ℕ → ℕ → Building → Rest × Building) (P Q : Lowers) → TestOk test → Sound P → Sound Q → Sound (branches node test P Q)
+  pub branches_sound : (node : ℕ) (test : ℕ → ℕ → Building → BlockRest × Building) (P Q : Lowers) → TestOk test → Sound P → Sound Q → Sound (branches node test P Q)
   branches_sound node test P Q tests_are p q = record {
     after = λ e S o. either_after P.has_end Q.has_end P Q S (λ d. p.after d S o) (λ d. q.after d S o) e;
     lines = λ c t S k s o h l.
@@ -354,7 +354,7 @@ module _ (f : Frame) (w : Wanted f) where
         tests_are (length rp.1.blocks) (length rq.1.blocks) (closed Kind.Plain rp.0 rp.1) (closed_ok Kind.Plain rp.0 rp.1 x.0 x.1);
   }
 
-  exit_ok : (x : Bool) (k : Rest) (s : Building) → Ok s → RestOk k → Ok (with_exit x k s)
+  exit_ok : (x : Bool) (k : BlockRest) (s : Building) → Ok s → RestOk k → Ok (with_exit x k s)
   exit_ok true k s h l = closed_ok Kind.Plain k s h l
   exit_ok false k s h l = h
 
@@ -383,7 +383,7 @@ module _ (f : Frame) (w : Wanted f) where
   pub if_ok : (operand : effects.Operand) (node : ℕ) → ((y n : ℕ) → w.term (Term.If (operand_of f operand) y n) node) → TestOk (if_true f operand node)
   if_ok operand node t y n s h = (h, (tt, t y n))
 
-  abbrev EqualsOk : Site → effects.Operand → Type 0
+  abbrev EqualsOk : EffectSite → effects.Operand → Type 0
   EqualsOk site value = w.stmt (compared f site value) site.node × ((y n : ℕ) → w.term (Term.If (operand_of f (moved site.node site.node)) y n) site.node)
 
   abbrev mutual
@@ -423,7 +423,7 @@ module _ (f : Frame) (w : Wanted f) where
         tests_ok one t.0 y (length r.1.blocks) (closed Kind.Plain r.0 r.1) (closed_ok Kind.Plain r.0 r.1 i.0 i.1)
 
   -- ---- assignment
-  pub replaces_sound : (x : Bool) (site : Site) (key : ℕ) → w.stmt (put_into f site key) site.node → ((stmts : List Stmt) (term : Term) → w.behind (put_into f site key) stmts term) → ((n : ℕ) (u : Unwind) → w.term (Term.DropAt (place_of f site) n u) site.node) → Sound (replaces f x site key)
+  pub replaces_sound : (x : Bool) (site : EffectSite) (key : ℕ) → w.stmt (put_into f site key) site.node → ((stmts : List Stmt) (term : Term) → w.behind (put_into f site key) stmts term) → ((n : ℕ) (u : Unwind) → w.term (Term.DropAt (place_of f site) n u) site.node) → Sound (replaces f x site key)
   replaces_sound true site key put b d = record {
     after = λ e S o. taken_ok (key ∷ []) S o;
     lines = λ c t S k s o h l.

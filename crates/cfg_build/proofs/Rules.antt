@@ -17,16 +17,16 @@ use Rattle.cfg_meaning.specs.Actions as actions
 use Rattle.mir_base.specs.declared.operator.Cmp.{Cmp}
 use Rattle.mir_base.specs.declared.trace.Why.{Why}
 use Rattle.store_model.specs.Effects as effects
-use Rattle.store_model.specs.Effects.{Site, Action}
+use Rattle.store_model.specs.Effects.{EffectSite, Action}
 use Rattle.store_model.specs.Places.Place.{Step, ToPart, ToField, ToContent, ToElement, whole_local}
 use Rattle.src_meaning.specs.Forms.{site_of_key, moved}
 use Rattle.src_meaning.specs.Locals.Effects.{step_at, site_at, operand_at, action_at}
 use Rattle.src_meaning.specs.Scopes.{Entry, Scope, Scopes, with_scope, needing_drop, entry_site, Exit, Value, Breaks, Continues, Returns, Panics}
 use Rattle.src_meaning.specs.Shape.{PatternTest, IsVariant, IsNumber, IsTruth, AnyOf, PatternTests, no_test, a_test, Alternatives, no_alternative, an_alternative}
 use Rattle.cfg_code.specs.Rules.{taken, StoresAt, ReplacesAt, IfAt, BranchesAt, EqualsAt, TestAt, TestsAt, AnyTestAt, PanicsAt, LoopAt}
-use Rattle.cfg_code.specs.Spots.{Target, Pos, Way, Ways, loop_ways, ways_of, ways_in_loop, Spot, HasNoEnd, Then, Changes, After, Nothing, BackIn, action_of_term, panic_drops, StepAt, EntersAt, TermAt, Leads, stays, goes, Joins, CleanAt, Cleans, IsLast, ActionTermAt, Acts, by_statement, by_terminator, by_last_statement, by_last_terminator, DropsAt, AllDropAt, Left, Scoped, InScope, leaves_one, LeavesTo, JumpAt}
+use Rattle.cfg_code.specs.Spots.{CodeTarget, CodePos, JumpWay, Ways, loop_ways, ways_of, ways_in_loop, CodeSpot, HasNoEnd, Then, Changes, After, Nothing, BackIn, action_of_term, panic_drops, StepAt, EntersAt, TermAt, Leads, stays, goes, Joins, CleanAt, Cleans, IsLast, ActionTermAt, Acts, by_statement, by_terminator, by_last_statement, by_last_terminator, DropsAt, AllDropAt, Left, Scoped, InScope, leaves_one, LeavesTo, JumpAt}
 use Rattle.cfg_build.specs.Build as build
-use Rattle.cfg_build.specs.Build.{Frame, Line, Rest, Made, Building, ending, with_line, made, next_number, closed, closing, reserved, filled, same_entries, chain_among, kept_chain, chain_or, way_of, naming, names, breaks_from, is_left_by, outside, jumps_if, Lowers, Done, ByStmt, ByTerm, change, nothing, from_changed, back_in, then_build, then_lower, joined, after_either, branches, with_exit, looped, step_of, place_of, done_by, chain, unwind_to, unwinding, done, is_last, act_by, act, drop_one, drop_all, outer, leave_from, leave, scoped, in_scope, leaves_to, exits, jump, panics, if_true, compared, equals, test, tests, any_test, put_into, replaces_from, stores, replaces}
+use Rattle.cfg_build.specs.Build.{LoweringFrame, NodeLine, BlockRest, MadeBlock, Building, ending, with_line, made, next_number, closed, closing, reserved, filled, same_entries, chain_among, kept_chain, chain_or, way_of, naming, names, breaks_from, is_left_by, outside, jumps_if, Lowers, Done, ByStmt, ByTerm, change, nothing, from_changed, back_in, then_build, then_lower, joined, after_either, branches, with_exit, looped, step_of, place_of, done_by, chain, unwind_to, unwinding, done, is_last, act_by, act, drop_one, drop_all, outer, leave_from, leave, scoped, in_scope, leaves_to, exits, jump, panics, if_true, compared, equals, test, tests, any_test, put_into, replaces_from, stores, replaces}
 
 -- ---- what was made stays
 pub record Grows (s s' : Building) : Type 0 where
@@ -42,13 +42,13 @@ grows_on s t u a b = record {
   keeps = λ n l. b.keeps n (let i = a.longer in omega arith) ∙ a.keeps n l;
 }
 
-pub closed_grows : (kind : Kind) (k : Rest) (s : Building) → Grows s (closed kind k s)
+pub closed_grows : (kind : Kind) (k : BlockRest) (s : Building) → Grows s (closed kind k s)
 closed_grows kind k s = record {
   longer = let e = length-append s.blocks (Some (made kind (length s.blocks) k) ∷ []) in omega arith;
   keeps = λ n l. slice_get-below s.blocks (Some (made kind (length s.blocks) k) ∷ []) n l;
 }
 
-pub closed_length : (kind : Kind) (k : Rest) (s : Building) → length (closed kind k s).blocks ≡ suc (length s.blocks)
+pub closed_length : (kind : Kind) (k : BlockRest) (s : Building) → length (closed kind k s).blocks ≡ suc (length s.blocks)
 closed_length kind k s = length-append s.blocks (Some (made kind (length s.blocks) k) ∷ []) ∙ add-one (length s.blocks)
 
 -- ---- numbers that were given out
@@ -68,16 +68,16 @@ given_append n [] es h k = k
 given_append n (d ∷ ds) es h k = (h.0, given_append n ds es h.1 k)
 
 -- a block that is made has its number as its rank, if it is no turn block, and its edges lead below its rank
-abbrev pub MadeWell : ℕ → Made → Type 0
+abbrev pub MadeWell : ℕ → MadeBlock → Type 0
 MadeWell n m = (is_turn_kind m.block.kind ≡ false → m.block.rank ≡ n) × AllGiven m.block.rank (targets m.block.term)
 
 pub record Ranked (s : Building) : Type 0 where
-  pub blocks : (n : ℕ) (m : Made) → slice_get s.blocks n ≡ Some (Some m) → MadeWell n m
+  pub blocks : (n : ℕ) (m : MadeBlock) → slice_get s.blocks n ≡ Some (Some m) → MadeWell n m
   pub chains : (es : List Entry) (n : ℕ) → chain_among es s.chains ≡ Some n → Given (length s.blocks) n
   pub begun : 0 < length s.blocks
 
 -- the edges of what comes next
-abbrev pub LeadsOn : Rest → Building → Type 0
+abbrev pub LeadsOn : BlockRest → Building → Type 0
 LeadsOn k s = AllGiven (length s.blocks) (targets k.term)
 
 push_cases : {A : Type 0} (xs : List A) (x : A) (n : ℕ) (y : A) → slice_get (xs ++ x ∷ []) n ≡ Some y → (slice_get xs n ≡ Some y) ⊎ ((n ≡ length xs) × (x ≡ y))
@@ -86,37 +86,37 @@ push_cases [] x (suc n) y e = absurd (none-some y e)
 push_cases (z ∷ xs) x zero y e = inl e
 push_cases (z ∷ xs) x (suc n) y e = elim (push_cases xs x n y e) [ inl h ↦ inl h | inr h ↦ inr (ap suc h.0, h.1) ]
 
-pub closed_ranked : (kind : Kind) (k : Rest) (s : Building) → Ranked s → LeadsOn k s → Ranked (closed kind k s)
+pub closed_ranked : (kind : Kind) (k : BlockRest) (s : Building) → Ranked s → LeadsOn k s → Ranked (closed kind k s)
 closed_ranked kind k s h l = record {
   blocks = λ n m e. by_place n m (push_cases s.blocks (Some (made kind (length s.blocks) k)) n (Some m) e);
   chains = λ es n e. let i = h.chains es n e in let j = closed_length kind k s in (i.0, (let i1 = i.1 in omega arith));
   begun = let j = closed_length kind k s in omega arith;
 }
   where
-    by_place : (n : ℕ) (m : Made) → (slice_get s.blocks n ≡ Some (Some m)) ⊎ ((n ≡ length s.blocks) × (Some (made kind (length s.blocks) k) ≡ Some m)) → MadeWell n m
+    by_place : (n : ℕ) (m : MadeBlock) → (slice_get s.blocks n ≡ Some (Some m)) ⊎ ((n ≡ length s.blocks) × (Some (made kind (length s.blocks) k) ≡ Some m)) → MadeWell n m
     by_place n m (inl e) = h.blocks n m e
     by_place n m (inr e) = subst (MadeWell n) (same_Some (made kind (length s.blocks) k) m e.1) ((λ x. sym e.0), l)
 
 -- ---- the ways of jumps
-abbrev pub AllWays : (Way → Type 0) → Ways → List Exit → Type 0
+abbrev pub AllWays : (JumpWay → Type 0) → Ways → List Exit → Type 0
 AllWays P c [] = Unit {0}
 AllWays P c (exit ∷ exits) = P (way_of exit c) × AllWays P c exits
 
-abbrev pub IsUsed : Way → Type 0
+abbrev pub IsUsed : JumpWay → Type 0
 IsUsed way = way.is_used ≡ true
 
 -- `return`, and the jumps that name loops
-abbrev pub JumpWays : (Way → Type 0) → Ways → List Exit → Type 0
+abbrev pub JumpWays : (JumpWay → Type 0) → Ways → List Exit → Type 0
 JumpWays P c jumps = P c.returns × AllWays P c jumps
 
-abbrev pub BlockGiven : ℕ → Way → Type 0
+abbrev pub BlockGiven : ℕ → JumpWay → Type 0
 BlockGiven n way = Given n way.block
 
-all_first : (P : Way → Type 0) (c : Ways) (xs ys : List Exit) → AllWays P c (xs ++ ys) → AllWays P c xs
+all_first : (P : JumpWay → Type 0) (c : Ways) (xs ys : List Exit) → AllWays P c (xs ++ ys) → AllWays P c xs
 all_first P c [] ys h = tt
 all_first P c (x ∷ xs) ys h = (h.0, all_first P c xs ys h.1)
 
-all_second : (P : Way → Type 0) (c : Ways) (xs ys : List Exit) → AllWays P c (xs ++ ys) → AllWays P c ys
+all_second : (P : JumpWay → Type 0) (c : Ways) (xs ys : List Exit) → AllWays P c (xs ++ ys) → AllWays P c ys
 all_second P c [] ys h = h
 all_second P c (x ∷ xs) ys h = all_second P c xs ys h.1
 
@@ -127,14 +127,14 @@ all_ways_more n m l c (x ∷ xs) h = ((h.0.0, (let i = h.0.1 in omega arith)), a
 pub ways_more : (n m : ℕ) → n ≤ m → (c : Ways) (xs : List Exit) → JumpWays (BlockGiven n) c xs → JumpWays (BlockGiven m) c xs
 ways_more n m l c xs h = ((h.0.0, (let i = h.0.1 in omega arith)), all_ways_more n m l c xs h.1)
 
-pub ways_first : (P : Way → Type 0) (c : Ways) (xs ys : List Exit) → JumpWays P c (xs ++ ys) → JumpWays P c xs
+pub ways_first : (P : JumpWay → Type 0) (c : Ways) (xs ys : List Exit) → JumpWays P c (xs ++ ys) → JumpWays P c xs
 ways_first P c xs ys h = (h.0, all_first P c xs ys h.1)
 
-pub ways_second : (P : Way → Type 0) (c : Ways) (xs ys : List Exit) → JumpWays P c (xs ++ ys) → JumpWays P c ys
+pub ways_second : (P : JumpWay → Type 0) (c : Ways) (xs ys : List Exit) → JumpWays P c (xs ++ ys) → JumpWays P c ys
 ways_second P c xs ys h = (h.0, all_second P c xs ys h.1)
 
-module _ (t : Target) where
-  abbrev pub f : Frame
+module _ (t : CodeTarget) where
+  abbrev pub f : LoweringFrame
   f = record { items = t.items; local_of = t.local_of; tys = t.body.locals }
 
   -- ---- a graph in which the blocks that are made stand, with the nodes of their lines
@@ -143,17 +143,17 @@ module _ (t : Target) where
   NodesAt n l (x ∷ xs) = (t.node n l ≡ x) × NodesAt n (suc l) xs
 
   abbrev pub Later : Building → Type 0
-  Later s = (n : ℕ) (m : Made) → slice_get s.blocks n ≡ Some (Some m) → (slice_get t.body.blocks n ≡ Some m.block) × NodesAt n 0 m.nodes
+  Later s = (n : ℕ) (m : MadeBlock) → slice_get s.blocks n ≡ Some (Some m) → (slice_get t.body.blocks n ≡ Some m.block) × NodesAt n 0 m.nodes
 
-  abbrev LinesAt : Block → ℕ → ℕ → List Line → Term → ℕ → Type 0
+  abbrev LinesAt : Block → ℕ → ℕ → List NodeLine → Term → ℕ → Type 0
   LinesAt block n l [] term node = (l ≡ length block.stmts) × (block.term ≡ term) × (t.node n l ≡ node)
   LinesAt block n l (x ∷ xs) term node = (slice_get block.stmts l ≡ Some x.stmt) × (t.node n l ≡ x.node) × LinesAt block n (suc l) xs term node
 
   -- the rest of a block stands from a place on
-  abbrev pub Stands : Rest → Pos → Type 0
+  abbrev pub Stands : BlockRest → CodePos → Type 0
   Stands k b = (block : Block) × (slice_get t.body.blocks b.0 ≡ Some block) × LinesAt block b.0 b.1 k.lines k.term k.node
 
-  lines_stand : (pre : List Stmt) (block : Block) (n : ℕ) (xs : List Line) (node : ℕ) → block.stmts ≡ pre ++ map (λ l. l.stmt) xs →
+  lines_stand : (pre : List Stmt) (block : Block) (n : ℕ) (xs : List NodeLine) (node : ℕ) → block.stmts ≡ pre ++ map (λ l. l.stmt) xs →
       NodesAt n (length pre) (map (λ l. l.node) xs ++ node ∷ []) → LinesAt block n (length pre) xs block.term node
   lines_stand pre block n [] node e h = (sym (ap length e ∙ length-append pre [] ∙ (let k : length pre + 0 ≡ length pre = omega arith in k)), refl, h.0)
   lines_stand pre block n (x ∷ xs) node e h = (
@@ -172,27 +172,27 @@ module _ (t : Target) where
       with_one [] = refl
       with_one (y ∷ pre) = ap (λ z. y ∷ z) (with_one pre)
 
-  made_stands : (kind : Kind) (rank : ℕ) (k : Rest) (n : ℕ) (s : Building) → Later s → slice_get s.blocks n ≡ Some (Some (made kind rank k)) → Stands k (n, 0)
+  made_stands : (kind : Kind) (rank : ℕ) (k : BlockRest) (n : ℕ) (s : Building) → Later s → slice_get s.blocks n ≡ Some (Some (made kind rank k)) → Stands k (n, 0)
   made_stands kind rank k n s later e =
       let h = later n (made kind rank k) e in ((made kind rank k).block, h.0, lines_stand [] (made kind rank k).block n k.lines k.node refl h.1)
 
-  closed_at : (kind : Kind) (k : Rest) (s : Building) → slice_get (closed kind k s).blocks (length s.blocks) ≡ Some (Some (made kind (length s.blocks) k))
+  closed_at : (kind : Kind) (k : BlockRest) (s : Building) → slice_get (closed kind k s).blocks (length s.blocks) ≡ Some (Some (made kind (length s.blocks) k))
   closed_at kind k s = slice_get-last s.blocks (Some (made kind (length s.blocks) k))
 
-  pub closed_stands : (kind : Kind) (k : Rest) (s : Building) → Later (closed kind k s) → Stands k (length s.blocks, 0)
+  pub closed_stands : (kind : Kind) (k : BlockRest) (s : Building) → Later (closed kind k s) → Stands k (length s.blocks, 0)
   closed_stands kind k s later = made_stands kind (length s.blocks) k (length s.blocks) (closed kind k s) later (closed_at kind k s)
 
-  pub step_stands : (kind : Kind) (k : Rest) (s : Building) → is_turn_kind kind ≡ false → Later (closed kind k s) → StepAt t (length s.blocks)
+  pub step_stands : (kind : Kind) (k : BlockRest) (s : Building) → is_turn_kind kind ≡ false → Later (closed kind k s) → StepAt t (length s.blocks)
   step_stands kind k s e later = ((made kind (length s.blocks) k).block, (later (length s.blocks) (made kind (length s.blocks) k) (closed_at kind k s)).0, e)
 
-  pub plain_stands : (k : Rest) (s : Building) → Later (closed Kind.Plain k s) → StepAt t (length s.blocks)
+  pub plain_stands : (k : BlockRest) (s : Building) → Later (closed Kind.Plain k s) → StepAt t (length s.blocks)
   plain_stands k s later = step_stands Kind.Plain k s refl later
 
   pub later_before : (s s' : Building) → Grows s s' → Later s' → Later s
   later_before s s' grows later n m e = later n m (grows.keeps n (slice_get_within s.blocks n (Some m) e) ∙ e)
 
   -- what ends a block
-  pub ends_with : (term : Term) (node : ℕ) (b : Pos) → Stands (ending term node) b → TermAt t term b
+  pub ends_with : (term : Term) (node : ℕ) (b : CodePos) → Stands (ending term node) b → TermAt t term b
   ends_with term node b st = (st.0, st.1, st.2.0, st.2.1)
 
   -- ---- the chains that are kept stand
@@ -211,7 +211,7 @@ module _ (t : Target) where
   AllKind x [] = Unit {0}
   AllKind x (n ∷ ns) = KindAt x n × AllKind x ns
 
-  abbrev pub PlainWay : Way → Type 0
+  abbrev pub PlainWay : JumpWay → Type 0
   PlainWay way = KindAt false way.block
 
   abbrev pub resumes : Term → Bool
@@ -256,68 +256,68 @@ module _ (t : Target) where
   abbrev pub BlockWell : Block → Type 0
   BlockWell block = EndsWell (is_cleanup block) block.term × FreesNone block.stmts
 
-  abbrev pub RestEnds : Bool → Rest → Type 0
+  abbrev pub RestEnds : Bool → BlockRest → Type 0
   RestEnds x k = EndsWell x k.term × FreesNone (map (λ l. l.stmt) k.lines)
 
-  abbrev pub RestWell : Rest → Type 0
+  abbrev pub RestWell : BlockRest → Type 0
   RestWell k = RestEnds false k
 
   pub record Tidy (s : Building) : Type 0 where
-    pub blocks : (n : ℕ) (m : Made) → slice_get s.blocks n ≡ Some (Some m) → BlockWell m.block
+    pub blocks : (n : ℕ) (m : MadeBlock) → slice_get s.blocks n ≡ Some (Some m) → BlockWell m.block
     pub chains : (es : List Entry) (n : ℕ) → chain_among es s.chains ≡ Some n → KindAt true n
 
   -- all that is made is tidy, and so is what comes next
-  abbrev pub TidyAfter : Rest × Building → Type 0
+  abbrev pub TidyAfter : BlockRest × Building → Type 0
   TidyAfter r = Tidy r.1 × RestWell r.0
 
-  pub kind_stands : (kind : Kind) (k : Rest) (s : Building) → Later (closed kind k s) → KindAt (is_cleanup_kind kind) (length s.blocks)
+  pub kind_stands : (kind : Kind) (k : BlockRest) (s : Building) → Later (closed kind k s) → KindAt (is_cleanup_kind kind) (length s.blocks)
   kind_stands kind k s later =
       ((made kind (length s.blocks) k).block, (later (length s.blocks) (made kind (length s.blocks) k) (closed_at kind k s)).0, refl)
 
-  pub closed_tidy : (kind : Kind) (k : Rest) (s : Building) → Tidy s → RestEnds (is_cleanup_kind kind) k → Tidy (closed kind k s)
+  pub closed_tidy : (kind : Kind) (k : BlockRest) (s : Building) → Tidy s → RestEnds (is_cleanup_kind kind) k → Tidy (closed kind k s)
   closed_tidy kind k s h l = record {
     blocks = λ n m e. by_place n m (push_cases s.blocks (Some (made kind (length s.blocks) k)) n (Some m) e);
     chains = h.chains;
   }
     where
-      by_place : (n : ℕ) (m : Made) → (slice_get s.blocks n ≡ Some (Some m)) ⊎ ((n ≡ length s.blocks) × (Some (made kind (length s.blocks) k) ≡ Some m)) → BlockWell m.block
+      by_place : (n : ℕ) (m : MadeBlock) → (slice_get s.blocks n ≡ Some (Some m)) ⊎ ((n ≡ length s.blocks) × (Some (made kind (length s.blocks) k) ≡ Some m)) → BlockWell m.block
       by_place n m (inl e) = h.blocks n m e
       by_place n m (inr e) = subst (λ m. BlockWell m.block) (same_Some (made kind (length s.blocks) k) m e.1) l
 
   -- ---- what is built
-  abbrev pub CodeEnds : Bool → Lowers → (Ways → Spot) → Ways → Scopes → Rest → Pos → Type 0
-  CodeEnds true P spot c S k b = (b' : Pos) × Stands k b' × spot c S b (P.after S) b'
+  abbrev pub CodeEnds : Bool → Lowers → (Ways → CodeSpot) → Ways → Scopes → BlockRest → CodePos → Type 0
+  CodeEnds true P spot c S k b = (b' : CodePos) × Stands k b' × spot c S b (P.after S) b'
   CodeEnds false P spot c S k b = HasNoEnd (spot c) S b
 
-  abbrev pub CodeStands : Bool → Lowers → (Ways → Spot) → Ways → Scopes → Rest → Rest × Building → Type 0
-  CodeStands has_end P spot c S k r = ChainsStand r.1 × ((b : Pos) → Stands r.0 b → CodeEnds has_end P spot c S k b)
+  abbrev pub CodeStands : Bool → Lowers → (Ways → CodeSpot) → Ways → Scopes → BlockRest → BlockRest × Building → Type 0
+  CodeStands has_end P spot c S k r = ChainsStand r.1 × ((b : CodePos) → Stands r.0 b → CodeEnds has_end P spot c S k b)
 
   -- the code of what is lowered stands, whatever is built before it; each edge leads to a number that was given out, and to a
   -- block of the kind that it may lead to
-  pub record Lowered (P : Lowers) (spot : Ways → Spot) : Type 0 where
-    pub grows : (c : Ways) (S : Scopes) (k : Rest) (s : Building) → Grows s (P.build c S k s).1
-    pub holds : (c : Ways) (S : Scopes) (k : Rest) (s : Building) → JumpWays IsUsed c P.jumps → Later (P.build c S k s).1 → ChainsStand s →
+  pub record Lowered (P : Lowers) (spot : Ways → CodeSpot) : Type 0 where
+    pub grows : (c : Ways) (S : Scopes) (k : BlockRest) (s : Building) → Grows s (P.build c S k s).1
+    pub holds : (c : Ways) (S : Scopes) (k : BlockRest) (s : Building) → JumpWays IsUsed c P.jumps → Later (P.build c S k s).1 → ChainsStand s →
         CodeStands P.has_end P spot c S k (P.build c S k s)
-    pub ranks : (c : Ways) (S : Scopes) (k : Rest) (s : Building) → JumpWays (BlockGiven (length s.blocks)) c P.jumps → Ranked s → LeadsOn k s →
+    pub ranks : (c : Ways) (S : Scopes) (k : BlockRest) (s : Building) → JumpWays (BlockGiven (length s.blocks)) c P.jumps → Ranked s → LeadsOn k s →
         Ranked (P.build c S k s).1 × LeadsOn (P.build c S k s).0 (P.build c S k s).1
-    pub tidies : (c : Ways) (S : Scopes) (k : Rest) (s : Building) → JumpWays PlainWay c P.jumps → Later (P.build c S k s).1 → Tidy s → RestWell k → TidyAfter (P.build c S k s)
+    pub tidies : (c : Ways) (S : Scopes) (k : BlockRest) (s : Building) → JumpWays PlainWay c P.jumps → Later (P.build c S k s).1 → Tidy s → RestWell k → TidyAfter (P.build c S k s)
 
   -- ---- one after the other
-  module _ (P Q : Lowers) (sp sq : Ways → Spot) (lp : Lowered P sp) (lq : Lowered Q sq) where
-    then_grows : (x : Bool) (c : Ways) (S : Scopes) (k : Rest) (s : Building) → Grows s (then_build x P Q c S k s).1
+  module _ (P Q : Lowers) (sp sq : Ways → CodeSpot) (lp : Lowered P sp) (lq : Lowered Q sq) where
+    then_grows : (x : Bool) (c : Ways) (S : Scopes) (k : BlockRest) (s : Building) → Grows s (then_build x P Q c S k s).1
     then_grows true c S k s =
         grows_on s (Q.build c (P.after S) k s).1 _ (lq.grows c (P.after S) k s) (lp.grows c S (Q.build c (P.after S) k s).0 (Q.build c (P.after S) k s).1)
     then_grows false c S k s = lp.grows c S k s
 
-    then_code : (x y : Bool) (c : Ways) (S : Scopes) (k k1 : Rest) (b : Pos) → CodeEnds true P sp c S k1 b → ((m : Pos) → Stands k1 m → CodeEnds y Q sq c (P.after S) k m) →
+    then_code : (x y : Bool) (c : Ways) (S : Scopes) (k k1 : BlockRest) (b : CodePos) → CodeEnds true P sp c S k1 b → ((m : CodePos) → Stands k1 m → CodeEnds y Q sq c (P.after S) k m) →
         CodeEnds y (then_lower P Q) (λ c. Then (sp c) (sq c)) c S k b
     then_code x true c S k k1 b first second =
         let rest = second first.0 first.1 in (rest.0, rest.1, inr (P.after S, first.0, first.2, rest.2))
     then_code x false c S k k1 b first second = λ S' b'. inr (P.after S, first.0, first.2, second first.0 first.1 S' b')
 
     then_holds : (x : Bool) (c : Ways) (S : Scopes) →
-        ((k : Rest) (s : Building) → Later (P.build c S k s).1 → ChainsStand s → CodeStands x P sp c S k (P.build c S k s)) → JumpWays IsUsed c (jumps_if x Q.jumps) →
-        (k : Rest) (s : Building) → Later (then_build x P Q c S k s).1 → ChainsStand s →
+        ((k : BlockRest) (s : Building) → Later (P.build c S k s).1 → ChainsStand s → CodeStands x P sp c S k (P.build c S k s)) → JumpWays IsUsed c (jumps_if x Q.jumps) →
+        (k : BlockRest) (s : Building) → Later (then_build x P Q c S k s).1 → ChainsStand s →
         CodeStands (x && Q.has_end) (then_lower P Q) (λ c. Then (sp c) (sq c)) c S k (then_build x P Q c S k s)
     then_holds true c S hp u k s later chains =
         let r = Q.build c (P.after S) k s in
@@ -327,7 +327,7 @@ module _ (t : Target) where
     then_holds false c S hp u k s later chains =
         let first = hp k s later chains in (first.0, λ b st S' b'. inl (first.1 b st))
 
-    then_ranks : (x : Bool) (c : Ways) (S : Scopes) (k : Rest) (s : Building) → JumpWays (BlockGiven (length s.blocks)) c P.jumps →
+    then_ranks : (x : Bool) (c : Ways) (S : Scopes) (k : BlockRest) (s : Building) → JumpWays (BlockGiven (length s.blocks)) c P.jumps →
         JumpWays (BlockGiven (length s.blocks)) c (jumps_if x Q.jumps) → Ranked s → LeadsOn k s → Ranked (then_build x P Q c S k s).1 × LeadsOn (then_build x P Q c S k s).0 (then_build x P Q c S k s).1
     then_ranks true c S k s wp wq h l =
         let r = Q.build c (P.after S) k s in
@@ -335,7 +335,7 @@ module _ (t : Target) where
         lp.ranks c S r.0 r.1 (ways_more (length s.blocks) (length r.1.blocks) (lq.grows c (P.after S) k s).longer c P.jumps wp) second.0 second.1
     then_ranks false c S k s wp wq h l = lp.ranks c S k s wp h l
 
-    then_tidies : (x : Bool) (c : Ways) (S : Scopes) (k : Rest) (s : Building) → JumpWays PlainWay c P.jumps → JumpWays PlainWay c (jumps_if x Q.jumps) → Later (then_build x P Q c S k s).1 → Tidy s →
+    then_tidies : (x : Bool) (c : Ways) (S : Scopes) (k : BlockRest) (s : Building) → JumpWays PlainWay c P.jumps → JumpWays PlainWay c (jumps_if x Q.jumps) → Later (then_build x P Q c S k s).1 → Tidy s →
         RestWell k → TidyAfter (then_build x P Q c S k s)
     then_tidies true c S k s wp wq later h l =
         let r = Q.build c (P.after S) k s in
@@ -367,12 +367,12 @@ module _ (t : Target) where
   pub nothing_lowered : Lowered nothing (λ c. Nothing)
   nothing_lowered = change_lowered (λ S. S)
 
-  changed_ends : (x : Bool) (g : Scopes → Scopes) (P : Lowers) (sp : Ways → Spot) (c : Ways) (S : Scopes) (k : Rest) (b : Pos) → CodeEnds x P sp c (g S) k b →
+  changed_ends : (x : Bool) (g : Scopes → Scopes) (P : Lowers) (sp : Ways → CodeSpot) (c : Ways) (S : Scopes) (k : BlockRest) (b : CodePos) → CodeEnds x P sp c (g S) k b →
       CodeEnds x (from_changed g P) (λ c. After g (sp c)) c S k b
   changed_ends true g P sp c S k b h = h
   changed_ends false g P sp c S k b h = h
 
-  pub changed_lowered : (g : Scopes → Scopes) (P : Lowers) (sp : Ways → Spot) → Lowered P sp → Lowered (from_changed g P) (λ c. After g (sp c))
+  pub changed_lowered : (g : Scopes → Scopes) (P : Lowers) (sp : Ways → CodeSpot) → Lowered P sp → Lowered (from_changed g P) (λ c. After g (sp c))
   changed_lowered g P sp lp = record {
     grows = λ c S k s. lp.grows c (g S) k s;
     holds = λ c S k s u later chains. let it = lp.holds c (g S) k s u later chains in (it.0, λ b st. changed_ends P.has_end g P sp c S k b (it.1 b st));
@@ -380,11 +380,11 @@ module _ (t : Target) where
     tidies = λ c S k s w later h l. lp.tidies c (g S) k s w later h l;
   }
 
-  back_ends : (x : Bool) (P : Lowers) (sp : Ways → Spot) (c : Ways) (S : Scopes) (k : Rest) (b : Pos) → CodeEnds x P sp c S k b → CodeEnds x (back_in P) (λ c. BackIn (sp c)) c S k b
+  back_ends : (x : Bool) (P : Lowers) (sp : Ways → CodeSpot) (c : Ways) (S : Scopes) (k : BlockRest) (b : CodePos) → CodeEnds x P sp c S k b → CodeEnds x (back_in P) (λ c. BackIn (sp c)) c S k b
   back_ends true P sp c S k b h = (h.0, h.1, inr (refl, P.after S, h.2))
   back_ends false P sp c S k b h = λ S' b'. inl h
 
-  pub back_lowered : (P : Lowers) (sp : Ways → Spot) → Lowered P sp → Lowered (back_in P) (λ c. BackIn (sp c))
+  pub back_lowered : (P : Lowers) (sp : Ways → CodeSpot) → Lowered P sp → Lowered (back_in P) (λ c. BackIn (sp c))
   back_lowered P sp lp = record {
     grows = lp.grows;
     holds = λ c S k s u later chains. let it = lp.holds c S k s u later chains in (it.0, λ b st. back_ends P.has_end P sp c S k b (it.1 b st));
@@ -403,7 +403,7 @@ module _ (t : Target) where
   steps_same [] = refl
   steps_same (step ∷ steps) = λ i. step_same step i ∷ steps_same steps i
 
-  site_same : (n : ℕ) (site : Site) → site.node ≡ n → actions.site_of n (place_of f site) ≡ site_at t.local_of site
+  site_same : (n : ℕ) (site : EffectSite) → site.node ≡ n → actions.site_of n (place_of f site) ≡ site_at t.local_of site
   site_same n site e = λ i. record { node = sym e i; place = record { local = t.local_of site.place.local; steps = steps_same site.place.steps i } }
 
   -- all sites have the number of one node; nothing is freed
@@ -449,7 +449,7 @@ module _ (t : Target) where
   operands_same n (o ∷ os) e = λ i. operand_same n o e.0 i ∷ operands_same n os e.1 i
 
   -- ---- chains
-  keys_clean : (es ds : List Entry) → same_entries es ds ≡ true → (b : Pos) → CleanAt t ds b → CleanAt t es b
+  keys_clean : (es ds : List Entry) → same_entries es ds ≡ true → (b : CodePos) → CleanAt t ds b → CleanAt t es b
   keys_clean [] [] e b h = h
   keys_clean [] (d ∷ ds) e b h = absurd (let never : false ≡ true = e in cc)
   keys_clean (x ∷ es) [] e b h = absurd (let never : false ≡ true = e in cc)
@@ -467,11 +467,11 @@ module _ (t : Target) where
       and_true true b e = (refl, e)
       and_true false b e = absurd (let never : false ≡ true = e in cc)
 
-  kept_grows : (es : List Entry) (k : Rest) (s : Building) → Grows s (kept_chain es k s).1
+  kept_grows : (es : List Entry) (k : BlockRest) (s : Building) → Grows s (kept_chain es k s).1
   kept_grows es k s = let g = closed_grows Kind.Cleanup k s in record { longer = g.longer; keeps = g.keeps }
 
   -- a new chain is kept, and those before it stand
-  kept_stand : (es : List Entry) (k : Rest) (s : Building) → ChainsStand s → (Stands k (length s.blocks, 0) → CleanAt t es (length s.blocks, 0)) → Later (kept_chain es k s).1 →
+  kept_stand : (es : List Entry) (k : BlockRest) (s : Building) → ChainsStand s → (Stands k (length s.blocks, 0) → CleanAt t es (length s.blocks, 0)) → Later (kept_chain es k s).1 →
       ChainsStand (kept_chain es k s).1 × ChainAt es (kept_chain es k s).0
   kept_stand es k s h clean later = (chains, here)
     where
@@ -486,7 +486,7 @@ module _ (t : Target) where
       chains : ChainsStand (kept_chain es k s).1
       chains ds n e = by_entries (same_entries ds es) ds n refl e
 
-  kept_ranked : (es : List Entry) (k : Rest) (s : Building) → Ranked s → LeadsOn k s → Ranked (kept_chain es k s).1 × Given (length (kept_chain es k s).1.blocks) (kept_chain es k s).0
+  kept_ranked : (es : List Entry) (k : BlockRest) (s : Building) → Ranked s → LeadsOn k s → Ranked (kept_chain es k s).1 × Given (length (kept_chain es k s).1.blocks) (kept_chain es k s).0
   kept_ranked es k s h l =
       let c = closed_ranked Kind.Cleanup k s h l in
       let j = closed_length Kind.Cleanup k s in
@@ -498,7 +498,7 @@ module _ (t : Target) where
       by_entries g true ds n e = subst (Given (length (closed Kind.Cleanup k s).blocks)) (same_Some (length s.blocks) n e) g
       by_entries g false ds n e = let i = h.chains ds n e in let j = closed_length Kind.Cleanup k s in (i.0, (let i1 = i.1 in omega arith))
 
-  kept_tidy : (es : List Entry) (k : Rest) (s : Building) → Tidy s → RestEnds true k → Later (kept_chain es k s).1 → Tidy (kept_chain es k s).1 × KindAt true (kept_chain es k s).0
+  kept_tidy : (es : List Entry) (k : BlockRest) (s : Building) → Tidy s → RestEnds true k → Later (kept_chain es k s).1 → Tidy (kept_chain es k s).1 × KindAt true (kept_chain es k s).0
   kept_tidy es k s h l later =
       let c = closed_tidy Kind.Cleanup k s h l in
       (record { blocks = c.blocks; chains = λ ds n e. by_entries (same_entries ds es) ds n e }, kind_stands Kind.Cleanup k s later)
@@ -507,7 +507,7 @@ module _ (t : Target) where
       by_entries true ds n e = subst (KindAt true) (same_Some (length s.blocks) n e) (kind_stands Kind.Cleanup k s later)
       by_entries false ds n e = h.chains ds n e
 
-  abbrev drop_rest : Entry → ℕ × Building → Rest
+  abbrev drop_rest : Entry → ℕ × Building → BlockRest
   drop_rest x rest = ending (Term.DropAt (place_of f (entry_site x)) rest.0 Unwind.Abort) x.key
 
   abbrev after_chain : Entry → List Entry → Building → ℕ × Building
@@ -599,20 +599,20 @@ module _ (t : Target) where
   unwind_tidy (x ∷ es) s h later = let c = chain_tidy (x ∷ es) s h later in (c.0, (c.1, tt))
 
   -- ---- a terminator with its two ways on
-  abbrev two_ways : (ℕ → Unwind → Term) → ℕ → List Entry → Rest → Building → Rest × Building
+  abbrev two_ways : (ℕ → Unwind → Term) → ℕ → List Entry → BlockRest → Building → BlockRest × Building
   two_ways term node es k s = unwinding f (term (length s.blocks)) node es (closed Kind.Plain k s)
 
-  pub two_grow : (term : ℕ → Unwind → Term) (node : ℕ) (es : List Entry) (k : Rest) (s : Building) → Grows s (two_ways term node es k s).1
+  pub two_grow : (term : ℕ → Unwind → Term) (node : ℕ) (es : List Entry) (k : BlockRest) (s : Building) → Grows s (two_ways term node es k s).1
   two_grow term node es k s = grows_on s (closed Kind.Plain k s) _ (closed_grows Kind.Plain k s) (unwind_grows es (closed Kind.Plain k s))
 
-  pub two_later : (term : ℕ → Unwind → Term) (node : ℕ) (es : List Entry) (k : Rest) (s : Building) → Later (two_ways term node es k s).1 → Later (closed Kind.Plain k s)
+  pub two_later : (term : ℕ → Unwind → Term) (node : ℕ) (es : List Entry) (k : BlockRest) (s : Building) → Later (two_ways term node es k s).1 → Later (closed Kind.Plain k s)
   two_later term node es k s later = later_before (closed Kind.Plain k s) _ (unwind_grows es (closed Kind.Plain k s)) later
 
-  pub two_made : (term : ℕ → Unwind → Term) (node : ℕ) (es : List Entry) (k : Rest) (s : Building) → ChainsStand s → Later (two_ways term node es k s).1 →
+  pub two_made : (term : ℕ → Unwind → Term) (node : ℕ) (es : List Entry) (k : BlockRest) (s : Building) → ChainsStand s → Later (two_ways term node es k s).1 →
       ChainsStand (two_ways term node es k s).1 × Cleans t es (unwind_to f es (closed Kind.Plain k s)).0
   two_made term node es k s h later = unwind_made es (closed Kind.Plain k s) h later
 
-  pub two_ranked : (term : ℕ → Unwind → Term) (node : ℕ) (es : List Entry) (k : Rest) (s : Building) → ((n : ℕ) (u : Unwind) → targets (term n u) ≡ n ∷ unwind_block u ++ []) → Ranked s → LeadsOn k s →
+  pub two_ranked : (term : ℕ → Unwind → Term) (node : ℕ) (es : List Entry) (k : BlockRest) (s : Building) → ((n : ℕ) (u : Unwind) → targets (term n u) ≡ n ∷ unwind_block u ++ []) → Ranked s → LeadsOn k s →
       Ranked (two_ways term node es k s).1 × LeadsOn (two_ways term node es k s).0 (two_ways term node es k s).1
   two_ranked term node es k s e h l =
       let u = unwind_ranked es (closed Kind.Plain k s) (closed_ranked Kind.Plain k s h l) in
@@ -626,7 +626,7 @@ module _ (t : Target) where
   abbrev pub TwoWays : (ℕ → Unwind → Term) → Type 0
   TwoWays term = (n : ℕ) (u : Unwind) → KindAt false n → AllKind true (unwind_block u ++ []) → LeadsWell (term n u)
 
-  pub two_tidy : (term : ℕ → Unwind → Term) (node : ℕ) (es : List Entry) (k : Rest) (s : Building) → TwoWays term → Later (two_ways term node es k s).1 → Tidy s → RestWell k →
+  pub two_tidy : (term : ℕ → Unwind → Term) (node : ℕ) (es : List Entry) (k : BlockRest) (s : Building) → TwoWays term → Later (two_ways term node es k s).1 → Tidy s → RestWell k →
       TidyAfter (two_ways term node es k s)
   two_tidy term node es k s e later h l =
       let u = unwind_tidy es (closed Kind.Plain k s) (closed_tidy Kind.Plain k s h l) later in
@@ -654,8 +654,8 @@ module _ (t : Target) where
   abbrev TermOf : ℕ → Action → (ℕ → Unwind → Term) → Type 0
   TermOf n action term = ((m : ℕ) (u : Unwind) → action_of_term n (term m u) ≡ Some (action_at t.local_of action, m, u)) × ((m : ℕ) (u : Unwind) → targets (term m u) ≡ m ∷ unwind_block u ++ []) × TwoWays term
 
-  term_stands : (n : ℕ) (action : Action) (term : ℕ → Unwind → Term) → TermOf n action term → (S : Scopes) (k : Rest) (s : Building) →
-      Cleans t (panic_drops t S) (unwind_to f (panic_drops t S) (closed Kind.Plain k s)).0 → (b : Pos) → Stands (two_ways term n (panic_drops t S) k s).0 b → ActionTermAt t action S (length s.blocks) b
+  term_stands : (n : ℕ) (action : Action) (term : ℕ → Unwind → Term) → TermOf n action term → (S : Scopes) (k : BlockRest) (s : Building) →
+      Cleans t (panic_drops t S) (unwind_to f (panic_drops t S) (closed Kind.Plain k s)).0 → (b : CodePos) → Stands (two_ways term n (panic_drops t S) k s).0 b → ActionTermAt t action S (length s.blocks) b
   term_stands n action term e S k s clean b st = (
     st.0,
     (unwind_to f (panic_drops t S) (closed Kind.Plain k s)).0,
@@ -747,22 +747,22 @@ module _ (t : Target) where
       by_term n (effects.Ask to) (Term.Ask (place_of f to)) ((λ m u. λ i. Some (effects.Ask (site_same n to one i), m, u)), (λ m u. refl), λ m u p g. ((p, tt), g, refl, tt))
 
   -- ---- drops
-  pub drop_one_at : (site : Site) (es : List Entry) (k : Rest) (s : Building) → Cleans t es (unwind_to f es (closed Kind.Plain k s)).0 → Later (closed Kind.Plain k s) → (b : Pos) →
+  pub drop_one_at : (site : EffectSite) (es : List Entry) (k : BlockRest) (s : Building) → Cleans t es (unwind_to f es (closed Kind.Plain k s)).0 → Later (closed Kind.Plain k s) → (b : CodePos) →
       Stands (drop_one f site es k s).0 b → DropsAt t site es b (length s.blocks, 0)
   drop_one_at site es k s clean before b st =
       (place_of f site, length s.blocks, (unwind_to f es (closed Kind.Plain k s)).0, ends_with _ site.node b st, site_same (t.node b.0 b.1) site (sym st.2.2), clean, (plain_stands k s before, refl))
 
-  abbrev drop_term : Site → ℕ → Unwind → Term
+  abbrev drop_term : EffectSite → ℕ → Unwind → Term
   drop_term site = Term.DropAt (place_of f site)
 
-  drops_grow : (es : List Entry) (S : Scopes) (k : Rest) (s : Building) → Grows s (drop_all f es S k s).1
+  drops_grow : (es : List Entry) (S : Scopes) (k : BlockRest) (s : Building) → Grows s (drop_all f es S k s).1
   drops_grow [] S k s = grows_not s
   drops_grow (x ∷ es) S k s =
       let r = drop_all f es S k s in
       grows_on s r.1 _ (drops_grow es S k s) (two_grow (drop_term (entry_site x)) x.key (es ++ panic_drops t S) r.0 r.1)
 
-  drops_made : (es : List Entry) (S : Scopes) (k : Rest) (s : Building) → ChainsStand s → Later (drop_all f es S k s).1 →
-      ChainsStand (drop_all f es S k s).1 × ((b : Pos) → Stands (drop_all f es S k s).0 b → (b' : Pos) × Stands k b' × AllDropAt t es S b b')
+  drops_made : (es : List Entry) (S : Scopes) (k : BlockRest) (s : Building) → ChainsStand s → Later (drop_all f es S k s).1 →
+      ChainsStand (drop_all f es S k s).1 × ((b : CodePos) → Stands (drop_all f es S k s).0 b → (b' : CodePos) × Stands k b' × AllDropAt t es S b b')
   drops_made [] S k s h later = (h, λ b st. (b, st, refl))
   drops_made (x ∷ es) S k s h later =
       let r = drop_all f es S k s in
@@ -772,7 +772,7 @@ module _ (t : Target) where
       let on = rest.1 (length r.1.blocks, 0) (closed_stands Kind.Plain r.0 r.1 before) in
       (made.0, λ b st. (on.0, on.1, ((length r.1.blocks, 0), drop_one_at (entry_site x) (es ++ panic_drops t S) r.0 r.1 made.1 before b st, on.2)))
 
-  drops_ranked : (es : List Entry) (S : Scopes) (k : Rest) (s : Building) → Ranked s → LeadsOn k s → Ranked (drop_all f es S k s).1 × LeadsOn (drop_all f es S k s).0 (drop_all f es S k s).1
+  drops_ranked : (es : List Entry) (S : Scopes) (k : BlockRest) (s : Building) → Ranked s → LeadsOn k s → Ranked (drop_all f es S k s).1 × LeadsOn (drop_all f es S k s).0 (drop_all f es S k s).1
   drops_ranked [] S k s h l = (h, l)
   drops_ranked (x ∷ es) S k s h l =
       let r = drop_all f es S k s in
@@ -784,7 +784,7 @@ module _ (t : Target) where
   whole_drops local n Unwind.Resume p g = ((p, tt), g, refl, refl)
   whole_drops local n Unwind.Abort p g = ((p, tt), g, refl, refl)
 
-  drops_tidy : (es : List Entry) (S : Scopes) (k : Rest) (s : Building) → Later (drop_all f es S k s).1 → Tidy s → RestWell k → TidyAfter (drop_all f es S k s)
+  drops_tidy : (es : List Entry) (S : Scopes) (k : BlockRest) (s : Building) → Later (drop_all f es S k s).1 → Tidy s → RestWell k → TidyAfter (drop_all f es S k s)
   drops_tidy [] S k s later h l = (h, l)
   drops_tidy (x ∷ es) S k s later h l =
       let r = drop_all f es S k s in
@@ -796,22 +796,22 @@ module _ (t : Target) where
   abbrev dropped_of : Scope → List Entry
   dropped_of scope = needing_drop t.items scope.entries
 
-  leave_grows : (S : Scopes) (k : Rest) (s : Building) → Grows s (leave_from f S k s).1
+  leave_grows : (S : Scopes) (k : BlockRest) (s : Building) → Grows s (leave_from f S k s).1
   leave_grows [] k s = grows_not s
   leave_grows (scope ∷ S) k s = drops_grow (dropped_of scope) S k s
 
-  leave_holds : (S : Scopes) (k : Rest) (s : Building) → ChainsStand s → Later (leave_from f S k s).1 →
-      ChainsStand (leave_from f S k s).1 × ((b : Pos) → Stands (leave_from f S k s).0 b → (b' : Pos) × Stands k b' × Left t S b (outer f S) b')
+  leave_holds : (S : Scopes) (k : BlockRest) (s : Building) → ChainsStand s → Later (leave_from f S k s).1 →
+      ChainsStand (leave_from f S k s).1 × ((b : CodePos) → Stands (leave_from f S k s).0 b → (b' : CodePos) × Stands k b' × Left t S b (outer f S) b')
   leave_holds [] k s h later = (h, λ b st. (b, st, (refl, stays)))
   leave_holds (scope ∷ S) k s h later =
       let d = drops_made (dropped_of scope) S k s h later in
       (d.0, λ b st. let on = d.1 b st in (on.0, on.1, (refl, on.0, on.2, stays)))
 
-  leave_ranks : (S : Scopes) (k : Rest) (s : Building) → Ranked s → LeadsOn k s → Ranked (leave_from f S k s).1 × LeadsOn (leave_from f S k s).0 (leave_from f S k s).1
+  leave_ranks : (S : Scopes) (k : BlockRest) (s : Building) → Ranked s → LeadsOn k s → Ranked (leave_from f S k s).1 × LeadsOn (leave_from f S k s).0 (leave_from f S k s).1
   leave_ranks [] k s h l = (h, l)
   leave_ranks (scope ∷ S) k s h l = drops_ranked (dropped_of scope) S k s h l
 
-  leave_tidies : (S : Scopes) (k : Rest) (s : Building) → Later (leave_from f S k s).1 → Tidy s → RestWell k → TidyAfter (leave_from f S k s)
+  leave_tidies : (S : Scopes) (k : BlockRest) (s : Building) → Later (leave_from f S k s).1 → Tidy s → RestWell k → TidyAfter (leave_from f S k s)
   leave_tidies [] k s later h l = (h, l)
   leave_tidies (scope ∷ S) k s later h l = drops_tidy (dropped_of scope) S k s later h l
 
@@ -823,14 +823,14 @@ module _ (t : Target) where
     tidies = λ c S k s w later h l. leave_tidies S k s later h l;
   }
 
-  pub scoped_lowered : (enter : Scopes → Scopes) (P : Lowers) (sp : Ways → Spot) → Lowered P sp → Lowered (scoped f enter P) (λ c. Scoped t enter (sp c))
+  pub scoped_lowered : (enter : Scopes → Scopes) (P : Lowers) (sp : Ways → CodeSpot) → Lowered P sp → Lowered (scoped f enter P) (λ c. Scoped t enter (sp c))
   scoped_lowered enter P sp lp = changed_lowered enter (then_lower P (leave f)) _ (then_lowered P (leave f) sp (λ c. Left t) lp leave_lowered)
 
-  pub in_scope_lowered : (node : ℕ) (own : Bool) (P : Lowers) (sp : Ways → Spot) → Lowered P sp → Lowered (in_scope f node own P) (λ c. InScope t node own (sp c))
+  pub in_scope_lowered : (node : ℕ) (own : Bool) (P : Lowers) (sp : Ways → CodeSpot) → Lowered P sp → Lowered (in_scope f node own P) (λ c. InScope t node own (sp c))
   in_scope_lowered node own P sp lp = scoped_lowered (with_scope node own) P sp lp
 
   -- ---- jumps
-  leaves_grow : (node : ℕ) (way : Way) (S : Scopes) (s : Building) → Grows s (leaves_to f node way S s).1
+  leaves_grow : (node : ℕ) (way : JumpWay) (S : Scopes) (s : Building) → Grows s (leaves_to f node way S s).1
   leaves_grow node way [] s = grows_not s
   leaves_grow node way (scope ∷ S) s = by_base (leaves_grow node way S s) (not (nat_lt (length S) way.base))
     where
@@ -839,18 +839,18 @@ module _ (t : Target) where
       by_base ih true = grows_on s (leaves_to f node way S s).1 _ ih (drops_grow (dropped_of scope) S (leaves_to f node way S s).0 (leaves_to f node way S s).1)
       by_base ih false = grows_not s
 
-  abbrev LeavesMade : ℕ → Way → Scopes → Rest × Building → Type 0
-  LeavesMade node way S r = ChainsStand r.1 × ((b : Pos) → Stands r.0 b → LeavesTo t way.base way.block S b)
+  abbrev LeavesMade : ℕ → JumpWay → Scopes → BlockRest × Building → Type 0
+  LeavesMade node way S r = ChainsStand r.1 × ((b : CodePos) → Stands r.0 b → LeavesTo t way.base way.block S b)
 
-  leaves_made : (node : ℕ) (way : Way) (S : Scopes) (s : Building) → ChainsStand s → Later (leaves_to f node way S s).1 → LeavesMade node way S (leaves_to f node way S s)
+  leaves_made : (node : ℕ) (way : JumpWay) (S : Scopes) (s : Building) → ChainsStand s → Later (leaves_to f node way S s).1 → LeavesMade node way S (leaves_to f node way S s)
   leaves_made node way [] s h later = (h, λ b st. ends_with (Term.Goto way.block) node b st)
   leaves_made node way (scope ∷ S) s h later = by_base (leaves_made node way S s h) (not (nat_lt (length S) way.base)) later
     where
       by_base : (Later (leaves_to f node way S s).1 → LeavesMade node way S (leaves_to f node way S s)) → (x : Bool) →
           Later (build.leaves_one f x (let rest = leaves_to f node way S s in drop_all f (dropped_of scope) S rest.0 rest.1) (ending (Term.Goto way.block) node, s)).1 →
           ChainsStand (build.leaves_one f x (let rest = leaves_to f node way S s in drop_all f (dropped_of scope) S rest.0 rest.1) (ending (Term.Goto way.block) node, s)).1
-          × ((b : Pos) → Stands (build.leaves_one f x (let rest = leaves_to f node way S s in drop_all f (dropped_of scope) S rest.0 rest.1) (ending (Term.Goto way.block) node, s)).0 b →
-          leaves_one t x ((m : Pos) × AllDropAt t (dropped_of scope) S b m × LeavesTo t way.base way.block S m) (TermAt t (Term.Goto way.block) b))
+          × ((b : CodePos) → Stands (build.leaves_one f x (let rest = leaves_to f node way S s in drop_all f (dropped_of scope) S rest.0 rest.1) (ending (Term.Goto way.block) node, s)).0 b →
+          leaves_one t x ((m : CodePos) × AllDropAt t (dropped_of scope) S b m × LeavesTo t way.base way.block S m) (TermAt t (Term.Goto way.block) b))
       by_base ih true later =
           let r = leaves_to f node way S s in
           let rest = ih (later_before r.1 _ (drops_grow (dropped_of scope) S r.0 r.1) later) in
@@ -858,7 +858,7 @@ module _ (t : Target) where
           (d.0, λ b st. let on = d.1 b st in (on.0, on.2, rest.1 on.0 on.1))
       by_base ih false later = (h, λ b st. ends_with (Term.Goto way.block) node b st)
 
-  leaves_ranked : (node : ℕ) (way : Way) (S : Scopes) (s : Building) → Given (length s.blocks) way.block → Ranked s →
+  leaves_ranked : (node : ℕ) (way : JumpWay) (S : Scopes) (s : Building) → Given (length s.blocks) way.block → Ranked s →
       Ranked (leaves_to f node way S s).1 × LeadsOn (leaves_to f node way S s).0 (leaves_to f node way S s).1
   leaves_ranked node way [] s g h = (h, (g, tt))
   leaves_ranked node way (scope ∷ S) s g h = by_base (leaves_ranked node way S s g h) (not (nat_lt (length S) way.base))
@@ -870,7 +870,7 @@ module _ (t : Target) where
       by_base ih true = drops_ranked (dropped_of scope) S (leaves_to f node way S s).0 (leaves_to f node way S s).1 ih.0 ih.1
       by_base ih false = (h, (g, tt))
 
-  leaves_tidy : (node : ℕ) (way : Way) (S : Scopes) (s : Building) → PlainWay way → Later (leaves_to f node way S s).1 → Tidy s → TidyAfter (leaves_to f node way S s)
+  leaves_tidy : (node : ℕ) (way : JumpWay) (S : Scopes) (s : Building) → PlainWay way → Later (leaves_to f node way S s).1 → Tidy s → TidyAfter (leaves_to f node way S s)
   leaves_tidy node way [] s g later h = (h, (((g, tt), tt, refl, tt), tt))
   leaves_tidy node way (scope ∷ S) s g later h = by_base (λ later. leaves_tidy node way S s g later h) (not (nat_lt (length S) way.base)) later
     where
@@ -891,7 +891,7 @@ module _ (t : Target) where
   IsJump Returns = Unit {0}
   IsJump Panics = ⊥
 
-  way_has : (P : Way → Type 0) (exit : Exit) (c : Ways) → JumpWays P c (naming exit) → P (way_of exit c)
+  way_has : (P : JumpWay → Type 0) (exit : Exit) (c : Ways) → JumpWays P c (naming exit) → P (way_of exit c)
   way_has P Value c h = h.0
   way_has P (Breaks loop) c h = h.1.0
   way_has P (Continues loop) c h = h.1.0
@@ -907,7 +907,7 @@ module _ (t : Target) where
     tidies = λ c S k s w later h l. leaves_tidy node (way_of exit c) S s (way_has PlainWay exit c w) later h;
   }
 
-  pub jump_lowered : (node : ℕ) (exit : Exit) (P : Lowers) (sp : Ways → Spot) → Lowered P sp → Lowered (jump f node exit P) (λ c. JumpAt t (way_of exit c) (sp c))
+  pub jump_lowered : (node : ℕ) (exit : Exit) (P : Lowers) (sp : Ways → CodeSpot) → Lowered P sp → Lowered (jump f node exit P) (λ c. JumpAt t (way_of exit c) (sp c))
   jump_lowered node exit P sp lp = then_lowered P (exits f node exit) sp _ lp (exits_lowered node exit)
 
   -- ---- a panic
@@ -921,9 +921,9 @@ module _ (t : Target) where
   }
 
   -- ---- tests
-  abbrev pub TestMade : Building → Rest × Building → (Pos → Pos → Pos → Type 0) → ℕ → ℕ → Type 0
+  abbrev pub TestMade : Building → BlockRest × Building → (CodePos → CodePos → CodePos → Type 0) → ℕ → ℕ → Type 0
   TestMade s r spot y n =
-      Grows s r.1 × (ChainsStand s → Later r.1 → StepAt t y → StepAt t n → ChainsStand r.1 × ((b : Pos) → Stands r.0 b → spot b (y, 0) (n, 0)))
+      Grows s r.1 × (ChainsStand s → Later r.1 → StepAt t y → StepAt t n → ChainsStand r.1 × ((b : CodePos) → Stands r.0 b → spot b (y, 0) (n, 0)))
       × (Ranked s → Given (length s.blocks) y → Given (length s.blocks) n → Ranked r.1 × LeadsOn r.0 r.1) × (Later r.1 → Tidy s → KindAt false y → KindAt false n → TidyAfter r)
 
   pub if_made : (operand : effects.Operand) (node : ℕ) → OperandOf node operand → (y n : ℕ) (s : Building) → TestMade s (if_true f operand node y n s) (IfAt t operand) y n
@@ -938,7 +938,7 @@ module _ (t : Target) where
     λ later h py pn. (h, (((pn, (py, tt)), tt, refl, tt), tt)),
   )
 
-  equals_made : (site : Site) (value : effects.Operand) → OperandOf site.node value → (y n : ℕ) (s : Building) → TestMade s (equals f site value y n s) (EqualsAt t site value) y n
+  equals_made : (site : EffectSite) (value : effects.Operand) → OperandOf site.node value → (y n : ℕ) (s : Building) → TestMade s (equals f site value y n s) (EqualsAt t site value) y n
   equals_made site value one y n s = (
     grows_not s,
     (λ h later py pn. (
@@ -1034,67 +1034,67 @@ module _ (t : Target) where
 
   -- ---- branches
   -- a place to which codes come
-  pub joined_grows : (x : Bool) (node : ℕ) (k : Rest) (s : Building) → Grows s (joined x node k s).1
+  pub joined_grows : (x : Bool) (node : ℕ) (k : BlockRest) (s : Building) → Grows s (joined x node k s).1
   joined_grows true node k s = closed_grows Kind.Plain k s
   joined_grows false node k s = grows_not s
 
-  pub joined_chains : (x : Bool) (node : ℕ) (k : Rest) (s : Building) → ChainsStand s → ChainsStand (joined x node k s).1
+  pub joined_chains : (x : Bool) (node : ℕ) (k : BlockRest) (s : Building) → ChainsStand s → ChainsStand (joined x node k s).1
   joined_chains true node k s h = h
   joined_chains false node k s h = h
 
-  pub joined_ranked : (x : Bool) (node : ℕ) (k : Rest) (s : Building) → Ranked s → LeadsOn k s → Ranked (joined x node k s).1 × LeadsOn (joined x node k s).0 (joined x node k s).1
+  pub joined_ranked : (x : Bool) (node : ℕ) (k : BlockRest) (s : Building) → Ranked s → LeadsOn k s → Ranked (joined x node k s).1 × LeadsOn (joined x node k s).0 (joined x node k s).1
   joined_ranked true node k s h l = let j = closed_length Kind.Plain k s in (closed_ranked Kind.Plain k s h l, ((h.begun, omega arith), tt))
   joined_ranked false node k s h l = (h, l)
 
-  pub joined_tidy : (x : Bool) (node : ℕ) (k : Rest) (s : Building) → Later (joined x node k s).1 → Tidy s → RestWell k → TidyAfter (joined x node k s)
+  pub joined_tidy : (x : Bool) (node : ℕ) (k : BlockRest) (s : Building) → Later (joined x node k s).1 → Tidy s → RestWell k → TidyAfter (joined x node k s)
   joined_tidy true node k s later h l = (closed_tidy Kind.Plain k s h l, (((kind_stands Kind.Plain k s later, tt), tt, refl, tt), tt))
   joined_tidy false node k s later h l = (h, l)
 
   -- a code that may join others, given where it ends if it has an end
-  abbrev pub MayJoin : Bool → Spot → Scopes → Rest → Pos → Type 0
-  MayJoin x spot S k b = (S' : Scopes) (b' : Pos) → (x ≡ true → (S' ≡ S) × ((m : Pos) → Stands k m → Leads t m b')) → Joins t spot S b S' b'
+  abbrev pub MayJoin : Bool → CodeSpot → Scopes → BlockRest → CodePos → Type 0
+  MayJoin x spot S k b = (S' : Scopes) (b' : CodePos) → (x ≡ true → (S' ≡ S) × ((m : CodePos) → Stands k m → Leads t m b')) → Joins t spot S b S' b'
 
-  pub may_join : (x : Bool) (P : Lowers) (sp : Ways → Spot) (c : Ways) (S after : Scopes) (k : Rest) (b : Pos) → CodeEnds x P sp c S k b → P.after S ≡ after → (S' : Scopes) (b' : Pos) →
-      (x ≡ true → (S' ≡ after) × ((m : Pos) → Stands k m → Leads t m b')) → Joins t (sp c) S b S' b'
+  pub may_join : (x : Bool) (P : Lowers) (sp : Ways → CodeSpot) (c : Ways) (S after : Scopes) (k : BlockRest) (b : CodePos) → CodeEnds x P sp c S k b → P.after S ≡ after → (S' : Scopes) (b' : CodePos) →
+      (x ≡ true → (S' ≡ after) × ((m : CodePos) → Stands k m → Leads t m b')) → Joins t (sp c) S b S' b'
   may_join true P sp c S after k b h e S' b' on =
       let j = on refl in (h.0, subst (λ z. sp c S b z h.0) (e ∙ sym j.0) h.2, j.1 h.0 h.1)
   may_join false P sp c S after k b h e S' b' on = (b', h S' b', stays)
 
   -- the place behind both: the block that joins them
-  pub joined_on : (node : ℕ) (k : Rest) (s : Building) → Later (closed Kind.Plain k s) → (m : Pos) → Stands (joined true node k s).0 m → Leads t m (length s.blocks, 0)
+  pub joined_on : (node : ℕ) (k : BlockRest) (s : Building) → Later (closed Kind.Plain k s) → (m : CodePos) → Stands (joined true node k s).0 m → Leads t m (length s.blocks, 0)
   joined_on node k s later m st = goes (length s.blocks) (ends_with _ node m st) (plain_stands k s later)
 
-  module _ (node : ℕ) (T : Pos → Pos → Pos → Type 0) (x : ℕ → ℕ → Building → Rest × Building) (made_test : (y n : ℕ) (s : Building) → TestMade s (x y n s) T y n) (P Q : Lowers) (sp sq : Ways → Spot)
+  module _ (node : ℕ) (T : CodePos → CodePos → CodePos → Type 0) (x : ℕ → ℕ → Building → BlockRest × Building) (made_test : (y n : ℕ) (s : Building) → TestMade s (x y n s) T y n) (P Q : Lowers) (sp sq : Ways → CodeSpot)
       (lp : Lowered P sp) (lq : Lowered Q sq) (same : (S : Scopes) → P.after S ≡ Q.after S) where
-    abbrev join : Rest → Building → Rest × Building
+    abbrev join : BlockRest → Building → BlockRest × Building
     join k s = joined (P.has_end || Q.has_end) node k s
 
-    abbrev no_code : Ways → Scopes → Rest → Building → Rest × Building
+    abbrev no_code : Ways → Scopes → BlockRest → Building → BlockRest × Building
     no_code c S k s = Q.build c S (join k s).0 (join k s).1
 
-    abbrev no_made : Ways → Scopes → Rest → Building → Building
+    abbrev no_made : Ways → Scopes → BlockRest → Building → Building
     no_made c S k s = closed Kind.Plain (no_code c S k s).0 (no_code c S k s).1
 
-    abbrev yes_code : Ways → Scopes → Rest → Building → Rest × Building
+    abbrev yes_code : Ways → Scopes → BlockRest → Building → BlockRest × Building
     yes_code c S k s = P.build c S (join k s).0 (no_made c S k s)
 
-    abbrev yes_made : Ways → Scopes → Rest → Building → Building
+    abbrev yes_made : Ways → Scopes → BlockRest → Building → Building
     yes_made c S k s = closed Kind.Plain (yes_code c S k s).0 (yes_code c S k s).1
 
-    abbrev yes_at : Ways → Scopes → Rest → Building → ℕ
+    abbrev yes_at : Ways → Scopes → BlockRest → Building → ℕ
     yes_at c S k s = length (yes_code c S k s).1.blocks
 
-    abbrev no_at : Ways → Scopes → Rest → Building → ℕ
+    abbrev no_at : Ways → Scopes → BlockRest → Building → ℕ
     no_at c S k s = length (no_code c S k s).1.blocks
 
-    no_grows : (c : Ways) (S : Scopes) (k : Rest) (s : Building) → Grows (join k s).1 (no_made c S k s)
+    no_grows : (c : Ways) (S : Scopes) (k : BlockRest) (s : Building) → Grows (join k s).1 (no_made c S k s)
     no_grows c S k s = grows_on (join k s).1 (no_code c S k s).1 _ (lq.grows c S (join k s).0 (join k s).1) (closed_grows Kind.Plain (no_code c S k s).0 (no_code c S k s).1)
 
-    yes_grows : (c : Ways) (S : Scopes) (k : Rest) (s : Building) → Grows (no_made c S k s) (yes_made c S k s)
+    yes_grows : (c : Ways) (S : Scopes) (k : BlockRest) (s : Building) → Grows (no_made c S k s) (yes_made c S k s)
     yes_grows c S k s = grows_on (no_made c S k s) (yes_code c S k s).1 _ (lp.grows c S (join k s).0 (no_made c S k s)) (closed_grows Kind.Plain (yes_code c S k s).0 (yes_code c S k s).1)
 
     -- both have no end, or they join
-    abbrev Both : Bool → Ways → Scopes → Rest → Building → Pos → Type 0
+    abbrev Both : Bool → Ways → Scopes → BlockRest → Building → CodePos → Type 0
     Both z c S k s b = CodeEnds z (branches node x P Q) (λ c. BranchesAt t T (sp c) (sq c)) c S k b
 
     after_same : (z : Bool) (S : Scopes) → after_either z P Q S ≡ Q.after S
@@ -1105,8 +1105,8 @@ module _ (t : Target) where
     true_or true z e = refl
     true_or false z e = e
 
-    both_end : (z : Bool) → P.has_end || Q.has_end ≡ z → (c : Ways) (S : Scopes) (k : Rest) (s : Building) → Later (joined z node k s).1 → (b y n : Pos) → T b y n →
-        ((S' : Scopes) (b' : Pos) → (z ≡ true → (S' ≡ Q.after S) × ((m : Pos) → Stands (joined z node k s).0 m → Leads t m b')) → Joins t (sp c) S y S' b' × Joins t (sq c) S n S' b') → Both z c S k s b
+    both_end : (z : Bool) → P.has_end || Q.has_end ≡ z → (c : Ways) (S : Scopes) (k : BlockRest) (s : Building) → Later (joined z node k s).1 → (b y n : CodePos) → T b y n →
+        ((S' : Scopes) (b' : CodePos) → (z ≡ true → (S' ≡ Q.after S) × ((m : CodePos) → Stands (joined z node k s).0 m → Leads t m b')) → Joins t (sp c) S y S' b' × Joins t (sq c) S n S' b') → Both z c S k s b
     both_end true e c S k s later b y n it codes =
         let end = codes (after_either P.has_end P Q S) (length s.blocks, 0) (λ one. (after_same P.has_end S, joined_on node k s later)) in
         ((length s.blocks, 0), closed_stands Kind.Plain k s later, (y, n, it, end.0, end.1))
@@ -1212,20 +1212,20 @@ module _ (t : Target) where
     begun = let j = reserved_length s in omega arith;
   }
     where
-      by_place : (n : ℕ) (m : Made) → (slice_get s.blocks n ≡ Some (Some m)) ⊎ ((n ≡ length s.blocks) × (None ≡ Some m)) → MadeWell n m
+      by_place : (n : ℕ) (m : MadeBlock) → (slice_get s.blocks n ≡ Some (Some m)) ⊎ ((n ≡ length s.blocks) × (None ≡ Some m)) → MadeWell n m
       by_place n m (inl e) = h.blocks n m e
       by_place n m (inr e) = absurd (none-some m e.1)
 
   pub reserved_tidy : (s : Building) → Tidy s → Tidy (reserved s)
   reserved_tidy s h = record { blocks = λ n m e. by_place n m (push_cases s.blocks None n (Some m) e); chains = h.chains }
     where
-      by_place : (n : ℕ) (m : Made) → (slice_get s.blocks n ≡ Some (Some m)) ⊎ ((n ≡ length s.blocks) × (None ≡ Some m)) → BlockWell m.block
+      by_place : (n : ℕ) (m : MadeBlock) → (slice_get s.blocks n ≡ Some (Some m)) ⊎ ((n ≡ length s.blocks) × (None ≡ Some m)) → BlockWell m.block
       by_place n m (inl e) = h.blocks n m e
       by_place n m (inr e) = absurd (none-some m e.1)
 
   -- a block whose number was given out is made
-  module _ (kind : Kind) (n : ℕ) (k : Rest) (s : Building) (free : slice_get s.blocks n ≡ Some None) where
-    abbrev block_filled : Made
+  module _ (kind : Kind) (n : ℕ) (k : BlockRest) (s : Building) (free : slice_get s.blocks n ≡ Some None) where
+    abbrev block_filled : MadeBlock
     block_filled = made kind (length s.blocks) k
 
     pub filled_later : Later (filled kind n k s) → Later s
@@ -1244,27 +1244,27 @@ module _ (t : Target) where
     pub filled_stands : Later (filled kind n k s) → (slice_get t.body.blocks n ≡ Some block_filled.block) × Stands k (n, 0)
     filled_stands later = ((later n block_filled filled_at).0, made_stands kind (length s.blocks) k n (filled kind n k s) later filled_at)
 
-  turn_ranked : (n : ℕ) (k : Rest) (s : Building) → Ranked s → LeadsOn k s → Ranked (filled Kind.Turn n k s)
+  turn_ranked : (n : ℕ) (k : BlockRest) (s : Building) → Ranked s → LeadsOn k s → Ranked (filled Kind.Turn n k s)
   turn_ranked n k s h l = record {
     blocks = λ i m e. by_place i m (set_cases s.blocks n i (Some (made Kind.Turn (length s.blocks) k)) (Some m) e);
     chains = λ es i e. let g = h.chains es i e in let j = set_length s.blocks n (Some (made Kind.Turn (length s.blocks) k)) in (g.0, (let g1 = g.1 in omega arith));
     begun = let j = set_length s.blocks n (Some (made Kind.Turn (length s.blocks) k)) in let b = h.begun in omega arith;
   }
     where
-      by_place : (i : ℕ) (m : Made) → (slice_get s.blocks i ≡ Some (Some m)) ⊎ ((i ≡ n) × (Some (made Kind.Turn (length s.blocks) k) ≡ Some m)) → MadeWell i m
+      by_place : (i : ℕ) (m : MadeBlock) → (slice_get s.blocks i ≡ Some (Some m)) ⊎ ((i ≡ n) × (Some (made Kind.Turn (length s.blocks) k) ≡ Some m)) → MadeWell i m
       by_place i m (inl e) = h.blocks i m e
       by_place i m (inr e) =
           subst (MadeWell i) (same_Some (made Kind.Turn (length s.blocks) k) m e.1) ((λ x. absurd (let never : true ≡ false = x in cc)), l)
 
-  pub filled_tidy : (kind : Kind) (n : ℕ) (k : Rest) (s : Building) → Tidy s → RestEnds (is_cleanup_kind kind) k → Tidy (filled kind n k s)
+  pub filled_tidy : (kind : Kind) (n : ℕ) (k : BlockRest) (s : Building) → Tidy s → RestEnds (is_cleanup_kind kind) k → Tidy (filled kind n k s)
   filled_tidy kind n k s h l = record { blocks = λ i m e. by_place i m (set_cases s.blocks n i (Some (made kind (length s.blocks) k)) (Some m) e); chains = h.chains }
     where
-      by_place : (i : ℕ) (m : Made) → (slice_get s.blocks i ≡ Some (Some m)) ⊎ ((i ≡ n) × (Some (made kind (length s.blocks) k) ≡ Some m)) → BlockWell m.block
+      by_place : (i : ℕ) (m : MadeBlock) → (slice_get s.blocks i ≡ Some (Some m)) ⊎ ((i ≡ n) × (Some (made kind (length s.blocks) k) ≡ Some m)) → BlockWell m.block
       by_place i m (inl e) = h.blocks i m e
       by_place i m (inr e) = subst (λ m. BlockWell m.block) (same_Some (made kind (length s.blocks) k) m e.1) l
 
   -- the ways of the jumps in a loop, from those around it
-  module _ (P : Way → Type 0) (id base exit begin : ℕ) (is_left : Bool) (c : Ways) where
+  module _ (P : JumpWay → Type 0) (id base exit begin : ℕ) (is_left : Bool) (c : Ways) where
     abbrev inside : Ways
     inside = ways_in_loop id base exit begin is_left c
 
@@ -1293,74 +1293,74 @@ module _ (t : Target) where
         by_name ih true h = (k, ih h)
         by_name ih false h = (h.0, ih h.1)
 
-  exit_grows : (x : Bool) (k : Rest) (s : Building) → Grows s (with_exit x k s)
+  exit_grows : (x : Bool) (k : BlockRest) (s : Building) → Grows s (with_exit x k s)
   exit_grows true k s = closed_grows Kind.Plain k s
   exit_grows false k s = grows_not s
 
-  exit_chains : (x : Bool) (k : Rest) (s : Building) → ChainsStand s → ChainsStand (with_exit x k s)
+  exit_chains : (x : Bool) (k : BlockRest) (s : Building) → ChainsStand s → ChainsStand (with_exit x k s)
   exit_chains true k s h = h
   exit_chains false k s h = h
 
-  exit_ranked : (x : Bool) (k : Rest) (s : Building) → Ranked s → LeadsOn k s → Ranked (with_exit x k s)
+  exit_ranked : (x : Bool) (k : BlockRest) (s : Building) → Ranked s → LeadsOn k s → Ranked (with_exit x k s)
   exit_ranked true k s h l = closed_ranked Kind.Plain k s h l
   exit_ranked false k s h l = h
 
   -- where a `break` leads, if there is one
-  exit_given : (x : Bool) (k : Rest) (s : Building) → Ranked s → x ≡ true → Given (length (with_exit x k s).blocks) (length s.blocks)
+  exit_given : (x : Bool) (k : BlockRest) (s : Building) → Ranked s → x ≡ true → Given (length (with_exit x k s).blocks) (length s.blocks)
   exit_given true k s h e = let j = closed_length Kind.Plain k s in (h.begun, omega arith)
   exit_given false k s h e = absurd (let never : false ≡ true = e in cc)
 
-  exit_tidy : (x : Bool) (k : Rest) (s : Building) → Tidy s → RestWell k → Tidy (with_exit x k s)
+  exit_tidy : (x : Bool) (k : BlockRest) (s : Building) → Tidy s → RestWell k → Tidy (with_exit x k s)
   exit_tidy true k s h l = closed_tidy Kind.Plain k s h l
   exit_tidy false k s h l = h
 
-  exit_plain : (x : Bool) (k : Rest) (s : Building) → Later (with_exit x k s) → x ≡ true → KindAt false (length s.blocks)
+  exit_plain : (x : Bool) (k : BlockRest) (s : Building) → Later (with_exit x k s) → x ≡ true → KindAt false (length s.blocks)
   exit_plain true k s later e = kind_stands Kind.Plain k s later
   exit_plain false k s later e = absurd (let never : false ≡ true = e in cc)
 
-  module _ (id : ℕ) (turn : Lowers) (sp : Ways → Spot) (lt : Lowered turn sp) (back : (S : Scopes) → turn.after S ≡ S) where
+  module _ (id : ℕ) (turn : Lowers) (sp : Ways → CodeSpot) (lt : Lowered turn sp) (back : (S : Scopes) → turn.after S ≡ S) where
     abbrev left : Bool
     left = is_left_by id turn.jumps
 
-    abbrev begun_with : Rest → Building → Building
+    abbrev begun_with : BlockRest → Building → Building
     begun_with k s = with_exit left k s
 
-    abbrev begin_at : Rest → Building → ℕ
+    abbrev begin_at : BlockRest → Building → ℕ
     begin_at k s = length (begun_with k s).blocks
 
-    abbrev again : Rest → Building → Rest
+    abbrev again : BlockRest → Building → BlockRest
     again k s = ending (Term.Goto (begin_at k s)) id
 
-    abbrev ways_in : Ways → Scopes → Rest → Building → Ways
+    abbrev ways_in : Ways → Scopes → BlockRest → Building → Ways
     ways_in c S k s = ways_in_loop id (length S) (length s.blocks) (begin_at k s) left c
 
-    abbrev code_in : Ways → Scopes → Rest → Building → Rest × Building
+    abbrev code_in : Ways → Scopes → BlockRest → Building → BlockRest × Building
     code_in c S k s = turn.build (ways_in c S k s) S (again k s) (reserved (begun_with k s))
 
-    begun_grows : (k : Rest) (s : Building) → Grows s (reserved (begun_with k s))
+    begun_grows : (k : BlockRest) (s : Building) → Grows s (reserved (begun_with k s))
     begun_grows k s = grows_on s (begun_with k s) _ (exit_grows left k s) (reserved_grows (begun_with k s))
 
-    code_grows : (c : Ways) (S : Scopes) (k : Rest) (s : Building) → Grows (reserved (begun_with k s)) (code_in c S k s).1
+    code_grows : (c : Ways) (S : Scopes) (k : BlockRest) (s : Building) → Grows (reserved (begun_with k s)) (code_in c S k s).1
     code_grows c S k s = lt.grows (ways_in c S k s) S (again k s) (reserved (begun_with k s))
 
-    begin_free : (c : Ways) (S : Scopes) (k : Rest) (s : Building) → slice_get (code_in c S k s).1.blocks (begin_at k s) ≡ Some None
+    begin_free : (c : Ways) (S : Scopes) (k : BlockRest) (s : Building) → slice_get (code_in c S k s).1.blocks (begin_at k s) ≡ Some None
     begin_free c S k s =
         let j = reserved_length (begun_with k s) in
         (code_grows c S k s).keeps (begin_at k s) (omega arith) ∙ slice_get-last (begun_with k s).blocks None
 
-    used_in : (c : Ways) (S : Scopes) (k : Rest) (s : Building) → JumpWays IsUsed c (outside id turn.jumps) → JumpWays IsUsed (ways_in c S k s) turn.jumps
+    used_in : (c : Ways) (S : Scopes) (k : BlockRest) (s : Building) → JumpWays IsUsed c (outside id turn.jumps) → JumpWays IsUsed (ways_in c S k s) turn.jumps
     used_in c S k s u = (u.0, ways_inside IsUsed id (length S) (length s.blocks) (begin_at k s) left c turn.jumps (λ e. e) refl u.0 u.1)
 
     -- the code of a loop, whether it is left or not
-    loop_ends : (x : Bool) → left ≡ x → (c : Ways) (S : Scopes) (k : Rest) (s : Building) → (e b : Pos) → Later (with_exit x k s) →
-        ((S' : Scopes) (b' : Pos) → (left ≡ true → EntersAt t (length s.blocks) b' × (S' ≡ S)) → LoopAt t id sp c S b S' b') →
+    loop_ends : (x : Bool) → left ≡ x → (c : Ways) (S : Scopes) (k : BlockRest) (s : Building) → (e b : CodePos) → Later (with_exit x k s) →
+        ((S' : Scopes) (b' : CodePos) → (left ≡ true → EntersAt t (length s.blocks) b' × (S' ≡ S)) → LoopAt t id sp c S b S' b') →
         CodeEnds x (looped id turn) (λ c. LoopAt t id sp c) c S k b
     loop_ends true e c S k s at b later loop =
         ((length s.blocks, 0), closed_stands Kind.Plain k s later, loop S (length s.blocks, 0) (λ y. ((plain_stands k s later, refl), refl)))
     loop_ends false e c S k s at b later loop = λ S' b'. loop S' b' (λ y. absurd (let never : false ≡ true = sym e ∙ y in cc))
 
-    turn_ends : (x : Bool) (c : Ways) (S : Scopes) (k : Rest) (s : Building) (b : Pos) → CodeEnds x turn sp (ways_in c S k s) S (again k s) (begin_at k s, 0) → TermAt t (Term.Goto (begin_at k s)) b →
-        (e : Pos) × sp (ways_in c S k s) S (begin_at k s, 0) S e × TermAt t (Term.Goto (begin_at k s)) e
+    turn_ends : (x : Bool) (c : Ways) (S : Scopes) (k : BlockRest) (s : Building) (b : CodePos) → CodeEnds x turn sp (ways_in c S k s) S (again k s) (begin_at k s, 0) → TermAt t (Term.Goto (begin_at k s)) b →
+        (e : CodePos) × sp (ways_in c S k s) S (begin_at k s, 0) S e × TermAt t (Term.Goto (begin_at k s)) e
     turn_ends true c S k s b h goes_back =
         (h.0, subst (λ z. sp (ways_in c S k s) S (begin_at k s, 0) z h.0) (back S) h.2, ends_with (Term.Goto (begin_at k s)) id h.0 h.1)
     turn_ends false c S k s b h goes_back = (b, h S b, goes_back)
@@ -1409,7 +1409,7 @@ module _ (t : Target) where
     }
 
   -- ---- assignment
-  module _ (site : Site) (key : ℕ) where
+  module _ (site : EffectSite) (key : ℕ) where
     abbrev put : Action
     put = effects.Put site (moved site.node key)
 
@@ -1421,22 +1421,22 @@ module _ (t : Target) where
     pub stores_lowered : Lowered (stores f site key) (λ c. StoresAt t site key)
     stores_lowered = changed_lowered (taken t (key ∷ [])) (act f site.node put) _ (act_lowered site.node put (refl, refl))
 
-    abbrev stored : Rest → Rest
+    abbrev stored : BlockRest → BlockRest
     stored k = with_line (put_into f site key) site.node k
 
-    abbrev after_store : Rest → Building → Building
+    abbrev after_store : BlockRest → Building → Building
     after_store k s = closed Kind.Plain (stored k) s
 
     abbrev drops_of : Scopes → List Entry
     drops_of S = panic_drops t (taken t (key ∷ []) S)
 
-    abbrev down : Scopes → Rest → Building → ℕ × Building
+    abbrev down : Scopes → BlockRest → Building → ℕ × Building
     down S k s = chain f (drops_of S) (after_store k s)
 
-    abbrev unwound : Scopes → Rest → Building → Rest
+    abbrev unwound : Scopes → BlockRest → Building → BlockRest
     unwound S k s = stored (ending (Term.Goto (down S k s).0) site.node)
 
-    stores_first : (kind : Kind) (k : Rest) (s : Building) → Later (closed kind (stored k) s) → StoresFirst (place_of f site) (length s.blocks)
+    stores_first : (kind : Kind) (k : BlockRest) (s : Building) → Later (closed kind (stored k) s) → StoresFirst (place_of f site) (length s.blocks)
     stores_first kind k s later = (
       kind,
       length s.blocks,
@@ -1504,6 +1504,6 @@ module _ (t : Target) where
           );
     }
 
-  pub replaces_lowered : (needs : Bool) (site : Site) (key : ℕ) → Lowered (replaces f needs site key) (λ c. ReplacesAt t needs site key)
+  pub replaces_lowered : (needs : Bool) (site : EffectSite) (key : ℕ) → Lowered (replaces f needs site key) (λ c. ReplacesAt t needs site key)
   replaces_lowered true site key = replaced_lowered site key
   replaces_lowered false site key = stores_lowered site key

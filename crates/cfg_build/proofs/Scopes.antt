@@ -2,7 +2,7 @@
 -- it are as they were.
 use Rattle.std.proofs.Common.{◌≡◌, ℕ, Bool, true, false, not, ◌||◌, List, [], ◌∷◌, map, refl, sym, ap, ◌∙◌, subst}
 use Rattle.store_model.specs.Effects as effects
-use Rattle.store_model.specs.Effects.{Site, Action}
+use Rattle.store_model.specs.Effects.{EffectSite, Action}
 use Rattle.typed_tree.specs.Tree as tree
 use Rattle.typed_tree.specs.Tree.{Form, Nodes, no_node, a_node, Fields, no_field, a_field, MaybeNode, absent, present, ParamTree, BodyTree}
 use Rattle.src_meaning.specs.Locals.OfBody.{param_key, answer_key}
@@ -12,10 +12,10 @@ use Rattle.cfg_code.specs.Code.{field_keys, moved_fields}
 use Rattle.mir_base.specs.declared.trace.Why.{Why}
 use Rattle.src_meaning.specs.Forms.{Destination, Into, Coerced, Around, in_loop, loop_destination, coerced, entry_of, bound_entry, site_in, site_of_key, moved, is_never, changed_if}
 use Rattle.src_meaning.specs.Scopes.{Scope, Scopes, with_scope, innermost, around_innermost, nearest_from, nearest_temporary, with_entry, with_pending, without_pending, becomes_entry, without_operands, Exit, Breaks, Continues, Returns}
-use Rattle.src_meaning.specs.Shape.{Head, head, Shape, Bound, kind_of, shape, shape_of, site_at, operand_of_bound, operand_at}
+use Rattle.src_meaning.specs.Shape.{NodeHead, head, Shape, BoundName, kind_of, shape, shape_of, site_at, operand_of_bound, operand_at}
 use Rattle.store_model.specs.Places.Place.{whole_local}
 use Rattle.cfg_build.specs.Build as build
-use Rattle.cfg_build.specs.Build.{Frame, Lowers, Done, after_either, act, act_by, outer, is_last, done_by}
+use Rattle.cfg_build.specs.Build.{LoweringFrame, Lowers, Done, after_either, act, act_by, outer, is_last, done_by}
 use Rattle.cfg_build.specs.Lower as lower
 use Rattle.cfg_build.specs.Lower.{Evaluates, Reaches, LowersArm, NodeLower, LowerIfAny, no_lower, a_lower}
 
@@ -87,7 +87,7 @@ changed_stays true g stays S = stays S
 changed_stays false g stays S = near_itself S
 
 -- a scope is left: those around it are near what they were, and the very same if it was one for temporaries
-module _ (f : Frame) (node : ℕ) (S Y : Scopes) where
+module _ (f : LoweringFrame) (node : ℕ) (S Y : Scopes) where
   left_same : Near (with_scope node true S) Y → outer f Y ≡ S
   left_same n = by_list Y n
     where
@@ -124,7 +124,7 @@ back_local P = record { stays = near_itself }
 then_local : (P Q : Lowers) → Local P → Local Q → Local (build.then_lower P Q)
 then_local P Q p q = record { stays = λ S. near_then S (P.after S) (Q.after (P.after S)) (p.stays S) (q.stays (P.after S)) }
 
-module _ (f : Frame) where
+module _ (f : LoweringFrame) where
   act_local : (n : ℕ) (action : Action) → Local (act f n action)
   act_local n action = by_last (is_last f action)
     where
@@ -135,13 +135,13 @@ module _ (f : Frame) where
   scope_local : (node : ℕ) (own : Bool) (P : Lowers) → Local P → Local (build.in_scope f node own P)
   scope_local node own P l = record { stays = λ S. left_near f node S (P.after (with_scope node own S)) own (l.stays (with_scope node own S)) }
 
-  deliver_local : (n : ℕ) (h : Head) (action : Site → Action) (to : Destination) → Local (lower.deliver_at f n h action to)
+  deliver_local : (n : ℕ) (h : NodeHead) (action : EffectSite → Action) (to : Destination) → Local (lower.deliver_at f n h action to)
   deliver_local n h action (Into key) = act_local n (action (site_in h.id key))
   deliver_local n h action (Coerced key trait_no to) =
       then_local (act f n (action (site_in h.id key))) (act f h.id (effects.Unsize (site_in h.id to) trait_no (moved h.id key))) (act_local n (action (site_in h.id key)))
       (act_local h.id (effects.Unsize (site_in h.id to) trait_no (moved h.id key)))
 
-  own_local : (h : Head) (own : Bool) (P : Lowers) → Local P → Local (lower.in_own_scope f h own P)
+  own_local : (h : NodeHead) (own : Bool) (P : Lowers) → Local P → Local (lower.in_own_scope f h own P)
   own_local h true P l = scope_local h.id true P l
   own_local h false P l = l
 
@@ -158,10 +158,10 @@ module _ (f : Frame) where
     without : IfAnyLocal no_lower
     with_one : (m : NodeLower) → IsLocal m → IfAnyLocal (a_lower m)
 
-  pending_stays : (b : Bool) (h : Head) → Stays (lower.pending_if f b innermost h)
+  pending_stays : (b : Bool) (h : NodeHead) → Stays (lower.pending_if f b innermost h)
   pending_stays b h = changed_stays b _ (innermost_stays (with_pending (entry_of h)) (λ s. refl))
 
-  completed_stays : (h : Head) → Stays (lower.completed f innermost h)
+  completed_stays : (h : NodeHead) → Stays (lower.completed f innermost h)
   completed_stays h = innermost_stays (becomes_entry (entry_of h)) (λ s. refl)
 
   operand_local : (around : Around) (m : NodeLower) → IsLocal m → Local (lower.operand f around m)
@@ -173,47 +173,47 @@ module _ (f : Frame) where
   operands_local around _ none_local = nothing_local
   operands_local around _ (one_local m ms l all) = then_local _ _ (operand_local around m l) (operands_local around ms all)
 
-  acting_local : (h : Head) (around : Around) (own : Bool) (ms : List NodeLower) → AllLocal ms → (P : Lowers) → Local P → Local (lower.acting f h around own ms P)
+  acting_local : (h : NodeHead) (around : Around) (own : Bool) (ms : List NodeLower) → AllLocal ms → (P : Lowers) → Local P → Local (lower.acting f h around own ms P)
   acting_local h around own ms all P l =
       scope_local h.id own _ (then_local _ _ (operands_local around ms all) (changed_local _ _ (innermost_stays (without_operands (lower.keys_of ms)) (λ s. refl)) l))
 
-  temporary_local : (h : Head) (s : Shape) (e : Evaluates) (around : Around) → ((around : Around) (own : Bool) (to : Destination) → Local (e around own to)) → Local (lower.temporary f h s e around)
+  temporary_local : (h : NodeHead) (s : Shape) (e : Evaluates) (around : Around) → ((around : Around) (own : Bool) (to : Destination) → Local (e around own to)) → Local (lower.temporary f h s e around)
   temporary_local h s e around l =
       changed_local _ _ (changed_stays s.in_destination _ (nearest_stays (with_pending (entry_of h)) (λ s. refl)))
       (then_local _ _ (l around false (Into h.id)) (change_local _ (nearest_stays (becomes_entry (entry_of h)) (λ s. refl))))
 
-  value_local : (h : Head) (s : Shape) (e : Evaluates) → ((around : Around) (own : Bool) (to : Destination) → Local (e around own to)) → IsLocal (lower.a_value f h s e)
+  value_local : (h : NodeHead) (s : Shape) (e : Evaluates) → ((around : Around) (own : Bool) (to : Destination) → Local (e around own to)) → IsLocal (lower.a_value f h s e)
   value_local h s e l = record {
     evaluated = λ around own to. l around own (to_own_key (is_never f.items h.ty) h.id to);
     reached = λ around. temporary_local h s (lower.made_in f h e) around (λ around own to. l around own (to_own_key (is_never f.items h.ty) h.id to));
   }
 
-  place_local : (h : Head) (s : Shape) (r : Reaches) → ((around : Around) → Local (r around)) → IsLocal (lower.a_place f h s r)
+  place_local : (h : NodeHead) (s : Shape) (r : Reaches) → ((around : Around) → Local (r around)) → IsLocal (lower.a_place f h s r)
   place_local h s r l = record {
     evaluated = λ around own to. own_local h own _ (then_local _ _ (l around) (deliver_local h.id h (λ site. effects.Put site (operand_at h (s.place around.aliases))) (to_own_key (is_never f.items h.ty) h.id to)));
     reached = l;
   }
 
-  scope_value_local : (h : Head) (s : Shape) (e : lower.MakesInto) → ((around : Around) (to : Destination) → Local (e around to)) → IsLocal (lower.a_scope f h s e)
+  scope_value_local : (h : NodeHead) (s : Shape) (e : lower.MakesInto) → ((around : Around) (to : Destination) → Local (e around to)) → IsLocal (lower.a_scope f h s e)
   scope_value_local h s e l = value_local h s (λ around own to. lower.in_own_scope f h own (e around to)) (λ around own to. own_local h own _ (l around to))
 
-  operands_value_local : (h : Head) (s : Shape) (ms : List NodeLower) → AllLocal ms → (action : Site → Action) → IsLocal (lower.on_operands f h s ms action)
+  operands_value_local : (h : NodeHead) (s : Shape) (ms : List NodeLower) → AllLocal ms → (action : EffectSite → Action) → IsLocal (lower.on_operands f h s ms action)
   operands_value_local h s ms all action =
       value_local h s (λ around own to. lower.acting f h around own ms (lower.deliver f h action to)) (λ around own to. acting_local h around own ms all _ (deliver_local h.id h action to))
 
-  unit_local : (h : Head) (to : Destination) → Local (lower.put_unit f h to)
+  unit_local : (h : NodeHead) (to : Destination) → Local (lower.put_unit f h to)
   unit_local h to = deliver_local h.id h (λ site. effects.Put site effects.UnitValue) to
 
-  unit_if_local : (x : Bool) (h : Head) (to : Destination) → Local (lower.put_unit_if f x h to)
+  unit_if_local : (x : Bool) (h : NodeHead) (to : Destination) → Local (lower.put_unit_if f x h to)
   unit_if_local true h to = nothing_local
   unit_if_local false h to = unit_local h to
 
-  gives_unit_local : (h : Head) (s : Shape) (m : NodeLower) → IsLocal m → (action : effects.Operand → Action) → IsLocal (lower.gives_unit f h s m action)
+  gives_unit_local : (h : NodeHead) (s : Shape) (m : NodeLower) → IsLocal m → (action : effects.Operand → Action) → IsLocal (lower.gives_unit f h s m action)
   gives_unit_local h s m l action =
       value_local h s (λ around own to. lower.acting f h around own (m ∷ []) (lower.unit_after f h (action (moved h.id m.head.id)) to))
       (λ around own to. acting_local h around own (m ∷ []) (one_local m [] l none_local) _ (then_local _ _ (act_local h.id (action (moved h.id m.head.id))) (unit_local h to)))
 
-  branches_local : (node : ℕ) (x : ℕ → ℕ → build.Building → build.Rest × build.Building) (P Q : Lowers) → Local P → Local Q → Local (build.branches node x P Q)
+  branches_local : (node : ℕ) (x : ℕ → ℕ → build.Building → build.BlockRest × build.Building) (P Q : Lowers) → Local P → Local Q → Local (build.branches node x P Q)
   branches_local node x P Q p q = by_end P.has_end
     where
       by_end : (y : Bool) → Local (record (build.branches node x P Q) { after = after_either y P Q })
@@ -227,12 +227,12 @@ module _ (f : Frame) where
   branch_local around to no_lower P l = l
   branch_local around to (a_lower m) P l = back_local (m.evaluates around true to)
 
-  bind_inner : (bounds : List Bound) → Local (lower.bind f innermost bounds)
+  bind_inner : (bounds : List BoundName) → Local (lower.bind f innermost bounds)
   bind_inner [] = nothing_local
   bind_inner (b ∷ bounds) =
       then_local _ _ (act_local b.key (effects.Put (site_of_key b.key) (operand_of_bound b))) (changed_local _ _ (innermost_stays (with_entry (bound_entry b)) (λ s. refl)) (bind_inner bounds))
 
-  touched_local : (x : Bool) (site : Site) → Local (lower.touched f x site)
+  touched_local : (x : Bool) (site : EffectSite) → Local (lower.touched f x site)
   touched_local true site = act_local site.node (effects.Touch site)
   touched_local false site = nothing_local
 
@@ -250,7 +250,7 @@ module _ (f : Frame) where
       by_last true = refl
       by_last false = refl
 
-  pub bind_outer : (bounds : List Bound) (S : Scopes) → outer f ((lower.bind f innermost bounds).after S) ≡ outer f S
+  pub bind_outer : (bounds : List BoundName) (S : Scopes) → outer f ((lower.bind f innermost bounds).after S) ≡ outer f S
   bind_outer [] S = refl
   bind_outer (b ∷ bounds) S =
       bind_outer bounds (innermost (with_entry (bound_entry b)) ((act f b.key (effects.Put (site_of_key b.key) (operand_of_bound b))).after S))
@@ -258,7 +258,7 @@ module _ (f : Frame) where
       ∙ ap (outer f) (outer_act b.key (effects.Put (site_of_key b.key) (operand_of_bound b)) S)
 
   -- what follows a test of a pattern leaves the scope of the scrutinee first
-  pub if_taken_after : (h : Head) (around : Around) (pattern scrutinee : NodeLower) → IsLocal scrutinee → (P Q : Lowers) → ((S : Scopes) → P.after S ≡ S) → ((S : Scopes) → Q.after S ≡ S) →
+  pub if_taken_after : (h : NodeHead) (around : Around) (pattern scrutinee : NodeLower) → IsLocal scrutinee → (P Q : Lowers) → ((S : Scopes) → P.after S ≡ S) → ((S : Scopes) → Q.after S ≡ S) →
       (S : Scopes) → (lower.if_taken f h around pattern scrutinee P Q).after S ≡ S
   if_taken_after h around pattern scrutinee l P Q p q S = by_end _
     where
@@ -274,7 +274,7 @@ module _ (f : Frame) where
       by_end true = ap (outer f) (p _) ∙ bind_outer (pattern.shape.bindings (lower.place_in scrutinee around)) Y ∙ left
       by_end false = q _ ∙ left
 
-  if_taken_local : (h : Head) (around : Around) (pattern scrutinee : NodeLower) → IsLocal scrutinee → (P Q : Lowers) → ((S : Scopes) → P.after S ≡ S) → ((S : Scopes) → Q.after S ≡ S) →
+  if_taken_local : (h : NodeHead) (around : Around) (pattern scrutinee : NodeLower) → IsLocal scrutinee → (P Q : Lowers) → ((S : Scopes) → P.after S ≡ S) → ((S : Scopes) → Q.after S ≡ S) →
       Local (lower.if_taken f h around pattern scrutinee P Q)
   if_taken_local h around pattern scrutinee l P Q p q = record { stays = λ S. near_same S _ S (if_taken_after h around pattern scrutinee l P Q p q S) (near_itself S) }
 
@@ -283,24 +283,24 @@ module _ (f : Frame) where
   around_outer change [] = refl
   around_outer change (scope ∷ S) = refl
 
-  named_near : (x : Head) (S Y : Scopes) (node : ℕ) → Near (with_scope node true S) Y → Near S (outer f (lower.named f x Y))
+  named_near : (x : NodeHead) (S Y : Scopes) (node : ℕ) → Near (with_scope node true S) Y → Near S (outer f (lower.named f x Y))
   named_near x S Y node n =
       near_same S _ _ (around_outer (with_entry (entry_of x)) (innermost (without_pending (entry_of x)) Y) ∙ ap (innermost (with_entry (entry_of x))) (outer_innermost (without_pending (entry_of x)) Y))
       (near_then S (outer f Y) _ (left_near f node S Y true n) (innermost_stays (with_entry (entry_of x)) (λ s. refl) (outer f Y)))
 
-  let_name_local : (h x : Head) (m : NodeLower) → IsLocal m → (around : Around) → Local (lower.let_name f h x m around)
+  let_name_local : (h x : NodeHead) (m : NodeLower) → IsLocal m → (around : Around) → Local (lower.let_name f h x m around)
   let_name_local h x m l around = record {
     stays = λ S. named_near x S _ h.id (near_then (with_scope h.id true S) _ _ (pending_stays true x (with_scope h.id true S)) ((l.evaluated around false (Into x.id)).stays _));
   }
 
-  bind_around : (bounds : List Bound) (S Y : Scopes) → Near S (outer f Y) → Near S (outer f ((lower.bind f around_innermost bounds).after Y))
+  bind_around : (bounds : List BoundName) (S Y : Scopes) → Near S (outer f Y) → Near S (outer f ((lower.bind f around_innermost bounds).after Y))
   bind_around [] S Y n = n
   bind_around (b ∷ bounds) S Y n =
       bind_around bounds S _
       (near_same S _ _ (around_outer (with_entry (bound_entry b)) _ ∙ ap (λ Z. innermost (with_entry (bound_entry b)) (outer f Z)) (outer_act b.key (effects.Put (site_of_key b.key) (operand_of_bound b)) Y))
       (near_then S (outer f Y) _ n (innermost_stays (with_entry (bound_entry b)) (λ s. refl) (outer f Y))))
 
-  let_parts_local : (h : Head) (pattern m : NodeLower) → IsLocal m → (around : Around) → Local (lower.let_parts f h pattern m around)
+  let_parts_local : (h : NodeHead) (pattern m : NodeLower) → IsLocal m → (around : Around) → Local (lower.let_parts f h pattern m around)
   let_parts_local h pattern m l around = record {
     stays = λ S. bind_around (pattern.shape.bindings (lower.place_in m around)) S _ (left_near f h.id S _ true
         (near_then (with_scope h.id true S) _ _ (pending_stays (not (m.shape.is_place || m.shape.in_destination)) m.head (with_scope h.id true S)) ((l.reached around).stays _)));
@@ -310,16 +310,16 @@ module _ (f : Frame) where
   emptied_local true key = nothing_local
   emptied_local false key = record { stays = near_itself }
 
-  declared_local : (bounds : List Bound) → Local (lower.declared f bounds)
+  declared_local : (bounds : List BoundName) → Local (lower.declared f bounds)
   declared_local [] = nothing_local
   declared_local (b ∷ bounds) =
       then_local _ _ (emptied_local (needs_drop f.items b.ty) b.key) (changed_local _ _ (innermost_stays (with_entry (bound_entry b)) (λ s. refl)) (declared_local bounds))
 
-  let_value_local : (x : Bool) (h : Head) (pattern m : NodeLower) → IsLocal m → (around : Around) → Local (lower.let_value f x h pattern m around)
+  let_value_local : (x : Bool) (h : NodeHead) (pattern m : NodeLower) → IsLocal m → (around : Around) → Local (lower.let_value f x h pattern m around)
   let_value_local true h pattern m l around = let_name_local h pattern.head m l around
   let_value_local false h pattern m l around = let_parts_local h pattern m l around
 
-  letting_local : (h : Head) (pattern : NodeLower) (m : LowerIfAny) → IfAnyLocal m → (around : Around) → Local (lower.letting f h pattern m around)
+  letting_local : (h : NodeHead) (pattern : NodeLower) (m : LowerIfAny) → IfAnyLocal m → (around : Around) → Local (lower.letting f h pattern m around)
   letting_local h pattern _ without around = declared_local (pattern.shape.bindings (whole_local 0))
   letting_local h pattern _ (with_one m l) around = let_value_local pattern.shape.is_binding h pattern m l around
 
@@ -327,11 +327,11 @@ module _ (f : Frame) where
   statements_local around _ none_local = nothing_local
   statements_local around _ (one_local m ms l all) = then_local _ _ (l.evaluated around false (Into m.head.id)) (statements_local around ms all)
 
-  tail_local : (h : Head) (m : LowerIfAny) (around : Around) (to : Destination) → Local (lower.tail_of f h m around to)
+  tail_local : (h : NodeHead) (m : LowerIfAny) (around : Around) (to : Destination) → Local (lower.tail_of f h m around to)
   tail_local h no_lower around to = unit_if_local (is_never f.items h.ty) h to
   tail_local h (a_lower m) around to = back_local (m.evaluates around true to)
 
-  jump_value_local : (h : Head) (m : LowerIfAny) → IfAnyLocal m → (around : Around) (to : Destination) → Local (lower.value_of_jump f h m around to)
+  jump_value_local : (h : NodeHead) (m : LowerIfAny) → IfAnyLocal m → (around : Around) (to : Destination) → Local (lower.value_of_jump f h m around to)
   jump_value_local h _ without around to = unit_local h to
   jump_value_local h _ (with_one m l) around to = l.evaluated around false to
 
@@ -341,35 +341,35 @@ module _ (f : Frame) where
   looped_local : (id : ℕ) (turn : Lowers) → Local (build.looped id turn)
   looped_local id turn = record { stays = near_itself }
 
-  replaces_local : (x : Bool) (site : Site) (key : ℕ) → Local (build.replaces f x site key)
+  replaces_local : (x : Bool) (site : EffectSite) (key : ℕ) → Local (build.replaces f x site key)
   replaces_local true site key = record { stays = innermost_stays (without_operands (key ∷ [])) (λ s. refl) }
   replaces_local false site key = changed_local _ _ (innermost_stays (without_operands (key ∷ [])) (λ s. refl)) (act_local site.node (effects.Put site (moved site.node key)))
 
-  unit_after_same : (h : Head) (to : Destination) (S : Scopes) → (lower.put_unit f h to).after S ≡ S
+  unit_after_same : (h : NodeHead) (to : Destination) (S : Scopes) → (lower.put_unit f h to).after S ≡ S
   unit_after_same h (Into key) S = outer_act h.id (effects.Put (site_in h.id key) effects.UnitValue) S
   unit_after_same h (Coerced key trait_no to) S =
       outer_act h.id (effects.Unsize (site_in h.id to) trait_no (moved h.id key)) _ ∙ outer_act h.id (effects.Put (site_in h.id key) effects.UnitValue) S
 
-  otherwise_same : (h : Head) (m : LowerIfAny) (around : Around) (to : Destination) (S : Scopes) → (lower.otherwise_unit f h m around to).after S ≡ S
+  otherwise_same : (h : NodeHead) (m : LowerIfAny) (around : Around) (to : Destination) (S : Scopes) → (lower.otherwise_unit f h m around to).after S ≡ S
   otherwise_same h no_lower around to S = unit_after_same h to S
   otherwise_same h (a_lower m) around to S = refl
 
-  abbrev while_turn : Head → NodeLower → NodeLower → Around → Destination → Lowers
+  abbrev while_turn : NodeHead → NodeLower → NodeLower → Around → Destination → Lowers
   while_turn h condition m around to =
       lower.condition f (in_loop h.id to around) condition (lower.body_in f m (in_loop h.id to around)) (lower.ends_loop f h to)
 
-  abbrev while_let_turn : Head → NodeLower → NodeLower → NodeLower → Around → Destination → Lowers
+  abbrev while_let_turn : NodeHead → NodeLower → NodeLower → NodeLower → Around → Destination → Lowers
   while_let_turn h pattern scrutinee m around to =
       lower.if_taken f h (in_loop h.id to around) pattern scrutinee (lower.body_in f m (in_loop h.id to around)) (lower.ends_loop f h to)
 
-  effect_value_local : (h : Head) (s : Shape) (action : Site → Action) → IsLocal (lower.effect f h s action)
+  effect_value_local : (h : NodeHead) (s : Shape) (action : EffectSite → Action) → IsLocal (lower.effect f h s action)
   effect_value_local h s action = scope_value_local h s (λ around to. lower.deliver f h action to) (λ around to. deliver_local h.id h action to)
 
   mutual
     pub is_local : (n : tree.Node) → IsLocal (lower.lower f n)
     is_local (tree.node id at ty by form) = form_local form (head id ty by) (shape_of f.items form (head id ty by))
 
-    form_local : (form : Form) (h : Head) (s : Shape) → IsLocal (lower.lower_form f form h s)
+    form_local : (form : Form) (h : NodeHead) (s : Shape) → IsLocal (lower.lower_form f form h s)
     form_local (tree.Number value) h s = effect_value_local h s (λ site. effects.Put site (effects.Number value (kind_of f.items h.ty)))
     form_local (tree.Truth value) h s = effect_value_local h s (λ site. effects.Put site (effects.Truth value))
     form_local tree.UnitValue h s = effect_value_local h s (λ site. effects.Put site effects.UnitValue)
@@ -477,7 +477,7 @@ module _ (f : Frame) where
     if_any_local (present value) = with_one _ (is_local value)
 
   -- ---- a body leaves the scope of its result as it was
-  names_local : (x : Bool) (bounds : List Bound) → Local (lower.names_of_param f x bounds)
+  names_local : (x : Bool) (bounds : List BoundName) → Local (lower.names_of_param f x bounds)
   names_local true bounds = nothing_local
   names_local false bounds = bind_inner bounds
 

@@ -11,13 +11,13 @@ use Rattle.mir_base.specs.declared.trace.Why.{Why}
 use Rattle.mir_ty.specs.Facts.{needs_drop}
 use Rattle.mir_ty.specs.ItemTable.{ItemTable}
 use Rattle.store_model.specs.Effects as effects
-use Rattle.store_model.specs.Effects.{Site, Action}
+use Rattle.store_model.specs.Effects.{EffectSite, Action}
 use Rattle.src_meaning.specs.Scopes.{Entry, Scope, Scopes, with_scope, innermost, around_innermost, nearest_from, nearest_temporary, with_entry, with_pending, without_pending, without_key, without_keys, becomes_entry, without_operands, all_entries, needing_drop, entry_site, Exit}
 use Rattle.src_meaning.specs.Forms.{moved}
 use Rattle.src_meaning.specs.Shape.{PatternTest, IsVariant, IsNumber, IsTruth, AnyOf, PatternTests, no_test, a_test, Alternatives, no_alternative, an_alternative}
-use Rattle.cfg_code.specs.Spots.{Way, Ways, ways_in_loop}
+use Rattle.cfg_code.specs.Spots.{JumpWay, Ways, ways_in_loop}
 use Rattle.cfg_build.specs.Build as build
-use Rattle.cfg_build.specs.Build.{Frame, Rest, Building, ending, made, next_number, closed, closing, reserved, filled, same_entries, chain_among, kept_chain, chain_or, way_of, is_left_by, Lowers, Done, ByStmt, ByTerm, change, nothing, from_changed, back_in, then_build, then_lower, joined, after_either, branches, with_exit, looped, place_of, done_by, chain, unwind_to, unwinding, done, is_last, act_by, act, panic_drops, drop_one, drop_all, outer, leave_from, leave, in_scope, leaves_one, leaves_to, exits, jump, panics, tests, test, any_test, taken, replaces_from, stores, replaces}
+use Rattle.cfg_build.specs.Build.{LoweringFrame, BlockRest, Building, ending, made, next_number, closed, closing, reserved, filled, same_entries, chain_among, kept_chain, chain_or, way_of, is_left_by, Lowers, Done, ByStmt, ByTerm, change, nothing, from_changed, back_in, then_build, then_lower, joined, after_either, branches, with_exit, looped, place_of, done_by, chain, unwind_to, unwinding, done, is_last, act_by, act, panic_drops, drop_one, drop_all, outer, leave_from, leave, in_scope, leaves_one, leaves_to, exits, jump, panics, tests, test, any_test, taken, replaces_from, stores, replaces}
 
 -- ---- how many entries scopes have, with the destinations that are pending
 abbrev pub size : Scope → ℕ
@@ -198,7 +198,7 @@ one_kept es n cs ds m e = by_same (same_entries ds es)
 new_kept : (es : List Entry) (n : ℕ) (cs : Chains) → chain_among es ((es, n) ∷ cs) ≡ Some n
 new_kept es n cs = ap (λ b. if b then Some n else chain_among es cs) (same_itself es)
 
-pub closed_length : (kind : Kind) (k : Rest) (s : Building) → length (closed kind k s).blocks ≡ suc (length s.blocks)
+pub closed_length : (kind : Kind) (k : BlockRest) (s : Building) → length (closed kind k s).blocks ≡ suc (length s.blocks)
 closed_length kind k s = length-append s.blocks (Some (made kind (length s.blocks) k) ∷ []) ∙ add-one (length s.blocks)
 
 pub set_length : {X : Type 0} (xs : List X) (n : ℕ) (x : X) → length (slice_set xs n x) ≡ length xs
@@ -218,7 +218,7 @@ keeps_not cs es n e = (n, e)
 keeps_on : (cs cs' cs'' : Chains) → Keeps cs cs' → Keeps cs' cs'' → Keeps cs cs''
 keeps_on cs cs' cs'' a b es n e = let k = a es n e in b es k.0 k.1
 
-kept_chained : (es : List Entry) (k : Rest) (s t : Building) (d : ℕ) → length t.blocks ≡ length s.blocks + d → Keeps s.chains t.chains →
+kept_chained : (es : List Entry) (k : BlockRest) (s t : Building) (d : ℕ) → length t.blocks ≡ length s.blocks + d → Keeps s.chains t.chains →
     (length (kept_chain es k t).1.blocks ≡ length s.blocks + suc d) × Keeps s.chains (kept_chain es k t).1.chains × ((n : ℕ) × (chain_among es (kept_chain es k t).1.chains ≡ Some n))
 kept_chained es k s t d e keeps = (
   (let j = closed_length Kind.Cleanup k t in omega (arith, e)),
@@ -242,7 +242,7 @@ abbrev mutual
   any_size no_alternative = 0
   any_size (an_alternative one rest) = suc (tests_size one + any_size rest)
 
-module _ (f : Frame) where
+module _ (f : LoweringFrame) where
   pub chained : (es : List Entry) (s : Building) → Chained es s (chain f es s)
   chained [] s = by_kept (chain_among [] s.chains) refl
     where
@@ -257,7 +257,7 @@ module _ (f : Frame) where
           record { cost = k.0 ∙ ap (λ o. length s.blocks + owes o 0) (sym e); keeps = k.1; known = k.2 }
   chained (x ∷ es) s = by_kept (chained es s) (chain_among (x ∷ es) s.chains) refl
     where
-      drop_rest : ℕ × Building → Rest
+      drop_rest : ℕ × Building → BlockRest
       drop_rest rest = ending (Term.DropAt (place_of f (entry_site x)) rest.0 Unwind.Abort) x.key
 
       by_kept : Chained es s (chain f es s) → (o : Option ℕ) → chain_among (x ∷ es) s.chains ≡ o →
@@ -287,7 +287,7 @@ module _ (f : Frame) where
   drops_most S = let i = needing_most f.items (all_entries S) in let j = all_same S in omega arith
 
   -- ---- entries are dropped: with what the chain of them all would still cost, three blocks an entry
-  pub dropped : (es : List Entry) (S : Scopes) (k : Rest) (s : Building) →
+  pub dropped : (es : List Entry) (S : Scopes) (k : BlockRest) (s : Building) →
       length (drop_all f es S k s).1.blocks + debt (es ++ panic_drops f S) (drop_all f es S k s).1.chains ≤ length s.blocks + 3 * length es + debt (panic_drops f S) s.chains
   dropped [] S k s = omega arith
   dropped (e ∷ es) S k s =
@@ -310,7 +310,7 @@ module _ (f : Frame) where
   parted [] = refl
   parted (x ∷ S) = refl
 
-  pub left : (Y : Scopes) (k : Rest) (s : Building) → length (leave_from f Y k s).1.blocks ≤ length s.blocks + 3 * first Y + all (outer f Y) + 1
+  pub left : (Y : Scopes) (k : BlockRest) (s : Building) → length (leave_from f Y k s).1.blocks ≤ length s.blocks + 3 * first Y + all (outer f Y) + 1
   left [] k s = omega arith
   left (x ∷ S) k s =
       let d = dropped (needing_drop f.items x.entries) S k s in
@@ -329,7 +329,7 @@ module _ (f : Frame) where
       append_on [] = refl
       append_on (y ∷ xs) = ap (λ z. y ∷ z) (append_on xs)
 
-  jumped : (node : ℕ) (way : Way) (S : Scopes) (s : Building) →
+  jumped : (node : ℕ) (way : JumpWay) (S : Scopes) (s : Building) →
       length (leaves_to f node way S s).1.blocks + debt (panic_drops f S) (leaves_to f node way S s).1.chains ≤ length s.blocks + 3 * all S + 1
   jumped node way [] s = let o = owes_most (chain_among [] s.chains) 0 in omega arith
   jumped node way (x ∷ S) s = by_base (jumped node way S s) (not (nat_lt (length S) way.base))
@@ -353,7 +353,7 @@ module _ (f : Frame) where
           let w = drops_most (x ∷ S) in
           omega arith
 
-  pub jumped_most : (node : ℕ) (way : Way) (S : Scopes) (s : Building) → length (leaves_to f node way S s).1.blocks ≤ length s.blocks + 3 * all S + 1
+  pub jumped_most : (node : ℕ) (way : JumpWay) (S : Scopes) (s : Building) → length (leaves_to f node way S s).1.blocks ≤ length s.blocks + 3 * all S + 1
   jumped_most node way S s = let j = jumped node way S s in omega arith
 
   -- ---- tests
@@ -385,7 +385,7 @@ module _ (f : Frame) where
   -- ---- the cost of what is lowered, in scopes that never have more than so many entries
   module _ (W : ℕ) where
     -- so many blocks are made with what new entries pay, and there are so many of these
-    pub record Cost (b e : ℕ) (P : Lowers) (c : Ways) (S : Scopes) (k : Rest) (s : Building) : Type 0 where
+    pub record Cost (b e : ℕ) (P : Lowers) (c : Ways) (S : Scopes) (k : BlockRest) (s : Building) : Type 0 where
       pub g : ℕ
       pub few : g ≤ e
       pub paid : 6 * g ≤ b
@@ -393,7 +393,7 @@ module _ (f : Frame) where
       pub most : length (P.build c S k s).1.blocks + 6 * g ≤ length s.blocks + b
 
     abbrev pub Costs : ℕ → ℕ → Lowers → Type 0
-    Costs b e P = (c : Ways) (S : Scopes) (k : Rest) (s : Building) → all S + e ≤ W → Cost b e P c S k s
+    Costs b e P = (c : Ways) (S : Scopes) (k : BlockRest) (s : Building) → all S + e ≤ W → Cost b e P c S k s
 
     pub costs_most : (b e b' e' : ℕ) (P : Lowers) → b ≤ b' → e ≤ e' → Costs b e P → Costs b' e' P
     costs_most b e b' e' P lb le p c S k s w =
@@ -454,7 +454,7 @@ module _ (f : Frame) where
     stmt_costs false n stmt c S k s w = record { g = 0; few = omega arith; paid = omega arith; grew = grew_not S 0; most = omega arith }
 
     -- a block, and the chain of all that a panic may drop
-    two_most : (term : ℕ → Unwind → Term) (node : ℕ) (S : Scopes) (k : Rest) (s : Building) → all S ≤ W →
+    two_most : (term : ℕ → Unwind → Term) (node : ℕ) (S : Scopes) (k : BlockRest) (s : Building) → all S ≤ W →
         length (unwinding f (term (length s.blocks)) node (panic_drops f S) (closed Kind.Plain k s)).1.blocks ≤ length s.blocks + (W + 2)
     two_most term node S k s w =
         let u = unwound_most (panic_drops f S) (closed Kind.Plain k s) in
@@ -474,7 +474,7 @@ module _ (f : Frame) where
     pub act_costs : (n : ℕ) (action : Action) → Costs (W + 2) 0 (act f n action)
     act_costs n action = by_costs (is_last f action) n (done_by f action)
 
-    pub emptied_costs : (site : Site) → Costs (W + 2) 0 (record nothing { build = λ c S. drop_one f site (panic_drops f S) })
+    pub emptied_costs : (site : EffectSite) → Costs (W + 2) 0 (record nothing { build = λ c S. drop_one f site (panic_drops f S) })
     emptied_costs site c S k s w =
         let m = two_most (Term.DropAt (place_of f site)) site.node S k s (omega (arith, w)) in
         record { g = 0; few = omega arith; paid = omega arith; grew = grew_not S 0; most = omega arith }
@@ -494,7 +494,7 @@ module _ (f : Frame) where
     opened (y ∷ Y) (y' ∷ Y') g x = record { a = x.0; b = x.1; sum = x.4; inside = x.2; around = x.3 }
 
     -- what leaves the innermost scope, as it is found: so many blocks, and three for each entry of that scope
-    pub record Leaving (x b e : ℕ) (P : Lowers) (c : Ways) (Y : Scopes) (k : Rest) (s : Building) : Type 0 where
+    pub record Leaving (x b e : ℕ) (P : Lowers) (c : Ways) (Y : Scopes) (k : BlockRest) (s : Building) : Type 0 where
       pub g : ℕ
       pub few : g ≤ e
       pub paid : 6 * g ≤ b
@@ -502,11 +502,11 @@ module _ (f : Frame) where
       pub most : length (P.build c Y k s).1.blocks + 6 * g ≤ length s.blocks + b + x
 
     abbrev pub Leaves : ℕ → ℕ → Lowers → Type 0
-    Leaves b e P = (c : Ways) (Y : Scopes) (k : Rest) (s : Building) → all Y + e ≤ W → Leaving (3 * first Y) b e P c Y k s
+    Leaves b e P = (c : Ways) (Y : Scopes) (k : BlockRest) (s : Building) → all Y + e ≤ W → Leaving (3 * first Y) b e P c Y k s
 
     -- where it is left on two ways
     abbrev pub LeavesTwice : ℕ → ℕ → Lowers → Type 0
-    LeavesTwice b e P = (c : Ways) (Y : Scopes) (k : Rest) (s : Building) → all Y + e ≤ W → Leaving (6 * first Y) b e P c Y k s
+    LeavesTwice b e P = (c : Ways) (Y : Scopes) (k : BlockRest) (s : Building) → all Y + e ≤ W → Leaving (6 * first Y) b e P c Y k s
 
     pub then_leaves : (b e : ℕ) (P : Lowers) → Costs b e P → Leaves (b + (W + 1)) e (then_lower P (leave f))
     then_leaves b e P p c Y k s w = by_end P.has_end
@@ -543,10 +543,10 @@ module _ (f : Frame) where
         record { g = x.g; few = omega arith; paid = omega arith; grew = x.grew; most = omega arith }
 
     -- ---- branches, loops, jumps, panics
-    abbrev pub TestCosts : ℕ → (ℕ → ℕ → Building → Rest × Building) → Type 0
+    abbrev pub TestCosts : ℕ → (ℕ → ℕ → Building → BlockRest × Building) → Type 0
     TestCosts n test = (y m : ℕ) (s : Building) → length (test y m s).1.blocks ≤ length s.blocks + n
 
-    pub joined_most : (x : Bool) (node : ℕ) (k : Rest) (s : Building) → length (joined x node k s).1.blocks ≤ length s.blocks + 1
+    pub joined_most : (x : Bool) (node : ℕ) (k : BlockRest) (s : Building) → length (joined x node k s).1.blocks ≤ length s.blocks + 1
     joined_most true node k s = let j = closed_length Kind.Plain k s in omega arith
     joined_most false node k s = omega arith
 
@@ -554,7 +554,7 @@ module _ (f : Frame) where
     either_grew true P Q S Y g h p q = grew_more S (P.after Y) g (g + h) (omega arith) p
     either_grew false P Q S Y g h p q = grew_more S (Q.after Y) h (g + h) (omega arith) q
 
-    pub branches_costs : (n b1 e1 b2 e2 node : ℕ) (test : ℕ → ℕ → Building → Rest × Building) (P Q : Lowers) → TestCosts n test → Costs b1 e1 P → Costs b2 e2 Q →
+    pub branches_costs : (n b1 e1 b2 e2 node : ℕ) (test : ℕ → ℕ → Building → BlockRest × Building) (P Q : Lowers) → TestCosts n test → Costs b1 e1 P → Costs b2 e2 Q →
         Costs (n + 3 + (b1 + b2)) (e1 + e2) (branches node test P Q)
     branches_costs n b1 e1 b2 e2 node test P Q t p q c S k s w =
         let j = joined (P.has_end || Q.has_end) node k s in
@@ -574,7 +574,7 @@ module _ (f : Frame) where
         let m2 = y.most in
         record { g = x.g + y.g; few = omega arith; paid = omega arith; grew = either_grew P.has_end P Q S S x.g y.g x.grew y.grew; most = omega arith }
 
-    pub branches_leave : (n b1 e1 b2 e2 node : ℕ) (test : ℕ → ℕ → Building → Rest × Building) (P Q : Lowers) → TestCosts n test → Leaves b1 e1 P → Leaves b2 e2 Q →
+    pub branches_leave : (n b1 e1 b2 e2 node : ℕ) (test : ℕ → ℕ → Building → BlockRest × Building) (P Q : Lowers) → TestCosts n test → Leaves b1 e1 P → Leaves b2 e2 Q →
         LeavesTwice (n + 3 + (b1 + b2)) (e1 + e2) (branches node test P Q)
     branches_leave n b1 e1 b2 e2 node test P Q t p q c Y k s w =
         let j = joined (P.has_end || Q.has_end) node k s in
@@ -620,7 +620,7 @@ module _ (f : Frame) where
             let f1 = x0.few in let f2 = y.few in let p1 = x0.paid in let p2 = y.paid in let m1 = x0.most in let sum = o.sum in
             record { g = o.b + y.g; few = omega arith; paid = omega arith; grew = grew_on S (outer f Z) (R.after Z) o.b y.g o.around y.grew; most = omega arith }
 
-    exit_most : (x : Bool) (k : Rest) (s : Building) → length (with_exit x k s).blocks ≤ length s.blocks + 1
+    exit_most : (x : Bool) (k : BlockRest) (s : Building) → length (with_exit x k s).blocks ≤ length s.blocks + 1
     exit_most true k s = let j = closed_length Kind.Plain k s in omega arith
     exit_most false k s = omega arith
 
@@ -660,7 +660,7 @@ module _ (f : Frame) where
     pub taken_costs : (b e : ℕ) (keys : List ℕ) (P : Lowers) → Costs b e P → Costs b e (from_changed (taken f keys) P)
     taken_costs b e keys P p = costs_most (6 * 0 + b) (0 + e) b e _ (omega arith) (omega arith) (changed_costs 0 b e (taken f keys) P (taken_grew keys) p)
 
-    pub replaces_costs : (x : Bool) (site : Site) (key : ℕ) → Costs (W + 3) 0 (replaces f x site key)
+    pub replaces_costs : (x : Bool) (site : EffectSite) (key : ℕ) → Costs (W + 3) 0 (replaces f x site key)
     replaces_costs true site key c S k s w =
         let put = build.with_line (build.put_into f site key) site.node k in
         let on = closed Kind.Plain put s in

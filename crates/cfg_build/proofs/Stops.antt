@@ -10,13 +10,13 @@ use Rattle.cfg_graph.specs.declared.terminator.Unwind.{Unwind}
 use Rattle.cfg_graph.specs.Places.{named_step, ty_of_place}
 use Rattle.mir_ty.specs.ItemTable.{type_at}
 use Rattle.store_model.specs.Effects as effects
-use Rattle.store_model.specs.Effects.{Site, Action}
+use Rattle.store_model.specs.Effects.{EffectSite, Action}
 use Rattle.store_model.specs.Places.Place.{Step, ToPart, ToField, ToContent, ToElement, place_ty}
 use Rattle.store_model.specs.Places.TypeForms.{is_never}
 use Rattle.src_meaning.specs.Forms.{moved}
 use Rattle.src_meaning.specs.Locals.Effects as locals
 use Rattle.cfg_code.specs.Code.{moved_fields}
-use Rattle.cfg_build.specs.Build.{Frame, Done, ByStmt, ByTerm, is_last, done_by, place_of, operand_of, operands_of, step_of}
+use Rattle.cfg_build.specs.Build.{LoweringFrame, Done, ByStmt, ByTerm, is_last, done_by, place_of, operand_of, operands_of, step_of}
 use Rattle.cfg_build.specs.Lower.{NodeLower, keys_of, all_moved}
 use Rattle.cfg_build.proofs.Lines.{Follows}
 
@@ -59,7 +59,7 @@ abbrev pub DoneCopies : Done → Type 0
 DoneCopies (ByStmt stmt) = StmtCopies stmt
 DoneCopies (ByTerm term) = (n : ℕ) (u : Unwind) → TermCopies (term n u)
 
-module _ (f : Frame) (own : ℕ → Type 0) where
+module _ (f : LoweringFrame) (own : ℕ → Type 0) where
   pub moved_copy : (number : ℕ) (keys : List ℕ) → AllCopyNone (operands_of f (map (moved number) keys))
   moved_copy number [] = tt
   moved_copy number (key ∷ keys) = (tt, moved_copy number keys)
@@ -91,7 +91,7 @@ module _ (f : Frame) (own : ℕ → Type 0) where
   steps_same (ToContent ∷ steps) = ap (λ z. ToContent ∷ z) (steps_same steps)
   steps_same (ToElement index ∷ steps) = ap (λ z. ToElement (f.local_of index) ∷ z) (steps_same steps)
 
-  last_is_never : (to : Site) (from : effects.Operand) → is_last f (effects.Put to from) ≡ is_never (ty_of_place f.items f.tys (place_of f to))
+  last_is_never : (to : EffectSite) (from : effects.Operand) → is_last f (effects.Put to from) ≡ is_never (ty_of_place f.items f.tys (place_of f to))
   last_is_never to from =
       ap (λ (steps : List Step). is_never (option_and_then (type_at f.items) (place_ty f.items (slice_get f.tys) (record { local = f.local_of to.place.local; steps = steps })))) (sym (steps_same to.place.steps))
 

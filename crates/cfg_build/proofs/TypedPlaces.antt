@@ -14,10 +14,10 @@ use Rattle.mir_ty.specs.ItemTable.{type_at}
 use Rattle.store_model.specs.Places.Place.{Step, ToPart, ToField, ToContent, ToElement, Place, whole_local, step_ty, ty_along, content_of, element_of, before_element}
 use Rattle.store_model.specs.Places.TypeForms as forms
 use Rattle.src_meaning.specs.Shape.{extended}
-use Rattle.cfg_build.specs.Build.{Frame, step_of}
+use Rattle.cfg_build.specs.Build.{LoweringFrame, step_of}
 use Rattle.cfg_build.proofs.TypedLines.{PlaceIs, below}
 
-module _ (f : Frame) (bodies : ℕ) where
+module _ (f : LoweringFrame) (bodies : ℕ) where
   abbrev pub body : Body
   body = record { params = 0; locals = f.tys; blocks = [] }
 

@@ -17,49 +17,49 @@ use Rattle.mir_ty.specs.ItemTable.{ItemTable}
 use Rattle.std.specs.Prelude.{slice_get}
 use Rattle.store_model.specs.Abstract.Effects.{never_at}
 use Rattle.store_model.specs.Effects as effects
-use Rattle.store_model.specs.Effects.{Site, Action, stores_where}
+use Rattle.store_model.specs.Effects.{EffectSite, Action, stores_where}
 use Rattle.store_model.specs.Places.Place.{Step, ToPart, ToField, ToContent, ToElement}
 use Rattle.src_meaning.specs.Forms.{site_of_key, moved}
 use Rattle.src_meaning.specs.Locals.Effects.{action_at}
 use Rattle.src_meaning.specs.Scopes.{Entry, Scopes, with_scope, innermost, without_operands, all_entries, needing_drop, entry_site, Exit, Breaks, Continues}
 use Rattle.src_meaning.specs.Shape.{PatternTest, IsVariant, IsNumber, IsTruth, AnyOf, PatternTests, no_test, a_test, Alternatives, no_alternative, an_alternative}
-use Rattle.cfg_code.specs.Spots.{Way, Ways, ways_of, ways_in_loop}
+use Rattle.cfg_code.specs.Spots.{JumpWay, Ways, ways_of, ways_in_loop}
 
 -- the items of a program, and the locals of a body: their numbers by key, and their types
-pub record Frame : Type 0 where
+pub record LoweringFrame : Type 0 where
   pub items : ItemTable
   pub local_of : ℕ → ℕ
   pub tys : List TyId
 
 -- a statement with the number of its node
-pub record Line : Type 0 where
+pub record NodeLine : Type 0 where
   pub stmt : Stmt
   pub node : ℕ
 
 -- the lines from a place on to the end of its block
-pub record Rest : Type 0 where
-  pub lines : List Line
+pub record BlockRest : Type 0 where
+  pub lines : List NodeLine
   pub term : Term
   pub node : ℕ
 
 -- a block with the nodes of its lines
-pub record Made : Type 0 where
+pub record MadeBlock : Type 0 where
   pub block : Block
   pub nodes : List ℕ
 
 -- The blocks so far, none where a number is given out and the block is still to be made; and the blocks that drop lists
 -- of entries while a panic unwinds, each of which is made once.
 pub record Building : Type 0 where
-  pub blocks : List (Option Made)
+  pub blocks : List (Option MadeBlock)
   pub chains : List (List Entry × ℕ)
 
-abbrev pub ending : Term → ℕ → Rest
+abbrev pub ending : Term → ℕ → BlockRest
 ending term node = record { lines = []; term = term; node = node }
 
-abbrev pub with_line : Stmt → ℕ → Rest → Rest
+abbrev pub with_line : Stmt → ℕ → BlockRest → BlockRest
 with_line stmt node k = record k { lines = (record { stmt = stmt; node = node }) ∷ k.lines }
 
-abbrev pub made : Kind → ℕ → Rest → Made
+abbrev pub made : Kind → ℕ → BlockRest → MadeBlock
 made kind rank k = record {
   block = record { kind = kind; rank = rank; stmts = map (λ l. l.stmt) k.lines; term = k.term };
   nodes = map (λ l. l.node) k.lines ++ k.node ∷ [];
@@ -69,18 +69,18 @@ abbrev pub next_number : Building → ℕ
 next_number s = length s.blocks
 
 -- a block is made, and has its number as its rank
-abbrev pub closed : Kind → Rest → Building → Building
+abbrev pub closed : Kind → BlockRest → Building → Building
 closed kind k s = record s { blocks = s.blocks ++ Some (made kind (next_number s) k) ∷ [] }
 
 -- a block is made, and its number is known
-abbrev pub closing : Rest × Building → ℕ × Building
+abbrev pub closing : BlockRest × Building → ℕ × Building
 closing built = (next_number built.1, closed Kind.Plain built.0 built.1)
 
 -- a number is given out, and its block is made later; its rank is the number that it would then have had
 abbrev pub reserved : Building → Building
 reserved s = record s { blocks = s.blocks ++ None ∷ [] }
 
-abbrev pub filled : Kind → ℕ → Rest → Building → Building
+abbrev pub filled : Kind → ℕ → BlockRest → Building → Building
 filled kind n k s = record s { blocks = slice_set s.blocks n (Some (made kind (next_number s) k)) }
 
 -- Chains of drops while a panic unwinds.
@@ -95,7 +95,7 @@ abbrev pub chain_among : List Entry → List (List Entry × ℕ) → Option ℕ
 chain_among es [] = None
 chain_among es (c ∷ chains) = if same_entries es c.0 then Some c.1 else chain_among es chains
 
-abbrev pub kept_chain : List Entry → Rest → Building → ℕ × Building
+abbrev pub kept_chain : List Entry → BlockRest → Building → ℕ × Building
 kept_chain es k s =
     (next_number s, record (closed Kind.Cleanup k s) { chains = (es, next_number s) ∷ s.chains })
 
@@ -106,7 +106,7 @@ chain_or None s make = make s
 
 -- Jumps, by the exits that they take.
 
-abbrev pub way_of : Exit → Ways → Way
+abbrev pub way_of : Exit → Ways → JumpWay
 way_of (Breaks loop) c = (ways_of loop c).breaks
 way_of (Continues loop) c = (ways_of loop c).continues
 way_of exit c = c.returns
@@ -145,7 +145,7 @@ pub record Lowers : Type 0 where
   pub has_end : Bool
   pub jumps : List Exit
   pub after : Scopes → Scopes
-  pub build : Ways → Scopes → Rest → Building → Rest × Building
+  pub build : Ways → Scopes → BlockRest → Building → BlockRest × Building
 
 -- how an effect is done: by a statement, or by a terminator with its two ways on
 pub data Done : Type 0 where
@@ -167,7 +167,7 @@ abbrev pub back_in : Lowers → Lowers
 back_in P = record P { after = λ S. S }
 
 -- one before the other; what would come after code without an end is not built
-abbrev pub then_build : Bool → Lowers → Lowers → Ways → Scopes → Rest → Building → Rest × Building
+abbrev pub then_build : Bool → Lowers → Lowers → Ways → Scopes → BlockRest → Building → BlockRest × Building
 then_build true P Q c S k s = let rest = Q.build c (P.after S) k s in P.build c S rest.0 rest.1
 then_build false P Q c S k s = P.build c S k s
 
@@ -180,7 +180,7 @@ then_lower P Q = record {
 }
 
 -- a place to which two codes come is a block of its own
-abbrev pub joined : Bool → ℕ → Rest → Building → Rest × Building
+abbrev pub joined : Bool → ℕ → BlockRest → Building → BlockRest × Building
 joined true node k s = (ending (Term.Goto (next_number s)) node, closed Kind.Plain k s)
 joined false node k s = (k, s)
 
@@ -189,7 +189,7 @@ after_either true P Q S = P.after S
 after_either false P Q S = Q.after S
 
 -- two ways on, each to a block of its own, from a test that is built last
-abbrev pub branches : ℕ → (ℕ → ℕ → Building → Rest × Building) → Lowers → Lowers → Lowers
+abbrev pub branches : ℕ → (ℕ → ℕ → Building → BlockRest × Building) → Lowers → Lowers → Lowers
 branches node test P Q = record {
   has_end = P.has_end || Q.has_end;
   jumps = P.jumps ++ Q.jumps;
@@ -202,7 +202,7 @@ branches node test P Q = record {
 }
 
 -- the block behind a loop, if a `break` leads there
-abbrev pub with_exit : Bool → Rest → Building → Building
+abbrev pub with_exit : Bool → BlockRest → Building → Building
 with_exit true k s = closed Kind.Plain k s
 with_exit false k s = s
 
@@ -220,14 +220,14 @@ looped id turn = record {
       (again, filled Kind.Turn (next_number start) code.0 code.1);
 }
 
-module _ (f : Frame) where
+module _ (f : LoweringFrame) where
   abbrev pub step_of : Step → graph_step.Step
   step_of (ToPart n) = graph_step.Step.Part n
   step_of (ToField variant n) = graph_step.Step.Field variant n
   step_of ToContent = graph_step.Step.Inside
   step_of (ToElement index) = graph_step.Step.Index (f.local_of index)
 
-  abbrev pub place_of : Site → graph_place.Place
+  abbrev pub place_of : EffectSite → graph_place.Place
   place_of site = record { local = f.local_of site.place.local; steps = map step_of site.place.steps }
 
   abbrev pub operand_of : effects.Operand → graph_operand.Operand
@@ -240,7 +240,7 @@ module _ (f : Frame) where
   abbrev pub operands_of : List effects.Operand → List graph_operand.Operand
   operands_of operands = map operand_of operands
 
-  abbrev built_as : Site → effects.Kind → List graph_operand.Operand → Stmt
+  abbrev built_as : EffectSite → effects.AggregateKind → List graph_operand.Operand → Stmt
   built_as to effects.OfTuple parts = Stmt.Tuple (place_of to) parts
   built_as to effects.OfArray parts = Stmt.Array (place_of to) parts
   built_as to (effects.OfVariant adt variant) parts = Stmt.Make (place_of to) adt variant parts
@@ -285,10 +285,10 @@ module _ (f : Frame) where
   unwind_to (e ∷ es) s = let made = chain (e ∷ es) s in (Unwind.Block made.0, made.1)
 
   -- a terminator that may panic, where these entries are dropped after a panic
-  abbrev pub unwinding : (Unwind → Term) → ℕ → List Entry → Building → Rest × Building
+  abbrev pub unwinding : (Unwind → Term) → ℕ → List Entry → Building → BlockRest × Building
   unwinding term node es s = let made = unwind_to es s in (ending (term made.0) node, made.1)
 
-  abbrev pub done : ℕ → Done → Scopes → Rest → Building → Rest × Building
+  abbrev pub done : ℕ → Done → Scopes → BlockRest → Building → BlockRest × Building
   done node (ByStmt stmt) S k s = (with_line stmt node k, s)
   done node (ByTerm term) S k s = unwinding (term (next_number s)) node (panic_drops S) (closed Kind.Plain k s)
 
@@ -310,12 +310,12 @@ module _ (f : Frame) where
   act node action = act_by (is_last action) node (done_by action)
 
   -- one place is dropped, and these entries after a panic out of it
-  abbrev pub drop_one : Site → List Entry → Rest → Building → Rest × Building
+  abbrev pub drop_one : EffectSite → List Entry → BlockRest → Building → BlockRest × Building
   drop_one site es k s =
       unwinding (Term.DropAt (place_of site) (next_number s)) site.node es (closed Kind.Plain k s)
 
   -- entries are dropped, the youngest first: the code of the oldest is built first
-  abbrev pub drop_all : List Entry → Scopes → Rest → Building → Rest × Building
+  abbrev pub drop_all : List Entry → Scopes → BlockRest → Building → BlockRest × Building
   drop_all [] S k s = (k, s)
   drop_all (e ∷ es) S k s =
       let rest = drop_all es S k s in drop_one (entry_site e) (es ++ panic_drops S) rest.0 rest.1
@@ -324,7 +324,7 @@ module _ (f : Frame) where
   outer [] = []
   outer (s ∷ S) = S
 
-  abbrev pub leave_from : Scopes → Rest → Building → Rest × Building
+  abbrev pub leave_from : Scopes → BlockRest → Building → BlockRest × Building
   leave_from [] k s = (k, s)
   leave_from (scope ∷ S) k s = drop_all (needing_drop f.items scope.entries) S k s
 
@@ -337,12 +337,12 @@ module _ (f : Frame) where
   abbrev pub in_scope : ℕ → Bool → Lowers → Lowers
   in_scope node for_temporaries P = scoped (with_scope node for_temporaries) P
 
-  abbrev pub leaves_one : Bool → (more done : Rest × Building) → Rest × Building
+  abbrev pub leaves_one : Bool → (more done : BlockRest × Building) → BlockRest × Building
   leaves_one true more done = more
   leaves_one false more done = done
 
   -- scopes are left until so many stay, and then a block is entered
-  abbrev pub leaves_to : ℕ → Way → Scopes → Building → Rest × Building
+  abbrev pub leaves_to : ℕ → JumpWay → Scopes → Building → BlockRest × Building
   leaves_to node way [] s = (ending (Term.Goto way.block) node, s)
   leaves_to node way (scope ∷ S) s =
       leaves_one (not (nat_lt (length S) way.base))
@@ -371,14 +371,14 @@ module _ (f : Frame) where
 
   -- Tests, given the numbers of the two blocks to which they lead: the code of the last is built first.
 
-  abbrev pub if_true : effects.Operand → ℕ → ℕ → ℕ → Building → Rest × Building
+  abbrev pub if_true : effects.Operand → ℕ → ℕ → ℕ → Building → BlockRest × Building
   if_true operand node y n s = (ending (Term.If (operand_of operand) y n) node, s)
 
-  abbrev pub compared : Site → effects.Operand → Stmt
+  abbrev pub compared : EffectSite → effects.Operand → Stmt
   compared site value =
       Stmt.Compare (place_of (site_of_key site.node)) Cmp.Eq (operand_of (effects.Copied site)) (operand_of value)
 
-  abbrev pub equals : Site → effects.Operand → ℕ → ℕ → Building → Rest × Building
+  abbrev pub equals : EffectSite → effects.Operand → ℕ → ℕ → Building → BlockRest × Building
   equals site value y n s = (
     with_line (compared site value) site.node
         (ending (Term.If (operand_of (moved site.node site.node)) y n) site.node),
@@ -386,17 +386,17 @@ module _ (f : Frame) where
   )
 
   abbrev mutual
-    pub test : PatternTest → ℕ → ℕ → Building → Rest × Building
+    pub test : PatternTest → ℕ → ℕ → Building → BlockRest × Building
     test (IsVariant site variant) y n s = (ending (Term.Case (place_of site) variant y n) site.node, s)
     test (IsNumber site value kind) y n s = equals site (effects.Number value kind) y n s
     test (IsTruth site value) y n s = equals site (effects.Truth value) y n s
     test (AnyOf alternatives) y n s = any_test alternatives y n s
 
-    pub tests : PatternTests → ℕ → ℕ → Building → Rest × Building
+    pub tests : PatternTests → ℕ → ℕ → Building → BlockRest × Building
     tests no_test y n s = (ending (Term.Goto y) 0, s)
     tests (a_test first rest) y n s = let later = closing (tests rest y n s) in test first later.0 n later.1
 
-    pub any_test : Alternatives → ℕ → ℕ → Building → Rest × Building
+    pub any_test : Alternatives → ℕ → ℕ → Building → BlockRest × Building
     any_test no_alternative y n s = (ending (Term.Goto n) 0, s)
     any_test (an_alternative one rest) y n s =
         let later = closing (any_test rest y n s) in tests one y later.0 later.1
@@ -406,10 +406,10 @@ module _ (f : Frame) where
   abbrev pub taken : List ℕ → Scopes → Scopes
   taken keys = innermost (without_operands keys)
 
-  abbrev pub put_into : Site → ℕ → Stmt
+  abbrev pub put_into : EffectSite → ℕ → Stmt
   put_into site key = Stmt.Put (place_of site) (operand_of (moved site.node key))
 
-  abbrev pub replaces_from : Site → ℕ → Scopes → Rest → Building → Rest × Building
+  abbrev pub replaces_from : EffectSite → ℕ → Scopes → BlockRest → Building → BlockRest × Building
   replaces_from site key S k s =
       let onward = closing (with_line (put_into site key) site.node k, s) in
       let down = chain (panic_drops (taken (key ∷ []) S)) onward.1 in
@@ -418,10 +418,10 @@ module _ (f : Frame) where
         closed Kind.Cleanup unwound down.1,
       )
 
-  abbrev pub stores : Site → ℕ → Lowers
+  abbrev pub stores : EffectSite → ℕ → Lowers
   stores site key = from_changed (taken (key ∷ [])) (act site.node (effects.Put site (moved site.node key)))
 
-  abbrev pub replaces : Bool → Site → ℕ → Lowers
+  abbrev pub replaces : Bool → EffectSite → ℕ → Lowers
   replaces true site key = record {
     has_end = true;
     jumps = [];

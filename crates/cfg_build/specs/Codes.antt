@@ -7,13 +7,13 @@ use Rattle.src_meaning.specs.Forms.{moved, site_of_key}
 use Rattle.src_meaning.specs.Scopes.{Scopes, Exit}
 use Rattle.src_meaning.specs.Shape.{PatternTests}
 use Rattle.scope_code.specs.Code.{changed_by, Condition, IsTrue, Passes, Code, Nothing, Changes, From, Then, BackIn, Acts, InScope, Leaves, Branches, Loops, Exits, Panics, Replaces, Drops, Matches, Arms, no_arm, an_arm, Arm, Taken, Empty, Guard, no_guard, a_guard}
-use Rattle.cfg_build.specs.Build.{Frame, Rest, Building, closing, jumps_if, Lowers, change, nothing, from_changed, back_in, then_lower, joined, branches, looped, panic_drops, unwinding, act, drop_one, leave, in_scope, exits, panics, if_true, tests, replaces}
+use Rattle.cfg_build.specs.Build.{LoweringFrame, BlockRest, Building, closing, jumps_if, Lowers, change, nothing, from_changed, back_in, then_lower, joined, branches, looped, panic_drops, unwinding, act, drop_one, leave, in_scope, exits, panics, if_true, tests, replaces}
 use Rattle.cfg_build.specs.Lower.{LowersArm, guard_from}
 use Rattle.cfg_code.specs.Spots.{Ways}
 
-module _ (f : Frame) where
+module _ (f : LoweringFrame) where
   -- the test of a branch
-  abbrev pub asked : ℕ → Condition → ℕ → ℕ → Building → Rest × Building
+  abbrev pub asked : ℕ → Condition → ℕ → ℕ → Building → BlockRest × Building
   asked node (IsTrue key) y n s = if_true f (moved key key) key y n s
   asked node (Passes all) y n s = tests f all y n s
 
@@ -46,7 +46,7 @@ module _ (f : Frame) where
   all_jumps (one ∷ rest) = one.jumps ++ all_jumps rest
 
   -- the last arm is built first; behind it a panic
-  abbrev pub built_from : ℕ → List LowersArm → Ways → Scopes → Rest → Building → Rest × Building
+  abbrev pub built_from : ℕ → List LowersArm → Ways → Scopes → BlockRest → Building → BlockRest × Building
   built_from node [] c S k s = unwinding f (Term.Panic Why.Match) node (panic_drops f S) s
   built_from node (one ∷ rest) c S k s =
       let otherwise = closing (built_from node rest c S k s) in one.build c S otherwise.0 k otherwise.1

@@ -21,7 +21,7 @@ use Rattle.src_meaning.specs.Programs.{source, free_run, reached_by, refused_of}
 use Rattle.well_typed.specs.Program.{WellTyped}
 use Rattle.cfg_code.specs.Laws.{without_place, outcome_without_place}
 use Rattle.scope_code.specs.Forms as code
-use Rattle.cfg_build.specs.Build.{Frame}
+use Rattle.cfg_build.specs.Build.{LoweringFrame}
 use Rattle.cfg_build.specs.Codes.{lowers}
 use Rattle.cfg_build.specs.Loops.{names_its_loops}
 use Rattle.cfg_build.specs.Lower as low
@@ -113,4 +113,4 @@ LoweredHasSites =
 -- what is made of the code of a body is what the body lowers to
 abbrev pub CodeIsLowered : Type 0
 CodeIsLowered =
-    (f : Frame) (tree : BodyTree) → lowers f (code.entire_function f.items tree) ≡ low.entire_function f tree
+    (f : LoweringFrame) (tree : BodyTree) → lowers f (code.entire_function f.items tree) ≡ low.entire_function f tree

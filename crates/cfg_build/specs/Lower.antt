@@ -10,7 +10,7 @@ use Rattle.mir_base.specs.declared.trace.Why.{Why}
 use Rattle.mir_ty.specs.Facts.{needs_drop}
 use Rattle.mir_ty.specs.ItemTable.{ItemTable}
 use Rattle.store_model.specs.Effects as effects
-use Rattle.store_model.specs.Effects.{Site, Operand, Action, OfTuple, OfArray, OfVariant, OfClosure}
+use Rattle.store_model.specs.Effects.{EffectSite, Operand, Action, OfTuple, OfArray, OfVariant, OfClosure}
 use Rattle.store_model.specs.Places.Place.{Place, whole_local, before_element}
 use Rattle.typed_tree.specs.Tree as tree
 use Rattle.typed_tree.specs.Tree.{Node, node, Form, Nodes, no_node, a_node, Fields, no_field, a_field, MaybeNode, absent, present, ParamTree, BodyTree, ProgramTree}
@@ -18,10 +18,10 @@ use Rattle.src_meaning.specs.Evaluation.{in_number_order, to_own_key}
 use Rattle.src_meaning.specs.Forms.{Destination, Into, Coerced, coerced, Around, in_loop, loop_destination, in_guard, entry_of, bound_entry, site_in, site_of_key, moved, is_never, changed_if}
 use Rattle.src_meaning.specs.Locals.OfBody.{param_key, answer_key, local_of, local_tys}
 use Rattle.src_meaning.specs.Scopes.{Scope, Scopes, with_scope, innermost, around_innermost, nearest_temporary, with_entry, with_pending, without_pending, becomes_entry, Exit, Breaks, Continues, Returns}
-use Rattle.src_meaning.specs.Shape.{Head, head, Shape, Bound, kind_of, shape, shape_of, site_at, operand_of_bound, operand_at}
+use Rattle.src_meaning.specs.Shape.{NodeHead, head, Shape, BoundName, kind_of, shape, shape_of, site_at, operand_of_bound, operand_at}
 use Rattle.cfg_code.specs.Code.{field_keys, moved_fields}
 use Rattle.cfg_code.specs.Spots.{Ways, body_ways}
-use Rattle.cfg_build.specs.Build.{Frame, Rest, Made, Building, ending, closed, closing, reserved, filled, jumps_if, Lowers, change, nothing, from_changed, back_in, then_lower, joined, branches, looped, panic_drops, unwinding, act, drop_one, leave, in_scope, jump, panics, if_true, tests, taken, replaces}
+use Rattle.cfg_build.specs.Build.{LoweringFrame, BlockRest, MadeBlock, Building, ending, closed, closing, reserved, filled, jumps_if, Lowers, change, nothing, from_changed, back_in, then_lower, joined, branches, looped, panic_drops, unwinding, act, drop_one, leave, in_scope, jump, panics, if_true, tests, taken, replaces}
 
 abbrev pub Evaluates : Type 0
 Evaluates = Around → Bool → Destination → Lowers
@@ -37,11 +37,11 @@ MakesInto = Around → Destination → Lowers
 pub record LowersArm : Type 0 where
   pub has_end : Bool
   pub jumps : List Exit
-  pub build : Ways → Scopes → (otherwise : ℕ) → Rest → Building → Rest × Building
+  pub build : Ways → Scopes → (otherwise : ℕ) → BlockRest → Building → BlockRest × Building
 
 -- a node to be built: as it is evaluated, as its place is reached, as an arm
 pub record NodeLower : Type 0 where
-  pub head : Head
+  pub head : NodeHead
   pub shape : Shape
   pub evaluates : Evaluates
   pub reaches : Reaches
@@ -61,40 +61,40 @@ all_moved number ms = map (moved number) (keys_of ms)
 abbrev pub place_in : NodeLower → Around → Place
 place_in m around = m.shape.place around.aliases
 
-abbrev pub site_of : NodeLower → Around → Site
+abbrev pub site_of : NodeLower → Around → EffectSite
 site_of m around = site_at m.head (place_in m around)
 
-module _ (f : Frame) where
+module _ (f : LoweringFrame) where
   -- Values and destinations.
 
   -- an effect at a node, whose answer goes to the destination
-  abbrev pub deliver_at : ℕ → Head → (Site → Action) → Destination → Lowers
+  abbrev pub deliver_at : ℕ → NodeHead → (EffectSite → Action) → Destination → Lowers
   deliver_at number h action (Into key) = act f number (action (site_in h.id key))
   deliver_at number h action (Coerced key trait_no to) =
       then_lower (act f number (action (site_in h.id key)))
       (act f h.id (effects.Unsize (site_in h.id to) trait_no (moved h.id key)))
 
-  abbrev pub deliver : Head → (Site → Action) → Destination → Lowers
+  abbrev pub deliver : NodeHead → (EffectSite → Action) → Destination → Lowers
   deliver h action to = deliver_at h.id h action to
 
-  abbrev pub put_unit : Head → Destination → Lowers
+  abbrev pub put_unit : NodeHead → Destination → Lowers
   put_unit h to = deliver h (λ site. effects.Put site effects.UnitValue) to
 
-  abbrev pub put_unit_if : (is_never : Bool) → Head → Destination → Lowers
+  abbrev pub put_unit_if : (is_never : Bool) → NodeHead → Destination → Lowers
   put_unit_if true h to = nothing
   put_unit_if false h to = put_unit h to
 
-  abbrev pub in_own_scope : Head → Bool → Lowers → Lowers
+  abbrev pub in_own_scope : NodeHead → Bool → Lowers → Lowers
   in_own_scope h true P = in_scope f h.id true P
   in_own_scope h false P = P
 
   abbrev pub alone : Around → NodeLower → Destination → Lowers
   alone around m to = back_in (m.evaluates around true to)
 
-  abbrev pub pending_if : Bool → ((Scope → Scope) → Scopes → Scopes) → Head → Scopes → Scopes
+  abbrev pub pending_if : Bool → ((Scope → Scope) → Scopes → Scopes) → NodeHead → Scopes → Scopes
   pending_if b in_that h = changed_if b (in_that (with_pending (entry_of h)))
 
-  abbrev pub completed : ((Scope → Scope) → Scopes → Scopes) → Head → Scopes → Scopes
+  abbrev pub completed : ((Scope → Scope) → Scopes → Scopes) → NodeHead → Scopes → Scopes
   completed in_that h = in_that (becomes_entry (entry_of h))
 
   abbrev pub operand : Around → NodeLower → Lowers
@@ -106,21 +106,21 @@ module _ (f : Frame) where
   operands around [] = nothing
   operands around (m ∷ ms) = then_lower (operand around m) (operands around ms)
 
-  abbrev pub acting : Head → Around → Bool → List NodeLower → Lowers → Lowers
+  abbrev pub acting : NodeHead → Around → Bool → List NodeLower → Lowers → Lowers
   acting h around own ms P =
       in_scope f h.id own (then_lower (operands around ms) (from_changed (taken f (keys_of ms)) P))
 
-  abbrev pub dropping : Head → Around → Bool → NodeLower → Lowers → Lowers
+  abbrev pub dropping : NodeHead → Around → Bool → NodeLower → Lowers → Lowers
   dropping h around own m P = in_scope f h.id own (then_lower (operand around m) P)
 
   -- Places.
 
-  abbrev pub temporary : Head → Shape → Evaluates → Reaches
+  abbrev pub temporary : NodeHead → Shape → Evaluates → Reaches
   temporary h s evaluates around =
       from_changed (pending_if s.in_destination nearest_temporary h)
       (then_lower (evaluates around false (Into h.id)) (change (completed nearest_temporary h)))
 
-  abbrev pub use_of_place : Head → Shape → Reaches → Evaluates
+  abbrev pub use_of_place : NodeHead → Shape → Reaches → Evaluates
   use_of_place h s reaches around own to =
       in_own_scope h own (then_lower (reaches around)
       (deliver h (λ site. effects.Put site (operand_at h (s.place around.aliases))) to))
@@ -128,7 +128,7 @@ module _ (f : Frame) where
   abbrev pub array_around : Place → Place
   array_around place = record place { steps = before_element place.steps }
 
-  abbrev pub reach_element : Head → Shape → NodeLower → NodeLower → ℕ → Reaches
+  abbrev pub reach_element : NodeHead → Shape → NodeLower → NodeLower → ℕ → Reaches
   reach_element h s base index count around =
       then_lower (base.reaches around)
       (then_lower (index.evaluates around false (Into index.head.id))
@@ -136,16 +136,16 @@ module _ (f : Frame) where
       (act f index.head.id (effects.Bounds (effects.Copied (site_of_key index.head.id)) count))))
 
   -- all of a borrow stands at the node of its base
-  abbrev pub borrowing : Head → Bool → NodeLower → Evaluates
+  abbrev pub borrowing : NodeHead → Bool → NodeLower → Evaluates
   borrowing h unique base around own to =
       in_own_scope h own (then_lower (base.reaches around)
       (deliver_at base.head.id h
       (λ site. effects.Borrow (record site { node = base.head.id }) unique (site_of base around)) to))
 
-  abbrev pub unit_after : Head → Action → Destination → Lowers
+  abbrev pub unit_after : NodeHead → Action → Destination → Lowers
   unit_after h action to = then_lower (act f h.id action) (put_unit h to)
 
-  abbrev pub assigning : Head → NodeLower → NodeLower → Evaluates
+  abbrev pub assigning : NodeHead → NodeLower → NodeLower → Evaluates
   assigning h place value around own to =
       in_scope f h.id own (then_lower (operand around value)
       (then_lower (place.reaches around)
@@ -163,38 +163,38 @@ module _ (f : Frame) where
   branch around to no_lower without = without
   branch around to (a_lower m) without = alone around m to
 
-  abbrev pub bind : ((Scope → Scope) → Scopes → Scopes) → List Bound → Lowers
+  abbrev pub bind : ((Scope → Scope) → Scopes → Scopes) → List BoundName → Lowers
   bind in_that [] = nothing
   bind in_that (b ∷ bounds) =
       then_lower (act f b.key (effects.Put (site_of_key b.key) (operand_of_bound b)))
       (from_changed (in_that (with_entry (bound_entry b))) (bind in_that bounds))
 
-  abbrev pub touched : Bool → Site → Lowers
+  abbrev pub touched : Bool → EffectSite → Lowers
   touched true site = act f site.node (effects.Touch site)
   touched false site = nothing
 
   abbrev pub scrutinised : Around → NodeLower → Lowers
   scrutinised around m = then_lower (m.reaches around) (touched m.shape.is_place (site_of m around))
 
-  abbrev pub if_taken : Head → Around → NodeLower → NodeLower → Lowers → Lowers → Lowers
+  abbrev pub if_taken : NodeHead → Around → NodeLower → NodeLower → Lowers → Lowers → Lowers
   if_taken h around pattern scrutinee P Q =
       from_changed (with_scope h.id true) (then_lower (scrutinised around scrutinee)
       (branches h.id (tests f (pattern.shape.tests (place_in scrutinee around)))
       (then_lower (then_lower (bind innermost (pattern.shape.bindings (place_in scrutinee around))) P) (leave f))
       (then_lower (leave f) Q)))
 
-  abbrev pub taken_arm : Head → Around → List Bound → NodeLower → Destination → Lowers
+  abbrev pub taken_arm : NodeHead → Around → List BoundName → NodeLower → Destination → Lowers
   taken_arm h around bounds m to = in_scope f h.id false (then_lower (bind innermost bounds) (alone around m to))
 
   -- where a guard holds the arm is taken; where it does not, what is done otherwise follows
-  abbrev pub guard_from : Bool → Lowers → ℕ → Lowers → Ways → Scopes → ℕ → Rest → Building → Rest × Building
+  abbrev pub guard_from : Bool → Lowers → ℕ → Lowers → Ways → Scopes → ℕ → BlockRest → Building → BlockRest × Building
   guard_from true guard key P c S otherwise k s =
       let then_do = closing (P.build c S k s) in
       let asked = if_true f (moved key key) key then_do.0 otherwise then_do.1 in
       guard.build c S asked.0 asked.1
   guard_from false guard key P c S otherwise k s = guard.build c S k s
 
-  abbrev pub guarded : Around → List Bound → LowerIfAny → Lowers → LowersArm
+  abbrev pub guarded : Around → List BoundName → LowerIfAny → Lowers → LowersArm
   guarded around bounds no_lower P =
       record { has_end = P.has_end; jumps = P.jumps; build = λ c S otherwise k s. P.build c S k s }
   guarded around bounds (a_lower guard) P =
@@ -205,7 +205,7 @@ module _ (f : Frame) where
         build = guard_from asked.has_end asked guard.head.id P;
       }
 
-  abbrev pub arm : Head → NodeLower → LowerIfAny → NodeLower → Place → Around → Destination → LowersArm
+  abbrev pub arm : NodeHead → NodeLower → LowerIfAny → NodeLower → Place → Around → Destination → LowersArm
   arm h pattern guard m matched around to =
       let bounds = pattern.shape.bindings matched in
       let code = guarded around bounds guard (taken_arm h around bounds m to) in
@@ -225,7 +225,7 @@ module _ (f : Frame) where
 
   -- the last arm is built first; behind it a panic
   abbrev pub arms_from :
-      ℕ → List NodeLower → Place → Around → Destination → Ways → Scopes → Rest → Building → Rest × Building
+      ℕ → List NodeLower → Place → Around → Destination → Ways → Scopes → BlockRest → Building → BlockRest × Building
   arms_from number [] matched around to c S k s = unwinding f (Term.Panic Why.Match) number (panic_drops f S) s
   arms_from number (m ∷ ms) matched around to c S k s =
       let otherwise = closing (arms_from number ms matched around to c S k s) in
@@ -241,7 +241,7 @@ module _ (f : Frame) where
         arms_from number ms matched around to c S join.0 join.1;
   }
 
-  abbrev pub matching : Head → NodeLower → List NodeLower → Evaluates
+  abbrev pub matching : NodeHead → NodeLower → List NodeLower → Evaluates
   matching h scrutinee arms around own to =
       in_own_scope h own (then_lower (scrutinised around scrutinee)
       (arms_in_order h.id arms (place_in scrutinee around) around to))
@@ -253,28 +253,28 @@ module _ (f : Frame) where
   statements around (m ∷ ms) =
       then_lower (m.evaluates around false (Into m.head.id)) (statements around ms)
 
-  abbrev pub tail_of : Head → LowerIfAny → Around → Destination → Lowers
+  abbrev pub tail_of : NodeHead → LowerIfAny → Around → Destination → Lowers
   tail_of h no_lower around to = put_unit_if (is_never f.items h.ty) h to
   tail_of h (a_lower m) around to = alone around m to
 
-  abbrev pub block : Head → List NodeLower → LowerIfAny → Evaluates
+  abbrev pub block : NodeHead → List NodeLower → LowerIfAny → Evaluates
   block h ms tail around own to =
       in_scope f h.id own (then_lower (statements around ms) (tail_of h tail around to))
 
-  abbrev pub evaluating : Head → NodeLower → Reaches
+  abbrev pub evaluating : NodeHead → NodeLower → Reaches
   evaluating h m around =
       in_scope f h.id true (from_changed (pending_if true innermost m.head)
       (then_lower (m.evaluates around false (Into m.head.id)) (change (completed innermost m.head))))
 
-  abbrev pub named : Head → Scopes → Scopes
+  abbrev pub named : NodeHead → Scopes → Scopes
   named x S = around_innermost (with_entry (entry_of x)) (innermost (without_pending (entry_of x)) S)
 
-  abbrev pub let_name : Head → Head → NodeLower → Reaches
+  abbrev pub let_name : NodeHead → NodeHead → NodeLower → Reaches
   let_name h x m around =
       in_scope f h.id true (from_changed (pending_if true innermost x)
       (then_lower (m.evaluates around false (Into x.id)) (change (named x))))
 
-  abbrev pub let_parts : Head → NodeLower → NodeLower → Reaches
+  abbrev pub let_parts : NodeHead → NodeLower → NodeLower → Reaches
   let_parts h pattern m around =
       in_scope f h.id true
       (from_changed (pending_if (not (m.shape.is_place || m.shape.in_destination)) innermost m.head)
@@ -284,38 +284,38 @@ module _ (f : Frame) where
   emptied true key = nothing
   emptied false key = record nothing { build = λ c S. drop_one f (site_of_key key) (panic_drops f S) }
 
-  abbrev pub declared : List Bound → Lowers
+  abbrev pub declared : List BoundName → Lowers
   declared [] = nothing
   declared (b ∷ bounds) =
       then_lower (emptied (needs_drop f.items b.ty) b.key)
       (from_changed (innermost (with_entry (bound_entry b))) (declared bounds))
 
-  abbrev pub let_value : Bool → Head → NodeLower → NodeLower → Reaches
+  abbrev pub let_value : Bool → NodeHead → NodeLower → NodeLower → Reaches
   let_value true h pattern m = let_name h pattern.head m
   let_value false h pattern m = let_parts h pattern m
 
-  abbrev pub letting : Head → NodeLower → LowerIfAny → Reaches
+  abbrev pub letting : NodeHead → NodeLower → LowerIfAny → Reaches
   letting h pattern no_lower around = declared (pattern.shape.bindings (whole_local 0))
   letting h pattern (a_lower m) around = let_value pattern.shape.is_binding h pattern m around
 
   -- Jumps.
 
-  abbrev pub value_of_jump : Head → LowerIfAny → Around → Destination → Lowers
+  abbrev pub value_of_jump : NodeHead → LowerIfAny → Around → Destination → Lowers
   value_of_jump h no_lower around to = put_unit h to
   value_of_jump h (a_lower m) around to = m.evaluates around false to
 
-  abbrev pub ends_loop : Head → Destination → Lowers
+  abbrev pub ends_loop : NodeHead → Destination → Lowers
   ends_loop h to = jump f h.id (Breaks h.id) (put_unit h to)
 
   -- The forms.
 
-  abbrev pub made_in : Head → Evaluates → Evaluates
+  abbrev pub made_in : NodeHead → Evaluates → Evaluates
   made_in h e around own to = e around own (to_own_key (is_never f.items h.ty) h.id to)
 
   abbrev pub no_arm : Place → Around → Destination → LowersArm
   no_arm matched around to = record { has_end = true; jumps = []; build = λ c S otherwise k s. (k, s) }
 
-  abbrev pub a_value : Head → Shape → Evaluates → NodeLower
+  abbrev pub a_value : NodeHead → Shape → Evaluates → NodeLower
   a_value h s e = record {
     head = h;
     shape = s;
@@ -324,7 +324,7 @@ module _ (f : Frame) where
     arm = no_arm;
   }
 
-  abbrev pub a_place : Head → Shape → Reaches → NodeLower
+  abbrev pub a_place : NodeHead → Shape → Reaches → NodeLower
   a_place h s r = record {
     head = h;
     shape = s;
@@ -333,46 +333,46 @@ module _ (f : Frame) where
     arm = no_arm;
   }
 
-  abbrev pub a_scope : Head → Shape → MakesInto → NodeLower
+  abbrev pub a_scope : NodeHead → Shape → MakesInto → NodeLower
   a_scope h s does = a_value h s (λ around own to. in_own_scope h own (does around to))
 
-  abbrev pub effect : Head → Shape → (Site → Action) → NodeLower
+  abbrev pub effect : NodeHead → Shape → (EffectSite → Action) → NodeLower
   effect h s action = a_scope h s (λ around. deliver h action)
 
-  abbrev pub on_operands : Head → Shape → List NodeLower → (Site → Action) → NodeLower
+  abbrev pub on_operands : NodeHead → Shape → List NodeLower → (EffectSite → Action) → NodeLower
   on_operands h s ms action = a_value h s (λ around own to. acting h around own ms (deliver h action to))
 
-  abbrev pub on_one : Head → Shape → NodeLower → (Site → Operand → Action) → NodeLower
+  abbrev pub on_one : NodeHead → Shape → NodeLower → (EffectSite → Operand → Action) → NodeLower
   on_one h s m action = on_operands h s (m ∷ []) (λ site. action site (moved h.id m.head.id))
 
-  abbrev pub on_two : Head → Shape → NodeLower → NodeLower → (Site → Operand → Operand → Action) → NodeLower
+  abbrev pub on_two : NodeHead → Shape → NodeLower → NodeLower → (EffectSite → Operand → Operand → Action) → NodeLower
   on_two h s m m' action =
       on_operands h s (m ∷ m' ∷ []) (λ site. action site (moved h.id m.head.id) (moved h.id m'.head.id))
 
-  abbrev pub on_all : Head → Shape → List NodeLower → (Site → List Operand → Action) → NodeLower
+  abbrev pub on_all : NodeHead → Shape → List NodeLower → (EffectSite → List Operand → Action) → NodeLower
   on_all h s ms action = on_operands h s ms (λ site. action site (all_moved h.id ms))
 
-  abbrev pub gives_unit : Head → Shape → NodeLower → (Operand → Action) → NodeLower
+  abbrev pub gives_unit : NodeHead → Shape → NodeLower → (Operand → Action) → NodeLower
   gives_unit h s m action =
       a_value h s (λ around own to.
       acting h around own (m ∷ []) (unit_after h (action (moved h.id m.head.id)) to))
 
-  abbrev pub a_statement : Head → Shape → Reaches → NodeLower
+  abbrev pub a_statement : NodeHead → Shape → Reaches → NodeLower
   a_statement h s r = a_value h s (λ around own to. r around)
 
-  abbrev pub a_pattern : Head → Shape → NodeLower
+  abbrev pub a_pattern : NodeHead → Shape → NodeLower
   a_pattern h s = a_value h s (λ around own to. nothing)
 
-  abbrev pub shortcut : Head → Bool → Destination → Lowers
+  abbrev pub shortcut : NodeHead → Bool → Destination → Lowers
   shortcut h truth to = deliver h (λ site. effects.Put site (effects.Truth truth)) to
 
-  abbrev pub conjunction : Head → NodeLower → NodeLower → MakesInto
+  abbrev pub conjunction : NodeHead → NodeLower → NodeLower → MakesInto
   conjunction h left right around to = condition around left (alone around right to) (shortcut h false to)
 
-  abbrev pub disjunction : Head → NodeLower → NodeLower → MakesInto
+  abbrev pub disjunction : NodeHead → NodeLower → NodeLower → MakesInto
   disjunction h left right around to = condition around left (shortcut h true to) (alone around right to)
 
-  abbrev pub otherwise_unit : Head → LowerIfAny → MakesInto
+  abbrev pub otherwise_unit : NodeHead → LowerIfAny → MakesInto
   otherwise_unit h otherwise around to = branch around to otherwise (put_unit h to)
 
   abbrev pub body_in : NodeLower → Around → Lowers
@@ -382,7 +382,7 @@ module _ (f : Frame) where
     pub lower : Node → NodeLower
     lower (node id at ty by form) = lower_form form (head id ty by) (shape_of f.items form (head id ty by))
 
-    pub lower_form : Form → Head → Shape → NodeLower
+    pub lower_form : Form → NodeHead → Shape → NodeLower
     lower_form (tree.Number value) h s =
         effect h s (λ site. effects.Put site (effects.Number value (kind_of f.items h.ty)))
     lower_form (tree.Truth value) h s = effect h s (λ site. effects.Put site (effects.Truth value))
@@ -482,7 +482,7 @@ module _ (f : Frame) where
 
   -- Bodies.
 
-  abbrev pub names_of_param : Bool → List Bound → Lowers
+  abbrev pub names_of_param : Bool → List BoundName → Lowers
   names_of_param true bounds = nothing
   names_of_param false bounds = bind innermost bounds
 
@@ -519,7 +519,7 @@ module _ (f : Frame) where
       filled Kind.Plain 0 code.0 code.1
 
 -- every number that is given out has its block by then
-abbrev pub unmade : Made
+abbrev pub unmade : MadeBlock
 unmade = record { block = record { kind = Kind.Plain; rank = 0; stmts = []; term = Term.Return }; nodes = [] }
 
 abbrev pub blocks_of : Building → List Block
@@ -528,7 +528,7 @@ blocks_of s = map (λ o. (unwrap_or o unmade).block) s.blocks
 abbrev pub nodes_of : Building → List (List ℕ)
 nodes_of s = map (λ o. (unwrap_or o unmade).nodes) s.blocks
 
-abbrev pub frame : ItemTable → BodyTree → Frame
+abbrev pub frame : ItemTable → BodyTree → LoweringFrame
 frame items body = record { items = items; local_of = local_of items body; tys = local_tys items body }
 
 abbrev pub body_of : ItemTable → BodyTree → Body

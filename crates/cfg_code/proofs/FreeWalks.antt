@@ -14,7 +14,7 @@ use Rattle.store_model.proofs.Effects.Agreement.{tied_itself}
 use Rattle.store_model.proofs.Effects.NeverStores.{free_runs_store_no_never}
 use Rattle.store_model.specs.Abstract.Effects.{AbstractState, at_start, abstract_effects, when, unless_never, operand_used, operands_used, store, never_at, acted_on, after}
 use Rattle.store_model.specs.Effects as effects
-use Rattle.store_model.specs.Effects.{Site, Action, Halt, Stuck, StuckAt, Out, Go, Unwind, Halts, Effects, halting_if, DoesNotGoOn}
+use Rattle.store_model.specs.Effects.{EffectSite, Action, Halt, Stuck, StuckAt, Out, Go, Unwind, Halts, Effects, halting_if, DoesNotGoOn}
 use Rattle.typed_tree.specs.Tree.{BodyTree}
 use Rattle.src_meaning.specs.Locals.Effects.{at_locals}
 use Rattle.src_meaning.specs.Locals.OfBody.{local_of, local_ty}
@@ -65,7 +65,7 @@ module _ (table : ItemTable) (ty : ℕ → Option TyId) where
   all_settled [] next n w = n w
   all_settled (operand ∷ operands) next n w = go_settled (operand_used table ty operand w) (used_settled operand w) (operands_used table ty operands next) (all_settled operands next n)
 
-  store_settled : (to : Site) (w : AbstractState) → NoUnwind (store table ty to w)
+  store_settled : (to : EffectSite) (w : AbstractState) → NoUnwind (store table ty to w)
   store_settled to w = when_settled _ _ (λ w. Go (after table ty false to w)) w tt
 
   acted_settled : (n : ℕ) (stmt : Stmt) (w : AbstractState) → NoUnwind (acted_on table ty (action_of n stmt) w)

@@ -13,7 +13,7 @@ use Rattle.store_model.specs.Concrete.Effects.{Computed, Gives, PanicsBy, comput
 use Rattle.store_model.specs.Concrete.Location.{Setting, DynamicType, concrete_ty, Located, into, Reached, Reaches, CutOff, Nowhere, reach, on_reached, stored_at}
 use Rattle.store_model.specs.Concrete.State.{State, with_event, numbered_next, Answer, Returns, Unwinds, HaltsIn, Bodies}
 use Rattle.store_model.specs.Effects as effects
-use Rattle.store_model.specs.Effects.{Site, Kind, OfTuple, OfArray, OfVariant, OfClosure, Action, Test, Mode, Normal, Unwinding, Halt, OutOfTicks, Stuck, Out, Go, Unwind, Halts, Choice, Yes, No, Neither, Effects, halting_if, stores_where}
+use Rattle.store_model.specs.Effects.{EffectSite, AggregateKind, OfTuple, OfArray, OfVariant, OfClosure, Action, Test, Mode, Normal, Unwinding, Halt, OutOfTicks, Stuck, Out, Go, Unwind, Halts, Choice, Yes, No, Neither, Effects, halting_if, stores_where}
 use Rattle.store_model.specs.Values.Datum.{Datum, Data, Gone, Number, Truth, UnitValue, Aggregate, Box, Address, no_part, a_part}
 use Rattle.store_model.specs.Values.Wholeness.{is_whole, serials}
 use Rattle.cfg_code.specs.Laws.{without_place}
@@ -84,17 +84,17 @@ halting_renamed b o o' e = by_out b o ∙ ap (halting_if b Stuck) e
     by_out false o = refl
 
 module _ (setting : Setting) where
-  put_placeless : (to : Site) (value : Datum) (w : State) → Placeless (put setting to value w)
+  put_placeless : (to : EffectSite) (value : Datum) (w : State) → Placeless (put setting to value w)
   put_placeless to value w = reached_placeless (reach setting w to.place) _ _ _ (λ s. goes (stored_at s.address value w)) (stuck w) (stuck w)
 
-  put_if_placeless : (to : Site) (value : Option Datum) (w : State) → Placeless (put_if setting to value w)
+  put_if_placeless : (to : EffectSite) (value : Option Datum) (w : State) → Placeless (put_if setting to value w)
   put_if_placeless to value w = or_placeless value (λ v. put setting to v w) w (λ v. put_placeless to v w)
 
-  made_placeless : (adt : ℕ) (to : Site) (value : Datum) (of : Option (ℕ × ℕ)) (w : State) → Placeless (made_event setting adt to value of w)
+  made_placeless : (adt : ℕ) (to : EffectSite) (value : Datum) (of : Option (ℕ × ℕ)) (w : State) → Placeless (made_event setting adt to value of w)
   made_placeless adt to value None w = put_placeless to value w
   made_placeless adt to value (Some of) w = told_placeless setting (Event.Make adt w.serial) _ (put_placeless to value (numbered_next w))
 
-  built_placeless : (to : Site) (kind : Kind) (parts : List Datum) (w : State) → Placeless (built setting to kind parts w)
+  built_placeless : (to : EffectSite) (kind : AggregateKind) (parts : List Datum) (w : State) → Placeless (built setting to kind parts w)
   built_placeless to OfTuple parts w = put_placeless to _ w
   built_placeless to OfArray parts w = put_placeless to _ w
   built_placeless to (OfClosure closure) parts w = put_placeless to _ w
@@ -112,15 +112,15 @@ module _ (setting : Setting) where
   freed_placeless s (Box serial impl_no inside) w = unnumbered_placeless (serials inside) _ w (goes _)
   freed_placeless s _ w = stuck w
 
-  put_computed_placeless : (to : Site) (answer : Computed) (w : State) → Placeless (put_computed setting to answer w)
+  put_computed_placeless : (to : EffectSite) (answer : Computed) (w : State) → Placeless (put_computed setting to answer w)
   put_computed_placeless to (Gives number) w = put_placeless to (Number number) w
   put_computed_placeless to (PanicsBy why) w = unwinds _
 
-  compute_placeless : (to : Site) (operator : Math) (kind : Option IntKind) (a b : Datum) (w : State) → Placeless (compute setting to operator kind a b w)
+  compute_placeless : (to : EffectSite) (operator : Math) (kind : Option IntKind) (a b : Datum) (w : State) → Placeless (compute setting to operator kind a b w)
   compute_placeless to operator (Some kind) (Number a) (Number b) w = put_computed_placeless to (computed operator kind a b) w
   compute_placeless to operator _ _ _ w = stuck w
 
-  negate_placeless : (to : Site) (kind : Option IntKind) (a : Datum) (w : State) → Placeless (negate setting to kind a w)
+  negate_placeless : (to : EffectSite) (kind : Option IntKind) (a : Datum) (w : State) → Placeless (negate setting to kind a w)
   negate_placeless to (Some kind) (Number a) w = put_computed_placeless to _ w
   negate_placeless to _ _ w = stuck w
 
@@ -132,11 +132,11 @@ module _ (setting : Setting) where
   bounded_placeless count (Number number) w = within_placeless _ w
   bounded_placeless count _ w = stuck w
 
-  asked_placeless : (to : Site) (numbers : List ℤ) (w : State) → Placeless (asked setting to numbers w)
+  asked_placeless : (to : EffectSite) (numbers : List ℤ) (w : State) → Placeless (asked setting to numbers w)
   asked_placeless to [] w = unwinds _
   asked_placeless to (number ∷ rest) w = told_placeless setting (Event.Asked number) _ (put_placeless to (Number number) (record w { asked = rest }))
 
-  answered_renamed : (to : Site) (a : Answer) → renamed without_place (answered setting to a) ≡ answered setting to (answer_without_place a)
+  answered_renamed : (to : EffectSite) (a : Answer) → renamed without_place (answered setting to a) ≡ answered setting to (answer_without_place a)
   answered_renamed to (Returns value w) = (put_placeless to value w).same
   answered_renamed to (Unwinds w) = refl
   answered_renamed to (HaltsIn halt w) = refl
@@ -145,7 +145,7 @@ module _ (setting : Setting) where
     abbrev run' : Bodies
     run' = bodies_without_place run
 
-    called_renamed : (to : Site) (body : Option ℕ) (args : List Datum) (w : State) → renamed without_place (called setting run to body args w) ≡ called setting run' to body args w
+    called_renamed : (to : EffectSite) (body : Option ℕ) (args : List Datum) (w : State) → renamed without_place (called setting run to body args w) ≡ called setting run' to body args w
     called_renamed to body args w = or_renamed body _ _ w (λ body. answered_renamed to (run (Event.Call body) body args w))
 
     acted_renamed : (action : Action) (w : State) → renamed without_place (acted setting run action w) ≡ acted setting run' action w
@@ -288,7 +288,7 @@ module _ (setting : Setting) where
     nothing_renamed true w = refl
     nothing_renamed false w = refl
 
-    drop_renamed : (b : ℕ) (mode : Mode) (site : Site) (w : State) → renamed without_place (drop setting run b mode site w) ≡ drop setting run' b mode site w
+    drop_renamed : (b : ℕ) (mode : Mode) (site : EffectSite) (w : State) → renamed without_place (drop setting run b mode site w) ≡ drop setting run' b mode site w
     drop_renamed b mode site w = by_place (reach setting w site.place)
       where
         by_place : (r : Reached) →

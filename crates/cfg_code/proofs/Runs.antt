@@ -24,7 +24,7 @@ use Rattle.store_model.specs.Concrete.Effects.{concrete_effects, never_at}
 use Rattle.store_model.specs.Concrete.Location.{Setting}
 use Rattle.store_model.specs.Concrete.State.{Activation, Cells, State, Answer, Returns, Unwinds, HaltsIn, Bodies, spend, with_event, with_activation, without_activation, beginning}
 use Rattle.store_model.specs.Effects as effects
-use Rattle.store_model.specs.Effects.{Halt, OutOfTicks, Stuck, Out, Go, Unwind, Halts, Choice, Yes, No, Neither, Effects, Action, Site, stores_where, DoesNotGoOn}
+use Rattle.store_model.specs.Effects.{Halt, OutOfTicks, Stuck, Out, Go, Unwind, Halts, Choice, Yes, No, Neither, Effects, Action, EffectSite, stores_where, DoesNotGoOn}
 use Rattle.store_model.specs.Values.Datum.{Datum}
 use Rattle.typed_tree.specs.Tree.{BodyTree, ProgramTree}
 use Rattle.src_meaning.specs.Locals.Effects.{at_locals}
@@ -39,7 +39,7 @@ use Rattle.cfg_code.proofs.StackOfBodies.{stack, bodies_in, SameStack, SameStack
 use Rattle.cfg_code.proofs.ValuesSettled.{values_settled}
 use Rattle.cfg_code.proofs.WalksOfBodies.{Walk, walks}
 use Rattle.cfg_code.specs.Laws.{without_place, outcome_without_place, target_of, HoldsBody, HoldsProgram, RunsAsItsSource}
-use Rattle.cfg_code.specs.Spots.{Target}
+use Rattle.cfg_code.specs.Spots.{CodeTarget}
 
 -- what is left in a body: the ticks; and more than all of them if the stack of bodies is another than it was
 abbrev same_list : List ℕ → List ℕ → Bool
@@ -276,7 +276,7 @@ module _ (program : ProgramTree) (graph : Graph) (held : HoldsProgram program gr
       ap (λ n. stores_where (never_with (λ local. (here graph).local_ty n local)) action) (ap (head_or number) e)
       ∙ ap (λ o. stores_where (never_with (λ local. option_and_then (λ (b : Body). slice_get b.locals local) o)) action) there ∙ h
     where
-      never_with : (ℕ → Option TyId) → Site → Bool
+      never_with : (ℕ → Option TyId) → EffectSite → Bool
       never_with ty = free.never_at graph.items ty
 
   settled : (n number : ℕ) (tree : BodyTree) (body : Body) (node : ℕ → ℕ → ℕ) → slice_get graph.bodies number ≡ Some body → (bodies : List ℕ) →
@@ -303,7 +303,7 @@ module _ (program : ProgramTree) (graph : Graph) (held : HoldsProgram program gr
       (walks size q laws number (λ block line. 0) t (block_same (here graph) (graph_bodies graph n) (suc n) (λ block line. 0) t.node) holds.ranked n (suc n) (omega arith))
       (suc n) (omega arith) tree holds.holds_code w (no_less (number ∷ bodies) (suc n) w n e l)
     where
-      t : Target
+      t : CodeTarget
       t = target_of program.items tree body (held.node number)
 
       q : Effects State

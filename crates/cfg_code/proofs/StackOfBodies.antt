@@ -11,7 +11,7 @@ use Rattle.store_model.specs.declared.address.At.TheVariants.{Part, Inside}
 use Rattle.store_model.specs.Values.Datum.{Datum, Data, Gone, Number, Truth, UnitValue, Aggregate, Box, Address, no_part, a_part}
 use Rattle.store_model.specs.Concrete.Drops.{drop_body_out, unwinding_out, in_mode, same_if, if_still_typed, Stage, Begins, HasRun, gone_at, freed_there, freed_at, as_read, if_part, with_body, drop_value, drop_parts, dropped_there, drop_at}
 use Rattle.store_model.specs.Effects as effects
-use Rattle.store_model.specs.Effects.{Site, Operand, Kind, OfTuple, OfArray, OfVariant, OfClosure, Action, Test, Mode, Normal, Unwinding, Halt, OutOfTicks, Stuck, Out, Go, Unwind, Halts, Choice, Yes, No, Neither, Effects}
+use Rattle.store_model.specs.Effects.{EffectSite, Operand, AggregateKind, OfTuple, OfArray, OfVariant, OfClosure, Action, Test, Mode, Normal, Unwinding, Halt, OutOfTicks, Stuck, Out, Go, Unwind, Halts, Choice, Yes, No, Neither, Effects}
 use Rattle.store_model.specs.Concrete.Location.{Setting, DynamicType, Located, into, Reached, Reaches, CutOff, Nowhere, reach, on_reached, stored_at}
 use Rattle.store_model.specs.Concrete.State.{State, Activation, with_cell, with_cell_at, with_event, numbered_next, spend, Answer, Returns, Unwinds, HaltsIn, Bodies}
 use Rattle.store_model.specs.Values.Wholeness.{serials}
@@ -131,12 +131,12 @@ module _ (m : List ℕ) where
         (w : State) → stack w ≡ m → Kept m (with_operands setting operands w next)
     taking_all_keeps operands next e w l = after_taken (evaluate_operands setting operands w) next w (all_taken_keeps operands w l) e
 
-    put_keeps : (to : Site) (value : Datum) (w : State) → stack w ≡ m → Kept m (put setting to value w)
+    put_keeps : (to : EffectSite) (value : Datum) (w : State) → stack w ≡ m → Kept m (put setting to value w)
     put_keeps to value w l =
         reached_keeps (reach setting w to.place) (λ s. Go (stored_at s.address value w)) (Halts Stuck w) (Halts Stuck w)
         (λ s. goes (stored_at s.address value w) (stored_stack s.address value w ∙ l)) (halted Stuck w) (halted Stuck w)
 
-    put_if_keeps : (to : Site) (value : Option Datum) (w : State) → stack w ≡ m → Kept m (put_if setting to value w)
+    put_if_keeps : (to : EffectSite) (value : Option Datum) (w : State) → stack w ≡ m → Kept m (put_if setting to value w)
     put_if_keeps to value w l = step_keeps value (λ v. put setting to v w) w (λ v. put_keeps to v w l)
 
     told_keeps : (event : Event) (o : Out State) → Kept m o → Kept m (tell_after setting event o)
@@ -144,17 +144,17 @@ module _ (m : List ℕ) where
     told_keeps event (Unwind w) h = record { kept = h.kept }
     told_keeps event (Halts halt w) h = record { kept = tt }
 
-    made_keeps : (adt : ℕ) (to : Site) (value : Datum) (of : Option (ℕ × ℕ)) (w : State) → stack w ≡ m → Kept m (made_event setting adt to value of w)
+    made_keeps : (adt : ℕ) (to : EffectSite) (value : Datum) (of : Option (ℕ × ℕ)) (w : State) → stack w ≡ m → Kept m (made_event setting adt to value of w)
     made_keeps adt to value None w l = put_keeps to value w l
     made_keeps adt to value (Some of) w l = told_keeps (Event.Make adt w.serial) (put setting to value (numbered_next w)) (put_keeps to value (numbered_next w) l)
 
-    built_keeps : (to : Site) (kind : Kind) (parts : List Datum) (w : State) → stack w ≡ m → Kept m (built setting to kind parts w)
+    built_keeps : (to : EffectSite) (kind : AggregateKind) (parts : List Datum) (w : State) → stack w ≡ m → Kept m (built setting to kind parts w)
     built_keeps to OfTuple parts w l = put_keeps to _ w l
     built_keeps to OfArray parts w l = put_keeps to _ w l
     built_keeps to (OfClosure closure) parts w l = put_keeps to _ w l
     built_keeps to (OfVariant adt variant) parts w l = made_keeps adt to _ _ w l
 
-    boxed_keeps : (to : Site) (content : Datum) (w : State) → stack w ≡ m → Kept m (boxed setting to content w)
+    boxed_keeps : (to : EffectSite) (content : Datum) (w : State) → stack w ≡ m → Kept m (boxed setting to content w)
     boxed_keeps to content w l =
         told_keeps (Event.Boxed w.serial) (put setting to (Box w.serial None content) (numbered_next w)) (put_keeps to (Box w.serial None content) (numbered_next w) l)
 
@@ -171,15 +171,15 @@ module _ (m : List ℕ) where
         unnumbered_keeps (serials inside) (Go (with_event (Event.Freed serial) (stored_at s.address Gone w))) w (record { kept = stored_stack s.address Gone w ∙ l })
     freed_keeps s _ w l = record { kept = tt }
 
-    put_computed_keeps : (to : Site) (answer : Computed) (w : State) → stack w ≡ m → Kept m (put_computed setting to answer w)
+    put_computed_keeps : (to : EffectSite) (answer : Computed) (w : State) → stack w ≡ m → Kept m (put_computed setting to answer w)
     put_computed_keeps to (Gives number) w l = put_keeps to (Number number) w l
     put_computed_keeps to (PanicsBy why) w l = record { kept = l }
 
-    compute_keeps : (to : Site) (operator : Math) (kind : Option IntKind) (a b : Datum) (w : State) → stack w ≡ m → Kept m (compute setting to operator kind a b w)
+    compute_keeps : (to : EffectSite) (operator : Math) (kind : Option IntKind) (a b : Datum) (w : State) → stack w ≡ m → Kept m (compute setting to operator kind a b w)
     compute_keeps to operator (Some kind) (Number a) (Number b) w l = put_computed_keeps to (computed operator kind a b) w l
     compute_keeps to operator _ _ _ w l = record { kept = tt }
 
-    negate_keeps : (to : Site) (kind : Option IntKind) (a : Datum) (w : State) → stack w ≡ m → Kept m (negate setting to kind a w)
+    negate_keeps : (to : EffectSite) (kind : Option IntKind) (a : Datum) (w : State) → stack w ≡ m → Kept m (negate setting to kind a w)
     negate_keeps to (Some kind) (Number a) w l = put_computed_keeps to _ w l
     negate_keeps to _ _ w l = record { kept = tt }
 
@@ -191,12 +191,12 @@ module _ (m : List ℕ) where
     bounded_keeps count (Number number) w l = within_keeps _ w l
     bounded_keeps count _ w l = record { kept = tt }
 
-    answered_keeps : (to : Site) (answer : Answer) → KeptAnswer m answer → Kept m (answered setting to answer)
+    answered_keeps : (to : EffectSite) (answer : Answer) → KeptAnswer m answer → Kept m (answered setting to answer)
     answered_keeps to (Returns value w) h = put_keeps to value w h.kept
     answered_keeps to (Unwinds w) h = record { kept = h.kept }
     answered_keeps to (HaltsIn halt w) h = record { kept = tt }
 
-    asked_keeps : (to : Site) (numbers : List ℤ) (w : State) → stack w ≡ m → Kept m (asked setting to numbers w)
+    asked_keeps : (to : EffectSite) (numbers : List ℤ) (w : State) → stack w ≡ m → Kept m (asked setting to numbers w)
     asked_keeps to [] w l = record { kept = l }
     asked_keeps to (number ∷ rest) w l = told_keeps (Event.Asked number) _ (put_keeps to (Number number) (record w { asked = rest }) l)
 
@@ -224,7 +224,7 @@ module _ (m : List ℕ) where
     choose_keeps (effects.HasVariant site variant) w l = tested_keeps variant (reach setting w site.place) w l
 
     module _ (run : Bodies) (keeps : KeepsStack run) where
-      called_keeps : (to : Site) (body : Option ℕ) (args : List Datum) (w : State) → stack w ≡ m → Kept m (called setting run to body args w)
+      called_keeps : (to : EffectSite) (body : Option ℕ) (args : List Datum) (w : State) → stack w ≡ m → Kept m (called setting run to body args w)
       called_keeps to body args w l =
           step_keeps body (λ body. answered setting to (run (Event.Call body) body args w)) w
           (λ body. answered_keeps to (run (Event.Call body) body args w) (keeps m (Event.Call body) body args w l))
@@ -261,7 +261,7 @@ module _ (m : List ℕ) where
           halting_keeps (effects.stores_where (never_at setting w) action) Stuck (acted setting run action w)
           (acted_keeps action w l)
 
-      give_keeps : (site : Site) (w : State) → stack w ≡ m → Kept m (give setting run site w)
+      give_keeps : (site : EffectSite) (w : State) → stack w ≡ m → Kept m (give setting run site w)
       give_keeps site w l = step_keeps (whole_at setting w site) _ w (λ s. goes w l)
 
       -- dropping
@@ -357,7 +357,7 @@ module _ (m : List ℕ) where
       nothing_if_keeps true w l = halted Stuck w
       nothing_if_keeps false w l = goes w l
 
-      drop_keeps : (fuel : ℕ) (mode : Mode) (site : Site) (w : State) → stack w ≡ m → Kept m (drop setting run fuel mode site w)
+      drop_keeps : (fuel : ℕ) (mode : Mode) (site : EffectSite) (w : State) → stack w ≡ m → Kept m (drop setting run fuel mode site w)
       drop_keeps fuel mode site w l =
           reached_keeps (reach setting w site.place) _ (nothing_if setting run setting.strict w) (Halts Stuck w)
           (λ s. dropped_if_keeps fuel _ mode s w l) (nothing_if_keeps setting.strict w l) (halted Stuck w)
@@ -370,10 +370,10 @@ spent_keeps (suc n) w = refl
 pub record StackLaws (p : Effects State) : Type 0 where
   pub acting : (action : Action) (w : State) → SameStack (stack w) (p.act action w)
   pub choosing : (test : Test) (w : State) → SameStackOf (stack w) (p.choose test w)
-  pub dropping : (mode : Mode) (site : Site) (w : State) → SameStack (stack w) (p.drop mode site w)
+  pub dropping : (mode : Mode) (site : EffectSite) (w : State) → SameStack (stack w) (p.drop mode site w)
   pub panicking : (why : Why) (w : State) → stack (p.panic why w) ≡ stack w
   pub ticking : (w : State) → SameStack (stack w) (p.tick w)
-  pub giving : (site : Site) (w : State) → SameStack (stack w) (p.give site w)
+  pub giving : (site : EffectSite) (w : State) → SameStack (stack w) (p.give site w)
 
 pub stack_laws : (setting : Setting) (run : Bodies) → KeepsStack run → (fuel : ℕ) → StackLaws (concrete_effects setting run fuel)
 stack_laws setting run keeps fuel = record {

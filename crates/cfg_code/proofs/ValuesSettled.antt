@@ -7,7 +7,7 @@ use Rattle.store_model.specs.Concrete.Effects.{or_stuck, whole_at, evaluate_oper
 use Rattle.store_model.specs.Concrete.Location.{Setting, Located, Reached, Reaches, CutOff, Nowhere, reach, on_reached, stored_at}
 use Rattle.store_model.specs.Concrete.State.{State, Bodies, numbered_next}
 use Rattle.store_model.specs.Effects as effects
-use Rattle.store_model.specs.Effects.{Site, Stuck, Out, Go, Unwind, Halts, stores_where}
+use Rattle.store_model.specs.Effects.{EffectSite, Stuck, Out, Go, Unwind, Halts, stores_where}
 use Rattle.store_model.specs.Values.Datum.{Datum, Number, Box, Address}
 use Rattle.store_model.specs.Values.Wholeness.{serials}
 use Rattle.cfg_code.proofs.FreeWalks.{halting_no_unwind}
@@ -23,7 +23,7 @@ module _ (setting : Setting) where
   told_settled event (Unwind w) n = n
   told_settled event (Halts halt w) n = n
 
-  put_settled : (to : Site) (value : Datum) (w : State) → NoUnwind (put setting to value w)
+  put_settled : (to : EffectSite) (value : Datum) (w : State) → NoUnwind (put setting to value w)
   put_settled to value w = by_place (reach setting w to.place)
     where
       by_place : (r : Reached) → NoUnwind (on_reached r (λ s. Go (stored_at s.address value w)) (Halts Stuck w) (Halts Stuck w))
@@ -31,7 +31,7 @@ module _ (setting : Setting) where
       by_place CutOff = tt
       by_place Nowhere = tt
 
-  put_if_settled : (to : Site) (value : Option Datum) (w : State) → NoUnwind (put_if setting to value w)
+  put_if_settled : (to : EffectSite) (value : Option Datum) (w : State) → NoUnwind (put_if setting to value w)
   put_if_settled to value w = step_settled value (λ v. put setting to v w) w (λ v. put_settled to v w)
 
   taking_settled : (operand : effects.Operand) (w : State) (next : Datum → State → Out State) → ((a : Datum) (v : State) → NoUnwind (next a v)) → NoUnwind (with_operand setting operand w next)
@@ -40,11 +40,11 @@ module _ (setting : Setting) where
   all_settled : (operands : List effects.Operand) (w : State) (next : List Datum → State → Out State) → ((a : List Datum) (v : State) → NoUnwind (next a v)) → NoUnwind (with_operands setting operands w next)
   all_settled operands w next n = step_settled (evaluate_operands setting operands w) (λ x. next x.0 x.1) w (λ x. n x.0 x.1)
 
-  made_settled : (adt : ℕ) (to : Site) (value : Datum) (o : Option (ℕ × ℕ)) (w : State) → NoUnwind (made_event setting adt to value o w)
+  made_settled : (adt : ℕ) (to : EffectSite) (value : Datum) (o : Option (ℕ × ℕ)) (w : State) → NoUnwind (made_event setting adt to value o w)
   made_settled adt to value None w = put_settled to value w
   made_settled adt to value (Some of) w = told_settled _ _ (put_settled to value (numbered_next w))
 
-  built_settled : (to : Site) (kind : effects.Kind) (parts : List Datum) (w : State) → NoUnwind (built setting to kind parts w)
+  built_settled : (to : EffectSite) (kind : effects.AggregateKind) (parts : List Datum) (w : State) → NoUnwind (built setting to kind parts w)
   built_settled to effects.OfTuple parts w = put_settled to _ w
   built_settled to effects.OfArray parts w = put_settled to _ w
   built_settled to (effects.OfClosure closure) parts w = put_settled to _ w

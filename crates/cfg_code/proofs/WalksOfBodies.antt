@@ -14,7 +14,7 @@ use Rattle.store_model.specs.Effects as effects
 use Rattle.store_model.specs.Effects.{Halt, Aborted, OutOfTicks, Stuck, StuckAt, BadUse, BadStore, NoChoice, Infeasible, Unreachable, Out, Go, Unwind as Unwinds, Halts, Choice, Yes, No, Neither, Effects}
 use Rattle.cfg_code.proofs.Simulation.{Walks}
 use Rattle.cfg_code.specs.Laws.{without_place}
-use Rattle.cfg_code.specs.Spots.{Target}
+use Rattle.cfg_code.specs.Spots.{CodeTarget}
 
 stuck_without_place : (number block : ℕ) (halt : Halt) → without_place (stuck_in number block halt) ≡ without_place halt
 stuck_without_place number block Aborted = refl
@@ -108,7 +108,7 @@ abbrev pub SameForNodes : {W : Type 0} → Effects W → (node node' : ℕ → �
 SameForNodes {W} q node node' =
     (n : ℕ) (block : Block) (next : Next W) (w : W) → block_does (naming without_place q) (node n) block next w ≡ block_does (naming without_place q) (node' n) block next w
 
-module _ {W : Type 0} (size : W → ℕ) (q : Effects W) (laws : Laws q size) (number : ℕ) (node : ℕ → ℕ → ℕ) (t : Target) (same : SameForNodes q node t.node)
+module _ {W : Type 0} (size : W → ℕ) (q : Effects W) (laws : Laws q size) (number : ℕ) (node : ℕ → ℕ → ℕ) (t : CodeTarget) (same : SameForNodes q node t.node)
     (ranked : IsRanked t.body) (bound fuel : ℕ) (less : bound < fuel) where
   abbrev pub Walk : Next W
   Walk n w = renamed without_place (walk q number node t.body fuel n w)

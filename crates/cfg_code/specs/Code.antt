@@ -4,7 +4,7 @@ use Rattle.std.specs.Prelude.{◌≡◌, ℕ, Bool, true, false, List, [], ◌�
 use Rattle.cfg_graph.specs.declared.terminator.Term.{Term}
 use Rattle.mir_base.specs.declared.trace.Why.{Why}
 use Rattle.store_model.specs.Effects as effects
-use Rattle.store_model.specs.Effects.{Site, Operand, Action, OfTuple, OfArray, OfVariant, OfClosure}
+use Rattle.store_model.specs.Effects.{EffectSite, Operand, Action, OfTuple, OfArray, OfVariant, OfClosure}
 use Rattle.store_model.specs.Places.Place.{Place, whole_local}
 use Rattle.typed_tree.specs.Nodes.{number_of}
 use Rattle.typed_tree.specs.Tree as tree
@@ -13,9 +13,9 @@ use Rattle.src_meaning.specs.Evaluation.{in_number_order, to_own_key}
 use Rattle.src_meaning.specs.Forms.{Destination, Into, coerced, Around, in_loop, loop_destination, moved, is_never}
 use Rattle.src_meaning.specs.Locals.OfBody.{param_key, answer_key}
 use Rattle.src_meaning.specs.Scopes.{Scopes, innermost, with_scope, with_entry, with_pending}
-use Rattle.src_meaning.specs.Shape.{Head, head, Shape, Bound, kind_of, shape, shape_of}
+use Rattle.src_meaning.specs.Shape.{NodeHead, head, Shape, BoundName, kind_of, shape, shape_of}
 use Rattle.cfg_code.specs.Rules.{EvaluatesAt, ReachesAt, NodeCode, CodeIfAny, no_code, a_code, all_moved, Delivers, PutsUnit, InOwnScope, AloneAt, ActingAt, DroppingAt, TemporaryAt, UseAt, ElementAt, BorrowAt, UnitAfterAt, AssignAt, ConditionAt, BranchAt, BindsAt, PanicsAt, IfTakenAt, MatchAt, ArmAt, BlockAt, EvaluatingAt, LetAt, LoopAt, JumpValueAt}
-use Rattle.cfg_code.specs.Spots.{Target, Pos, Ways, ways_of, body_ways, Spot, Then, After, Nothing, StepAt, TermAt, Joins, InScope, JumpAt, node_at}
+use Rattle.cfg_code.specs.Spots.{CodeTarget, CodePos, Ways, ways_of, body_ways, CodeSpot, Then, After, Nothing, StepAt, TermAt, Joins, InScope, JumpAt, node_at}
 
 -- a field's number and the key of its value
 abbrev pub field_keys : Fields → List (ℕ × ℕ)
@@ -25,17 +25,17 @@ field_keys (a_field number value rest) = (number, number_of value) ∷ field_key
 abbrev pub moved_fields : ℕ → List (ℕ × ℕ) → List Operand
 moved_fields number fields = map (λ f. moved number f.1) fields
 
-module _ (t : Target) where
+module _ (t : CodeTarget) where
   abbrev pub MakesIntoAt : Type 1
-  MakesIntoAt = Around → Ways → Destination → Spot
+  MakesIntoAt = Around → Ways → Destination → CodeSpot
 
-  abbrev pub made_in : Head → EvaluatesAt → EvaluatesAt
+  abbrev pub made_in : NodeHead → EvaluatesAt → EvaluatesAt
   made_in h P around c own to = P around c own (to_own_key (is_never t.items h.ty) h.id to)
 
-  abbrev pub no_arm : Place → Pos → Around → Ways → Destination → Spot
+  abbrev pub no_arm : Place → CodePos → Around → Ways → Destination → CodeSpot
   no_arm matched rest around c to = Joins t Nothing
 
-  abbrev pub a_value : Head → Shape → EvaluatesAt → NodeCode
+  abbrev pub a_value : NodeHead → Shape → EvaluatesAt → NodeCode
   a_value h s P = record {
     head = h;
     shape = s;
@@ -44,7 +44,7 @@ module _ (t : Target) where
     arm = no_arm;
   }
 
-  abbrev pub a_place : Head → Shape → ReachesAt → NodeCode
+  abbrev pub a_place : NodeHead → Shape → ReachesAt → NodeCode
   a_place h s P = record {
     head = h;
     shape = s;
@@ -53,105 +53,105 @@ module _ (t : Target) where
     arm = no_arm;
   }
 
-  abbrev pub in_scope_of_its_own : Head → MakesIntoAt → EvaluatesAt
+  abbrev pub in_scope_of_its_own : NodeHead → MakesIntoAt → EvaluatesAt
   in_scope_of_its_own h P around c own to = InOwnScope t h own (P around c to)
 
-  abbrev pub a_scope : Head → Shape → MakesIntoAt → NodeCode
+  abbrev pub a_scope : NodeHead → Shape → MakesIntoAt → NodeCode
   a_scope h s P = a_value h s (in_scope_of_its_own h P)
 
-  abbrev pub effect : Head → Shape → (Site → Action) → NodeCode
+  abbrev pub effect : NodeHead → Shape → (EffectSite → Action) → NodeCode
   effect h s action = a_scope h s (λ around c. Delivers t h action)
 
-  abbrev pub on_operands : Head → Shape → List NodeCode → (Site → Action) → NodeCode
+  abbrev pub on_operands : NodeHead → Shape → List NodeCode → (EffectSite → Action) → NodeCode
   on_operands h s ms action =
       a_value h s (λ around c own to. ActingAt t h around c own ms (Delivers t h action to))
 
-  abbrev pub on_one : Head → Shape → NodeCode → (Site → Operand → Action) → NodeCode
+  abbrev pub on_one : NodeHead → Shape → NodeCode → (EffectSite → Operand → Action) → NodeCode
   on_one h s m action = on_operands h s (m ∷ []) (λ site. action site (moved h.id m.head.id))
 
-  abbrev pub on_two : Head → Shape → NodeCode → NodeCode → (Site → Operand → Operand → Action) → NodeCode
+  abbrev pub on_two : NodeHead → Shape → NodeCode → NodeCode → (EffectSite → Operand → Operand → Action) → NodeCode
   on_two h s m m' action =
       on_operands h s (m ∷ m' ∷ []) (λ site. action site (moved h.id m.head.id) (moved h.id m'.head.id))
 
-  abbrev pub on_all : Head → Shape → List NodeCode → (Site → List Operand → Action) → NodeCode
+  abbrev pub on_all : NodeHead → Shape → List NodeCode → (EffectSite → List Operand → Action) → NodeCode
   on_all h s ms action = on_operands h s ms (λ site. action site (all_moved h.id ms))
 
-  abbrev pub gives_unit : Head → Shape → NodeCode → (Operand → Action) → NodeCode
+  abbrev pub gives_unit : NodeHead → Shape → NodeCode → (Operand → Action) → NodeCode
   gives_unit h s m action =
       a_value h s (λ around c own to.
       ActingAt t h around c own (m ∷ []) (UnitAfterAt t h (action (moved h.id m.head.id)) to))
 
-  abbrev pub drops : Head → NodeCode → EvaluatesAt
+  abbrev pub drops : NodeHead → NodeCode → EvaluatesAt
   drops h m around c own to = DroppingAt t h around c own m (PutsUnit t h to)
 
-  abbrev pub a_statement : Head → Shape → ReachesAt → NodeCode
+  abbrev pub a_statement : NodeHead → Shape → ReachesAt → NodeCode
   a_statement h s P = a_value h s (λ around c own to. P around c)
 
-  abbrev pub a_pattern : Head → Shape → NodeCode
+  abbrev pub a_pattern : NodeHead → Shape → NodeCode
   a_pattern h s = a_value h s (λ around c own to. Nothing)
 
-  abbrev pub shortcut : Head → Bool → Destination → Spot
+  abbrev pub shortcut : NodeHead → Bool → Destination → CodeSpot
   shortcut h truth to = Delivers t h (λ site. effects.Put site (effects.Truth truth)) to
 
-  abbrev pub conjunction : Head → NodeCode → NodeCode → MakesIntoAt
+  abbrev pub conjunction : NodeHead → NodeCode → NodeCode → MakesIntoAt
   conjunction h left right around c to =
       ConditionAt t around c left (AloneAt t around c right to) (shortcut h false to)
 
-  abbrev pub disjunction : Head → NodeCode → NodeCode → MakesIntoAt
+  abbrev pub disjunction : NodeHead → NodeCode → NodeCode → MakesIntoAt
   disjunction h left right around c to =
       ConditionAt t around c left (shortcut h true to) (AloneAt t around c right to)
 
-  abbrev pub otherwise_unit : Head → CodeIfAny → MakesIntoAt
+  abbrev pub otherwise_unit : NodeHead → CodeIfAny → MakesIntoAt
   otherwise_unit h otherwise around c to = BranchAt t around c to otherwise (PutsUnit t h to)
 
-  abbrev pub if_else : Head → NodeCode → NodeCode → CodeIfAny → MakesIntoAt
+  abbrev pub if_else : NodeHead → NodeCode → NodeCode → CodeIfAny → MakesIntoAt
   if_else h condition consequent otherwise around c to =
       ConditionAt t around c condition (AloneAt t around c consequent to) (otherwise_unit h otherwise around c to)
 
-  abbrev pub if_let : Head → NodeCode → NodeCode → NodeCode → CodeIfAny → MakesIntoAt
+  abbrev pub if_let : NodeHead → NodeCode → NodeCode → NodeCode → CodeIfAny → MakesIntoAt
   if_let h pattern scrutinee consequent otherwise around c to =
       IfTakenAt t h around c pattern scrutinee
       (AloneAt t around c consequent to)
       (otherwise_unit h otherwise around c to)
 
   -- the body of a loop
-  abbrev pub body_in : NodeCode → Around → Ways → Spot
+  abbrev pub body_in : NodeCode → Around → Ways → CodeSpot
   body_in m around c = AloneAt t around c m (Into m.head.id)
 
   -- the end of a loop with a condition
-  abbrev pub ends_loop : Head → Destination → Ways → Spot
+  abbrev pub ends_loop : NodeHead → Destination → Ways → CodeSpot
   ends_loop h to c = JumpAt t (ways_of h.id c).breaks (PutsUnit t h to)
 
-  abbrev pub endless : Head → NodeCode → MakesIntoAt
+  abbrev pub endless : NodeHead → NodeCode → MakesIntoAt
   endless h m around c to = LoopAt t h.id (body_in m (in_loop h.id to around)) c
 
-  abbrev pub while_true : Head → NodeCode → NodeCode → MakesIntoAt
+  abbrev pub while_true : NodeHead → NodeCode → NodeCode → MakesIntoAt
   while_true h condition m around c to = LoopAt t h.id
       (λ c. ConditionAt t (in_loop h.id to around) c condition
       (body_in m (in_loop h.id to around) c)
       (ends_loop h to c)) c
 
-  abbrev pub while_taken : Head → NodeCode → NodeCode → NodeCode → MakesIntoAt
+  abbrev pub while_taken : NodeHead → NodeCode → NodeCode → NodeCode → MakesIntoAt
   while_taken h pattern scrutinee m around c to = LoopAt t h.id
       (λ c. IfTakenAt t h (in_loop h.id to around) c pattern scrutinee
       (body_in m (in_loop h.id to around) c)
       (ends_loop h to c)) c
 
-  abbrev pub breaks : ℕ → Head → CodeIfAny → MakesIntoAt
+  abbrev pub breaks : ℕ → NodeHead → CodeIfAny → MakesIntoAt
   breaks loop h m around c to =
       JumpAt t (ways_of loop c).breaks (JumpValueAt t h m around c (loop_destination loop around.loops))
 
-  abbrev pub returns : Head → CodeIfAny → MakesIntoAt
+  abbrev pub returns : NodeHead → CodeIfAny → MakesIntoAt
   returns h m around c to = JumpAt t c.returns (JumpValueAt t h m around c around.answer)
 
-  abbrev pub coerce : Head → ℕ → NodeCode → EvaluatesAt
+  abbrev pub coerce : NodeHead → ℕ → NodeCode → EvaluatesAt
   coerce h trait_no m around c own to = m.evaluates around c own (coerced m.head.id trait_no to)
 
   abbrev mutual
     pub code : Node → NodeCode
     code (node id at ty by form) = code_of form (head id ty by) (shape_of t.items form (head id ty by))
 
-    pub code_of : Form → Head → Shape → NodeCode
+    pub code_of : Form → NodeHead → Shape → NodeCode
     code_of (tree.Number value) h s =
         effect h s (λ site. effects.Put site (effects.Number value (kind_of t.items h.ty)))
     code_of (tree.Truth value) h s = effect h s (λ site. effects.Put site (effects.Truth value))
@@ -235,11 +235,11 @@ module _ (t : Target) where
 
   -- Bodies.
 
-  abbrev pub NamesAt : Bool → List Bound → Spot
+  abbrev pub NamesAt : Bool → List BoundName → CodeSpot
   NamesAt true bounds = Nothing
   NamesAt false bounds = BindsAt t innermost bounds
 
-  abbrev pub ParamsAt : List ParamTree → Spot
+  abbrev pub ParamsAt : List ParamTree → CodeSpot
   ParamsAt [] = Nothing
   ParamsAt (param ∷ params) =
       After (innermost (with_entry (record { key = param_key param; ty = param.ty })))
@@ -256,7 +256,7 @@ module _ (t : Target) where
       (with_scope (answer_key body) false [])
 
   -- the entire function: the parameters, and the block into the result
-  abbrev pub FunctionAt : BodyTree → (returns : ℕ) → Spot
+  abbrev pub FunctionAt : BodyTree → (returns : ℕ) → CodeSpot
   FunctionAt body n =
       InScope t (answer_key body) true (Then (ParamsAt body.params)
       ((code body.block).evaluates (around_body body) (body_ways n) false (Into (answer_key body))))

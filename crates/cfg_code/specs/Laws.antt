@@ -14,7 +14,7 @@ use Rattle.typed_tree.specs.Tree.{BodyTree, ProgramTree}
 use Rattle.src_meaning.specs.Locals.OfBody.{local_of, local_tys}
 use Rattle.src_meaning.specs.Programs.{source, free_run, reached_by, refused_of}
 use Rattle.cfg_code.specs.Code.{BodyAt}
-use Rattle.cfg_code.specs.Spots.{Target}
+use Rattle.cfg_code.specs.Spots.{CodeTarget}
 
 -- a missing step, wherever it is: a source has no block to be stuck in
 abbrev pub without_place : Halt → Halt
@@ -28,7 +28,7 @@ end_without_place end = end
 abbrev pub outcome_without_place : Trace × End → Trace × End
 outcome_without_place outcome = (outcome.0, end_without_place outcome.1)
 
-abbrev pub target_of : ItemTable → BodyTree → Body → (ℕ → ℕ → ℕ) → Target
+abbrev pub target_of : ItemTable → BodyTree → Body → (ℕ → ℕ → ℕ) → CodeTarget
 target_of items tree body node = record { items = items; local_of = local_of items tree; body = body; node = node }
 
 -- a body of a graph holds the code of a body, where each line stands for a node

@@ -8,7 +8,7 @@ use Rattle.mir_ty.specs.ItemTable.{ItemTable}
 use Rattle.store_model.specs.Places.Place.{Step, same_step}
 use Rattle.store_model.specs.Abstract.Presence.{Presence, Parts, known, none_named, named, is_present, is_gone, itself_gone, part_among, presence_at, presence_along, changed_among, after_action, all_present, all_parts_present}
 use Rattle.cfg_graph.specs.declared.graph.Body.{Body}
-use Rattle.cfg_graph.specs.Moves.Gone.{Action, leaves_gone, below, counts, is_param}
+use Rattle.cfg_graph.specs.Moves.Gone.{PathAction, leaves_gone, below, counts, is_param}
 use Rattle.cfg_graph.specs.Moves.Present.{changed_by, present_by, present_from, present_at_start, present_after, WholeIsAllPresent}
 use Rattle.cfg_graph.proofs.Present.{gone_is_not_present}
 use Rattle.cfg_graph.proofs.WholePlaces.{same_step-sound, same_step-refl, not_gone, gone_not}
@@ -163,7 +163,7 @@ tidy-start true = tt
 tidy-start false = tt
 
 module _ (items : ItemTable) (body : Body) where
-  tidy-present_from : (local : ℕ) (actions : List Action) (p : Presence) → IsTidy p → IsTidy (present_from items body local actions p)
+  tidy-present_from : (local : ℕ) (actions : List PathAction) (p : Presence) → IsTidy p → IsTidy (present_from items body local actions p)
   tidy-present_from local [] p tidy = tidy
   tidy-present_from local (a ∷ later) p tidy =
       tidy-present_from local later (present_by items body local a p)

@@ -7,7 +7,7 @@ use Rattle.mir_ty.specs.ItemTable.{ItemTable}
 use Rattle.store_model.specs.Places.Place.{Step, same_step, Place}
 use Rattle.store_model.specs.Abstract.Presence.{Presence, Parts, known, none_named, named, is_present, is_gone, itself_gone, part_among, presence_at, presence_along, changed_among, changed_at, after_action}
 use Rattle.cfg_graph.specs.declared.graph.Body.{Body}
-use Rattle.cfg_graph.specs.Moves.Gone.{Action, leaves_gone, are_first, counts, left_by, last_left, is_param}
+use Rattle.cfg_graph.specs.Moves.Gone.{PathAction, leaves_gone, are_first, counts, left_by, last_left, is_param}
 use Rattle.cfg_graph.specs.Moves.Present.{changed_by, present_by, present_from, present_at_start, GoneIsNotPresent}
 use Rattle.cfg_graph.proofs.WholePlaces.{same_step-sound, same_step-refl}
 
@@ -93,7 +93,7 @@ at-start true steps = ap itself_gone (along-closed steps false)
 at-start false steps = ap itself_gone (along-closed steps true)
 
 module _ (items : ItemTable) (body : Body) where
-  gone-present_from : (place : Place) (actions : List Action) (p : Presence)
+  gone-present_from : (place : Place) (actions : List PathAction) (p : Presence)
       → itself_gone (presence_along place.steps (present_from items body place.local actions p)) ≡ unwrap_or (last_left items body place actions) (itself_gone (presence_along place.steps p))
   gone-present_from place [] p = refl
   gone-present_from place (a ∷ later) p =

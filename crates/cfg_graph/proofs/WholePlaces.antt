@@ -13,7 +13,7 @@ use Rattle.std.proofs.lemmas.Option.{none-some}
 use Rattle.mir_ty.specs.ItemTable.{ItemTable}
 use Rattle.store_model.specs.Places.Place.{Step, same_step, ToPart, ToField, ToContent, ToElement, Place}
 use Rattle.cfg_graph.specs.declared.graph.Body.{Body}
-use Rattle.cfg_graph.specs.Moves.Gone.{Action, leaves_gone, are_first, is_at_or_above, below, counts, left_by, last_left, is_param, is_gone_after, IsWholeAfter, is_whole_after, WholenessIsTested}
+use Rattle.cfg_graph.specs.Moves.Gone.{PathAction, leaves_gone, are_first, is_at_or_above, below, counts, left_by, last_left, is_param, is_gone_after, IsWholeAfter, is_whole_after, WholenessIsTested}
 
 -- Steps and places.
 
@@ -155,21 +155,21 @@ above_gone : (u g : Bool) → not (u && g) ≡ true → u ≡ true → g ≡ fal
 above_gone false g h k = absurd (false≢true k)
 above_gone true g h k = not_gone g h
 
-all_pass : (test : Action → Bool) (actions : List Action) → ((a : Action) → test a ≡ true) → list_all test actions ≡ true
+all_pass : (test : PathAction → Bool) (actions : List PathAction) → ((a : PathAction) → test a ≡ true) → list_all test actions ≡ true
 all_pass test [] f = refl
 all_pass test (a ∷ actions) f = both_true (f a) (all_pass test actions f)
 
 -- an action is one of these: what all of them pass it passes
-abbrev IsAmong : List Action → Action → Type 0
-IsAmong actions b = (test : Action → Bool) → list_all test actions ≡ true → test b ≡ true
+abbrev IsAmong : List PathAction → PathAction → Type 0
+IsAmong actions b = (test : PathAction → Bool) → list_all test actions ≡ true → test b ≡ true
 
 module _ (items : ItemTable) (body : Body) where
   -- where nothing was left of a place, nothing was of a container of it
-  left_by-upper : (u l : Place) → is_at_or_above u l ≡ true → (a : Action) → left_by items body l a ≡ None → left_by items body u a ≡ None
+  left_by-upper : (u l : Place) → is_at_or_above u l ≡ true → (a : PathAction) → left_by items body l a ≡ None → left_by items body u a ≡ None
   left_by-upper u l h a e =
       left-upper (counts items body a.place) (is_at_or_above a.place u) (is_at_or_above a.place l) (leaves_gone a.how) (λ k. above-trans a.place u l k h) e
 
-  last_left-upper : (u l : Place) → is_at_or_above u l ≡ true → (actions : List Action) → last_left items body l actions ≡ None → last_left items body u actions ≡ None
+  last_left-upper : (u l : Place) → is_at_or_above u l ≡ true → (actions : List PathAction) → last_left items body l actions ≡ None → last_left items body u actions ≡ None
   last_left-upper u l h [] e = refl
   last_left-upper u l h (a ∷ later) e =
       or-none (last_left items body u later) None (left_by items body u a) None
@@ -177,13 +177,13 @@ module _ (items : ItemTable) (body : Body) where
       (left_by-upper u l h a (second_none (last_left items body l later) (left_by items body l a) e))
 
   -- a place was last acted on together with a container of it, or together with an action's place between them
-  abbrev IsLastWith : Place → Place → List Action → Type 0
+  abbrev IsLastWith : Place → Place → List PathAction → Type 0
   IsLastWith p l actions =
       (last_left items body l actions ≡ last_left items body p actions)
-      ⊎ ((b : Action) × IsAmong actions b × (is_at_or_above p b.place ≡ true) × (last_left items body l actions ≡ last_left items body b.place actions))
+      ⊎ ((b : PathAction) × IsAmong actions b × (is_at_or_above p b.place ≡ true) × (last_left items body l actions ≡ last_left items body b.place actions))
 
   -- a later action was the last on it
-  last_later : (p l : Place) (a : Action) (later : List Action) (v : Bool) → last_left items body l later ≡ Some v → IsLastWith p l later → IsLastWith p l (a ∷ later)
+  last_later : (p l : Place) (a : PathAction) (later : List PathAction) (v : Bool) → last_left items body l later ≡ Some v → IsLastWith p l later → IsLastWith p l (a ∷ later)
   last_later p l a later v h (inl e) =
       inl (or-some (last_left items body l later) (last_left items body p later) (left_by items body l a) (left_by items body p a) v h e)
   last_later p l a later v h (inr (b, among, above, e)) =
@@ -195,11 +195,11 @@ module _ (items : ItemTable) (body : Body) where
       )
 
   -- its own action counts for the place of an action
-  own_left : (l : Place) (a : Action) → is_at_or_above a.place l ≡ true → left_by items body l a ≡ left_by items body a.place a
+  own_left : (l : Place) (a : PathAction) → is_at_or_above a.place l ≡ true → left_by items body l a ≡ left_by items body a.place a
   own_left l a h = ap (λ u. if counts items body a.place && u then leaves_gone a.how else None) (h ∙ sym (above-refl a.place))
 
   -- no later action was on it
-  last_here : (p l : Place) (a : Action) (later : List Action) → is_at_or_above p l ≡ true → last_left items body l later ≡ None → IsLastWith p l (a ∷ later)
+  last_here : (p l : Place) (a : PathAction) (later : List PathAction) → is_at_or_above p l ≡ true → last_left items body l later ≡ None → IsLastWith p l (a ∷ later)
   last_here p l a later h none =
       elim (left-compare (counts items body a.place) (is_at_or_above a.place l) (is_at_or_above a.place p) (leaves_gone a.how) (λ k. above-trans a.place p l k h)) [
         | inl e ↦ inl (or-none (last_left items body l later) (last_left items body p later) (left_by items body l a) (left_by items body p a) none (last_left-upper p l h later none) e)
@@ -215,7 +215,7 @@ module _ (items : ItemTable) (body : Body) where
         ]
       ]
 
-  last_with : (p l : Place) → is_at_or_above p l ≡ true → (actions : List Action) → IsLastWith p l actions
+  last_with : (p l : Place) → is_at_or_above p l ≡ true → (actions : List PathAction) → IsLastWith p l actions
   last_with p l h [] = inl refl
   last_with p l h (a ∷ later) =
       let before = last_with p l h later in
@@ -224,10 +224,10 @@ module _ (items : ItemTable) (body : Body) where
         | inr some ↦ last_later p l a later some.0 some.1 before
       ]
 
-  abbrev tested_at : List Action → Place → Action → Bool
+  abbrev tested_at : List PathAction → Place → PathAction → Bool
   tested_at actions p a = not (is_at_or_above p a.place && is_gone_after items body actions a.place)
 
-  whole_below : (actions : List Action) (p : Place) → is_whole_after items body actions p ≡ true → (steps : List Step)
+  whole_below : (actions : List PathAction) (p : Place) → is_whole_after items body actions p ≡ true → (steps : List Step)
       → IsLastWith p (below p steps) actions → is_gone_after items body actions (below p steps) ≡ false
   whole_below actions p h steps (inl e) =
       ap (λ z. unwrap_or z (not (is_param items body p.local))) e
@@ -241,7 +241,7 @@ module _ (items : ItemTable) (body : Body) where
       ∙ ap (λ n. unwrap_or (last_left items body b.place actions) (not (is_param items body n))) same
       ∙ present
 
-  whole_tested : (actions : List Action) (p : Place) → IsWholeAfter items body actions p → is_whole_after items body actions p ≡ true
+  whole_tested : (actions : List PathAction) (p : Place) → IsWholeAfter items body actions p → is_whole_after items body actions p ≡ true
   whole_tested actions p whole =
       both_true
       (gone_not (is_gone_after items body actions p) (subst (λ q. is_gone_after items body actions q ≡ false) (below-nil p) (whole [])))

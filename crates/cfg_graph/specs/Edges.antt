@@ -39,18 +39,18 @@ unwind_of Term.Return = []
 unwind_of Term.Resume = []
 
 -- where a way out of a block leads: on to a block, or out of the body, which ends by unwinding or ends the run
-pub data Exit : Type 0 where
-  ToBlock : (block : ℕ) → Exit
-  LeavesBody : Exit
+pub data BlockExit : Type 0 where
+  ToBlock : (block : ℕ) → BlockExit
+  LeavesBody : BlockExit
 
 -- where a panic leads
-abbrev pub unwind_exit : Unwind → Exit
+abbrev pub unwind_exit : Unwind → BlockExit
 unwind_exit (Unwind.Block block) = ToBlock block
 unwind_exit Unwind.Resume = LeavesBody
 unwind_exit Unwind.Abort = LeavesBody
 
 -- the ways out of a terminator in the order of items, unwinding last
-abbrev pub ways_out : Term → List Exit
+abbrev pub ways_out : Term → List BlockExit
 ways_out term = map ToBlock (onward term) ++ map unwind_exit (unwind_of term)
 
 -- the block in which a panic goes on, where it does

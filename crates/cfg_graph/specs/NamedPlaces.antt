@@ -5,9 +5,9 @@ use Rattle.std.specs.List.{list_any, list_all}
 use Rattle.std.specs.Option.{option_map_or}
 use Rattle.cfg_graph.specs.declared.graph.Body.{Body}
 use Rattle.cfg_graph.specs.declared.statement.Stmt.{Stmt}
-use Rattle.cfg_graph.specs.Moves.Gone.{Action, leaves_gone, are_first}
+use Rattle.cfg_graph.specs.Moves.Gone.{PathAction, leaves_gone, are_first}
 use Rattle.cfg_graph.specs.Places.{named}
-use Rattle.cfg_graph.specs.Uses.{Use, Stores}
+use Rattle.cfg_graph.specs.Uses.{PlaceUse, Stores}
 use Rattle.store_model.specs.Places.Place.{Step, ToContent, Place, whole_local, before_element}
 
 abbrev pub same_place : Place → Place → Bool
@@ -56,7 +56,7 @@ module _ (body : Body) where
   named_places local = option_map_or followed (named_by local (references_made body)) []
 
   -- what is moved, dropped or freed
-  abbrev takes : Action → Bool
+  abbrev takes : PathAction → Bool
   takes action = option_map_or (λ gone. gone) (leaves_gone action.how) false
 
   abbrev goes_through : ℕ → List Place → Bool
@@ -66,33 +66,33 @@ module _ (body : Body) where
   overlap places others = list_any (λ place. list_any (overlaps place) others) places
 
   -- an action takes nothing of what the reference in a local names, unless it goes through this reference
-  abbrev pub spares : ℕ → Action → Bool
+  abbrev pub spares : ℕ → PathAction → Bool
   spares local action =
       not (takes action)
       || goes_through local (followed action.place)
       || not (overlap (named_places local) (followed action.place))
 
-  abbrev stores : Use → Bool
+  abbrev stores : PlaceUse → Bool
   stores Stores = true
   stores how = false
 
   -- the reference in a local is made, or used
-  abbrev makes : ℕ → Action → Bool
+  abbrev makes : ℕ → PathAction → Bool
   makes local action = stores action.how && same_place action.place (whole_local local)
 
-  abbrev uses : ℕ → Action → Bool
+  abbrev uses : ℕ → PathAction → Bool
   uses local action = (action.place.local == local) && not (makes local action)
 
   -- the actions at the same line that come next
-  abbrev of_line : Action → List Action → List Action
+  abbrev of_line : PathAction → List PathAction → List PathAction
   of_line at later = take_while (λ action. (action.block == at.block) && (action.line == at.line)) later
 
-  abbrev if_used : Bool → List Action → List (List Action)
+  abbrev if_used : Bool → List PathAction → List (List PathAction)
   if_used used stretch = if used then stretch ∷ [] else []
 
   -- the actions from a making of the reference in a local up to each use of it, with all operands of that use, as long
   -- as it is not made again
-  abbrev up_to_uses : ℕ → List Action → List Action → List (List Action)
+  abbrev up_to_uses : ℕ → List PathAction → List PathAction → List (List PathAction)
   up_to_uses local between [] = []
   up_to_uses local between (action ∷ later) =
       if makes local action then []
@@ -100,11 +100,11 @@ module _ (body : Body) where
       if_used (uses local action) (between ++ action ∷ of_line action later)
       ++ up_to_uses local (between ++ action ∷ []) later
 
-  abbrev pub stretches : ℕ → List Action → List (List Action)
+  abbrev pub stretches : ℕ → List PathAction → List (List PathAction)
   stretches local [] = []
   stretches local (action ∷ later) =
       (if makes local action then up_to_uses local [] later else []) ++ stretches local later
 
   -- what the reference in a local names is not taken between its making and a use
-  abbrev pub keeps_named : List Action → ℕ → Bool
+  abbrev pub keeps_named : List PathAction → ℕ → Bool
   keeps_named actions local = list_all (list_all (spares local)) (stretches local actions)

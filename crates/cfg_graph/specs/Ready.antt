@@ -156,6 +156,6 @@ abbrev pub MeetsNoBadUse : Graph → Type 0
 MeetsNoBadUse graph = (n : ℕ) (body : Body) (path : List ℕ) (given : List Bool) →
     slice_get graph.bodies n ≡ Some body → IsPath graph.items body path given → bad_uses_on graph.items body path ≡ []
 
-pub record IsReady (graph : Graph) : Type 0 where
+pub record IsReadyGraph (graph : Graph) : Type 0 where
   pub prepared : IsPrepared graph
   pub uses : MeetsNoBadUse graph

@@ -5,19 +5,19 @@ use Rattle.cfg_graph.specs.declared.place.Operand.{Operand}
 use Rattle.cfg_graph.specs.declared.statement.Stmt.{Stmt}
 use Rattle.cfg_graph.specs.declared.terminator.Term.{Term}
 
-pub data Use : Type 0 where
-  Copies : Use
-  Moves : Use
-  Borrows : Use
+pub data PlaceUse : Type 0 where
+  Copies : PlaceUse
+  Moves : PlaceUse
+  Borrows : PlaceUse
   -- reads the whole value, without effect
-  Touches : Use
+  Touches : PlaceUse
   -- tests the variant
-  Tests : Use
-  Stores : Use
-  Drops : Use
-  Frees : Use
+  Tests : PlaceUse
+  Stores : PlaceUse
+  Drops : PlaceUse
+  Frees : PlaceUse
 
-abbrev pub operand_uses : Operand → List (Use × Place)
+abbrev pub operand_uses : Operand → List (PlaceUse × Place)
 operand_uses (Operand.Copied place) = (Copies, place) ∷ []
 operand_uses (Operand.Moved place) = (Moves, place) ∷ []
 operand_uses _ = []
@@ -56,14 +56,14 @@ stored_by_stmt (Stmt.Forget operand) = []
 stored_by_stmt (Stmt.Free place) = []
 
 -- what is used otherwise than as an operand, before anything is stored
-abbrev pub other_uses : Stmt → List (Use × Place)
+abbrev pub other_uses : Stmt → List (PlaceUse × Place)
 other_uses (Stmt.Borrow to unique of) = (Borrows, of) ∷ []
 other_uses (Stmt.Touch place) = (Touches, place) ∷ []
 other_uses (Stmt.Free place) = (Frees, place) ∷ []
 other_uses _ = []
 
 -- the operands from left to right, what is used otherwise, and last the store
-abbrev pub stmt_uses : Stmt → List (Use × Place)
+abbrev pub stmt_uses : Stmt → List (PlaceUse × Place)
 stmt_uses stmt =
     flat_map operand_uses (operands_of_stmt stmt) ++ other_uses stmt ++
     map (λ place. (Stores, place)) (stored_by_stmt stmt)
@@ -99,16 +99,16 @@ stored_by_term (Term.Panic why unwind) = []
 stored_by_term Term.Return = []
 stored_by_term Term.Resume = []
 
-abbrev pub other_term_uses : Term → List (Use × Place)
+abbrev pub other_term_uses : Term → List (PlaceUse × Place)
 other_term_uses (Term.Case on variant if_true if_false) = (Tests, on) ∷ []
 other_term_uses (Term.DropAt place next unwind) = (Drops, place) ∷ []
 other_term_uses _ = []
 
 -- what a terminator does before it takes a way out
-abbrev pub term_uses : Term → List (Use × Place)
+abbrev pub term_uses : Term → List (PlaceUse × Place)
 term_uses term = flat_map operand_uses (operands_of_term term) ++ other_term_uses term
 
-abbrev pub place_used : Use × Place → Place
+abbrev pub place_used : PlaceUse × Place → Place
 place_used made = made.1
 
 -- all places of a statement, and of a terminator

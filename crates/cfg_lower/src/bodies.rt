@@ -18,8 +18,8 @@ use body_code::body_code;
 use body_locals::{Locals, locals};
 use bumpalo::Bump;
 use cfg_graph::{Body, Kind, Term};
-use code_blocks::{Blocks, Made, Ways};
-use code_passes::{Frame, Scopes, Spans, change, enter, marks_of, reaches_of};
+use code_blocks::{Blocks, MadeBlock, Ways};
+use code_passes::{LoweringFrame, Scopes, Spans, change, enter, marks_of, reaches_of};
 use mir_base::{Key, List, NoMemory, NodeId};
 use mir_ty::Items;
 use scope_code::{Change, Entry, ScopeAt};
@@ -38,7 +38,7 @@ pub struct LoweredBody {
 
 /// The scope of the result, which is pending in it.
 fn answer_scope<'a>(bump: &'a Bump, body: &TBody) -> Result<&'a Scopes<'a>, NoMemory>
-    ensures { IfOk result (λ scopes. (f : build.Frame) → scopes_of scopes.now ≡ low.answer_scope f (body_of body.now)) }
+    ensures { IfOk result (λ scopes. (f : build.LoweringFrame) → scopes_of scopes.now ≡ low.answer_scope f (body_of body.now)) }
 {
     let by = Change::Pends(
         ScopeAt::Innermost,
@@ -64,14 +64,14 @@ fn start(alloc: Global, id: NodeId, blocks: &mut Blocks) -> Result<(), NoMemory>
 /// All blocks of a body whose code stands at these words, over no block yet.
 fn build_entire<'a>(
     alloc: Global,
-    frame: Frame<'a>,
+    frame: LoweringFrame<'a>,
     body: &TBody,
     code: Spans<'a>,
     reaches: &'a [Option<u32>],
     arena: &'a Bump,
     blocks: &mut Blocks,
 ) -> Result<(), NoMemory>
-    requires { (f : build.Frame) → AreReaches f (map op_of code.words.now) code.marks.now reaches.now }
+    requires { (f : build.LoweringFrame) → AreReaches f (map op_of code.words.now) code.marks.now reaches.now }
     ensures { OnOk result (IsWhole (frame_of frame.entry) (body_of body.now) code.entry →
         built_of blocks.old ≡ unbuilt body.now.block.id.0 →
         building_of blocks.new ≡ low.built (frame_of frame.entry) (body_of body.now)) }
@@ -97,7 +97,7 @@ fn build_entire<'a>(
 const WORDS_OF_A_LOCAL: usize = 8;
 
 /// For how many words room is made before the code of a body.
-fn room_for(frame: Frame) -> usize {
+fn room_for(frame: LoweringFrame) -> usize {
     frame
         .locals
         .as_slice()
@@ -108,7 +108,7 @@ fn room_for(frame: Frame) -> usize {
 /// All blocks of a body, over no block yet.
 fn build_body(
     alloc: Global,
-    frame: Frame,
+    frame: LoweringFrame,
     body: &TBody,
     blocks: &mut Blocks,
 ) -> Result<(), NoMemory>
@@ -135,7 +135,11 @@ fn build_body(
 }
 
 /// All blocks of a body.
-fn built(alloc: Global, frame: Frame, body: &TBody) -> Result<List<Option<Made>>, NoMemory>
+fn built(
+    alloc: Global,
+    frame: LoweringFrame,
+    body: &TBody,
+) -> Result<List<Option<MadeBlock>>, NoMemory>
     ensures { IfOk result (λ made.
         map (option_map made_of) made ≡ (low.built (frame_of frame.entry) (body_of body.now)).blocks) }
 {
@@ -177,7 +181,7 @@ pub fn lower_body(alloc: Global, items: &Items, body: &TBody) -> Result<LoweredB
     let found = locals(alloc, items, body)?;
     let mut tys = List::new(alloc);
     add_tys(found.as_slice(), &mut tys)?;
-    let frame = Frame {
+    let frame = LoweringFrame {
         items,
         locals: &found,
         tys: tys.as_slice(),

@@ -7,7 +7,7 @@ ghost use Rattle.use_sites.specs.Listed.{ids_of};
 
 use body_locals::Local;
 use cfg_graph::{Block, Kind, Term};
-use code_blocks::Made;
+use code_blocks::MadeBlock;
 use mir_base::{List, NoMemory, NodeId};
 use mir_ty::TyId;
 use std::alloc::Global;
@@ -26,7 +26,7 @@ pub fn add_tys(locals: &[Local], tys: &mut List<TyId>) -> Result<(), NoMemory>
 /// there is not, a block stands that returns.
 fn add_part(
     alloc: Global,
-    made: Option<Made>,
+    made: Option<MadeBlock>,
     blocks: &mut List<Block>,
     nodes: &mut List<List<NodeId>>,
 ) -> Result<(), NoMemory>
@@ -35,7 +35,7 @@ fn add_part(
 {
     match made {
         Some(made) => {
-            let Made { block, nodes: own } = made;
+            let MadeBlock { block, nodes: own } = made;
             blocks.push(block)?;
             nodes.push(own)
         }
@@ -54,7 +54,7 @@ fn add_part(
 /// Blocks and the nodes of their lines, apart.
 pub fn add_parts(
     alloc: Global,
-    made: List<Option<Made>>,
+    made: List<Option<MadeBlock>>,
     blocks: &mut List<Block>,
     nodes: &mut List<List<NodeId>>,
 ) -> Result<(), NoMemory>

@@ -18,7 +18,7 @@ use mir_base::{List, NoMemory};
 use mir_ty::Items;
 use std::alloc::Global;
 use typed_tree::{TBody, Typed};
-use use_sites::{Names, Site, body_sites, rise};
+use use_sites::{PlaceNames, Site, body_sites, rise};
 
 /// A program that is lowered: its raw graph, and the sites of its uses in the order of bodies, blocks and lines.
 #[derive(Drop)]
@@ -51,7 +51,7 @@ fn add_sites(
 {
     let nodes = all_nodes(alloc, body)?;
     let all = nodes.as_slice();
-    let names = Names {
+    let names = PlaceNames {
         items,
         locals: lowered.locals.as_slice(),
         nodes: all,

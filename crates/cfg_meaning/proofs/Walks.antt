@@ -13,7 +13,7 @@ use Rattle.cfg_meaning.specs.Walk.{Next, stuck_in, ◌>>=◌, fork, branch, rena
 use Rattle.mir_base.specs.declared.trace.Why.{Why}
 use Rattle.store_model.proofs.Effects.Laws.{NoMore, NoMoreOf, Ticked, Laws, weaker, weaker_of, Same, Keeps}
 use Rattle.store_model.specs.Effects as effects
-use Rattle.store_model.specs.Effects.{Action, Test, Mode, Site, Halt, Aborted, Stuck, Out, Go, Unwind as Unwinds, Halts, Choice, Yes, No, Neither, Effects}
+use Rattle.store_model.specs.Effects.{Action, Test, Mode, EffectSite, Halt, Aborted, Stuck, Out, Go, Unwind as Unwinds, Halts, Choice, Yes, No, Neither, Effects}
 use Rattle.store_model.specs.Places.Place.{whole_local}
 
 module _ {W : Type 0} (size : W → ℕ) where
@@ -119,7 +119,7 @@ module _ {W : Type 0} (size : W → ℕ) (q : Effects W) (laws : Laws q size) (m
   chosen : (test : Test) (w : W) → size w ≤ m → NoMoreOf size m (q.choose test w)
   chosen test w l = weaker_of size m (size w) (q.choose test w) l (laws.choosing test w)
 
-  dropped : (mode : Mode) (site : Site) (w : W) → size w ≤ m → NoMore size m (q.drop mode site w)
+  dropped : (mode : Mode) (site : EffectSite) (w : W) → size w ≤ m → NoMore size m (q.drop mode site w)
   dropped mode site w l = weaker size m (size w) (q.drop mode site w) l (laws.dropping mode site w)
 
   panicked : (why : Why) (w : W) → size w ≤ m → size (q.panic why w) ≤ m

@@ -7,10 +7,10 @@ use Rattle.cfg_graph.specs.declared.statement.Stmt.{Stmt}
 use Rattle.cfg_graph.specs.declared.terminator.Unwind.{Unwind}
 use Rattle.cfg_graph.specs.Places.{named}
 use Rattle.store_model.specs.Effects as effects
-use Rattle.store_model.specs.Effects.{Site, Action, Mode, Normal, Unwinding}
+use Rattle.store_model.specs.Effects.{EffectSite, Action, Mode, Normal, Unwinding}
 
 module _ (node : ℕ) where
-  abbrev pub site_of : Place → Site
+  abbrev pub site_of : Place → EffectSite
   site_of place = record { node = node; place = named place }
 
   abbrev pub operand_of : Operand → effects.Operand

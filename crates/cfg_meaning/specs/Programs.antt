@@ -11,7 +11,7 @@ use Rattle.cfg_graph.specs.declared.graph.Graph.{Graph}
 use Rattle.cfg_meaning.specs.Walk.{walk}
 use Rattle.store_model.specs.Values.Datum.{Datum}
 use Rattle.store_model.specs.Effects.{Stuck, Out, Halts}
-use Rattle.store_model.specs.Concrete.Bodies.{Code, main_of, run_of}
+use Rattle.store_model.specs.Concrete.Bodies.{CodeOfBodies, main_of, run_of}
 use Rattle.store_model.specs.Abstract.Effects.{AbstractState, at_start, abstract_effects}
 use Rattle.store_model.specs.Concrete.Location.{Setting}
 use Rattle.store_model.specs.Concrete.State.{Cells}
@@ -31,7 +31,7 @@ setting_of strict graph = record {
   strict = strict;
 }
 
-abbrev pub code_of : Graph → Code
+abbrev pub code_of : Graph → CodeOfBodies
 code_of graph = record {
   arguments = λ n args. arguments_from 1 args;
   answer = λ n. 0;

@@ -10,7 +10,7 @@ use Rattle.cfg_graph.specs.declared.terminator.Term.{Term}
 use Rattle.cfg_graph.specs.declared.terminator.Unwind.{Unwind}
 use Rattle.cfg_meaning.specs.Actions.{site_of, operand_of, operands_of, action_of, mode_of}
 use Rattle.store_model.specs.Effects as effects
-use Rattle.store_model.specs.Effects.{Action, Test, Mode, Site, Halt, Aborted, OutOfTicks, Stuck, StuckAt, BadUse, BadStore, NoChoice, Infeasible, Unreachable, Out, Go, Unwind as Unwinds, Halts, Choice, Yes, No, Neither, Effects}
+use Rattle.store_model.specs.Effects.{Action, Test, Mode, EffectSite, Halt, Aborted, OutOfTicks, Stuck, StuckAt, BadUse, BadStore, NoChoice, Infeasible, Unreachable, Out, Go, Unwind as Unwinds, Halts, Choice, Yes, No, Neither, Effects}
 use Rattle.store_model.specs.Places.Place.{whole_local}
 
 -- what is done from a block on

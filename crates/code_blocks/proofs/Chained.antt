@@ -3,7 +3,7 @@ use Rattle.std.proofs.Common.{◌≡◌, ◌∙◌, ◌++◌, ◌∷◌, ◌==�
 use Rattle.std.proofs.Math.Seq.{take-suc}
 use Rattle.scope_code.specs.View.{entry_of}
 use Rattle.std.proofs.lemmas.List.{reverse-append, map-append, length-map}
-use Rattle.cfg_build.specs.Build.{Frame, Building, chain, chain_or, chain_among, kept_chain, ending, place_of, same_entries}
+use Rattle.cfg_build.specs.Build.{LoweringFrame, Building, chain, chain_or, chain_among, kept_chain, ending, place_of, same_entries}
 use Rattle.cfg_graph.specs.declared.terminator.Term.{Term}
 use Rattle.cfg_graph.specs.declared.terminator.Unwind.{Unwind}
 use Rattle.src_meaning.specs.Scopes.{Entry, entry_site}
@@ -12,17 +12,17 @@ use Rattle.code_passes.proofs.Lists.{entries_last}
 use Rattle.scope_code.specs.declared.code.Entry as entries
 use Rattle.code_blocks.specs.Building.{chain_of, line_of, made_of}
 use Rattle.code_blocks.specs.declared.blocks.Chain.{Chain}
-use Rattle.code_blocks.specs.declared.blocks.Line.{Line}
-use Rattle.code_blocks.specs.declared.blocks.Made.{Made}
+use Rattle.code_blocks.specs.declared.blocks.NodeLine.{NodeLine}
+use Rattle.code_blocks.specs.declared.blocks.MadeBlock.{MadeBlock}
 use Rattle.std.specs.Prelude.{option_map}
 
 pub chains_last : (chains : List Chain) (c : Chain) → reverse (map chain_of (chains ++ c ∷ [])) ≡ chain_of c ∷ reverse (map chain_of chains)
 chains_last chains c = ap reverse (map-append chain_of chains (c ∷ [])) ∙ reverse-append (map chain_of chains) (chain_of c ∷ [])
 
-pub lines_last : (lines : List Line) (l : Line) → reverse (map line_of (lines ++ l ∷ [])) ≡ line_of l ∷ reverse (map line_of lines)
+pub lines_last : (lines : List NodeLine) (l : NodeLine) → reverse (map line_of (lines ++ l ∷ [])) ≡ line_of l ∷ reverse (map line_of lines)
 lines_last lines l = ap reverse (map-append line_of lines (l ∷ [])) ∙ reverse-append (map line_of lines) (line_of l ∷ [])
 
-module _ (f : Frame) where
+module _ (f : LoweringFrame) where
   abbrev dropping : Entry → List Entry → Building → ℕ × Building
   dropping e es s =
       let rest = chain f es s in
@@ -52,10 +52,10 @@ same_none xs ys others other is are =
     (λ i. same_entries (entries_of (is i)) ((ap entries_of are ∙ entries_last others other) i))
 
 -- a block more is made
-pub made_last : (made : List (Option Made)) (m : Option Made) → map (option_map made_of) (made ++ m ∷ []) ≡ map (option_map made_of) made ++ option_map made_of m ∷ []
+pub made_last : (made : List (Option MadeBlock)) (m : Option MadeBlock) → map (option_map made_of) (made ++ m ∷ []) ≡ map (option_map made_of) made ++ option_map made_of m ∷ []
 made_last made m = map-append (option_map made_of) made (m ∷ [])
 
-pub so_many : (made : List (Option Made)) → length (map (option_map made_of) made) ≡ length made
+pub so_many : (made : List (Option MadeBlock)) → length (map (option_map made_of) made) ≡ length made
 so_many made = length-map made (option_map made_of)
 
 -- a list of entries by its last

@@ -8,20 +8,20 @@ use Rattle.src_meaning.specs.Scopes.{entry_site}
 use Rattle.code_passes.specs.Scoped.{entries_of}
 use Rattle.code_blocks.specs.declared.blocks.Blocks.{Blocks}
 use Rattle.code_blocks.specs.declared.blocks.Chain.{Chain}
-use Rattle.code_blocks.specs.declared.blocks.Line.{Line}
-use Rattle.code_blocks.specs.declared.blocks.Made.{Made}
+use Rattle.code_blocks.specs.declared.blocks.NodeLine.{NodeLine}
+use Rattle.code_blocks.specs.declared.blocks.MadeBlock.{MadeBlock}
 use Rattle.code_blocks.specs.declared.blocks.Open.{Open}
 use Rattle.code_blocks.specs.declared.ways.LoopWay.{LoopWay}
 use Rattle.code_blocks.specs.declared.ways.Ways.{Ways}
 
-abbrev pub line_of : Line → build.Line
+abbrev pub line_of : NodeLine → build.NodeLine
 line_of line = record { stmt = line.stmt; node = line.node.0 }
 
 -- what is open, from its last line back
-abbrev pub rest_of : Open → build.Rest
+abbrev pub rest_of : Open → build.BlockRest
 rest_of o = record { lines = reverse (map line_of o.lines); term = o.term; node = o.node.0 }
 
-abbrev pub made_of : Made → build.Made
+abbrev pub made_of : MadeBlock → build.MadeBlock
 made_of made = record { block = made.block; nodes = map (λ node. node.0) made.nodes }
 
 abbrev pub chain_of : Chain → List scopes.Entry × ℕ
@@ -34,7 +34,7 @@ building_of blocks = record {
 }
 
 -- what is built before the rest: what is open, and the blocks so far
-abbrev pub built_of : Blocks → build.Rest × build.Building
+abbrev pub built_of : Blocks → build.BlockRest × build.Building
 built_of blocks = (rest_of blocks.rest, building_of blocks)
 
 abbrev pub loop_of : LoopWay → ℕ × spots.LoopWays
@@ -50,6 +50,7 @@ ways_of ways = record {
 
 -- one entry more is dropped, if it has to be, and those that are older after a panic out of it
 abbrev pub drop_next :
-    build.Frame → Bool → scopes.Entry → List scopes.Entry → build.Rest × build.Building → build.Rest × build.Building
+    build.LoweringFrame → Bool → scopes.Entry → List scopes.Entry → build.BlockRest × build.Building →
+    build.BlockRest × build.Building
 drop_next f true e below built = build.drop_one f (entry_site e) below built.0 built.1
 drop_next f false e below built = built

@@ -12,7 +12,7 @@ use crate::blocks::Blocks;
 use crate::ways::Ways;
 use bumpalo::Bump;
 use cfg_graph::{Kind, Operand, Place, Stmt, Term, Unwind};
-use code_passes::{Frame, Scopes, place, statement, take, terminator, whole_place};
+use code_passes::{LoweringFrame, Scopes, place, statement, take, terminator, whole_place};
 use mir_base::{Key, NoMemory, NodeId, Why};
 use scope_code::Action;
 use std::alloc::Global;
@@ -20,7 +20,7 @@ use std::alloc::Global;
 /// An effect is done, as a statement, or as a terminator with its two ways on.
 fn done(
     alloc: Global,
-    frame: Frame,
+    frame: LoweringFrame,
     node: NodeId,
     action: &Action,
     scopes: &Scopes,
@@ -55,7 +55,7 @@ fn done(
 /// [`NoMemory`] where memory is wanted.
 pub fn act(
     alloc: Global,
-    frame: Frame,
+    frame: LoweringFrame,
     node: NodeId,
     action: &Action,
     last: bool,
@@ -80,7 +80,7 @@ pub fn act(
 /// [`NoMemory`] where memory is wanted.
 pub fn panic(
     alloc: Global,
-    frame: Frame,
+    frame: LoweringFrame,
     node: NodeId,
     why: Why,
     scopes: &Scopes,
@@ -103,7 +103,7 @@ pub fn panic(
 /// [`NoMemory`] where memory is wanted.
 pub fn drop_under(
     alloc: Global,
-    frame: Frame,
+    frame: LoweringFrame,
     key: Key,
     scopes: &Scopes,
     blocks: &mut Blocks,
@@ -120,7 +120,7 @@ pub fn drop_under(
 /// What stands under a key is stored at a place, before what is open.
 fn store(
     alloc: Global,
-    frame: Frame,
+    frame: LoweringFrame,
     node: NodeId,
     to: &Place,
     key: Key,
@@ -141,7 +141,7 @@ fn store(
 /// What stands under a key is stored at a place, in a block of its own.
 fn store_in_block(
     alloc: Global,
-    frame: Frame,
+    frame: LoweringFrame,
     node: NodeId,
     to: &Place,
     key: Key,
@@ -162,7 +162,7 @@ fn store_in_block(
 /// What a place holds is dropped.
 fn drop_at(
     alloc: Global,
-    frame: Frame,
+    frame: LoweringFrame,
     node: NodeId,
     of: &Place,
     then: u32,
@@ -190,7 +190,7 @@ fn drop_at(
 fn unwind_without<'a>(
     alloc: Global,
     bump: &'a Bump,
-    frame: Frame,
+    frame: LoweringFrame,
     key: Key,
     scopes: &'a Scopes<'a>,
     blocks: &mut Blocks,
@@ -214,7 +214,7 @@ fn unwind_without<'a>(
 pub fn replace<'a>(
     alloc: Global,
     bump: &'a Bump,
-    frame: Frame,
+    frame: LoweringFrame,
     node: NodeId,
     to: &Place,
     key: Key,

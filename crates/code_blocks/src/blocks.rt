@@ -11,7 +11,7 @@ use std::mem;
 
 /// A statement, and the number of its node.
 #[derive(Drop)]
-pub struct Line {
+pub struct NodeLine {
     pub stmt: Stmt,
     pub node: NodeId,
 }
@@ -19,14 +19,14 @@ pub struct Line {
 /// The end of a block: its lines from the last to the first, its terminator, and the terminator's node.
 #[derive(Drop)]
 pub struct Open {
-    pub lines: List<Line>,
+    pub lines: List<NodeLine>,
     pub term: Term,
     pub node: NodeId,
 }
 
 /// A block, and the nodes of its lines, its terminator's the last.
 #[derive(Drop)]
-pub struct Made {
+pub struct MadeBlock {
     pub block: Block,
     pub nodes: List<NodeId>,
 }
@@ -42,7 +42,7 @@ pub struct Chain {
 /// is open; and a list whose memory is taken where it is asked what a panic drops, whatever it holds.
 #[derive(Drop)]
 pub struct Blocks {
-    pub made: List<Option<Made>>,
+    pub made: List<Option<MadeBlock>>,
     pub chains: List<Chain>,
     pub rest: Open,
     pub room: List<Entry>,
@@ -59,7 +59,7 @@ fn lists_for(alloc: Global, count: usize) -> Result<(List<Stmt>, List<NodeId>), 
 
 /// Lines are taken apart, from the last to the first.
 fn take_lines(
-    lines: &mut List<Line>,
+    lines: &mut List<NodeLine>,
     stmts: &mut List<Stmt>,
     nodes: &mut List<NodeId>,
 ) -> Result<(), NoMemory>
@@ -68,7 +68,7 @@ fn take_lines(
         × (map (λ n. n.0) nodes.new ≡ map (λ n. n.0) nodes.old ++ map (λ l. l.node) (reverse (map line_of lines.old))))) }
 {
     while let Some(line) = lines.pop() {
-        let Line { stmt, node } = line;
+        let NodeLine { stmt, node } = line;
         stmts.push(stmt)?;
         nodes.push(node)?;
     }
@@ -77,7 +77,7 @@ fn take_lines(
 
 /// All lines are taken apart, and the node of the terminator is the last.
 fn take_all(
-    lines: &mut List<Line>,
+    lines: &mut List<NodeLine>,
     last: NodeId,
     stmts: &mut List<Stmt>,
     nodes: &mut List<NodeId>,
@@ -94,7 +94,7 @@ fn take_all(
 /// The statements of lines, and their nodes with the terminator's behind them.
 fn taken(
     alloc: Global,
-    lines: &mut List<Line>,
+    lines: &mut List<NodeLine>,
     last: NodeId,
 ) -> Result<(List<Stmt>, List<NodeId>), NoMemory>
     ensures { IfOk result (λ lists. (lines.new ≡ [])
@@ -124,7 +124,13 @@ impl Open {
     }
 
     /// What is open becomes a block, and what goes to another block is open behind it.
-    fn finish(&mut self, alloc: Global, kind: Kind, rank: u32, to: u32) -> Result<Made, NoMemory>
+    fn finish(
+        &mut self,
+        alloc: Global,
+        kind: Kind,
+        rank: u32,
+        to: u32,
+    ) -> Result<MadeBlock, NoMemory>
         ensures { IfOk result (λ made. (made_of made ≡ build.made kind rank (rest_of self.old))
             × (rest_of self.new ≡ build.ending (Term.Goto to) self.old.node.0)) }
     {
@@ -136,7 +142,7 @@ impl Open {
             stmts,
             term,
         };
-        Ok(Made { block, nodes })
+        Ok(MadeBlock { block, nodes })
     }
 }
 
@@ -223,6 +229,6 @@ impl Blocks {
         ensures { OnOk result (built_of self.new ≡
             (build.with_line stmt node.0 (rest_of self.old.rest), building_of self.old)) }
     {
-        self.rest.lines.push(Line { stmt, node })
+        self.rest.lines.push(NodeLine { stmt, node })
     }
 }

@@ -7,7 +7,7 @@ ghost use Rattle.code_blocks.specs.Building.{building_of, rest_of};
 
 use crate::blocks::{Blocks, Chain};
 use cfg_graph::{Kind, Term, Unwind};
-use code_passes::{Frame, copied_entries, whole_place};
+use code_passes::{LoweringFrame, copied_entries, whole_place};
 use mir_base::{NoMemory, NodeId};
 use scope_code::Entry;
 use std::alloc::Global;
@@ -62,7 +62,12 @@ impl Blocks {
 
     /// The block that drops these entries, the youngest last, while a panic unwinds, and then leaves the body.
     #[tactic(auto, using(crate::proofs::Chained::is_found, crate::proofs::Chained::is_empty, crate::proofs::Chained::is_dropping, crate::proofs::Chained::entries_end))]
-    pub fn chain(&mut self, alloc: Global, frame: Frame, entries: &[Entry]) -> Result<u32, NoMemory>
+    pub fn chain(
+        &mut self,
+        alloc: Global,
+        frame: LoweringFrame,
+        entries: &[Entry],
+    ) -> Result<u32, NoMemory>
         ensures { IfOk result (λ number. (number, building_of self.new) ≡
             build.chain (frame_of frame.entry) (entries_of entries.now) (building_of self.old)) }
     {
@@ -91,7 +96,7 @@ impl Blocks {
     pub fn unwind_to(
         &mut self,
         alloc: Global,
-        frame: Frame,
+        frame: LoweringFrame,
         entries: &[Entry],
     ) -> Result<Unwind, NoMemory>
         ensures { IfOk result (λ unwind. (unwind, building_of self.new) ≡

@@ -12,7 +12,7 @@ ghost use Rattle.code_blocks.specs.Building.{built_of, rest_of, building_of, dro
 
 use crate::blocks::Blocks;
 use cfg_graph::{Kind, Term};
-use code_passes::{Entries, Frame, Scopes, drops_none, panic_drops, whole_place};
+use code_passes::{Entries, LoweringFrame, Scopes, drops_none, panic_drops, whole_place};
 use mir_base::{Key, List, NoMemory, NodeId};
 use scope_code::Entry;
 use std::alloc::Global;
@@ -23,7 +23,7 @@ impl Blocks {
     pub fn panic_drops(
         &mut self,
         alloc: Global,
-        frame: Frame,
+        frame: LoweringFrame,
         scopes: &Scopes,
     ) -> Result<List<Entry>, NoMemory>
         ensures drops { IfOk result (λ drops. entries_of drops ≡ build.panic_drops (frame_of frame.entry) (scopes_of scopes.entry.now)) }
@@ -46,7 +46,7 @@ impl Blocks {
     pub fn drop_one(
         &mut self,
         alloc: Global,
-        frame: Frame,
+        frame: LoweringFrame,
         key: Key,
         entries: &[Entry],
     ) -> Result<(), NoMemory>
@@ -69,7 +69,7 @@ impl Blocks {
     fn drop_next(
         &mut self,
         alloc: Global,
-        frame: Frame,
+        frame: LoweringFrame,
         entry: &Entry,
         below: &mut List<Entry>,
     ) -> Result<(), NoMemory>
@@ -88,7 +88,7 @@ impl Blocks {
     fn drop_each(
         &mut self,
         alloc: Global,
-        frame: Frame,
+        frame: LoweringFrame,
         entries: &Entries,
         below: &mut List<Entry>,
     ) -> Result<(), NoMemory>
@@ -112,7 +112,7 @@ impl Blocks {
     pub fn drop_all(
         &mut self,
         alloc: Global,
-        frame: Frame,
+        frame: LoweringFrame,
         entries: &Entries,
         around: &Scopes,
     ) -> Result<(), NoMemory>

@@ -8,9 +8,9 @@ ghost use Rattle.scope_code.specs.View.{exit_of};
 ghost use Rattle.code_blocks.specs.Building.{built_of, rest_of, building_of, ways_of};
 
 use crate::blocks::Blocks;
-use crate::ways::{Way, Ways, way_for};
+use crate::ways::{JumpWay, Ways, way_for};
 use cfg_graph::Term;
-use code_passes::{Frame, Scopes, depth};
+use code_passes::{LoweringFrame, Scopes, depth};
 use mir_base::{NoMemory, NodeId};
 use scope_code::Exit;
 use std::alloc::Global;
@@ -18,7 +18,7 @@ use std::alloc::Global;
 /// The innermost scope is left.
 pub fn leave(
     alloc: Global,
-    frame: Frame,
+    frame: LoweringFrame,
     scopes: &Scopes,
     blocks: &mut Blocks,
 ) -> Result<(), NoMemory>
@@ -34,14 +34,14 @@ pub fn leave(
 /// The innermost scopes are left, so many of them, and then a block is entered.
 fn leave_some(
     alloc: Global,
-    frame: Frame,
+    frame: LoweringFrame,
     node: NodeId,
     block: u32,
     count: usize,
     scopes: &Scopes,
     blocks: &mut Blocks,
 ) -> Result<(), NoMemory>
-    ensures { OnOk result ((plain : spots.Way) → plain.block ≡ block →
+    ensures { OnOk result ((plain : spots.JumpWay) → plain.block ≡ block →
         count ≡ length (scopes_of scopes.entry.now) - plain.base →
         built_of blocks.new ≡
         build.leaves_to (frame_of frame.entry) node.0 plain (scopes_of scopes.entry.now) (building_of blocks.old)) }
@@ -65,13 +65,13 @@ fn leave_some(
 /// Scopes are left until so many stay, and then a block is entered.
 fn leave_to(
     alloc: Global,
-    frame: Frame,
+    frame: LoweringFrame,
     node: NodeId,
-    way: Way,
+    way: JumpWay,
     scopes: &Scopes,
     blocks: &mut Blocks,
 ) -> Result<(), NoMemory>
-    ensures { OnOk result ((plain : spots.Way) → plain.base ≡ way.base → plain.block ≡ way.block →
+    ensures { OnOk result ((plain : spots.JumpWay) → plain.base ≡ way.base → plain.block ≡ way.block →
         built_of blocks.new ≡
         build.leaves_to (frame_of frame.entry) node.0 plain (scopes_of scopes.entry.now) (building_of blocks.old)) }
 {
@@ -86,7 +86,7 @@ fn leave_to(
 /// [`NoMemory`] where memory is wanted.
 pub fn exit(
     alloc: Global,
-    frame: Frame,
+    frame: LoweringFrame,
     node: NodeId,
     to: Exit,
     ways: Ways,

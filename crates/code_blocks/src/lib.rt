@@ -10,7 +10,7 @@ mod testing;
 mod ways;
 
 pub use acting::{act, drop_under, panic, replace};
-pub use blocks::{Blocks, Chain, Line, Made, Open};
+pub use blocks::{Blocks, Chain, MadeBlock, NodeLine, Open};
 pub use leaving::{exit, leave};
 pub use testing::{branch_by, if_true, tests};
 pub use ways::{LoopWay, Ways, in_loop};

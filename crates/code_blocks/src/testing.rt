@@ -12,7 +12,7 @@ ghost use Rattle.code_blocks.specs.Building.{built_of, rest_of, building_of};
 
 use crate::blocks::Blocks;
 use cfg_graph::{Kind, Operand, Place, Stmt, Term};
-use code_passes::{Frame, place, whole_place};
+use code_passes::{LoweringFrame, place, whole_place};
 use mir_base::{Cmp, Key, List, NoMemory, NodeId};
 use pattern_lower::Test;
 use scope_code::Condition;
@@ -21,7 +21,7 @@ use std::alloc::Global;
 /// One of two blocks by the truth value under a key, which is taken.
 pub fn if_true(
     alloc: Global,
-    frame: Frame,
+    frame: LoweringFrame,
     key: Key,
     yes: u32,
     no: u32,
@@ -38,7 +38,7 @@ pub fn if_true(
 /// One of two blocks by the truth value under the key of a node; its place, and the place that it is about.
 fn asked_about(
     alloc: Global,
-    frame: Frame,
+    frame: LoweringFrame,
     node: NodeId,
     at: &Place,
     yes: u32,
@@ -64,7 +64,7 @@ fn asked_about(
 /// One of two blocks by whether a place has a value.
 fn equals(
     alloc: Global,
-    frame: Frame,
+    frame: LoweringFrame,
     node: NodeId,
     at: &Place,
     value: Operand,
@@ -92,7 +92,7 @@ fn equals(
 #[cycle(tests)]
 fn test(
     alloc: Global,
-    frame: Frame,
+    frame: LoweringFrame,
     test: &Test,
     yes: u32,
     no: u32,
@@ -137,7 +137,7 @@ fn test(
 #[cycle(tests)]
 pub fn tests(
     alloc: Global,
-    frame: Frame,
+    frame: LoweringFrame,
     all: &[Test],
     yes: u32,
     no: u32,
@@ -163,7 +163,7 @@ pub fn tests(
 #[cycle(tests)]
 fn any_test(
     alloc: Global,
-    frame: Frame,
+    frame: LoweringFrame,
     alternatives: &[List<Test>],
     yes: u32,
     no: u32,
@@ -192,7 +192,7 @@ fn any_test(
 /// [`NoMemory`] where memory is wanted.
 pub fn branch_by(
     alloc: Global,
-    frame: Frame,
+    frame: LoweringFrame,
     on: &Condition,
     yes: u32,
     no: u32,

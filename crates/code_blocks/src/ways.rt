@@ -28,18 +28,18 @@ pub struct Ways<'a> {
 
 /// How many scopes stay after a jump, and the block where it goes.
 #[derive(Clone, Copy)]
-pub struct Way {
+pub struct JumpWay {
     pub base: usize,
     pub block: u32,
 }
 
 /// Where a jump goes. One that names no loop around it, which there is not, returns.
-pub fn way_for(exit: Exit, ways: Ways) -> Way
+pub fn way_for(exit: Exit, ways: Ways) -> JumpWay
     ensures { (result.base ≡ (way_of (exit_of exit) (ways_of ways.entry)).base)
         × (result.block ≡ (way_of (exit_of exit) (ways_of ways.entry)).block) }
 {
     match exit {
-        Exit::Returns => Way {
+        Exit::Returns => JumpWay {
             base: 1,
             block: ways.returns,
         },
@@ -48,39 +48,39 @@ pub fn way_for(exit: Exit, ways: Ways) -> Way
     }
 }
 
-fn out_of_loop(id: NodeId, ways: Ways) -> Way
+fn out_of_loop(id: NodeId, ways: Ways) -> JumpWay
     ensures { (result.base ≡ (spots.ways_of id.0 (ways_of ways.entry)).breaks.base)
         × (result.block ≡ (spots.ways_of id.0 (ways_of ways.entry)).breaks.block) }
 {
     let loops = ways.loops;
     for around in loops {
         if around.id == id {
-            return Way {
+            return JumpWay {
                 base: around.base,
                 block: around.exit,
             };
         }
     }
-    Way {
+    JumpWay {
         base: 1,
         block: ways.returns,
     }
 }
 
-fn to_turn(id: NodeId, ways: Ways) -> Way
+fn to_turn(id: NodeId, ways: Ways) -> JumpWay
     ensures { (result.base ≡ (spots.ways_of id.0 (ways_of ways.entry)).continues.base)
         × (result.block ≡ (spots.ways_of id.0 (ways_of ways.entry)).continues.block) }
 {
     let loops = ways.loops;
     for around in loops {
         if around.id == id {
-            return Way {
+            return JumpWay {
                 base: around.base,
                 block: around.turn,
             };
         }
     }
-    Way {
+    JumpWay {
         base: 1,
         block: ways.returns,
     }

@@ -2,10 +2,10 @@
 use Rattle.std.proofs.Common.{◌≡◌, ◌∙◌, ◌∷◌, ℕ, zero, suc, Bool, true, false, List, [], Some, map, refl, sym, ap, subst, arith}
 use Rattle.std.proofs.lemmas.Option.{none-some, same_Some}
 use Rattle.std.specs.Prelude.{slice_get, option_map}
-use Rattle.cfg_build.specs.Build.{Frame, Done, act_by, is_last, done_by, outer, after_either}
+use Rattle.cfg_build.specs.Build.{LoweringFrame, Done, act_by, is_last, done_by, outer, after_either}
 use Rattle.cfg_build.specs.Codes.{lowers}
 use Rattle.src_meaning.specs.Scopes.{Scopes, with_scope, innermost, without_operands}
-use Rattle.store_model.specs.Effects.{Site}
+use Rattle.store_model.specs.Effects.{EffectSite}
 use Rattle.scope_code.specs.Code as code
 use Rattle.scope_code.specs.Code.{Code, Change, changed_by}
 use Rattle.scope_code.specs.Ops as ops
@@ -20,8 +20,8 @@ use Rattle.scope_code.specs.declared.code.Change as changing
 use Rattle.scope_code.specs.declared.code.Condition.{Condition}
 use Rattle.scope_code.specs.declared.code.Op as words
 use Rattle.code_passes.specs.Spans.{OneBefore, TwoBefore, Stands}
-use Rattle.code_passes.specs.declared.spans.Two.{Two}
-use Rattle.code_passes.specs.declared.marks.Mark.{Mark}
+use Rattle.code_passes.specs.declared.spans.TwoCodes.{TwoCodes}
+use Rattle.code_passes.specs.declared.marks.CodeMark.{CodeMark}
 use Rattle.code_passes.proofs.Reading.{reads, IsOne, IsTwo, IsMatch}
 
 -- the number before a number
@@ -29,13 +29,13 @@ pub before_is : (e a b : ℕ) → e ≡ suc a → e ≡ suc b → a ≡ b
 before_is e a b is are = omega arith
 
 -- where two codes stand, as they are found
-pub found_first : (f : Frame) (all : List Op) (marks : List Mark) (one another : Code) (s : ℕ) (two : Two) → (found : (t : Two) × ((Some two ≡ Some t) × (Stands f all marks one s t.one × Stands f all marks another (suc t.one) t.another))) → Stands f all marks one s two.one
+pub found_first : (f : LoweringFrame) (all : List Op) (marks : List CodeMark) (one another : Code) (s : ℕ) (two : TwoCodes) → (found : (t : TwoCodes) × ((Some two ≡ Some t) × (Stands f all marks one s t.one × Stands f all marks another (suc t.one) t.another))) → Stands f all marks one s two.one
 found_first f all marks one another s two found =
-    subst (λ (t : Two). Stands f all marks one s t.one) (sym (same_Some two found.0 found.1.0)) found.1.1.0
+    subst (λ (t : TwoCodes). Stands f all marks one s t.one) (sym (same_Some two found.0 found.1.0)) found.1.1.0
 
-pub found_second : (f : Frame) (all : List Op) (marks : List Mark) (one another : Code) (s : ℕ) (two : Two) → (found : (t : Two) × ((Some two ≡ Some t) × (Stands f all marks one s t.one × Stands f all marks another (suc t.one) t.another))) → Stands f all marks another (suc two.one) two.another
+pub found_second : (f : LoweringFrame) (all : List Op) (marks : List CodeMark) (one another : Code) (s : ℕ) (two : TwoCodes) → (found : (t : TwoCodes) × ((Some two ≡ Some t) × (Stands f all marks one s t.one × Stands f all marks another (suc t.one) t.another))) → Stands f all marks another (suc two.one) two.another
 found_second f all marks one another s two found =
-    subst (λ (t : Two). Stands f all marks another (suc t.one) t.another) (sym (same_Some two found.0 found.1.0)) found.1.1.1
+    subst (λ (t : TwoCodes). Stands f all marks another (suc t.one) t.another) (sym (same_Some two found.0 found.1.0)) found.1.1.1
 
 get_of_map : {X Y : Type 0} (h : X → Y) (xs : List X) (i : ℕ) (x : X) → slice_get xs i ≡ Some x → slice_get (map h xs) i ≡ Some (h x)
 get_of_map h [] i x is = absurd (none-some x is)
@@ -46,7 +46,7 @@ get_of_map h (y ∷ xs) (suc i) x is = get_of_map h xs i x is
 pub word_at : (ws : List words.Op) (i : ℕ) (w v : words.Op) → slice_get ws i ≡ Some w → w ≡ v → slice_get (map op_of ws) i ≡ Some (op_of v)
 word_at ws i w v at is = get_of_map op_of ws i w at ∙ ap (λ (o : words.Op). Some (op_of o)) is
 
-module _ (f : Frame) (all : List Op) (marks : List Mark) (c : Code) (s e : ℕ) (stands : Stands f all marks c s e) (S new : Scopes) where
+module _ (f : LoweringFrame) (all : List Op) (marks : List CodeMark) (c : Code) (s e : ℕ) (stands : Stands f all marks c s e) (S new : Scopes) where
   abbrev IsBehind : Type 0
   IsBehind = new ≡ (lowers f c).after S
 
@@ -59,7 +59,7 @@ module _ (f : Frame) (all : List Op) (marks : List Mark) (c : Code) (s e : ℕ) 
   pub of_leave : slice_get all e ≡ Some ops.Leaves → new ≡ outer f S → IsBehind
   of_leave at made = by_code code.Leaves (reads f all marks c s e ops.Leaves stands at) made
 
-  pub of_replaced : (site : Site) (key : ℕ) → slice_get all e ≡ Some (ops.Replaces site key) → new ≡ innermost (without_operands (key ∷ [])) S → IsBehind
+  pub of_replaced : (site : EffectSite) (key : ℕ) → slice_get all e ≡ Some (ops.Replaces site key) → new ≡ innermost (without_operands (key ∷ [])) S → IsBehind
   of_replaced site key at made = by_code (code.Replaces site key) (reads f all marks c s e (ops.Replaces site key) stands at) made
 
   pub of_from : (change : Change) (middle : Scopes) → slice_get all e ≡ Some (ops.From change) → middle ≡ changed_by change S → ((inner : Code) → OneBefore f all marks (Stands f all marks inner) s e → new ≡ (lowers f inner).after middle) → IsBehind
@@ -83,12 +83,12 @@ module _ (f : Frame) (all : List Op) (marks : List Mark) (c : Code) (s e : ℕ) 
       let is : IsTwo f all marks (code.Branches node on) c s e = reads f all marks c s e (ops.Branches node on) stands at in
       by_code (code.Branches node on is.0 is.1.0) is.1.1.0 (made is.0 is.1.0 is.1.1.1)
 
-acts_stay : (f : Frame) (last : Bool) (node : ℕ) (by : Done) (S : Scopes) → S ≡ (act_by f last node by).after S
+acts_stay : (f : LoweringFrame) (last : Bool) (node : ℕ) (by : Done) (S : Scopes) → S ≡ (act_by f last node by).after S
 acts_stay f true node by S = refl
 acts_stay f false node by S = refl
 
 -- words of code that changes no scope
-module _ (f : Frame) (all : List Op) (marks : List Mark) (c : Code) (s e : ℕ) (stands : Stands f all marks c s e) (S : Scopes) where
+module _ (f : LoweringFrame) (all : List Op) (marks : List CodeMark) (c : Code) (s e : ℕ) (stands : Stands f all marks c s e) (S : Scopes) where
   abbrev stay : (other : Code) → c ≡ other → S ≡ (lowers f other).after S → S ≡ (lowers f c).after S
   stay other is same = by_code f all marks c s e stands S S other is same
 

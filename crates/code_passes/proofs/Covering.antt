@@ -6,16 +6,16 @@ use Rattle.mir_ty.proofs.ListLemmas.{slice_get-append_left, slice_get-last}
 use Rattle.src_meaning.specs.Scopes.{Exit}
 use Rattle.scope_code.specs.Ops as ops
 use Rattle.scope_code.specs.Ops.{Op}
-use Rattle.cfg_build.specs.Build.{Frame}
+use Rattle.cfg_build.specs.Build.{LoweringFrame}
 use Rattle.cfg_build.specs.Codes.{lowers, lowers_arm}
 use Rattle.code_passes.specs.Spans.{Stands, StandsArm}
 use Rattle.code_passes.specs.MarkRules.{mark_at, no_mark}
-use Rattle.code_passes.specs.declared.marks.Mark.{Mark}
+use Rattle.code_passes.specs.declared.marks.CodeMark.{CodeMark}
 use Rattle.code_passes.proofs.Parts.{Part, ACode, AnArm, ArmsBegin}
 use Rattle.code_passes.proofs.Lengths.{length_push}
 use Rattle.code_passes.proofs.Standing.{still_stands, arm_still_stands}
 
-module _ (f : Frame) where
+module _ (f : LoweringFrame) where
   abbrev pub jumps_of : Part → List Exit
   jumps_of (ACode c) = (lowers f c).jumps
   jumps_of (AnArm arm) = (lowers_arm f arm).jumps
@@ -28,7 +28,7 @@ in_match (ACode c ∷ parts) = false
 in_match (AnArm arm ∷ parts) = in_match parts
 in_match (ArmsBegin ∷ parts) = true
 
-module _ (f : Frame) (words : List Op) (marks : List Mark) where
+module _ (f : LoweringFrame) (words : List Op) (marks : List CodeMark) where
   -- something is marked at a word, and so many jumps stand before its own
   abbrev pub IsBehind : (e : ℕ) → List Exit → Type 0
   IsBehind e before = (slice_get marks e ≡ Some (mark_at marks e)) × ((mark_at marks e).jumps ≡ length before)
@@ -57,7 +57,7 @@ module _ (f : Frame) (words : List Op) (marks : List Mark) where
       ((n ≡ suc e) × (StandsPart part s e × (IsBehind e before × ((jumps ≡ before ++ jumps_of f part)
       × (Follows part parts s e × Cover parts s before)))))))
 
-module _ (f : Frame) (words : List Op) (marks more : List Mark) where
+module _ (f : LoweringFrame) (words : List Op) (marks more : List CodeMark) where
   pub same_mark : (e : ℕ) → slice_get marks e ≡ Some (mark_at marks e) → mark_at (marks ++ more) e ≡ mark_at marks e
   same_mark e is = ap (λ o. unwrap_or o no_mark) (slice_get-append_left marks more e _ is)
 
@@ -69,7 +69,7 @@ module _ (f : Frame) (words : List Op) (marks more : List Mark) where
   still_behind : (e : ℕ) (before : List Exit) → IsBehind f words marks e before → IsBehind f words (marks ++ more) e before
   still_behind e before is =
       let same : mark_at (marks ++ more) e ≡ mark_at marks e = same_mark e is.0 in
-      (slice_get-append_left marks more e _ is.0 ∙ ap (λ (m : Mark). Some m) (sym same), ap (λ (m : Mark). m.jumps) same ∙ is.1)
+      (slice_get-append_left marks more e _ is.0 ∙ ap (λ (m : CodeMark). Some m) (sym same), ap (λ (m : CodeMark). m.jumps) same ∙ is.1)
 
   still_follows : (part : Part) (parts : List Part) (s e : ℕ) → slice_get marks e ≡ Some (mark_at marks e) → Follows f words marks part parts s e → Follows f words (marks ++ more) part parts s e
   still_follows (ACode c) parts s e here is = tt
@@ -82,17 +82,17 @@ module _ (f : Frame) (words : List Op) (marks more : List Mark) where
         (
           is.1.0,
           (
-            slice_get-append_left marks more d _ is.1.1.0 ∙ ap (λ (m : Mark). Some m) (sym before),
+            slice_get-append_left marks more d _ is.1.1.0 ∙ ap (λ (m : CodeMark). Some m) (sym before),
             (
-              ap (λ (m : Mark). m.has_end) own ∙ is.1.1.1.0 ∙ ap (λ (m : Mark). m.has_end || (lowers_arm f arm).has_end) (sym before),
-              ap (λ (m : Mark). m.arms) own ∙ is.1.1.1.1 ∙ ap (λ (m : Mark). m.arms) (sym before),
+              ap (λ (m : CodeMark). m.has_end) own ∙ is.1.1.1.0 ∙ ap (λ (m : CodeMark). m.has_end || (lowers_arm f arm).has_end) (sym before),
+              ap (λ (m : CodeMark). m.arms) own ∙ is.1.1.1.1 ∙ ap (λ (m : CodeMark). m.arms) (sym before),
             ),
           ),
         ),
       )
   still_follows ArmsBegin parts s e here is =
       let own : mark_at (marks ++ more) e ≡ mark_at marks e = same_mark e here in
-      (ap (λ (m : Mark). m.has_end) own ∙ is.0, ap (λ (m : Mark). m.arms) own ∙ is.1)
+      (ap (λ (m : CodeMark). m.has_end) own ∙ is.0, ap (λ (m : CodeMark). m.arms) own ∙ is.1)
 
   pub still_cover : (parts : List Part) (n : ℕ) (jumps : List Exit) → Cover f words marks parts n jumps → Cover f words (marks ++ more) parts n jumps
   still_cover [] n jumps is = is
@@ -122,21 +122,21 @@ module _ (f : Frame) (words : List Op) (marks more : List Mark) where
     ),
   )
 
-module _ (f : Frame) (words : List Op) (marks : List Mark) where
-  abbrev pub marks_with : Mark → List Mark
+module _ (f : LoweringFrame) (words : List Op) (marks : List CodeMark) where
+  abbrev pub marks_with : CodeMark → List CodeMark
   marks_with m = marks ++ m ∷ []
 
-  pub last_marked : (m : Mark) → mark_at (marks_with m) (length marks) ≡ m
+  pub last_marked : (m : CodeMark) → mark_at (marks_with m) (length marks) ≡ m
   last_marked m = ap (λ o. unwrap_or o no_mark) (slice_get-last marks m)
 
-  behind_last : (m : Mark) (before : List Exit) → m.jumps ≡ length before → IsBehind f words (marks_with m) (length marks) before
+  behind_last : (m : CodeMark) (before : List Exit) → m.jumps ≡ length before → IsBehind f words (marks_with m) (length marks) before
   behind_last m before is = (
-    slice_get-last marks m ∙ ap (λ (o : Mark). Some o) (sym (last_marked m)),
-    ap (λ (o : Mark). o.jumps) (last_marked m) ∙ is,
+    slice_get-last marks m ∙ ap (λ (o : CodeMark). Some o) (sym (last_marked m)),
+    ap (λ (o : CodeMark). o.jumps) (last_marked m) ∙ is,
   )
 
   -- one part more, which begins at a word up to which others are covered
-  pub covers_more : (part : Part) (parts : List Part) (s : ℕ) (before jumps : List Exit) (m : Mark) → Cover f words marks parts s before → StandsPart f words (marks_with m) part s (length marks) → m.jumps ≡ length before → jumps ≡ before ++ jumps_of f part → Follows f words (marks_with m) part parts s (length marks) → Cover f words (marks_with m) (part ∷ parts) (length (marks_with m)) jumps
+  pub covers_more : (part : Part) (parts : List Part) (s : ℕ) (before jumps : List Exit) (m : CodeMark) → Cover f words marks parts s before → StandsPart f words (marks_with m) part s (length marks) → m.jumps ≡ length before → jumps ≡ before ++ jumps_of f part → Follows f words (marks_with m) part parts s (length marks) → Cover f words (marks_with m) (part ∷ parts) (length (marks_with m)) jumps
   covers_more part parts s before jumps m covered stands behind are follows = (
     s,
     (

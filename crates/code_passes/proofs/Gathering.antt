@@ -7,11 +7,11 @@ use Rattle.src_meaning.specs.Scopes.{Exit}
 use Rattle.scope_code.specs.Code.{Arms, an_arm}
 use Rattle.scope_code.specs.Ops as ops
 use Rattle.scope_code.specs.Ops.{Op}
-use Rattle.cfg_build.specs.Build.{Frame}
+use Rattle.cfg_build.specs.Build.{LoweringFrame}
 use Rattle.cfg_build.specs.Codes.{lowers_arms, lowers_arm, all_jumps, some_end}
 use Rattle.code_passes.specs.MarkRules.{mark_at}
 use Rattle.code_passes.specs.Spans.{StandArms}
-use Rattle.code_passes.specs.declared.marks.Mark.{Mark}
+use Rattle.code_passes.specs.declared.marks.CodeMark.{CodeMark}
 use Rattle.code_passes.proofs.Parts.{Part, ACode, AnArm, ArmsBegin, gathered}
 use Rattle.code_passes.proofs.Covering.{IsBehind, ArmFollows, Cover, in_match}
 
@@ -21,7 +21,7 @@ are_in_match others (ACode c ∷ parts) found are = absurd (none-some found are)
 are_in_match others (AnArm arm ∷ parts) found are = are_in_match (an_arm arm others) parts found are
 are_in_match others (ArmsBegin ∷ parts) found are = refl
 
-module _ (f : Frame) (words : List Op) (marks : List Mark) where
+module _ (f : LoweringFrame) (words : List Op) (marks : List CodeMark) where
   abbrev arms_end : Arms → Bool
   arms_end arms = some_end f (lowers_arms f arms)
 

@@ -12,11 +12,11 @@ use Rattle.scope_code.specs.Code as code
 use Rattle.scope_code.specs.Code.{Code, Arms, no_arm, an_arm, Arm, Taken, Empty, no_guard, a_guard}
 use Rattle.scope_code.specs.Ops as ops
 use Rattle.scope_code.specs.Ops.{Op, onto}
-use Rattle.cfg_build.specs.Build.{Frame, act_by, Done, is_last, done_by, jumps_if, outside, is_left_by}
+use Rattle.cfg_build.specs.Build.{LoweringFrame, act_by, Done, is_last, done_by, jumps_if, outside, is_left_by}
 use Rattle.cfg_build.specs.Codes.{lowers}
 use Rattle.code_passes.specs.MarkRules.{Marking, mark_at, last, first, cut, own_jumps, leaf, around_one, of_both, of_either, around_loop, arm_of_one, arm_of_two, empty_arm, of_arms, before_arms, marked, all_marked, none_marked, both_end, arm_behind}
 use Rattle.code_passes.specs.Spans.{IsMarked, IsArmMarked, IsLeaf, OneBefore, TwoBefore, Stands}
-use Rattle.code_passes.specs.declared.marks.Mark.{Mark}
+use Rattle.code_passes.specs.declared.marks.CodeMark.{CodeMark}
 use Rattle.code_passes.proofs.Lengths.{length_push}
 use Rattle.code_passes.proofs.Parts.{Part, ACode, AnArm, ArmsBegin, gathered, matched, matching, taken, parted, of_one, of_two}
 use Rattle.code_passes.proofs.Parting.{parts_of}
@@ -27,8 +27,8 @@ use Rattle.code_passes.proofs.Gathering.{Gathered, gathers_cover}
 before_is : (n e : ℕ) → n ≡ suc e → n - 1 ≡ e
 before_is n e is = omega arith
 
-module _ (f : Frame) (words : List Op) (m : Marking) where
-  abbrev marks : List Mark
+module _ (f : LoweringFrame) (words : List Op) (m : Marking) where
+  abbrev marks : List CodeMark
   marks = m.marks
 
   abbrev n : ℕ
@@ -40,10 +40,10 @@ module _ (f : Frame) (words : List Op) (m : Marking) where
   abbrev Covers : Marking → List Part → Type 0
   Covers after parts = Cover f words after.marks parts (length after.marks) after.jumps
 
-  is_marked : (own : Mark) (s : ℕ) (word : Op) (has_end : Bool) → slice_get words n ≡ Some word → own.start ≡ s → own.has_end ≡ has_end → IsMarked f words (marks ++ own ∷ []) s n word has_end
+  is_marked : (own : CodeMark) (s : ℕ) (word : Op) (has_end : Bool) → slice_get words n ≡ Some word → own.start ≡ s → own.has_end ≡ has_end → IsMarked f words (marks ++ own ∷ []) s n word has_end
   is_marked own s word has_end at starts ends = (at, (own, (slice_get-last marks own, (starts, ends))))
 
-  is_arm_marked : (own : Mark) (s : ℕ) (word : Op) → slice_get words n ≡ Some word → own.start ≡ s → IsArmMarked f words (marks ++ own ∷ []) s n word
+  is_arm_marked : (own : CodeMark) (s : ℕ) (word : Op) → slice_get words n ≡ Some word → own.start ≡ s → IsArmMarked f words (marks ++ own ∷ []) s n word
   is_arm_marked own s word at starts = (at, (own, (slice_get-last marks own, starts)))
 
   -- the mark of the code that comes last among covered parts
@@ -55,7 +55,7 @@ module _ (f : Frame) (words : List Op) (m : Marking) where
       subst P (sym number) (code_says f words marks inner covered.0 e covered.1.1.1.1.0, covered.1.1.1.1.1.0.1)
 
   -- an arm follows what stands before it
-  arm_follows : (own : Mark) (parts : List Part) (begin s : ℕ) (before : List Exit) (has_end : Bool) → Cover f words marks parts s before → begin ≡ s → own.has_end ≡ ((mark_at marks (begin - 1)).has_end || has_end) → own.arms ≡ (mark_at marks (begin - 1)).arms → in_match parts ≡ true → ArmFollows f words (marks ++ own ∷ []) has_end s n
+  arm_follows : (own : CodeMark) (parts : List Part) (begin s : ℕ) (before : List Exit) (has_end : Bool) → Cover f words marks parts s before → begin ≡ s → own.has_end ≡ ((mark_at marks (begin - 1)).has_end || has_end) → own.arms ≡ (mark_at marks (begin - 1)).arms → in_match parts ≡ true → ArmFollows f words (marks ++ own ∷ []) has_end s n
   arm_follows own [] begin s before has_end covered starts ends arms found = let never : false ≡ true = found in cc
   arm_follows own (part ∷ parts) begin s before has_end covered starts ends arms found =
       let e : ℕ = covered.1.0 in
@@ -67,10 +67,10 @@ module _ (f : Frame) (words : List Op) (m : Marking) where
         (
           covered.1.1.1.0,
           (
-            slice_get-append_left marks (own ∷ []) e _ here ∙ ap (λ (o : Mark). Some o) (sym same),
+            slice_get-append_left marks (own ∷ []) e _ here ∙ ap (λ (o : CodeMark). Some o) (sym same),
             (
-              ap (λ (o : Mark). o.has_end) at_last ∙ ends ∙ ap (λ (k : ℕ). (mark_at marks k).has_end || has_end) number ∙ ap (λ (o : Mark). o.has_end || has_end) (sym same),
-              ap (λ (o : Mark). o.arms) at_last ∙ arms ∙ ap (λ (k : ℕ). (mark_at marks k).arms) number ∙ ap (λ (o : Mark). o.arms) (sym same),
+              ap (λ (o : CodeMark). o.has_end) at_last ∙ ends ∙ ap (λ (k : ℕ). (mark_at marks k).has_end || has_end) number ∙ ap (λ (o : CodeMark). o.has_end || has_end) (sym same),
+              ap (λ (o : CodeMark). o.arms) at_last ∙ arms ∙ ap (λ (k : ℕ). (mark_at marks k).arms) number ∙ ap (λ (o : CodeMark). o.arms) (sym same),
             ),
           ),
         ),
@@ -78,19 +78,19 @@ module _ (f : Frame) (words : List Op) (m : Marking) where
 
   -- Words that are code by themselves.
 
-  abbrev leaf_mark : Bool → Mark
+  abbrev leaf_mark : Bool → CodeMark
   leaf_mark has_end = record { start = n; jumps = length m.jumps; has_end = has_end; arms = 0 }
 
   leaf_covers : (word : Op) (c : Code) (has_end : Bool) (parts : List Part) → Covered parts → slice_get words n ≡ Some word → (IsLeaf f words (marks ++ leaf_mark has_end ∷ []) n n word c → Stands f words (marks ++ leaf_mark has_end ∷ []) c n n) → has_end ≡ (lowers f c).has_end → [] ≡ (lowers f c).jumps → Covers (leaf has_end m) (ACode c ∷ parts)
   leaf_covers word c has_end parts covered at stands ends none =
-      let own : Mark = leaf_mark has_end in
+      let own : CodeMark = leaf_mark has_end in
       let is : IsLeaf f words (marks ++ own ∷ []) n n word c = (is_marked own n word (lowers f c).has_end at refl ends, refl) in
       covers_more f words marks (ACode c) parts n m.jumps m.jumps own covered (stands is) refl
       (sym (append-nil m.jumps) ∙ ap (λ (more : List Exit). m.jumps ++ more) none) tt
 
   exit_covers : (node : ℕ) (exit : Exit) (parts : List Part) → Covered parts → slice_get words n ≡ Some (ops.Exits node exit) → Covers (marked f (ops.Exits node exit) m) (ACode (code.Exits node exit) ∷ parts)
   exit_covers node exit parts covered at =
-      let own : Mark = leaf_mark false in
+      let own : CodeMark = leaf_mark false in
       covers_more f words marks (ACode (code.Exits node exit)) parts n m.jumps (marked f (ops.Exits node exit) m).jumps own covered
       (is_marked own n (ops.Exits node exit) false at refl refl, refl) refl refl tt
 
@@ -105,7 +105,7 @@ module _ (f : Frame) (words : List Op) (m : Marking) where
   -- Words that are made of the code before.
 
   -- the code before, with one word more
-  one_covers : (inner : Code) (part : Part) (parts : List Part) (own : Mark) (left : List Exit) (covered : Covered (ACode inner ∷ parts)) → (own.start ≡ (last m).start) → (own.jumps ≡ (last m).jumps) → ((s : ℕ) → own.start ≡ s → (last m).has_end ≡ (lowers f inner).has_end → OneBefore f words (marks ++ own ∷ []) (Stands f words (marks ++ own ∷ []) inner) s n → StandsPart f words (marks ++ own ∷ []) part s n) → left ≡ covered.1.1.0 ++ jumps_of f part → ((s : ℕ) → (before : List Exit) → (last m).start ≡ s → Cover f words marks parts s before → Follows f words (marks ++ own ∷ []) part parts s n) → Cover f words (marks ++ own ∷ []) (part ∷ parts) (length (marks ++ own ∷ [])) left
+  one_covers : (inner : Code) (part : Part) (parts : List Part) (own : CodeMark) (left : List Exit) (covered : Covered (ACode inner ∷ parts)) → (own.start ≡ (last m).start) → (own.jumps ≡ (last m).jumps) → ((s : ℕ) → own.start ≡ s → (last m).has_end ≡ (lowers f inner).has_end → OneBefore f words (marks ++ own ∷ []) (Stands f words (marks ++ own ∷ []) inner) s n → StandsPart f words (marks ++ own ∷ []) part s n) → left ≡ covered.1.1.0 ++ jumps_of f part → ((s : ℕ) → (before : List Exit) → (last m).start ≡ s → Cover f words marks parts s before → Follows f words (marks ++ own ∷ []) part parts s n) → Cover f words (marks ++ own ∷ []) (part ∷ parts) (length (marks ++ own ∷ [])) left
   one_covers inner part parts own left covered starts jumps stands are follows =
       let s : ℕ = covered.0 in
       let e : ℕ = covered.1.0 in
@@ -117,7 +117,7 @@ module _ (f : Frame) (words : List Op) (m : Marking) where
       (stands s (starts ∙ said.0.0) said.0.1 one) (jumps ∙ said.1) are (follows s before said.0.0 covered.1.1.1.1.1.1.1.1)
 
   -- the two codes before, with one word more
-  two_covers : (one another : Code) (part : Part) (parts : List Part) (own : Mark) (left : List Exit) (covered : Covered (ACode another ∷ ACode one ∷ parts)) → (own.start ≡ (first m).start) → (own.jumps ≡ (first m).jumps) → ((s : ℕ) → own.start ≡ s → (first m).has_end ≡ (lowers f one).has_end → (last m).has_end ≡ (lowers f another).has_end → TwoBefore f words (marks ++ own ∷ []) (Stands f words (marks ++ own ∷ []) one) (Stands f words (marks ++ own ∷ []) another) s n → StandsPart f words (marks ++ own ∷ []) part s n) → ((before : List Exit) → (first m).has_end ≡ (lowers f one).has_end → (last m).jumps ≡ length (before ++ (lowers f one).jumps) → m.jumps ≡ (before ++ (lowers f one).jumps) ++ (lowers f another).jumps → left ≡ before ++ jumps_of f part) → ((s : ℕ) → (before : List Exit) → (first m).start ≡ s → (first m).has_end ≡ (lowers f one).has_end → (last m).has_end ≡ (lowers f another).has_end → Cover f words marks parts s before → Follows f words (marks ++ own ∷ []) part parts s n) → Cover f words (marks ++ own ∷ []) (part ∷ parts) (length (marks ++ own ∷ [])) left
+  two_covers : (one another : Code) (part : Part) (parts : List Part) (own : CodeMark) (left : List Exit) (covered : Covered (ACode another ∷ ACode one ∷ parts)) → (own.start ≡ (first m).start) → (own.jumps ≡ (first m).jumps) → ((s : ℕ) → own.start ≡ s → (first m).has_end ≡ (lowers f one).has_end → (last m).has_end ≡ (lowers f another).has_end → TwoBefore f words (marks ++ own ∷ []) (Stands f words (marks ++ own ∷ []) one) (Stands f words (marks ++ own ∷ []) another) s n → StandsPart f words (marks ++ own ∷ []) part s n) → ((before : List Exit) → (first m).has_end ≡ (lowers f one).has_end → (last m).jumps ≡ length (before ++ (lowers f one).jumps) → m.jumps ≡ (before ++ (lowers f one).jumps) ++ (lowers f another).jumps → left ≡ before ++ jumps_of f part) → ((s : ℕ) → (before : List Exit) → (first m).start ≡ s → (first m).has_end ≡ (lowers f one).has_end → (last m).has_end ≡ (lowers f another).has_end → Cover f words marks parts s before → Follows f words (marks ++ own ∷ []) part parts s n) → Cover f words (marks ++ own ∷ []) (part ∷ parts) (length (marks ++ own ∷ [])) left
   two_covers one another part parts own left covered starts jumps stands are follows =
       let s2 : ℕ = covered.0 in
       let e2 : ℕ = covered.1.0 in
@@ -157,7 +157,7 @@ module _ (f : Frame) (words : List Op) (m : Marking) where
   either_are : (h g : Bool) (h' g' : Bool) → h ≡ h' → g ≡ g' → (h || g) ≡ (h' || g')
   either_are h g h' g' is are = ap (λ (b : Bool). b || g) is ∙ ap (λ (b : Bool). h' || b) are
 
-  abbrev one_mark : Mark
+  abbrev one_mark : CodeMark
   one_mark = record (last m) { arms = 0 }
 
   plain_one : (word : Op) (inner c : Code) (parts : List Part) → (covered : Covered (ACode inner ∷ parts)) → slice_get words n ≡ Some word → ((s : ℕ) → IsMarked f words (marks ++ one_mark ∷ []) s n word (lowers f c).has_end × OneBefore f words (marks ++ one_mark ∷ []) (Stands f words (marks ++ one_mark ∷ []) inner) s n → Stands f words (marks ++ one_mark ∷ []) c s n) → (lowers f inner).has_end ≡ (lowers f c).has_end → (lowers f inner).jumps ≡ (lowers f c).jumps → Covers (around_one m) (ACode c ∷ parts)
@@ -167,7 +167,7 @@ module _ (f : Frame) (words : List Op) (m : Marking) where
       (covered.1.1.1.1.1.1.0 ∙ ap (λ (js : List Exit). covered.1.1.0 ++ js) jumps)
       (λ s before starts rest. tt)
 
-  abbrev both_mark : Mark
+  abbrev both_mark : CodeMark
   both_mark = record (first m) { has_end = both_end m; arms = 0 }
 
   then_covers : (one another : Code) (parts : List Part) → Covered (ACode another ∷ ACode one ∷ parts) → slice_get words n ≡ Some ops.Then → Covers (of_both m) (ACode (code.Then one another) ∷ parts)
@@ -182,7 +182,7 @@ module _ (f : Frame) (words : List Op) (m : Marking) where
       ∙ cut_is (lowers f one).has_end (last m).jumps before (lowers f one).jumps (lowers f another).jumps m.jumps counts are)
       (λ s before starts had1 had2 rest. tt)
 
-  abbrev either_mark : Mark
+  abbrev either_mark : CodeMark
   either_mark = record (first m) { has_end = (first m).has_end || (last m).has_end; arms = 0 }
 
   branch_covers : (node : ℕ) (on : code.Condition) (one another : Code) (parts : List Part) → Covered (ACode another ∷ ACode one ∷ parts) → slice_get words n ≡ Some (ops.Branches node on) → Covers (of_either m) (ACode (code.Branches node on one another) ∷ parts)
@@ -196,7 +196,7 @@ module _ (f : Frame) (words : List Op) (m : Marking) where
       (λ before had1 counts are. are ∙ append_assoc before (lowers f one).jumps (lowers f another).jumps)
       (λ s before starts had1 had2 rest. tt)
 
-  abbrev loop_mark : ℕ → Mark
+  abbrev loop_mark : ℕ → CodeMark
   loop_mark id = record (last m) { has_end = is_left_by id (own_jumps m); arms = 0 }
 
   loop_covers : (id : ℕ) (turn : Code) (parts : List Part) → Covered (ACode turn ∷ parts) → slice_get words n ≡ Some (ops.Loops id) → Covers (around_loop id m) (ACode (code.Loops id turn) ∷ parts)
@@ -217,19 +217,19 @@ module _ (f : Frame) (words : List Op) (m : Marking) where
 
   begin_covers : (parts : List Part) → Covered parts → slice_get words n ≡ Some ops.BeforeArms → Covers (before_arms m) (ArmsBegin ∷ parts)
   begin_covers parts covered at =
-      let own : Mark = record { start = n; jumps = length m.jumps; has_end = false; arms = n } in
+      let own : CodeMark = record { start = n; jumps = length m.jumps; has_end = false; arms = n } in
       let same : mark_at (marks ++ own ∷ []) n ≡ own = last_marked f words marks own in
       covers_more f words marks ArmsBegin parts n m.jumps m.jumps own covered (at, refl) refl (sym (append-nil m.jumps))
-      (ap (λ (o : Mark). o.has_end) same, ap (λ (o : Mark). o.arms) same)
+      (ap (λ (o : CodeMark). o.has_end) same, ap (λ (o : CodeMark). o.arms) same)
 
   empty_covers : (parts : List Part) → Covered parts → slice_get words n ≡ Some ops.EmptyArm → Covers (empty_arm m) (AnArm Empty ∷ parts)
   empty_covers parts covered at =
-      let own : Mark = arm_behind (last m) true (record { start = n; jumps = length m.jumps; has_end = true; arms = 0 }) in
+      let own : CodeMark = arm_behind (last m) true (record { start = n; jumps = length m.jumps; has_end = true; arms = 0 }) in
       covers_more f words marks (AnArm Empty) parts n m.jumps m.jumps own covered
       (is_arm_marked own n ops.EmptyArm at refl, refl) refl (sym (append-nil m.jumps))
       (arm_follows own parts n n m.jumps true covered refl refl refl)
 
-  abbrev arm_mark : Mark
+  abbrev arm_mark : CodeMark
   arm_mark = arm_behind (mark_at marks ((last m).start - 1)) (last m).has_end (last m)
 
   arm_covers : (tests : _) (inner : Code) (parts : List Part) → Covered (ACode inner ∷ parts) → slice_get words n ≡ Some (ops.IsArm tests None) → Covers (arm_of_one m) (AnArm (Taken tests no_guard inner) ∷ parts)
@@ -241,7 +241,7 @@ module _ (f : Frame) (words : List Op) (m : Marking) where
       (λ s before starts rest. arm_follows arm_mark parts (last m).start s before (lowers f inner).has_end rest starts
       (ap (λ (b : Bool). (mark_at marks ((last m).start - 1)).has_end || b) said.0.1) refl)
 
-  abbrev guarded_mark : Mark
+  abbrev guarded_mark : CodeMark
   guarded_mark = arm_behind (mark_at marks ((first m).start - 1)) (both_end m) (first m)
 
   guarded_covers : (tests : _) (key : ℕ) (guard inner : Code) (parts : List Part) → Covered (ACode inner ∷ ACode guard ∷ parts) → slice_get words n ≡ Some (ops.IsArm tests (Some key)) → Covers (arm_of_two m) (AnArm (Taken tests (a_guard key guard) inner) ∷ parts)
@@ -254,7 +254,7 @@ module _ (f : Frame) (words : List Op) (m : Marking) where
       (ap (λ (b : Bool). (mark_at marks ((first m).start - 1)).has_end || b)
       (both_are (first m).has_end (last m).has_end (lowers f guard).has_end (lowers f inner).has_end had1 had2)) refl)
 
-  abbrev match_mark : Mark
+  abbrev match_mark : CodeMark
   match_mark = record { start = (last m).arms; jumps = (mark_at marks (last m).arms).jumps; has_end = (last m).has_end; arms = 0 }
 
   match_covers : (node : ℕ) (parts : List Part) (found : Arms × List Part) → gathered no_arm parts ≡ Some found → Covered parts → slice_get words n ≡ Some (ops.Matches node) → Covers (of_arms m) (matching node found)
@@ -265,7 +265,7 @@ module _ (f : Frame) (words : List Op) (m : Marking) where
       let before : List Exit = g.1.0 in
       let c : Code = code.Matches node found.0 in
       let ends : (last m).has_end ≡ (lowers f c).has_end = sym (g.1.1.1.1.1.1.1.0 ∙ or-false (last m).has_end) in
-      let own : Mark = match_mark in
+      let own : CodeMark = match_mark in
       let begin : (mark_at marks (last m).arms).jumps ≡ length before =
       ap (λ (k : ℕ). (mark_at marks k).jumps) g.1.1.1.1.1.1.0 ∙ g.1.1.1.1.0.1 in
       covers_more f words marks (ACode c) found.1 s before m.jumps own g.1.1.1.1.1.1.1.1
@@ -348,7 +348,7 @@ module _ (f : Frame) (words : List Op) (m : Marking) where
 
 -- All words.
 
-module _ (f : Frame) where
+module _ (f : LoweringFrame) where
   length_marked : (word : Op) (m : Marking) → length (marked f word m).marks ≡ suc (length m.marks)
   length_marked ops.Nothing m = length_push m.marks _
   length_marked (ops.Changes change) m = length_push m.marks _

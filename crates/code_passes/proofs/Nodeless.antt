@@ -1,7 +1,7 @@
 -- What is built of an effect does not depend on the node of its sites.
 use Rattle.std.proofs.Common.{◌≡◌, ◌∷◌, ℕ, List, [], refl, ap}
 use Rattle.cfg_build.specs.Build as build
-use Rattle.cfg_build.specs.Build.{Frame, Done}
+use Rattle.cfg_build.specs.Build.{LoweringFrame, Done}
 use Rattle.cfg_graph.specs.declared.place.Operand.{Operand}
 use Rattle.cfg_graph.specs.declared.place.Place.{Place}
 use Rattle.cfg_graph.specs.declared.statement.Stmt.{Stmt}
@@ -10,7 +10,7 @@ use Rattle.cfg_meaning.specs.Actions.{site_of, operand_of, operands_of, action_o
 use Rattle.scope_code.specs.View.{effect_of}
 use Rattle.scope_code.specs.declared.code.Action.{Action}
 
-module _ (f : Frame) (node : ℕ) where
+module _ (f : LoweringFrame) (node : ℕ) where
   abbrev at : Place → Place
   at to = build.place_of f (site_of 0 to)
 

@@ -2,7 +2,7 @@
 use Rattle.std.proofs.Common.{◌≡◌, ◌∙◌, ◌∷◌, ◌++◌, ◌+◌, ◌-◌, ◌≤◌, ℕ, zero, suc, Bool, true, false, List, [], Option, Some, None, length, drop, drop-drop, refl, sym, ap, subst, arith}
 use Rattle.std.proofs.lemmas.Option.{none-some, slice_get-map}
 use Rattle.std.specs.Prelude.{map, option_map, slice_get}
-use Rattle.cfg_build.specs.Build.{Frame, Lowers, outer, after_either}
+use Rattle.cfg_build.specs.Build.{LoweringFrame, Lowers, outer, after_either}
 use Rattle.cfg_build.specs.Codes.{lowers}
 use Rattle.src_meaning.specs.Scopes.{Entry, Scope, Scopes, with_scope, innermost, around_innermost, with_entry, without_pending}
 use Rattle.scope_code.specs.Code as code
@@ -12,7 +12,7 @@ use Rattle.scope_code.specs.Ops.{Op}
 use Rattle.scope_code.specs.View.{op_of}
 use Rattle.scope_code.specs.declared.code.Op as words
 use Rattle.code_passes.specs.Spans.{OneBefore, TwoBefore, Stands}
-use Rattle.code_passes.specs.declared.marks.Mark.{Mark}
+use Rattle.code_passes.specs.declared.marks.CodeMark.{CodeMark}
 use Rattle.code_passes.proofs.Reading.{reads, IsOne, IsTwo}
 use Rattle.code_passes.specs.Reaching.{Keeps, reach_at, AreReaches}
 
@@ -34,12 +34,12 @@ keeps_same None g h same keeps = tt
 keeps_same (Some n) g h same keeps = λ S. ap (drop n) (same S) ∙ keeps S
 
 -- in a scope of its own
-drop_outer : (f : Frame) (n : ℕ) (S : Scopes) → drop n (outer f S) ≡ drop (suc n) S
+drop_outer : (f : LoweringFrame) (n : ℕ) (S : Scopes) → drop n (outer f S) ≡ drop (suc n) S
 drop_outer f zero [] = refl
 drop_outer f (suc n) [] = refl
 drop_outer f n (s ∷ S) = refl
 
-pub keeps_around : (f : Frame) (n m : ℕ) (g : Scopes → Scopes) (node : ℕ) (t : Bool) → n ≤ suc m → Keeps (Some n) g → Keeps (Some m) (λ S. outer f (g (with_scope node t S)))
+pub keeps_around : (f : LoweringFrame) (n m : ℕ) (g : Scopes → Scopes) (node : ℕ) (t : Bool) → n ≤ suc m → Keeps (Some n) g → Keeps (Some m) (λ S. outer f (g (with_scope node t S)))
 keeps_around f n m g node t less keeps = λ S.
     drop_outer f m (g (with_scope node t S)) ∙ keeps_more n (suc m) g less keeps (with_scope node t S)
 
@@ -72,16 +72,16 @@ noted_more P (x ∷ rs) r own others zero = others zero
 noted_more P (x ∷ rs) r own others (suc e) =
     noted_more (λ (i : ℕ) (o : Option ℕ). P (suc i) o) rs r own (λ (i : ℕ). others (suc i)) e
 
-pub none_noted : (f : Frame) (words : List Op) (marks : List Mark) → AreReaches f words marks []
+pub none_noted : (f : LoweringFrame) (words : List Op) (marks : List CodeMark) → AreReaches f words marks []
 none_noted f words marks c start end stands = tt
 
-pub one_noted : (f : Frame) (words : List Op) (marks : List Mark) (rs : List (Option ℕ)) (r : Option ℕ) → ((c : Code) (start : ℕ) → Stands f words marks c start (length rs) → Keeps r (lowers f c).after) → AreReaches f words marks rs → AreReaches f words marks (rs ++ r ∷ [])
+pub one_noted : (f : LoweringFrame) (words : List Op) (marks : List CodeMark) (rs : List (Option ℕ)) (r : Option ℕ) → ((c : Code) (start : ℕ) → Stands f words marks c start (length rs) → Keeps r (lowers f c).after) → AreReaches f words marks rs → AreReaches f words marks (rs ++ r ∷ [])
 one_noted f words marks rs r own known c start end stands =
     noted_more (λ (e : ℕ) (o : Option ℕ). (d : Code) (s : ℕ) → Stands f words marks d s e → Keeps o (lowers f d).after) rs r own
     (λ (e : ℕ) (d : Code) (s : ℕ) at. known d s e at) end c start stands
 
 -- by the word of code
-module _ (f : Frame) (all : List Op) (marks : List Mark) (c : Code) (s e : ℕ) (stands : Stands f all marks c s e) (r : Option ℕ) where
+module _ (f : LoweringFrame) (all : List Op) (marks : List CodeMark) (c : Code) (s e : ℕ) (stands : Stands f all marks c s e) (r : Option ℕ) where
   abbrev IsKept : Type 0
   IsKept = Keeps r (lowers f c).after
 
@@ -117,7 +117,7 @@ module _ (f : Frame) (all : List Op) (marks : List Mark) (c : Code) (s e : ℕ) 
 pub no_word_of : (ws : List words.Op) (i : ℕ) → slice_get ws i ≡ None → slice_get (map op_of ws) i ≡ None
 no_word_of ws i is = slice_get-map op_of ws i ∙ ap (option_map op_of) is
 
-pub no_word : (f : Frame) (all : List Op) (marks : List Mark) (c : Code) (s e : ℕ) → Stands f all marks c s e → slice_get all e ≡ None → ⊥
+pub no_word : (f : LoweringFrame) (all : List Op) (marks : List CodeMark) (c : Code) (s e : ℕ) → Stands f all marks c s e → slice_get all e ≡ None → ⊥
 no_word f all marks code.Nothing s e stands none = none-some ops.Nothing (sym none ∙ stands.0.0)
 no_word f all marks (code.Changes change) s e stands none = none-some (ops.Changes change) (sym none ∙ stands.0.0)
 no_word f all marks (code.From change inner) s e stands none = none-some (ops.From change) (sym none ∙ stands.0.0)

@@ -6,9 +6,9 @@ use Rattle.scope_code.specs.Code as code
 use Rattle.scope_code.specs.Code.{Code, Arms, no_arm, an_arm, Arm, Taken, Empty, no_guard, a_guard}
 use Rattle.scope_code.specs.Ops as ops
 use Rattle.scope_code.specs.Ops.{Op}
-use Rattle.cfg_build.specs.Build.{Frame}
+use Rattle.cfg_build.specs.Build.{LoweringFrame}
 use Rattle.code_passes.specs.Spans.{OneBefore, TwoBefore, Stands, StandArms, StandsArm}
-use Rattle.code_passes.specs.declared.marks.Mark.{Mark}
+use Rattle.code_passes.specs.declared.marks.CodeMark.{CodeMark}
 
 abbrev word_of : Code → Op
 word_of code.Nothing = ops.Nothing
@@ -27,7 +27,7 @@ word_of (code.Replaces site key) = ops.Replaces site key
 word_of (code.Drops key) = ops.Drops key
 word_of (code.Matches node arms) = ops.Matches node
 
-module _ (f : Frame) (words : List Op) (marks : List Mark) where
+module _ (f : LoweringFrame) (words : List Op) (marks : List CodeMark) where
   abbrev pub IsOne : (Code → Code) → Code → (s e : ℕ) → Type 0
   IsOne make c s e = (inner : Code) × ((c ≡ make inner) × OneBefore f words marks (Stands f words marks inner) s e)
 

@@ -5,13 +5,13 @@ use Rattle.mir_ty.proofs.ListLemmas.{slice_get-append_left}
 use Rattle.scope_code.specs.Code as code
 use Rattle.scope_code.specs.Code.{Code, Arms, no_arm, an_arm, Arm, Taken, Empty, no_guard, a_guard}
 use Rattle.scope_code.specs.Ops.{Op}
-use Rattle.cfg_build.specs.Build.{Frame}
+use Rattle.cfg_build.specs.Build.{LoweringFrame}
 use Rattle.cfg_build.specs.Codes.{lowers}
 use Rattle.code_passes.specs.Spans.{IsMarked, IsArmMarked, Stands, StandArms, StandsArm}
 use Rattle.code_passes.specs.MarkRules.{mark_at, no_mark}
-use Rattle.code_passes.specs.declared.marks.Mark.{Mark}
+use Rattle.code_passes.specs.declared.marks.CodeMark.{CodeMark}
 
-module _ (f : Frame) (words : List Op) (marks more : List Mark) where
+module _ (f : LoweringFrame) (words : List Op) (marks more : List CodeMark) where
   pub still_marked : (s e : ℕ) (word : Op) (has_end : Bool) → IsMarked f words marks s e word has_end → IsMarked f words (marks ++ more) s e word has_end
   still_marked s e word has_end is = (is.0, (is.1.0, (slice_get-append_left marks more e _ is.1.1.0, is.1.1.1)))
 
@@ -61,7 +61,7 @@ module _ (f : Frame) (words : List Op) (marks more : List Mark) where
     )
     arm_still_stands Empty s e is = (arm_still_marked s e _ is.0, is.1)
 
-module _ (f : Frame) (words : List Op) (marks : List Mark) where
+module _ (f : LoweringFrame) (words : List Op) (marks : List CodeMark) where
   -- the mark where code ends says where it begins, and whether a run comes behind it
   abbrev pub Says : (s e : ℕ) → Bool → Type 0
   Says s e has_end = ((mark_at marks e).start ≡ s) × ((mark_at marks e).has_end ≡ has_end)
@@ -69,7 +69,7 @@ module _ (f : Frame) (words : List Op) (marks : List Mark) where
   says : (s e : ℕ) (word : Op) (has_end : Bool) → IsMarked f words marks s e word has_end → Says s e has_end
   says s e word has_end is =
       let same : mark_at marks e ≡ is.1.0 = ap (λ o. unwrap_or o no_mark) is.1.1.0 in
-      (ap (λ (m : Mark). m.start) same ∙ is.1.1.1.0, ap (λ (m : Mark). m.has_end) same ∙ is.1.1.1.1)
+      (ap (λ (m : CodeMark). m.start) same ∙ is.1.1.1.0, ap (λ (m : CodeMark). m.has_end) same ∙ is.1.1.1.1)
 
   pub code_says : (c : Code) (s e : ℕ) → Stands f words marks c s e → Says s e (lowers f c).has_end
   code_says code.Nothing s e is = says s e _ _ is.0

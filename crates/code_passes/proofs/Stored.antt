@@ -3,7 +3,7 @@ use Rattle.std.proofs.Common.{◌≡◌, ◌∙◌, ◌∷◌, Bool, false, List
 use Rattle.std.specs.Option.{option_map_or}
 use Rattle.std.specs.Prelude.{slice_get}
 use Rattle.cfg_build.specs.Build as build
-use Rattle.cfg_build.specs.Build.{Frame}
+use Rattle.cfg_build.specs.Build.{LoweringFrame}
 use Rattle.cfg_graph.specs.Places.{named_step, named}
 use Rattle.cfg_graph.specs.declared.place.Place as graph_place
 use Rattle.cfg_graph.specs.declared.statement.Stmt.{Stmt}
@@ -15,7 +15,7 @@ use Rattle.store_model.specs.Abstract.Effects.{never_at}
 use Rattle.store_model.specs.Places.Place.{Step, ToPart, ToField, ToContent, ToElement}
 use Rattle.code_passes.specs.Framed.{stored, stored_in}
 
-module _ (f : Frame) where
+module _ (f : LoweringFrame) where
   step_named : (step : Step) → named_step (build.step_of f step) ≡ step_at f.local_of step
   step_named (ToPart n) = refl
   step_named (ToField variant n) = refl

@@ -2,14 +2,14 @@
 use Rattle.std.proofs.Common.{◌≡◌, ◌∙◌, ◌<◌, ◌≤◌, ℕ, suc, List, sym, ap, subst, arith}
 use Rattle.scope_code.specs.Code.{Code}
 use Rattle.scope_code.specs.Ops.{Op}
-use Rattle.cfg_build.specs.Build.{Frame}
+use Rattle.cfg_build.specs.Build.{LoweringFrame}
 use Rattle.code_passes.specs.MarkRules.{mark_at}
 use Rattle.code_passes.specs.Spans.{TwoBefore, Stands}
-use Rattle.code_passes.specs.declared.marks.Mark.{Mark}
+use Rattle.code_passes.specs.declared.marks.CodeMark.{CodeMark}
 use Rattle.code_passes.proofs.Standing.{code_says}
 use Rattle.code_passes.proofs.Reading.{within}
 
-module _ (f : Frame) (words : List Op) (marks : List Mark) (one another : Code) (start end : ℕ) where
+module _ (f : LoweringFrame) (words : List Op) (marks : List CodeMark) (one another : Code) (start end : ℕ) where
   abbrev Two : Type 0
   Two = TwoBefore f words marks (Stands f words marks one) (Stands f words marks another) start end
 

@@ -9,9 +9,9 @@ use Rattle.cfg_graph.specs.declared.terminator.Term.{Term}
 use Rattle.cfg_graph.specs.declared.terminator.Unwind.{Unwind}
 use Rattle.scope_code.specs.declared.code.Action.{Action}
 use Rattle.src_meaning.specs.Locals.OfBody.{local_among}
-use Rattle.code_passes.specs.declared.frames.Frame.{Frame}
+use Rattle.code_passes.specs.declared.frames.LoweringFrame.{LoweringFrame}
 
-abbrev pub frame_of : Frame → build.Frame
+abbrev pub frame_of : LoweringFrame → build.LoweringFrame
 frame_of frame = record {
   items = frame.items.now;
   local_of = local_among (keys frame.locals.now);

@@ -5,32 +5,32 @@ use Rattle.src_meaning.specs.Scopes.{Exit}
 use Rattle.scope_code.specs.Ops as ops
 use Rattle.scope_code.specs.Ops.{Op}
 use Rattle.scope_code.specs.View.{exit_of}
-use Rattle.cfg_build.specs.Build.{Frame, is_last, is_left_by, naming, outside}
-use Rattle.code_passes.specs.declared.marking.Marks.{Marks}
-use Rattle.code_passes.specs.declared.marks.Mark.{Mark}
+use Rattle.cfg_build.specs.Build.{LoweringFrame, is_last, is_left_by, naming, outside}
+use Rattle.code_passes.specs.declared.marking.CodeMarks.{CodeMarks}
+use Rattle.code_passes.specs.declared.marks.CodeMark.{CodeMark}
 
 -- the marks so far, and the jumps out of the code before, each behind those before it
 pub record Marking : Type 0 where
-  pub marks : List Mark
+  pub marks : List CodeMark
   pub jumps : List Exit
 
-abbrev pub marking_of : Marks → Marking
+abbrev pub marking_of : CodeMarks → Marking
 marking_of m = record { marks = m.marks; jumps = map exit_of m.jumps }
 
-abbrev pub no_mark : Mark
+abbrev pub no_mark : CodeMark
 no_mark = record { start = 0; jumps = 0; has_end = false; arms = 0 }
 
-abbrev pub mark_at : List Mark → ℕ → Mark
+abbrev pub mark_at : List CodeMark → ℕ → CodeMark
 mark_at marks end = unwrap_or (slice_get marks end) no_mark
 
 -- the code just before, and the one before that
-abbrev pub last : Marking → Mark
+abbrev pub last : Marking → CodeMark
 last m = mark_at m.marks (length m.marks - 1)
 
-abbrev pub first : Marking → Mark
+abbrev pub first : Marking → CodeMark
 first m = mark_at m.marks ((last m).start - 1)
 
-abbrev pub with_mark : Mark → Marking → Marking
+abbrev pub with_mark : CodeMark → Marking → Marking
 with_mark mark m = record m { marks = m.marks ++ mark ∷ [] }
 
 -- code that is one word
@@ -77,7 +77,7 @@ before_arms m =
     with_mark (record { start = length m.marks; jumps = length m.jumps; has_end = false; arms = length m.marks }) m
 
 -- an arm that begins at a word, behind those before it
-abbrev pub arm_behind : (before : Mark) → Bool → Mark → Mark
+abbrev pub arm_behind : (before : CodeMark) → Bool → CodeMark → CodeMark
 arm_behind before has_end own = record own { has_end = before.has_end || has_end; arms = before.arms }
 
 abbrev pub arm_of_one : Marking → Marking
@@ -92,13 +92,23 @@ arm_of_two m = record {
 
 abbrev pub empty_arm : Marking → Marking
 empty_arm m =
-    with_mark (arm_behind (last m) true (record { start = length m.marks; jumps = length m.jumps; has_end = true; arms = 0 })) m
+    with_mark (arm_behind (last m) true (record {
+      start = length m.marks;
+      jumps = length m.jumps;
+      has_end = true;
+      arms = 0;
+    })) m
 
 abbrev pub of_arms : Marking → Marking
 of_arms m =
-    with_mark (record { start = (last m).arms; jumps = (mark_at m.marks (last m).arms).jumps; has_end = (last m).has_end; arms = 0 }) m
+    with_mark (record {
+      start = (last m).arms;
+      jumps = (mark_at m.marks (last m).arms).jumps;
+      has_end = (last m).has_end;
+      arms = 0;
+    }) m
 
-abbrev pub marked : Frame → Op → Marking → Marking
+abbrev pub marked : LoweringFrame → Op → Marking → Marking
 marked f ops.Nothing = leaf true
 marked f (ops.Changes change) = leaf true
 marked f (ops.From change) = around_one
@@ -120,7 +130,7 @@ marked f ops.EmptyArm = empty_arm
 marked f (ops.Matches node) = of_arms
 
 -- all words in order
-abbrev pub all_marked : Frame → List Op → Marking → Marking
+abbrev pub all_marked : LoweringFrame → List Op → Marking → Marking
 all_marked f [] m = m
 all_marked f (word ∷ words) m = all_marked f words (marked f word m)
 

@@ -1,9 +1,9 @@
 -- How many of the innermost scopes code may change: all others are behind it as they were before.
 use Rattle.std.specs.Prelude.{ℕ, ◌≡◌, ⊤, List, Option, Some, None, drop, slice_get, unwrap_or}
-use Rattle.cfg_build.specs.Build.{Frame}
+use Rattle.cfg_build.specs.Build.{LoweringFrame}
 use Rattle.cfg_build.specs.Codes.{lowers}
 use Rattle.code_passes.specs.Spans.{Stands}
-use Rattle.code_passes.specs.declared.marks.Mark.{Mark}
+use Rattle.code_passes.specs.declared.marks.CodeMark.{CodeMark}
 use Rattle.scope_code.specs.Code.{Code}
 use Rattle.scope_code.specs.Ops.{Op}
 use Rattle.src_meaning.specs.Scopes.{Scopes}
@@ -18,6 +18,6 @@ abbrev pub reach_at : List (Option ℕ) → ℕ → Option ℕ
 reach_at reaches end = unwrap_or (slice_get reaches end) None
 
 -- what is noted at each word holds of the code that ends there
-abbrev pub AreReaches : Frame → List Op → List Mark → List (Option ℕ) → Type 0
+abbrev pub AreReaches : LoweringFrame → List Op → List CodeMark → List (Option ℕ) → Type 0
 AreReaches f words marks reaches =
     (c : Code) (start end : ℕ) → Stands f words marks c start end → Keeps (reach_at reaches end) (lowers f c).after

@@ -4,21 +4,21 @@ use Rattle.scope_code.specs.Code as code
 use Rattle.scope_code.specs.Code.{Code, Arms, no_arm, an_arm, Arm, Taken, Empty, no_guard, a_guard}
 use Rattle.scope_code.specs.Ops as ops
 use Rattle.scope_code.specs.Ops.{Op}
-use Rattle.cfg_build.specs.Build.{Frame}
+use Rattle.cfg_build.specs.Build.{LoweringFrame}
 use Rattle.cfg_build.specs.Codes.{lowers}
-use Rattle.code_passes.specs.declared.marks.Mark.{Mark}
+use Rattle.code_passes.specs.declared.marks.CodeMark.{CodeMark}
 
-module _ (f : Frame) (words : List Op) (marks : List Mark) where
+module _ (f : LoweringFrame) (words : List Op) (marks : List CodeMark) where
   -- the word at which code ends, where the code begins, and whether a run comes behind it
   abbrev pub IsMarked : (start end : ℕ) → Op → Bool → Type 0
   IsMarked start end word has_end =
       (slice_get words end ≡ Some word)
-      × ((m : Mark) × ((slice_get marks end ≡ Some m) × ((m.start ≡ start) × (m.has_end ≡ has_end))))
+      × ((m : CodeMark) × ((slice_get marks end ≡ Some m) × ((m.start ≡ start) × (m.has_end ≡ has_end))))
 
   -- the word at which an arm ends, and where it begins
   abbrev pub IsArmMarked : (start end : ℕ) → Op → Type 0
   IsArmMarked start end word =
-      (slice_get words end ≡ Some word) × ((m : Mark) × ((slice_get marks end ≡ Some m) × (m.start ≡ start)))
+      (slice_get words end ≡ Some word) × ((m : CodeMark) × ((slice_get marks end ≡ Some m) × (m.start ≡ start)))
 
   abbrev pub IsLeaf : (start end : ℕ) → Op → Code → Type 0
   IsLeaf start end word c = IsMarked start end word (lowers f c).has_end × (start ≡ end)

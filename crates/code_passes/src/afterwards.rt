@@ -3,7 +3,7 @@
 
 ghost use Rattle.std.specs.Prelude.{◌≡◌, ℕ, IfOk, map};
 ghost use Rattle.cfg_build.specs.Build as build;
-ghost use Rattle.cfg_build.specs.Build.{Frame};
+ghost use Rattle.cfg_build.specs.Build.{LoweringFrame};
 ghost use Rattle.cfg_build.specs.Codes.{lowers};
 ghost use Rattle.scope_code.specs.Code as plain;
 ghost use Rattle.scope_code.specs.View.{op_of};
@@ -34,8 +34,8 @@ pub fn after<'a>(
     end: usize,
     scopes: &'a Scopes<'a>,
 ) -> Result<&'a Scopes<'a>, NoMemory>
-    requires { (f : Frame) → AreReaches f (map op_of code.words.now) code.marks.now reaches.now }
-    ensures { IfOk result (λ behind. (f : Frame) (c : plain.Code) (start : ℕ) →
+    requires { (f : LoweringFrame) → AreReaches f (map op_of code.words.now) code.marks.now reaches.now }
+    ensures { IfOk result (λ behind. (f : LoweringFrame) (c : plain.Code) (start : ℕ) →
         Stands f (map op_of code.entry.words.now) code.entry.marks.now c start end →
         scopes_of behind.now ≡ (lowers f c).after (scopes_of scopes.entry.now)) }
 {
@@ -76,8 +76,8 @@ fn after_one<'a>(
     end: usize,
     scopes: &'a Scopes<'a>,
 ) -> Result<&'a Scopes<'a>, NoMemory>
-    requires { (f : Frame) → AreReaches f (map op_of code.words.now) code.marks.now reaches.now }
-    ensures { IfOk result (λ behind. (f : Frame) (c : plain.Code) (start : ℕ) →
+    requires { (f : LoweringFrame) → AreReaches f (map op_of code.words.now) code.marks.now reaches.now }
+    ensures { IfOk result (λ behind. (f : LoweringFrame) (c : plain.Code) (start : ℕ) →
         OneBefore f (map op_of code.entry.words.now) code.entry.marks.now
         (Stands f (map op_of code.entry.words.now) code.entry.marks.now c) start end →
         scopes_of behind.now ≡ (lowers f c).after (scopes_of scopes.entry.now)) }
@@ -97,8 +97,8 @@ fn after_both<'a>(
     end: usize,
     scopes: &'a Scopes<'a>,
 ) -> Result<&'a Scopes<'a>, NoMemory>
-    requires { (f : Frame) → AreReaches f (map op_of code.words.now) code.marks.now reaches.now }
-    ensures { IfOk result (λ behind. (f : Frame) (one another : plain.Code) (start : ℕ) →
+    requires { (f : LoweringFrame) → AreReaches f (map op_of code.words.now) code.marks.now reaches.now }
+    ensures { IfOk result (λ behind. (f : LoweringFrame) (one another : plain.Code) (start : ℕ) →
         TwoBefore f (map op_of code.entry.words.now) code.entry.marks.now
         (Stands f (map op_of code.entry.words.now) code.entry.marks.now one)
         (Stands f (map op_of code.entry.words.now) code.entry.marks.now another) start end →
@@ -122,8 +122,8 @@ fn after_either<'a>(
     end: usize,
     scopes: &'a Scopes<'a>,
 ) -> Result<&'a Scopes<'a>, NoMemory>
-    requires { (f : Frame) → AreReaches f (map op_of code.words.now) code.marks.now reaches.now }
-    ensures { IfOk result (λ behind. (f : Frame) (one another : plain.Code) (start : ℕ) →
+    requires { (f : LoweringFrame) → AreReaches f (map op_of code.words.now) code.marks.now reaches.now }
+    ensures { IfOk result (λ behind. (f : LoweringFrame) (one another : plain.Code) (start : ℕ) →
         TwoBefore f (map op_of code.entry.words.now) code.entry.marks.now
         (Stands f (map op_of code.entry.words.now) code.entry.marks.now one)
         (Stands f (map op_of code.entry.words.now) code.entry.marks.now another) start end →

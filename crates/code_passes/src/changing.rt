@@ -175,7 +175,7 @@ pub fn enter<'a>(
 
 /// The scopes around the innermost.
 pub fn leave<'a>(scopes: &'a Scopes<'a>) -> &'a Scopes<'a>
-    ensures { (frame : build.Frame) → scopes_of result.now ≡ build.outer frame (scopes_of scopes.entry.now) }
+    ensures { (frame : build.LoweringFrame) → scopes_of result.now ≡ build.outer frame (scopes_of scopes.entry.now) }
 {
     match scopes {
         Scopes::Innermost(_, around) => around,

@@ -5,7 +5,7 @@ ghost use Rattle.cfg_meaning.specs.Actions.{site_of, operand_of, action_of};
 ghost use Rattle.scope_code.specs.View.{effect_of};
 ghost use Rattle.code_passes.specs.Framed.{frame_of, term_by};
 
-use crate::frames::Frame;
+use crate::frames::LoweringFrame;
 use crate::places::{
     operand, place, place_and_operand, place_and_operands, two_operands, two_places,
 };
@@ -17,7 +17,7 @@ use std::alloc::Global;
 /// The statement of a comparison.
 fn compare(
     alloc: Global,
-    frame: Frame,
+    frame: LoweringFrame,
     to: &Place,
     operator: Cmp,
     left: &Operand,
@@ -42,7 +42,7 @@ fn compare(
 /// # Errors
 ///
 /// [`NoMemory`] where memory is wanted.
-pub fn statement(alloc: Global, frame: Frame, stmt: &Stmt) -> Result<Stmt, NoMemory>
+pub fn statement(alloc: Global, frame: LoweringFrame, stmt: &Stmt) -> Result<Stmt, NoMemory>
     ensures { IfOk result (λ found. build.ByStmt found ≡ build.done_by (frame_of frame.entry) (action_of 0 stmt.now)) }
 {
     match stmt {
@@ -109,7 +109,7 @@ pub fn statement(alloc: Global, frame: Frame, stmt: &Stmt) -> Result<Stmt, NoMem
 /// The terminator of an operation on numbers.
 fn compute(
     alloc: Global,
-    frame: Frame,
+    frame: LoweringFrame,
     to: &Place,
     op: Math,
     left: &Operand,
@@ -145,7 +145,7 @@ fn compute(
 /// [`NoMemory`] where memory is wanted.
 pub fn terminator(
     alloc: Global,
-    frame: Frame,
+    frame: LoweringFrame,
     action: &Action,
     then: u32,
     unwind: Unwind,

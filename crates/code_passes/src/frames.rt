@@ -8,7 +8,7 @@ use mir_ty::{Items, TyId};
 
 /// The items of a program, and the locals of the body that is lowered: by key, and their types.
 #[derive(Clone, Copy)]
-pub struct Frame<'a> {
+pub struct LoweringFrame<'a> {
     pub items: &'a Items,
     pub locals: &'a Locals,
     pub tys: &'a [TyId],
@@ -19,7 +19,7 @@ pub struct Frame<'a> {
 /// # Errors
 ///
 /// [`NoMemory`] where that number is more than 32 bits.
-pub fn local(frame: Frame, key: Key) -> Result<u32, NoMemory>
+pub fn local(frame: LoweringFrame, key: Key) -> Result<u32, NoMemory>
     ensures { IfOk result (λ local. local ≡ (frame_of frame.entry).local_of key.0) }
 {
     match frame.locals.local_of(key) {

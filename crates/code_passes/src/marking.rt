@@ -9,25 +9,25 @@ ghost use Rattle.code_passes.specs.MarkRules as rules;
 ghost use Rattle.code_passes.specs.MarkRules.{marking_of};
 ghost use Rattle.code_passes.specs.Spans.{Stands};
 
-use crate::{Frame, Mark, is_last};
+use crate::{CodeMark, LoweringFrame, is_last};
 use mir_base::{List, NoMemory, NodeId};
 use scope_code::{Code, Exit, Op};
 use std::alloc::Global;
 
 /// The marks so far, and the jumps out of the code before.
 #[derive(Drop)]
-pub struct Marks {
-    pub marks: List<Mark>,
+pub struct CodeMarks {
+    pub marks: List<CodeMark>,
     pub jumps: List<Exit>,
 }
 
 /// The mark at a word.
-pub(crate) fn mark_at(marks: &[Mark], end: usize) -> Mark
+pub(crate) fn mark_at(marks: &[CodeMark], end: usize) -> CodeMark
     ensures { result ≡ rules.mark_at marks.now end }
 {
     match marks.get(end) {
         Some(mark) => *mark,
-        None => Mark {
+        None => CodeMark {
             start: 0,
             jumps: 0,
             has_end: false,
@@ -92,31 +92,31 @@ fn behind(jumps: &[Exit], count: usize) -> &[Exit]
     }
 }
 
-impl Marks {
-    fn last(&self) -> Mark
+impl CodeMarks {
+    fn last(&self) -> CodeMark
         ensures { result ≡ rules.last (marking_of self.now) }
     {
         mark_at(self.marks.as_slice(), self.marks.len().saturating_sub(1))
     }
 
-    fn first(&self) -> Mark
+    fn first(&self) -> CodeMark
         ensures { result ≡ rules.first (marking_of self.now) }
     {
         mark_at(self.marks.as_slice(), self.last().start.saturating_sub(1))
     }
 
     /// The mark before a code with this mark.
-    fn before(&self, mark: Mark) -> Mark
+    fn before(&self, mark: CodeMark) -> CodeMark
         ensures { result ≡ rules.mark_at self.now.marks (mark.start - 1) }
     {
         mark_at(self.marks.as_slice(), mark.start.saturating_sub(1))
     }
 
     /// The mark of code that is the next word alone.
-    fn word(&self, has_end: bool) -> Mark
+    fn word(&self, has_end: bool) -> CodeMark
         ensures { result ≡ record { start = length self.now.marks; jumps = length self.now.jumps; has_end = has_end; arms = 0 } }
     {
-        Mark {
+        CodeMark {
             start: self.marks.len(),
             jumps: self.jumps.len(),
             has_end,
@@ -145,11 +145,11 @@ impl Marks {
         ensures { OnOk result (marking_of self.new ≡ rules.around_one (marking_of self.old)) }
     {
         let last = self.last();
-        self.marks.push(Mark { arms: 0, ..last })
+        self.marks.push(CodeMark { arms: 0, ..last })
     }
 
     /// No run comes to the last code where the one before it has no end, and so to none of its jumps.
-    fn cut(&mut self, first: Mark, last: Mark)
+    fn cut(&mut self, first: CodeMark, last: CodeMark)
         ensures same { self.new.marks ≡ self.old.marks }
         ensures jumps { map exit_of self.new.jumps ≡ rules.cut first.has_end last.jumps (map exit_of self.old.jumps) }
     {
@@ -164,7 +164,7 @@ impl Marks {
         let first = self.first();
         let last = self.last();
         self.cut(first, last);
-        self.marks.push(Mark {
+        self.marks.push(CodeMark {
             has_end: first.has_end && last.has_end,
             arms: 0,
             ..first
@@ -176,7 +176,7 @@ impl Marks {
     {
         let first = self.first();
         let last = self.last();
-        self.marks.push(Mark {
+        self.marks.push(CodeMark {
             has_end: first.has_end || last.has_end,
             arms: 0,
             ..first
@@ -202,7 +202,7 @@ impl Marks {
         let last = self.last();
         let has_end = is_left(behind(self.jumps.as_slice(), last.jumps), id);
         self.leave_loop(alloc, id, last.jumps)?;
-        self.marks.push(Mark {
+        self.marks.push(CodeMark {
             has_end,
             arms: 0,
             ..last
@@ -213,7 +213,7 @@ impl Marks {
         ensures { OnOk result (marking_of self.new ≡ rules.before_arms (marking_of self.old)) }
     {
         let mark = self.word(false);
-        self.marks.push(Mark {
+        self.marks.push(CodeMark {
             arms: mark.start,
             ..mark
         })
@@ -251,7 +251,7 @@ impl Marks {
     {
         let last = self.last();
         let begin = mark_at(self.marks.as_slice(), last.arms);
-        self.marks.push(Mark {
+        self.marks.push(CodeMark {
             start: last.arms,
             jumps: begin.jumps,
             has_end: last.has_end,
@@ -261,10 +261,10 @@ impl Marks {
 }
 
 /// The mark of an arm, by that of what stands before it and that of its own code.
-fn arm_behind(before: Mark, has_end: bool, own: Mark) -> Mark
+fn arm_behind(before: CodeMark, has_end: bool, own: CodeMark) -> CodeMark
     ensures { result ≡ rules.arm_behind before has_end own }
 {
-    Mark {
+    CodeMark {
         has_end: before.has_end || has_end,
         arms: before.arms,
         ..own
@@ -272,7 +272,12 @@ fn arm_behind(before: Mark, has_end: bool, own: Mark) -> Mark
 }
 
 /// The mark at one more word.
-fn mark(alloc: Global, frame: Frame, word: &Op, marks: &mut Marks) -> Result<(), NoMemory>
+fn mark(
+    alloc: Global,
+    frame: LoweringFrame,
+    word: &Op,
+    marks: &mut CodeMarks,
+) -> Result<(), NoMemory>
     ensures { OnOk result (marking_of marks.new ≡ rules.marked (frame_of frame.entry) (op_of word.now) (marking_of marks.old)) }
 {
     match word {
@@ -303,17 +308,21 @@ fn mark(alloc: Global, frame: Frame, word: &Op, marks: &mut Marks) -> Result<(),
 /// # Errors
 ///
 /// [`NoMemory`] where memory is wanted.
-pub fn marks_of(alloc: Global, frame: Frame, code: &Code) -> Result<List<Mark>, NoMemory>
+pub fn marks_of(
+    alloc: Global,
+    frame: LoweringFrame,
+    code: &Code,
+) -> Result<List<CodeMark>, NoMemory>
     ensures { IfOk result (λ marks. (c : plain.Code) → ops_of code.now ≡ onto c [] →
         Stands (frame_of frame.entry) (map op_of code.now.ops) marks c 0 (length code.now.ops - 1)) }
 {
-    let mut marks = Marks {
+    let mut marks = CodeMarks {
         marks: List::from_vec(Vec::with_capacity(alloc, code.ops.len())?),
         jumps: List::new(alloc),
     };
     for word in code.ops.as_slice() {
         mark(alloc, frame, word, &mut marks)?;
     }
-    let Marks { marks, .. } = marks;
+    let CodeMarks { marks, .. } = marks;
     Ok(marks)
 }

@@ -3,7 +3,7 @@
 /// Where the code that ends with a word begins, and whether a run comes behind it (of a loop: whether a `break` leaves
 /// it). Words are counted from 0.
 #[derive(Clone, Copy)]
-pub struct Mark {
+pub struct CodeMark {
     /// Its first word.
     pub start: usize,
     /// How many jumps are known before its own.

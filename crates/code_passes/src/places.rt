@@ -6,14 +6,14 @@ ghost use Rattle.cfg_meaning.specs.Actions.{site_of, operand_of, operands_of};
 ghost use Rattle.src_meaning.specs.Forms.{site_of_key};
 ghost use Rattle.code_passes.specs.Framed.{frame_of};
 
-use crate::frames::{Frame, local};
+use crate::frames::{LoweringFrame, local};
 use cfg_graph::{Operand, Place, Step};
 use mir_base::{Key, List, NoMemory};
 use std::alloc::Global;
 use store_model::Path;
 
 /// A step; that to an element reads a local.
-fn step(frame: Frame, step: Step) -> Result<Step, NoMemory>
+fn step(frame: LoweringFrame, step: Step) -> Result<Step, NoMemory>
     ensures { IfOk result (λ found. found ≡ build.step_of (frame_of frame.entry) (named_step step)) }
 {
     match step {
@@ -27,7 +27,7 @@ fn step(frame: Frame, step: Step) -> Result<Step, NoMemory>
 /// # Errors
 ///
 /// [`NoMemory`] where memory is wanted.
-pub fn place(alloc: Global, frame: Frame, place: &Place) -> Result<Place, NoMemory>
+pub fn place(alloc: Global, frame: LoweringFrame, place: &Place) -> Result<Place, NoMemory>
     ensures { IfOk result (λ found. found ≡ build.place_of (frame_of frame.entry) (site_of 0 place.now)) }
 {
     let mut steps = Path::new(alloc);
@@ -45,7 +45,7 @@ pub fn place(alloc: Global, frame: Frame, place: &Place) -> Result<Place, NoMemo
 /// # Errors
 ///
 /// [`NoMemory`] where its number is more than 32 bits.
-pub fn whole_place(alloc: Global, frame: Frame, key: Key) -> Result<Place, NoMemory>
+pub fn whole_place(alloc: Global, frame: LoweringFrame, key: Key) -> Result<Place, NoMemory>
     ensures { IfOk result (λ found. found ≡ build.place_of (frame_of frame.entry) (site_of_key key.0)) }
 {
     Ok(Place {
@@ -59,7 +59,7 @@ pub fn whole_place(alloc: Global, frame: Frame, key: Key) -> Result<Place, NoMem
 /// # Errors
 ///
 /// [`NoMemory`] where memory is wanted.
-pub fn operand(alloc: Global, frame: Frame, operand: &Operand) -> Result<Operand, NoMemory>
+pub fn operand(alloc: Global, frame: LoweringFrame, operand: &Operand) -> Result<Operand, NoMemory>
     ensures { IfOk result (λ found. found ≡ build.operand_of (frame_of frame.entry) (operand_of 0 operand.now)) }
 {
     match operand {
@@ -74,7 +74,7 @@ pub fn operand(alloc: Global, frame: Frame, operand: &Operand) -> Result<Operand
 /// Operands in order.
 pub(crate) fn operands(
     alloc: Global,
-    frame: Frame,
+    frame: LoweringFrame,
     all: &[Operand],
 ) -> Result<List<Operand>, NoMemory>
     ensures { IfOk result (λ found. found ≡ build.operands_of (frame_of frame.entry) (operands_of 0 all.now)) }
@@ -89,7 +89,7 @@ pub(crate) fn operands(
 /// A place and an operand.
 pub(crate) fn place_and_operand(
     alloc: Global,
-    frame: Frame,
+    frame: LoweringFrame,
     to: &Place,
     from: &Operand,
 ) -> Result<(Place, Operand), NoMemory>
@@ -109,7 +109,7 @@ pub(crate) fn place_and_operand(
 /// A place and operands in order.
 pub(crate) fn place_and_operands(
     alloc: Global,
-    frame: Frame,
+    frame: LoweringFrame,
     to: &Place,
     parts: &[Operand],
 ) -> Result<(Place, List<Operand>), NoMemory>
@@ -129,7 +129,7 @@ pub(crate) fn place_and_operands(
 /// Two operands.
 pub(crate) fn two_operands(
     alloc: Global,
-    frame: Frame,
+    frame: LoweringFrame,
     left: &Operand,
     right: &Operand,
 ) -> Result<(Operand, Operand), NoMemory>
@@ -149,7 +149,7 @@ pub(crate) fn two_operands(
 /// Two places.
 pub(crate) fn two_places(
     alloc: Global,
-    frame: Frame,
+    frame: LoweringFrame,
     to: &Place,
     of: &Place,
 ) -> Result<(Place, Place), NoMemory>

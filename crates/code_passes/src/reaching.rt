@@ -2,14 +2,14 @@
 #![tactic(auto, using(crate::proofs::Lists::entries_last))]
 
 ghost use Rattle.std.specs.Prelude.{◌≡◌, ℕ, Bool, List, IfOk, IsTrue, Some, map};
-ghost use Rattle.cfg_build.specs.Build.{Frame, outer};
+ghost use Rattle.cfg_build.specs.Build.{LoweringFrame, outer};
 ghost use Rattle.cfg_build.specs.Codes.{lowers};
 ghost use Rattle.scope_code.specs.Code as plain;
 ghost use Rattle.scope_code.specs.Ops as ops;
 ghost use Rattle.scope_code.specs.View.{at_of, change_of, op_of};
 ghost use Rattle.src_meaning.specs.Scopes.{Scope, Scopes, with_scope};
 ghost use Rattle.code_passes.specs.Spans.{Stands, OneBefore, TwoBefore};
-ghost use Rattle.code_passes.specs.declared.marks.Mark.{Mark};
+ghost use Rattle.code_passes.specs.declared.marks.CodeMark.{CodeMark};
 ghost use Rattle.code_passes.specs.Reaching as seen;
 ghost use Rattle.code_passes.specs.Reaching.{AreReaches, Keeps};
 
@@ -34,7 +34,7 @@ fn wider(one: Option<u32>, another: Option<u32>) -> Option<u32>
 
 /// By code in a scope of its own, which is left behind it.
 fn around_scope(inner: Option<u32>) -> Option<u32>
-    ensures { (f : Frame) (g : Scopes → Scopes) (node : ℕ) (t : Bool) → Keeps inner g →
+    ensures { (f : LoweringFrame) (g : Scopes → Scopes) (node : ℕ) (t : Bool) → Keeps inner g →
         Keeps result (λ S. outer f (g (with_scope node t S))) }
 {
     Some(inner?.saturating_sub(1))
@@ -87,7 +87,7 @@ pub fn stays(reaches: &[Option<u32>], end: usize) -> bool
 
 /// By the code that ends with the word before.
 fn reach_of_one(reaches: &[Option<u32>], end: usize) -> Option<u32>
-    ensures { (f : Frame) (words : List ops.Op) (marks : List Mark) (c : plain.Code) (start : ℕ) →
+    ensures { (f : LoweringFrame) (words : List ops.Op) (marks : List CodeMark) (c : plain.Code) (start : ℕ) →
         AreReaches f words marks reaches.now → OneBefore f words marks (Stands f words marks c) start end →
         Keeps result (lowers f c).after }
 {
@@ -99,7 +99,7 @@ fn reach_of_one(reaches: &[Option<u32>], end: usize) -> Option<u32>
 
 /// By the two codes before.
 fn reach_of_two(code: Spans, reaches: &[Option<u32>], end: usize) -> Option<u32>
-    ensures { (f : Frame) (one another : plain.Code) (start : ℕ) →
+    ensures { (f : LoweringFrame) (one another : plain.Code) (start : ℕ) →
         AreReaches f (map op_of code.entry.words.now) code.entry.marks.now reaches.now →
         TwoBefore f (map op_of code.entry.words.now) code.entry.marks.now
         (Stands f (map op_of code.entry.words.now) code.entry.marks.now one)
@@ -114,7 +114,7 @@ fn reach_of_two(code: Spans, reaches: &[Option<u32>], end: usize) -> Option<u32>
 
 /// By the code that ends with a word, from what is known of those before.
 fn reach_of(code: Spans, reaches: &[Option<u32>], end: usize) -> Option<u32>
-    ensures { (f : Frame) (c : plain.Code) (start : ℕ) →
+    ensures { (f : LoweringFrame) (c : plain.Code) (start : ℕ) →
         AreReaches f (map op_of code.entry.words.now) code.entry.marks.now reaches.now →
         Stands f (map op_of code.entry.words.now) code.entry.marks.now c start end →
         Keeps result (lowers f c).after }
@@ -141,7 +141,7 @@ fn reach_of(code: Spans, reaches: &[Option<u32>], end: usize) -> Option<u32>
 ///
 /// [`NoMemory`] where memory is wanted.
 pub fn reaches_of(alloc: Global, code: Spans) -> Result<List<Option<u32>>, NoMemory>
-    ensures { IfOk result (λ reaches. (f : Frame) →
+    ensures { IfOk result (λ reaches. (f : LoweringFrame) →
         AreReaches f (map op_of code.entry.words.now) code.entry.marks.now reaches) }
 {
     let mut reaches = List::from_vec(Vec::with_capacity(alloc, code.words.len())?);

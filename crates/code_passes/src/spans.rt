@@ -1,12 +1,12 @@
 //! Codes among the words of a body.
 ghost use Rattle.std.specs.Prelude.{◌≡◌, ◌<◌, ℕ, suc, IfSome, Some, map, option_copied, slice_get};
-ghost use Rattle.cfg_build.specs.Build.{Frame};
+ghost use Rattle.cfg_build.specs.Build.{LoweringFrame};
 ghost use Rattle.cfg_build.specs.Codes.{lowers};
 ghost use Rattle.scope_code.specs.Code as plain;
 ghost use Rattle.scope_code.specs.View.{op_of};
 ghost use Rattle.code_passes.specs.Spans.{Stands, TwoBefore};
 
-use crate::Mark;
+use crate::CodeMark;
 use crate::marking::mark_at;
 use scope_code::Op;
 
@@ -14,12 +14,12 @@ use scope_code::Op;
 #[derive(Clone, Copy)]
 pub struct Spans<'a> {
     pub words: &'a [Op],
-    pub marks: &'a [Mark],
+    pub marks: &'a [CodeMark],
 }
 
 /// Where two codes end, of which the other stands directly behind the one.
 #[derive(Clone, Copy)]
-pub struct Two {
+pub struct TwoCodes {
     pub one: usize,
     pub another: usize,
 }
@@ -32,20 +32,20 @@ pub fn word_at<'a>(code: Spans<'a>, number: usize) -> Option<&'a Op>
 }
 
 /// Where the two codes end that stand directly before a word; `None` where no two codes do.
-pub fn two_before(code: Spans, end: usize) -> Option<Two>
+pub fn two_before(code: Spans, end: usize) -> Option<TwoCodes>
     ensures below { IfSome result (λ two. (two.one < two.another) × (two.another < end)) }
-    ensures two { (f : Frame) (one another : plain.Code) (start : ℕ) →
+    ensures two { (f : LoweringFrame) (one another : plain.Code) (start : ℕ) →
         TwoBefore f (map op_of code.entry.words.now) code.entry.marks.now
         (Stands f (map op_of code.entry.words.now) code.entry.marks.now one)
         (Stands f (map op_of code.entry.words.now) code.entry.marks.now another) start end →
-        (two : Two) × ((result ≡ Some two)
+        (two : TwoCodes) × ((result ≡ Some two)
         × (Stands f (map op_of code.entry.words.now) code.entry.marks.now one start two.one
         × Stands f (map op_of code.entry.words.now) code.entry.marks.now another (suc two.one) two.another)) }
 {
     let another = end.checked_sub(1)?;
     let one = mark_at(code.marks, another).start.checked_sub(1)?;
     if one < another {
-        Some(Two { one, another })
+        Some(TwoCodes { one, another })
     } else {
         None
     }
@@ -53,7 +53,7 @@ pub fn two_before(code: Spans, end: usize) -> Option<Two>
 
 /// Whether a run comes behind the code that ends with a word.
 pub fn has_end(code: Spans, end: usize) -> bool
-    ensures { (f : Frame) (c : plain.Code) (start : ℕ) →
+    ensures { (f : LoweringFrame) (c : plain.Code) (start : ℕ) →
         Stands f (map op_of code.entry.words.now) code.entry.marks.now c start end → result ≡ (lowers f c).has_end }
 {
     mark_at(code.marks, end).has_end

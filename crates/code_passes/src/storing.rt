@@ -6,7 +6,7 @@ ghost use Rattle.store_model.specs.Abstract.Effects.{never_at};
 ghost use Rattle.cfg_meaning.specs.Actions.{site_of};
 ghost use Rattle.code_passes.specs.Framed.{frame_of, stored, stored_in};
 
-use crate::frames::Frame;
+use crate::frames::LoweringFrame;
 use crate::places::place;
 use cfg_graph::{Place, Stmt, place_ty};
 use mir_base::NoMemory;
@@ -49,7 +49,7 @@ fn stored_by(action: &Action) -> Option<&Place>
 }
 
 /// Whether a place by locals has the type `!`.
-fn is_never(frame: Frame, place: &Place) -> bool
+fn is_never(frame: LoweringFrame, place: &Place) -> bool
     ensures { result ≡ never_at frame.entry.items.now (slice_get frame.entry.tys.now) (site_of 0 place.now) }
 {
     match place_ty(frame.items, frame.tys, place) {
@@ -63,7 +63,7 @@ fn is_never(frame: Frame, place: &Place) -> bool
 /// # Errors
 ///
 /// [`NoMemory`] where memory is wanted.
-pub fn is_last(alloc: Global, frame: Frame, action: &Action) -> Result<bool, NoMemory>
+pub fn is_last(alloc: Global, frame: LoweringFrame, action: &Action) -> Result<bool, NoMemory>
     ensures { IfOk result (λ is. is ≡ build.is_last (frame_of frame.entry) (effect_of 0 action.now)) }
 {
     match stored_by(action) {

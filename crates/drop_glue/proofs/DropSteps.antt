@@ -2,7 +2,7 @@
 use Rattle.std.proofs.Common.{◌≡◌, inl, inr, ℕ, zero, suc, ◌==◌, ◌<◌, ◌≤◌, List, [], ◌∷◌, ◌++◌, Bool, true, false, Option, Some, None, slice_get, refl, ap, sym, subst, ◌∙◌, arith, append-nil}
 use Rattle.std.proofs.lemmas.Bool.Decides.{Decides-eqb}
 use Rattle.std.specs.Option.{option_map_or}
-use Rattle.drop_glue.specs.Left.{from_part, is_still, is_expected, expected_if, found_of, told_serial, IsPlain, own_impl, type_of_number, Level, PartsOf, ContentOf, Rest, finished, at_path, found_as, StandsFrom, PartsLeft, HasLeft, IsAfter, Visits, AsRead, Again, LeavesLeft, GoesLeft, ClearsLeft, FreesLeft, VisitsLeft, ReadLeft, AwaitsLeft, EntersLeft}
+use Rattle.drop_glue.specs.Left.{from_part, is_still, is_expected, expected_if, found_of, told_serial, IsPlain, own_impl, type_of_number, Level, PartsOf, ContentOf, DropRest, finished, at_path, found_as, StandsFrom, PartsLeft, HasLeft, IsAfter, Visits, AsRead, Again, LeavesLeft, GoesLeft, ClearsLeft, FreesLeft, VisitsLeft, ReadLeft, AwaitsLeft, EntersLeft}
 use Rattle.drop_glue.proofs.Below.{next_part, stands_at, located_step, into_is, into_untyped, parts_of_into}
 use Rattle.drop_glue.proofs.Dropping.{unwinding_twice, one_by_one, same_rest, halts_through, after_later, after_stored, cleared, freed_there_is}
 use Rattle.mir_base.specs.declared.trace.Event.{Event}
@@ -43,7 +43,7 @@ still_is items (OfType id) s next w = refl
 still_is items (OfObject id impl_no) s next w = refl
 
 -- a halt in a step is the halt of the whole
-pub halts_whole : (mode : Mode) (panicked : Bool) (halt : Halt) (v : State) (o out : Out State) (rest : Rest) → o ≡ Halts halt v → out ≡ finished panicked (in_mode mode o rest) → out ≡ Halts halt v
+pub halts_whole : (mode : Mode) (panicked : Bool) (halt : Halt) (v : State) (o out : Out State) (rest : DropRest) → o ≡ Halts halt v → out ≡ finished panicked (in_mode mode o rest) → out ≡ Halts halt v
 halts_whole mode panicked halt v o out rest e is = is ∙ ap (λ o. finished panicked (in_mode mode o rest)) e ∙ halts_through panicked halt v
 
 no_parts_past : (n : ℕ) (parts : Data) → count parts ≤ n → from_part n parts ≡ no_part
@@ -190,15 +190,15 @@ module _ (setting : Setting) (run : Bodies) (depth key : ℕ) where
         path' = path ++ Part next ∷ []
 
         part_visited : (p : PartsLeft setting run depth key w path dynamic variant next total ticks h.rest (IsAfter setting run depth key levels w path)) → (first : HasPart next p.parts) →
-            (does : Rest) → (expected : Option DynamicType) → Visits setting run depth key w path' Begins does expected →
+            (does : DropRest) → (expected : Option DynamicType) → Visits setting run depth key w path' Begins does expected →
             ((v : State) → v ≡ w → if_part setting run (drop_at setting run p.fuel) ticks (into setting.items (Part next) (found_as setting run depth key path dynamic (Aggregate variant p.serial p.parts)))
             (drop_value setting run (drop_at setting run p.fuel) ticks first.first Begins) mode v ≡ does mode v) →
             VisitsLeft setting run depth key (PartsOf dynamic variant (suc next) total ticks ∷ levels) w path' mode panicked out Begins expected
         part_visited p first does expected visits part =
             let again = drop_at setting run p.fuel in
             let whole = found_as setting run depth key path dynamic (Aggregate variant p.serial p.parts) in
-            let after_parts : Rest = λ mode v. in_mode mode (gone_at setting run (here path dynamic) v) p.outer in
-            let rest : Rest = λ mode v. in_mode mode (drop_parts setting run again ticks (from_part (suc next) p.parts) (suc next) whole mode v) after_parts in
+            let after_parts : DropRest = λ mode v. in_mode mode (gone_at setting run (here path dynamic) v) p.outer in
+            let rest : DropRest = λ mode v. in_mode mode (drop_parts setting run again ticks (from_part (suc next) p.parts) (suc next) whole mode v) after_parts in
             let later = (next_part next p.parts first.first first.rest first.is).1 in
             record {
               does = does;
@@ -283,13 +283,13 @@ module _ (setting : Setting) (run : Bodies) (depth key : ℕ) where
     -- What is read.
 
     module _ (w : State) (path : List At) (stage : Stage) where
-      nothing_does : (expected : Option DynamicType) (does : Rest) → Visits setting run depth key w path stage does expected → located_at setting w (at_path setting run depth key path) ≡ None → does mode w ≡ Halts Stuck w
+      nothing_does : (expected : Option DynamicType) (does : DropRest) → Visits setting run depth key w path stage does expected → located_at setting w (at_path setting run depth key path) ≡ None → does mode w ≡ Halts Stuck w
       nothing_does None does (AsRead fuel s enough there is) e = absurd (let k : None ≡ Some s = sym e ∙ there in cc)
       nothing_does (Some _) does (Again zero dynamic enough is) e = absurd (let never : ⊥ = omega arith in never)
       nothing_does (Some _) does (Again (suc n) dynamic enough is) e =
           is mode w ∙ ap (λ o. if_still_typed setting.items dynamic o (dropped_there setting run (drop_at setting run n) stage mode) w) e
 
-      unexpected_does : (s : Located) (expected : Option DynamicType) (does : Rest) → Visits setting run depth key w path stage does expected → located_at setting w (at_path setting run depth key path) ≡ Some s →
+      unexpected_does : (s : Located) (expected : Option DynamicType) (does : DropRest) → Visits setting run depth key w path stage does expected → located_at setting w (at_path setting run depth key path) ≡ Some s →
           is_expected setting.items expected s.dynamic ≡ false → does mode w ≡ Halts Stuck w
       unexpected_does s None does (AsRead fuel t enough there is) e f = absurd (cc)
       unexpected_does s (Some _) does (Again zero dynamic enough is) e f = absurd (let never : ⊥ = omega arith in never)
@@ -298,12 +298,12 @@ module _ (setting : Setting) (run : Bodies) (depth key : ℕ) where
           ∙ still_is setting.items dynamic s (dropped_there setting run (drop_at setting run n) stage mode) w
           ∙ ap (λ b. same_if b (dropped_there setting run (drop_at setting run n) stage mode s) w) f
 
-      record Reads (s : Located) (does : Rest) : Type 0 where
+      record Reads (s : Located) (does : DropRest) : Type 0 where
         pub fuel : ℕ
         pub enough : w.ticks ≤ fuel
         pub is : does mode w ≡ drop_value setting run (drop_at setting run fuel) w.ticks s.value stage s mode w
 
-      reads : (s : Located) (expected : Option DynamicType) (does : Rest) → Visits setting run depth key w path stage does expected → located_at setting w (at_path setting run depth key path) ≡ Some s →
+      reads : (s : Located) (expected : Option DynamicType) (does : DropRest) → Visits setting run depth key w path stage does expected → located_at setting w (at_path setting run depth key path) ≡ Some s →
           is_expected setting.items expected s.dynamic ≡ true → Reads s does
       reads s None does (AsRead fuel t enough there is) e f =
           let k : Some t ≡ Some s = sym there ∙ e in
@@ -363,7 +363,7 @@ module _ (setting : Setting) (run : Bodies) (depth key : ℕ) where
           abbrev its_impl : Option (ℕ × ℕ)
           its_impl = own_body setting run (drop_at setting run h.fuel) w.ticks stage (drop_impl setting.items (concrete_ty setting.items s.dynamic))
 
-          abbrev drops_parts : Rest
+          abbrev drops_parts : DropRest
           drops_parts mode w' = in_mode mode (drop_parts setting run (drop_at setting run h.fuel) w.ticks parts 0 s mode w') (λ mode. gone_at setting run s)
 
           pub read_parts : own_impl stage (drop_impl setting.items (concrete_ty setting.items s.dynamic)) ≡ None →
@@ -371,7 +371,7 @@ module _ (setting : Setting) (run : Bodies) (depth key : ℕ) where
           read_parts none =
               let again = drop_at setting run h.fuel in
               let whole = found_as setting run depth key path s.dynamic (Aggregate variant serial parts) in
-              let rest : Rest = λ mode v. in_mode mode (drop_parts setting run again w.ticks parts 0 whole mode v) (λ mode v. in_mode mode (gone_at setting run (here path s.dynamic) v) h.left.rest) in
+              let rest : DropRest = λ mode v. in_mode mode (drop_parts setting run again w.ticks parts 0 whole mode v) (λ mode v. in_mode mode (gone_at setting run (here path s.dynamic) v) h.left.rest) in
               record {
                 rest = rest;
                 is_rest = record {
@@ -402,7 +402,7 @@ module _ (setting : Setting) (run : Bodies) (depth key : ℕ) where
               EntersLeft setting run depth key levels w path mode panicked out of.0 (told_serial serial) of.1 s.dynamic
           read_enters of some =
               let again = drop_at setting run h.fuel in
-              let next : Rest = λ mode v. in_mode mode (drop_at setting run h.fuel HasRun (here path s.dynamic) mode v) h.left.rest in
+              let next : DropRest = λ mode v. in_mode mode (drop_at setting run h.fuel HasRun (here path s.dynamic) mode v) h.left.rest in
               record {
                 outs = λ answer. finished panicked (in_mode mode (drop_body_out mode answer) next);
                 awaits = record { fuel = h.fuel; enough = h.enough; rest = h.left.rest; after = h.left.is_rest; is = λ answer. refl };
@@ -487,13 +487,13 @@ module _ (setting : Setting) (run : Bodies) (depth key : ℕ) where
 
     pub await_unwinds : mode ≡ Normal → VisitsLeft setting run depth key levels v path Unwinding true (outs (Unwinds v)) HasRun (Some dynamic)
     await_unwinds e =
-        let next : Rest = λ mode v. in_mode mode (drop_at setting run h.fuel HasRun (here path dynamic) mode v) h.rest in
+        let next : DropRest = λ mode v. in_mode mode (drop_at setting run h.fuel HasRun (here path dynamic) mode v) h.rest in
         again_visited Unwinding true (outs (Unwinds v))
         (h.is (Unwinds v) ∙ ap (λ m. finished panicked (in_mode m (drop_body_out m (Unwinds v)) next)) e ∙ finished_twice panicked (next Unwinding v))
 
     pub await_aborts : mode ≡ Unwinding → outs (Unwinds v) ≡ Halts Aborted v
     await_aborts e =
-        let next : Rest = λ mode v. in_mode mode (drop_at setting run h.fuel HasRun (here path dynamic) mode v) h.rest in
+        let next : DropRest = λ mode v. in_mode mode (drop_at setting run h.fuel HasRun (here path dynamic) mode v) h.rest in
         h.is (Unwinds v) ∙ ap (λ m. finished panicked (in_mode m (drop_body_out m (Unwinds v)) next)) e ∙ halts_through panicked Aborted v
 
     pub await_halts : (halt : Halt) → outs (HaltsIn halt v) ≡ Halts halt v

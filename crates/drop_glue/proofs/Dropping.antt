@@ -1,6 +1,6 @@
 -- A drop, step by step.
 use Rattle.std.proofs.Common.{◌≡◌, inl, inr, ℕ, ◌<◌, List, [], ◌∷◌, ◌++◌, Bool, true, false, Option, Some, None, refl, ap, sym, subst, ◌∙◌, arith, append_assoc}
-use Rattle.drop_glue.specs.Left.{from_part, Level, PartsOf, ContentOf, Rest, IsBehind, finished, at_path, found_as, StandsFrom, after_by, HasLeft, IsAfter}
+use Rattle.drop_glue.specs.Left.{from_part, Level, PartsOf, ContentOf, DropRest, IsBehind, finished, at_path, found_as, StandsFrom, after_by, HasLeft, IsAfter}
 use Rattle.drop_glue.proofs.Below.{later_parts_kept, located_stored, stands_at}
 use Rattle.mir_base.specs.declared.trace.Event.{Event}
 use Rattle.store_model.specs.declared.address.At.{At}
@@ -19,7 +19,7 @@ unwinding_twice (Go w) = refl
 unwinding_twice (Unwind w) = refl
 unwinding_twice (Halts halt w) = refl
 
-pub one_by_one : (mode : Mode) (o : Out State) (f g : Rest) → in_mode mode (in_mode mode o f) g ≡ in_mode mode o (λ mode w. in_mode mode (f mode w) g)
+pub one_by_one : (mode : Mode) (o : Out State) (f g : DropRest) → in_mode mode (in_mode mode o f) g ≡ in_mode mode o (λ mode w. in_mode mode (f mode w) g)
 one_by_one mode (Go w) f g = refl
 one_by_one mode (Halts halt w) f g = refl
 one_by_one mode (Unwind w) f g = go (f Unwinding w)
@@ -29,7 +29,7 @@ one_by_one mode (Unwind w) f g = go (f Unwinding w)
     go (Unwind v) = sym (unwinding_twice (g Unwinding v))
     go (Halts halt v) = refl
 
-pub same_rest : (mode : Mode) (o : Out State) (f g : Rest) → ((mode : Mode) (w : State) → f mode w ≡ g mode w) → in_mode mode o f ≡ in_mode mode o g
+pub same_rest : (mode : Mode) (o : Out State) (f g : DropRest) → ((mode : Mode) (w : State) → f mode w ≡ g mode w) → in_mode mode o f ≡ in_mode mode o g
 same_rest mode (Go w) f g e = e mode w
 same_rest mode (Unwind w) f g e = ap unwinding_out (e Unwinding w)
 same_rest mode (Halts halt w) f g e = refl
@@ -54,12 +54,12 @@ part_replaced next k below new variant serial now l = go (part_at k now) refl
 module _ (setting : Setting) (run : Bodies) (depth key : ℕ) where
   -- What is left stays so: after ticks were spent, and after something was dropped.
 
-  later_by : (levels : List Level) (Left Later : List At → Rest → Type 0) → ((path : List At) (rest : Rest) → Left path rest → Later path rest) → (path : List At) (rest : Rest) →
+  later_by : (levels : List Level) (Left Later : List At → DropRest → Type 0) → ((path : List At) (rest : DropRest) → Left path rest → Later path rest) → (path : List At) (rest : DropRest) →
       after_by setting run depth key levels Left path rest → after_by setting run depth key levels Later path rest
   later_by [] Left Later f path rest h = h
   later_by (level ∷ levels) Left Later f path rest h = record { above = h.above; step = h.step; is = h.is; behind = h.behind; left = f h.above rest h.left }
 
-  pub left_later : (levels : List Level) (w v : State) → v.ticks < w.ticks → (path : List At) (rest : Rest) → HasLeft setting run depth key levels w path rest → HasLeft setting run depth key levels v path rest
+  pub left_later : (levels : List Level) (w v : State) → v.ticks < w.ticks → (path : List At) (rest : DropRest) → HasLeft setting run depth key levels w path rest → HasLeft setting run depth key levels v path rest
   left_later [] w v l path rest h = h
   left_later (PartsOf dynamic variant next total ticks ∷ levels) w v l path rest h = record {
     fuel = h.fuel;
@@ -75,7 +75,7 @@ module _ (setting : Setting) (run : Bodies) (depth key : ℕ) where
   left_later (ContentOf dynamic ∷ levels) w v l path rest h =
       record { outer = h.outer; after = later_by levels (HasLeft setting run depth key levels w) (HasLeft setting run depth key levels v) (left_later levels w v l) path h.outer h.after; does = h.does }
 
-  pub after_later : (levels : List Level) (w v : State) (path : List At) (rest : Rest) → v.ticks < w.ticks → IsAfter setting run depth key levels w path rest → IsAfter setting run depth key levels v path rest
+  pub after_later : (levels : List Level) (w v : State) (path : List At) (rest : DropRest) → v.ticks < w.ticks → IsAfter setting run depth key levels w path rest → IsAfter setting run depth key levels v path rest
   after_later levels w v path rest l h = later_by levels (HasLeft setting run depth key levels w) (HasLeft setting run depth key levels v) (left_later levels w v l) path rest h
 
   still_stands : (w v : State) (path : List At) (dynamic : DynamicType) (variant next : ℕ) (parts : Data) (k : ℕ) (below : List At) (new : Datum) →
@@ -102,10 +102,10 @@ module _ (setting : Setting) (run : Bodies) (depth key : ℕ) where
 
   -- what is left outside stays so
   abbrev StaysLeft : List Level → State → State → Type 0
-  StaysLeft levels w v = (path : List At) (rest : Rest) (step : At) (below : List At) (new : Datum) → Stored w v (path ++ step ∷ below) new → first_behind levels step →
+  StaysLeft levels w v = (path : List At) (rest : DropRest) (step : At) (below : List At) (new : Datum) → Stored w v (path ++ step ∷ below) new → first_behind levels step →
       HasLeft setting run depth key levels w path rest → HasLeft setting run depth key levels v path rest
 
-  stored_by : (levels : List Level) (w v : State) → StaysLeft levels w v → (path : List At) (rest : Rest) (below : List At) (new : Datum) → Stored w v (path ++ below) new →
+  stored_by : (levels : List Level) (w v : State) → StaysLeft levels w v → (path : List At) (rest : DropRest) (below : List At) (new : Datum) → Stored w v (path ++ below) new →
       IsAfter setting run depth key levels w path rest → IsAfter setting run depth key levels v path rest
   stored_by [] w v f path rest below new e h = h
   stored_by (level ∷ levels) w v f path rest below new e h =
@@ -135,7 +135,7 @@ module _ (setting : Setting) (run : Bodies) (depth key : ℕ) where
   left_stored (ContentOf dynamic ∷ levels) w v path rest Inside below new e b h =
       record { outer = h.outer; after = stored_by levels w v (left_stored levels w v) path h.outer (Inside ∷ below) new e h.after; does = h.does }
 
-  pub after_stored : (levels : List Level) (w v : State) (path : List At) (rest : Rest) (below : List At) (new : Datum) → v.ticks ≡ w.ticks →
+  pub after_stored : (levels : List Level) (w v : State) (path : List At) (rest : DropRest) (below : List At) (new : Datum) → v.ticks ≡ w.ticks →
       v.activations ≡ (stored_at (at_path setting run depth key (path ++ below)) new w).activations →
       IsAfter setting run depth key levels w path rest → IsAfter setting run depth key levels v path rest
   after_stored levels w v path rest below new t e h = stored_by levels w v (left_stored levels w v) path rest below new (t, e) h

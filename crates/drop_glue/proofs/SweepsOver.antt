@@ -9,7 +9,7 @@ use Rattle.drop_glue.specs.declared.sweeping.Sweeps.{Sweeps}
 use Rattle.drop_glue.specs.Left.{type_of_number, found_of, own_impl}
 use Rattle.drop_glue.specs.Swept.{GoneOver, holds_parts, freed, freed_parts, HasType, IsFoundAgain, IsSwept, ArePartsSwept, IsSweptBy, AreSwept, freed_by, freed_before, PutsBefore, GoesOver}
 use Rattle.mir_base.specs.declared.trace.Event.{Event}
-use Rattle.mir_steps.specs.declared.told.Told.{Told}
+use Rattle.mir_steps.specs.declared.told.ToldEvents.{ToldEvents}
 use Rattle.mir_steps.specs.Worlds.{event_of}
 use Rattle.mir_ty.specs.ItemTable.{ItemTable}
 use Rattle.mir_ty.specs.Parts.{parts_of}
@@ -149,10 +149,10 @@ module _ (items : ItemTable) where
   goes_over told old new one h = record { swept = h.swept; freed = λ after. ap (λ l. told ++ l) (h.freed after) }
 
   -- a box was freed
-  pub box_told : (old told : List Told) (serial : ℕ) (work : List Sweeps) → told ≡ old ++ Told.Event (Event.Freed serial) ∷ [] → GoesOver items (map event_of old) work (Sweeps.Boxed serial) (map event_of told) work
+  pub box_told : (old told : List ToldEvents) (serial : ℕ) (work : List Sweeps) → told ≡ old ++ ToldEvents.Event (Event.Freed serial) ∷ [] → GoesOver items (map event_of old) work (Sweeps.Boxed serial) (map event_of told) work
   box_told old told serial work e = record {
     swept = λ all. (tt, all);
     freed = λ after.
-        ap (λ l. l ++ freed_before work after) (ap (map event_of) e ∙ map-append event_of old (Told.Event (Event.Freed serial) ∷ []))
+        ap (λ l. l ++ freed_before work after) (ap (map event_of) e ∙ map-append event_of old (ToldEvents.Event (Event.Freed serial) ∷ []))
         ∙ append_assoc (map event_of old) (Event.Freed serial ∷ []) (freed_before work after);
   }

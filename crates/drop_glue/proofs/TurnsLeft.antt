@@ -3,8 +3,8 @@ use Rattle.std.proofs.Common.{◌≡◌, inl, inr, ℕ, suc, ◌==◌, ◌<◌, 
 use Rattle.drop_glue.specs.declared.drops.Drops.{Drops}
 use Rattle.drop_glue.specs.declared.drops.Turn.{Turn}
 use Rattle.drop_glue.specs.declared.level.Level as rust
-use Rattle.drop_glue.specs.declared.reading.Found.{Found}
-use Rattle.drop_glue.specs.declared.reading.Kind.{Kind}
+use Rattle.drop_glue.specs.declared.reading.FoundValue.{FoundValue}
+use Rattle.drop_glue.specs.declared.reading.DropKind.{DropKind}
 use Rattle.drop_glue.specs.declared.reading.OwnDrop.{OwnDrop}
 use Rattle.drop_glue.specs.Left.{Level, PartsOf, ContentOf, own_impl, type_of_number, expected_if, is_still, is_expected, told_serial, finished, found_as, HasLeft, LeavesLeft, GoesLeft, ClearsLeft, VisitsLeft, ReadLeft, AwaitsLeft, EntersLeft, Again}
 use Rattle.drop_glue.specs.Reading.{ShowsValue, FindsIt, IsFound, pair_of}
@@ -45,8 +45,8 @@ pub stuck_seen : (out : Out State) (w : State) → out ≡ Halts Stuck w → see
 stuck_seen out w e = ap seen e
 
 -- no box is of this kind
-abbrev pub IsNoBox : Kind → Type 0
-IsNoBox (Kind.Boxed serial content) = ⊥
+abbrev pub IsNoBox : DropKind → Type 0
+IsNoBox (DropKind.Boxed serial content) = ⊥
 IsNoBox kind = Unit {0}
 
 abbrev pub with_level : Drops → rust.Level → Drops
@@ -56,16 +56,16 @@ abbrev pub with_step : Drops → At → Drops
 with_step drops step = record drops { address = record drops.address { path = drops.address.path ++ step ∷ [] } }
 
 module _ (items : ItemTable) (ticks : ℕ) (has_run : Bool) (old : Drops) where
-  pub begins_gone : (dynamic : Dynamic) → Begins items ticks has_run (record { dynamic = dynamic; kind = Kind.Nothing }) old old Turn.Leaves
+  pub begins_gone : (dynamic : Dynamic) → Begins items ticks has_run (record { dynamic = dynamic; kind = DropKind.Nothing }) old old Turn.Leaves
   begins_gone dynamic setting run w out s of there d shows h =
       read_gone setting run old.address.depth old.address.key.0 (levels_of old.levels) (mode_by old.unwinds) old.panicked out w old.address.path (stage_by has_run) s there h shows
 
-  pub begins_plain : (dynamic : Dynamic) → Begins items ticks has_run (record { dynamic = dynamic; kind = Kind.Plain }) old old (Turn.Clears dynamic)
+  pub begins_plain : (dynamic : Dynamic) → Begins items ticks has_run (record { dynamic = dynamic; kind = DropKind.Plain }) old old (Turn.Clears dynamic)
   begins_plain dynamic setting run w out s of there d shows h =
       subst (ClearsLeft setting run old.address.depth old.address.key.0 (levels_of old.levels) w old.address.path (mode_by old.unwinds) old.panicked out) d
       (read_plain setting run old.address.depth old.address.key.0 (levels_of old.levels) (mode_by old.unwinds) old.panicked out w old.address.path (stage_by has_run) s there h shows)
 
-  pub begins_untyped : (dynamic : Dynamic) (serial : ℕ) → Begins items ticks has_run (record { dynamic = dynamic; kind = Kind.Boxed serial None }) old old Turn.Stuck
+  pub begins_untyped : (dynamic : Dynamic) (serial : ℕ) → Begins items ticks has_run (record { dynamic = dynamic; kind = DropKind.Boxed serial None }) old old Turn.Stuck
   begins_untyped dynamic serial setting run w out s of there d shows h =
       stuck_seen out w
       (read_box_untyped setting run old.address.depth old.address.key.0 (levels_of old.levels) (mode_by old.unwinds) old.panicked out w old.address.path (stage_by has_run) s there h
@@ -73,7 +73,7 @@ module _ (items : ItemTable) (ticks : ℕ) (has_run : Bool) (old : Drops) where
       (into_untyped setting.items Inside s (subst (λ i. type_of_part i Inside s.value s.dynamic ≡ None) (sym of.items_are) shows.typed)))
 
   pub begins_box : (dynamic child : Dynamic) (serial : ℕ) →
-      Begins items ticks has_run (record { dynamic = dynamic; kind = Kind.Boxed serial (Some child) }) old (with_step (with_level old (rust.Level.Content dynamic)) Inside) (Turn.Visits false None)
+      Begins items ticks has_run (record { dynamic = dynamic; kind = DropKind.Boxed serial (Some child) }) old (with_step (with_level old (rust.Level.Content dynamic)) Inside) (Turn.Visits false None)
   begins_box dynamic child serial setting run w out s of there d shows h =
       let inside : part Inside s.value ≡ Some shows.inside = ap (part Inside) shows.is in
       let typed : type_of_part setting.items Inside s.value s.dynamic ≡ Some (dynamic_of child) = subst (λ i. type_of_part i Inside s.value s.dynamic ≡ Some (dynamic_of child)) (sym of.items_are) shows.typed in
@@ -86,7 +86,7 @@ module _ (items : ItemTable) (ticks : ℕ) (has_run : Bool) (old : Drops) where
       visits
 
   pub begins_parts : (dynamic : Dynamic) (variant : ℕ) (serial : Option ℕ) (total : ℕ) → own_impl (stage_by has_run) (drop_impl items (concrete_ty items (dynamic_of dynamic))) ≡ None →
-      Begins items ticks has_run (record { dynamic = dynamic; kind = Kind.Parts variant serial total }) old (with_level old (rust.Level.Parts dynamic variant 0 total ticks)) Turn.Goes
+      Begins items ticks has_run (record { dynamic = dynamic; kind = DropKind.Parts variant serial total }) old (with_level old (rust.Level.Parts dynamic variant 0 total ticks)) Turn.Goes
   begins_parts dynamic variant serial total none setting run w out s of there d shows h =
       let none' : own_impl (stage_by has_run) (drop_impl setting.items (concrete_ty setting.items s.dynamic)) ≡ None =
       subst (λ i. own_impl (stage_by has_run) (drop_impl i (concrete_ty i s.dynamic)) ≡ None) (sym of.items_are)
@@ -104,7 +104,7 @@ module _ (items : ItemTable) (ticks : ℕ) (has_run : Bool) (old : Drops) where
       goes
 
   pub begins_enters : (dynamic : Dynamic) (variant : ℕ) (serial : Option ℕ) (total : ℕ) (own : OwnDrop) → own_impl (stage_by has_run) (drop_impl items (concrete_ty items (dynamic_of dynamic))) ≡ Some (pair_of own) →
-      Begins items ticks has_run (record { dynamic = dynamic; kind = Kind.Parts variant serial total }) old old (enters_of own serial dynamic)
+      Begins items ticks has_run (record { dynamic = dynamic; kind = DropKind.Parts variant serial total }) old old (enters_of own serial dynamic)
   begins_enters dynamic variant serial total own some setting run w out s of there d shows h =
       let some' : own_impl (stage_by has_run) (drop_impl setting.items (concrete_ty setting.items s.dynamic)) ≡ Some (pair_of own) =
       subst (λ i. own_impl (stage_by has_run) (drop_impl i (concrete_ty i s.dynamic)) ≡ Some (pair_of own)) (sym of.items_are)
@@ -286,19 +286,19 @@ module _ (setting : Setting) (run : Bodies) (w : State) (address : Addr) (dynami
       ap (λ o. if_still_typed setting.items (dynamic_of dynamic) o frees_there w) e
       ∙ still_is setting.items (dynamic_of dynamic) s frees_there w ∙ ap (λ b. same_if b (frees_there s) w) f
 
-  no_box : (items : ItemTable) (s : Located) (value : Datum) (d : DynamicType) (kind : Kind) → IsNoBox kind → ShowsValue items value d kind → freed_there setting run value s w ≡ Halts Stuck w
-  no_box items s value d Kind.Nothing n h = ap (λ d. freed_there setting run d s w) h
-  no_box items s (Number number) d Kind.Plain n h = refl
-  no_box items s (Truth truth) d Kind.Plain n h = refl
-  no_box items s UnitValue d Kind.Plain n h = refl
-  no_box items s (Address address) d Kind.Plain n h = refl
-  no_box items s Gone d Kind.Plain n h = absurd h
-  no_box items s (Aggregate variant serial parts) d Kind.Plain n h = absurd h
-  no_box items s (Box serial impl_no inside) d Kind.Plain n h = absurd h
-  no_box items s value d (Kind.Parts variant serial total) n h = ap (λ d. freed_there setting run d s w) h.is
-  no_box items s value d (Kind.Boxed serial content) n h = absurd n
+  no_box : (items : ItemTable) (s : Located) (value : Datum) (d : DynamicType) (kind : DropKind) → IsNoBox kind → ShowsValue items value d kind → freed_there setting run value s w ≡ Halts Stuck w
+  no_box items s value d DropKind.Nothing n h = ap (λ d. freed_there setting run d s w) h
+  no_box items s (Number number) d DropKind.Plain n h = refl
+  no_box items s (Truth truth) d DropKind.Plain n h = refl
+  no_box items s UnitValue d DropKind.Plain n h = refl
+  no_box items s (Address address) d DropKind.Plain n h = refl
+  no_box items s Gone d DropKind.Plain n h = absurd h
+  no_box items s (Aggregate variant serial parts) d DropKind.Plain n h = absurd h
+  no_box items s (Box serial impl_no inside) d DropKind.Plain n h = absurd h
+  no_box items s value d (DropKind.Parts variant serial total) n h = ap (λ d. freed_there setting run d s w) h.is
+  no_box items s value d (DropKind.Boxed serial content) n h = absurd n
 
-  pub freed_no_box : (items : ItemTable) (kind : Kind) (s : Located) → there ≡ Some s → is_still setting.items (dynamic_of dynamic) s.dynamic ≡ true → IsNoBox kind → ShowsValue items s.value s.dynamic kind →
+  pub freed_no_box : (items : ItemTable) (kind : DropKind) (s : Located) → there ≡ Some s → is_still setting.items (dynamic_of dynamic) s.dynamic ≡ true → IsNoBox kind → ShowsValue items s.value s.dynamic kind →
       Frees setting run address dynamic w false w
   freed_no_box items kind s e f n h = (freed_is s e f ∙ no_box items s s.value s.dynamic kind n h, refl)
 
@@ -369,7 +369,7 @@ module _ (w : World) (before : Trace) (address : Addr) where
   pub nothing_found : IsFound w.graph.now.items by_store None → in_run ≡ None
   nothing_found h = located_same w.strict w.graph.now (state_of before w) address ∙ h
 
-  pub something_found : (found : Found) (h : FindsIt w.graph.now.items by_store found) → in_run ≡ Some h.s
+  pub something_found : (found : FoundValue) (h : FindsIt w.graph.now.items by_store found) → in_run ≡ Some h.s
   something_found found h = located_same w.strict w.graph.now (state_of before w) address ∙ h.is
 
 pub is_of_run : (w : World) (before : Trace) → IsOf w.graph.now.items w.ticks (run_setting w) (state_of before w)

@@ -31,10 +31,10 @@ pub data Level : Type 0 where
   ContentOf : (dynamic : DynamicType) → Level
 
 -- the rest of a drop, in a mode
-abbrev pub Rest : Type 0
-Rest = Mode → State → Out State
+abbrev pub DropRest : Type 0
+DropRest = Mode → State → Out State
 
-abbrev pub AtEnd : Rest → Type 0
+abbrev pub AtEnd : DropRest → Type 0
 AtEnd rest = (mode : Mode) (w : State) → rest mode w ≡ Go w
 
 -- what is dropped next is behind the parts that are still to be dropped
@@ -108,15 +108,16 @@ module _ (setting : Setting) (run : Bodies) (depth key : ℕ) where
     pub same : from_part next now ≡ from_part next parts
 
   -- the parts from a number on are dropped, then the whole is gone, and then comes the rest
-  pub record PartsLeft (w : State) (path : List At) (dynamic : DynamicType) (variant next total ticks : ℕ) (rest : Rest)
-      (IsAfter : Rest → Type 0) : Type 0 where
+  pub record PartsLeft (w : State) (path : List At) (dynamic : DynamicType) (variant next total ticks : ℕ)
+      (rest : DropRest)
+      (IsAfter : DropRest → Type 0) : Type 0 where
     pub fuel : ℕ
     pub enough : ticks ≤ fuel
     pub serial : Option ℕ
     pub parts : Data
     pub counted : count parts ≡ total
     pub stands : (w.ticks < ticks) ⊎ ((w.ticks ≡ ticks) × StandsFrom w path dynamic variant next parts)
-    pub outer : Rest
+    pub outer : DropRest
     pub after : IsAfter outer
     pub does : (mode : Mode) (v : State) → rest mode v
         ≡ in_mode mode
@@ -125,8 +126,9 @@ module _ (setting : Setting) (run : Bodies) (depth key : ℕ) where
         (λ mode v. in_mode mode (gone_at setting run (found_as path dynamic Gone) v) outer)
 
   -- a box is freed, and then comes the rest
-  pub record ContentLeft (path : List At) (dynamic : DynamicType) (rest : Rest) (IsAfter : Rest → Type 0) : Type 0 where
-    pub outer : Rest
+  pub record ContentLeft (path : List At) (dynamic : DynamicType) (rest : DropRest) (IsAfter : DropRest → Type 0) :
+      Type 0 where
+    pub outer : DropRest
     pub after : IsAfter outer
     pub does : (mode : Mode) (v : State) →
         rest mode v ≡ in_mode mode (freed_at setting run (found_as path dynamic Gone) v) outer
@@ -140,12 +142,12 @@ module _ (setting : Setting) (run : Bodies) (depth key : ℕ) where
     pub left : HasLeft above
 
   -- the rest, after what stands at a path, where it is known what is left of the levels
-  abbrev pub after_by : List Level → (List At → Rest → Type 0) → List At → Rest → Type 0
+  abbrev pub after_by : List Level → (List At → DropRest → Type 0) → List At → DropRest → Type 0
   after_by [] Left path rest = AtEnd rest
   after_by (level ∷ levels) Left path rest = PartOf path level (λ above. Left above rest)
 
   -- the rest, where the innermost container stands at a path
-  abbrev pub HasLeft : List Level → State → List At → Rest → Type 0
+  abbrev pub HasLeft : List Level → State → List At → DropRest → Type 0
   HasLeft [] w path rest = AtEnd rest
   HasLeft (PartsOf dynamic variant next total ticks ∷ levels) w path rest =
       PartsLeft w path dynamic variant next total ticks rest (after_by levels (HasLeft levels w) path)
@@ -153,11 +155,11 @@ module _ (setting : Setting) (run : Bodies) (depth key : ℕ) where
       ContentLeft path dynamic rest (after_by levels (HasLeft levels w) path)
 
   -- the rest, after what stands at a path
-  abbrev pub IsAfter : List Level → State → List At → Rest → Type 0
+  abbrev pub IsAfter : List Level → State → List At → DropRest → Type 0
   IsAfter levels w path rest = after_by levels (HasLeft levels w) path rest
 
   -- what stands at a path is dropped: as it was read, or it is read again and has to be of a type
-  pub data Visits (w : State) (path : List At) (stage : Stage) (does : Rest) : Option DynamicType → Type 0 where
+  pub data Visits (w : State) (path : List At) (stage : Stage) (does : DropRest) : Option DynamicType → Type 0 where
     AsRead : (fuel : ℕ) (s : Located) (enough : w.ticks ≤ fuel) (there : located_at setting w (at_path path) ≡ Some s)
         (is : (mode : Mode) (v : State) → does mode v
         ≡ drop_value setting run (drop_at setting run fuel) w.ticks s.value stage s mode v) →
@@ -168,8 +170,9 @@ module _ (setting : Setting) (run : Bodies) (depth key : ℕ) where
         Visits w path stage does (Some dynamic)
 
   -- this, and then the rest
-  pub record Then (panicked : Bool) (out : Out State) (this : Rest → Out State) (IsRest : Rest → Type 0) : Type 0 where
-    pub rest : Rest
+  pub record Then (panicked : Bool) (out : Out State) (this : DropRest → Out State) (IsRest : DropRest → Type 0) :
+      Type 0 where
+    pub rest : DropRest
     pub is_rest : IsRest rest
     pub is : out ≡ finished panicked (this rest)
 
@@ -196,7 +199,7 @@ module _ (setting : Setting) (run : Bodies) (depth key : ℕ) where
 
     -- what stands at the path is dropped
     pub record VisitsLeft (stage : Stage) (expected : Option DynamicType) : Type 0 where
-      pub does : Rest
+      pub does : DropRest
       pub visits : Visits w path stage does expected
       pub left : Then panicked out (λ rest. in_mode mode (does mode w) rest) (IsAfter levels w path)
 
@@ -213,7 +216,7 @@ module _ (setting : Setting) (run : Bodies) (depth key : ℕ) where
       (outs : Answer → Out State) (dynamic : DynamicType) : Type 0 where
     pub fuel : ℕ
     pub enough : w.ticks ≤ fuel
-    pub rest : Rest
+    pub rest : DropRest
     pub after : IsAfter levels w path rest
     pub is : (answer : Answer) → outs answer
         ≡ finished panicked

@@ -1,7 +1,7 @@
 -- What stands at an address, as far as a drop asks.
 use Rattle.std.specs.Prelude.{◌≡◌, ℕ, Option, Some, None, option_map}
-use Rattle.drop_glue.specs.declared.reading.Found.{Found}
-use Rattle.drop_glue.specs.declared.reading.Kind.{Kind}
+use Rattle.drop_glue.specs.declared.reading.FoundValue.{FoundValue}
+use Rattle.drop_glue.specs.declared.reading.DropKind.{DropKind}
 use Rattle.drop_glue.specs.declared.reading.OwnDrop.{OwnDrop}
 use Rattle.drop_glue.specs.Left.{IsPlain}
 use Rattle.mir_store.specs.Standing.{dynamic_of}
@@ -24,11 +24,11 @@ pub record ShowsBox (items : ItemTable) (value : Datum) (dynamic : DynamicType) 
   pub typed : type_of_part items Inside value dynamic ≡ content
 
 -- a value, found so, is of this kind
-abbrev pub ShowsValue : ItemTable → Datum → DynamicType → Kind → Type 0
-ShowsValue items value dynamic Kind.Nothing = value ≡ Gone
-ShowsValue items value dynamic Kind.Plain = IsPlain value
-ShowsValue items value dynamic (Kind.Parts variant serial total) = ShowsParts value variant serial total
-ShowsValue items value dynamic (Kind.Boxed serial content) =
+abbrev pub ShowsValue : ItemTable → Datum → DynamicType → DropKind → Type 0
+ShowsValue items value dynamic DropKind.Nothing = value ≡ Gone
+ShowsValue items value dynamic DropKind.Plain = IsPlain value
+ShowsValue items value dynamic (DropKind.Parts variant serial total) = ShowsParts value variant serial total
+ShowsValue items value dynamic (DropKind.Boxed serial content) =
     ShowsBox items value dynamic serial (option_map dynamic_of content)
 
 -- a struct or an enum with its `Drop` body
@@ -36,12 +36,12 @@ abbrev pub pair_of : OwnDrop → ℕ × ℕ
 pair_of of = (of.adt, of.body)
 
 -- what stands at an address was found so, if there is such an address
-pub record FindsIt (items : ItemTable) (there : Option Located) (found : Found) : Type 0 where
+pub record FindsIt (items : ItemTable) (there : Option Located) (found : FoundValue) : Type 0 where
   pub s : Located
   pub is : there ≡ Some s
   pub dynamic_is : s.dynamic ≡ dynamic_of found.dynamic
   pub shows : ShowsValue items s.value s.dynamic found.kind
 
-abbrev pub IsFound : ItemTable → Option Located → Option Found → Type 0
+abbrev pub IsFound : ItemTable → Option Located → Option FoundValue → Type 0
 IsFound items there None = there ≡ None
 IsFound items there (Some found) = FindsIt items there found

@@ -1,4 +1,5 @@
--- What a visit sees at an address: what was found there, the `Drop` body that is still to run, and whether it was gone over to be dropped in one go.
+-- What a visit sees at an address: what was found there, the `Drop` body that is still to run, and whether it was gone
+-- over to be dropped in one go.
 use Rattle.std.specs.Prelude.{◌≡◌, Bool, List, Option, Some, None}
 use Rattle.drop_glue.specs.Reading.{FindsIt}
 use Rattle.drop_glue.specs.Swept.{Sweeping, SweptSo}

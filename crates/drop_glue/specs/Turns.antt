@@ -10,7 +10,7 @@ use Rattle.mir_store.specs.declared.types.Dynamic.{Dynamic}
 use Rattle.store_model.specs.declared.address.Addr.{Addr}
 use Rattle.store_model.specs.declared.address.At.{At}
 use Rattle.store_model.specs.Values.Datum.{Datum, Gone}
-use Rattle.drop_glue.specs.declared.reading.Found.{Found}
+use Rattle.drop_glue.specs.declared.reading.FoundValue.{FoundValue}
 use Rattle.drop_glue.specs.Reading.{ShowsValue, pair_of}
 use Rattle.mir_ty.specs.ItemTable.{ItemTable}
 use Rattle.mir_steps.specs.Steps.{seen, Halted}
@@ -89,13 +89,13 @@ GoesOn turn items ticks old new next =
     TurnLeft setting run w out old turn → TurnLeft setting run w out new next
 
 -- the `Drop` body of what was found that is still to run, if its own may have run
-abbrev pub IsOwn : ItemTable → Bool → Found → Option OwnDrop → Type 0
+abbrev pub IsOwn : ItemTable → Bool → FoundValue → Option OwnDrop → Type 0
 IsOwn items has_run found own =
     option_map pair_of own ≡ own_impl (stage_by has_run)
     (drop_impl items (concrete_ty items (dynamic_of found.dynamic)))
 
 -- it goes on with what was read
-abbrev pub Begins : ItemTable → ℕ → Bool → Found → Drops → Drops → Turn → Type 0
+abbrev pub Begins : ItemTable → ℕ → Bool → FoundValue → Drops → Drops → Turn → Type 0
 Begins items ticks has_run found old new next =
     (setting : Setting) (run : Bodies) (w : State) (out : Out State) (s : Located) → IsOf items ticks setting w →
     located_at setting w old.address ≡ Some s → s.dynamic ≡ dynamic_of found.dynamic →

@@ -2,12 +2,12 @@ ghost use Rattle.std.specs.Prelude.{◌≡◌, ℕ, Bool, suc, ◌++◌, ◌∷�
 ghost use Rattle.drop_glue.specs.Turns.{Begins, GoesOn, GoesOnPart, IsContainer, IsOwn, enters_of, expected_by};
 ghost use Rattle.drop_glue.specs.declared.drops.Turn.{Turn as a_turn};
 ghost use Rattle.drop_glue.specs.declared.level.Level.{Level as a_level};
-ghost use Rattle.drop_glue.specs.declared.reading.Kind.{Kind as a_kind};
+ghost use Rattle.drop_glue.specs.declared.reading.DropKind.{DropKind as a_kind};
 ghost use Rattle.mir_ty.specs.ItemTable.{ItemTable};
 ghost use Rattle.store_model.specs.declared.address.At.TheVariants.{Part, Inside};
 
 use crate::Level;
-use crate::reading::{Found, Kind, OwnDrop};
+use crate::reading::{DropKind, FoundValue, OwnDrop};
 use mir_base::{List, NoMemory};
 use mir_store::{Dynamic, field_ty};
 use mir_ty::Items;
@@ -174,16 +174,16 @@ impl Drops {
         &mut self,
         ticks: u64,
         own: Option<OwnDrop>,
-        found: Found,
+        found: FoundValue,
     ) -> Result<Turn, NoMemory>
         ensures { IfOk result (λ turn. (items : ItemTable) (has_run : Bool) → IsOwn items has_run found own →
             Begins items ticks has_run found self.old self.new turn) }
     {
         match found.kind {
-            Kind::Nothing => Ok(Turn::Leaves),
-            Kind::Plain => Ok(Turn::Clears(found.dynamic)),
-            Kind::Boxed { content, .. } => self.enter_box(found.dynamic, content),
-            Kind::Parts {
+            DropKind::Nothing => Ok(Turn::Leaves),
+            DropKind::Plain => Ok(Turn::Clears(found.dynamic)),
+            DropKind::Boxed { content, .. } => self.enter_box(found.dynamic, content),
+            DropKind::Parts {
                 variant,
                 serial,
                 total,

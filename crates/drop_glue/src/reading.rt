@@ -21,7 +21,7 @@ use store_model::{Addr, At, Value};
 
 /// What a drop does with a value.
 #[derive(Clone, Copy)]
-pub enum Kind {
+pub enum DropKind {
     /// Nothing stands there.
     Nothing,
     /// A value without parts.
@@ -41,9 +41,9 @@ pub enum Kind {
 
 /// What stands at an address.
 #[derive(Clone, Copy)]
-pub struct Found {
+pub struct FoundValue {
     pub dynamic: Dynamic,
-    pub kind: Kind,
+    pub kind: DropKind,
 }
 
 /// A struct or an enum with its `Drop` body.
@@ -53,35 +53,35 @@ pub struct OwnDrop {
     pub body: u32,
 }
 
-fn kind_of_value(items: &Items, value: &Value, dynamic: Dynamic) -> Kind
+fn kind_of_value(items: &Items, value: &Value, dynamic: Dynamic) -> DropKind
     ensures { ShowsValue items.now (datum_of value.now) (dynamic_of dynamic) result }
 {
     match value {
-        Value::Gone => Kind::Nothing,
+        Value::Gone => DropKind::Nothing,
         Value::Parts {
             variant,
             serial,
             parts,
-        } => Kind::Parts {
+        } => DropKind::Parts {
             variant: *variant,
             serial: *serial,
             total: parts.len(),
         },
-        Value::Boxed { serial, .. } => Kind::Boxed {
+        Value::Boxed { serial, .. } => DropKind::Boxed {
             serial: *serial,
             content: type_of_part(items, At::Inside, value, dynamic),
         },
-        Value::Int(_) | Value::Bool(_) | Value::Unit | Value::Address(_) => Kind::Plain,
+        Value::Int(_) | Value::Bool(_) | Value::Unit | Value::Address(_) => DropKind::Plain,
     }
 }
 
 /// What a drop does with what stands somewhere.
-pub fn kind_of(items: &Items, s: &Located<'_>) -> Kind
+pub fn kind_of(items: &Items, s: &Located<'_>) -> DropKind
     ensures { ShowsValue items.now (standing s.now.value) (dynamic_of s.now.dynamic) result }
 {
     match s.value {
         Some(value) => kind_of_value(items, value, s.dynamic),
-        None => Kind::Nothing,
+        None => DropKind::Nothing,
     }
 }
 
@@ -91,7 +91,7 @@ pub fn read(
     graph: &Graph,
     store: &Store,
     address: &Addr,
-) -> Result<Option<Found>, NoMemory>
+) -> Result<Option<FoundValue>, NoMemory>
     ensures { IfOk result (λ found. IsFound graph.now.items (location.located_at (setting_of true graph.now)
         (with_activations (activations_of store.now)) address.now) found) }
 {
@@ -99,7 +99,7 @@ pub fn read(
         return Ok(None);
     };
     let kind = kind_of(&graph.items, &s);
-    Ok(Some(Found {
+    Ok(Some(FoundValue {
         dynamic: s.dynamic,
         kind,
     }))

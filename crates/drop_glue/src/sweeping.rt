@@ -20,7 +20,7 @@ ghost use Rattle.store_model.specs.Values.Datum.{data_from, datum_of};
 
 use crate::reading::{is_still, own_drop};
 use mir_base::{Event, List, NoMemory};
-use mir_steps::Told;
+use mir_steps::ToldEvents;
 use mir_store::{Dynamic, Located, field_ty, type_of_part};
 use mir_ty::Items;
 use std::alloc::Global;
@@ -166,7 +166,7 @@ fn sweep_parts<'a>(
 /// Goes over one thing.
 fn sweep_one<'a>(
     items: &Items,
-    told: &mut List<Told>,
+    told: &mut List<ToldEvents>,
     work: &mut List<Sweeps<'a>>,
     one: Sweeps<'a>,
 ) -> Result<bool, NoMemory>
@@ -182,7 +182,7 @@ fn sweep_one<'a>(
             dynamic,
         } => sweep_parts(items, work, parts, next, variant, dynamic),
         Sweeps::Boxed(serial) => {
-            told.push(Told::Event(Event::Freed(serial)))?;
+            told.push(ToldEvents::Event(Event::Freed(serial)))?;
             Ok(true)
         }
     }
@@ -197,7 +197,7 @@ const MANY: u64 = 16;
 fn sweep(
     alloc: Global,
     items: &Items,
-    told: &mut List<Told>,
+    told: &mut List<ToldEvents>,
     value: &Value,
     dynamic: Dynamic,
     has_run: bool,
@@ -225,7 +225,7 @@ fn sweep(
 pub fn sweep_there(
     alloc: Global,
     items: &Items,
-    told: &mut List<Told>,
+    told: &mut List<ToldEvents>,
     s: &Located<'_>,
     has_run: bool,
     tries: bool,

@@ -9,11 +9,11 @@ ghost use Rattle.store_model.specs.Concrete.Location.{stored_at};
 ghost use Rattle.store_model.specs.Effects.{Out};
 ghost use Rattle.store_model.specs.Values.Datum.{Gone};
 
-use crate::reading::{Kind, is_still, read};
+use crate::reading::{DropKind, is_still, read};
 use crate::visiting::visit;
 use crate::{Drops, Turn};
 use mir_base::{Event, NoMemory};
-use mir_steps::{Told, World};
+use mir_steps::{ToldEvents, World};
 use mir_store::Dynamic;
 use std::alloc::Global;
 use store_model::Addr;
@@ -76,11 +76,11 @@ fn free(
     if !is_still(&world.graph.items, dynamic, found.dynamic) {
         return Ok(false);
     }
-    let Kind::Boxed { serial, .. } = found.kind else {
+    let DropKind::Boxed { serial, .. } = found.kind else {
         return Ok(false);
     };
     take_away(alloc, world, address)?;
-    world.tell(Told::Event(Event::Freed(serial)))?;
+    world.tell(ToldEvents::Event(Event::Freed(serial)))?;
     Ok(true)
 }
 

@@ -15,13 +15,13 @@ ghost use Rattle.store_model.specs.Concrete.State.{Bodies, State};
 ghost use Rattle.store_model.specs.Effects.{Out};
 ghost use Rattle.store_model.specs.Values.Datum.{Gone};
 
-use crate::reading::{Found, OwnDrop, is_expected, kind_of, own_drop};
+use crate::reading::{FoundValue, OwnDrop, is_expected, kind_of, own_drop};
 use crate::sweeping::{Pass, sweep_there};
 use crate::turns::take_away;
 use crate::{Drops, Turn};
 use cfg_graph::Graph;
 use mir_base::{List, NoMemory};
-use mir_steps::{Told, World};
+use mir_steps::{ToldEvents, World};
 use mir_store::{Dynamic, Store, located_at};
 use std::alloc::Global;
 use store_model::Addr;
@@ -29,7 +29,7 @@ use store_model::Addr;
 /// What a visit sees.
 #[derive(Clone, Copy)]
 pub struct Sight {
-    pub found: Found,
+    pub found: FoundValue,
     /// Its own `Drop` body, where that is still to run.
     pub own: Option<OwnDrop>,
     pub pass: Pass,
@@ -41,7 +41,7 @@ fn look(
     alloc: Global,
     graph: &Graph,
     store: &Store,
-    told: &mut List<Told>,
+    told: &mut List<ToldEvents>,
     address: &Addr,
     has_run: bool,
     tries: bool,
@@ -55,7 +55,7 @@ fn look(
     };
     let items = &graph.items;
     let kind = kind_of(items, &s);
-    let found = Found {
+    let found = FoundValue {
         dynamic: s.dynamic,
         kind,
     };
@@ -65,7 +65,7 @@ fn look(
 }
 
 /// Tells of all of these.
-fn tell_all(world: &mut World<'_>, told: &[Told]) -> Result<(), NoMemory>
+fn tell_all(world: &mut World<'_>, told: &[ToldEvents]) -> Result<(), NoMemory>
     ensures run { run_setting world.new ≡ run_setting world.old }
     ensures told { OnOk result ((before : Trace) →
         state_of before world.new ≡ with_events (map event_of told.now) (state_of before world.old)) }
@@ -81,7 +81,7 @@ fn put_aside(
     alloc: Global,
     world: &mut World<'_>,
     address: &Addr,
-    told: &[Told],
+    told: &[ToldEvents],
 ) -> Result<(), NoMemory>
     ensures run { run_setting world.new ≡ run_setting world.old }
     ensures ticks { OnOk result (world.new.ticks ≡ world.old.ticks) }

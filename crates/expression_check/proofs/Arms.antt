@@ -3,14 +3,14 @@ use Rattle.std.proofs.Common.{◌≡◌, ℕ, suc, ◌+◌, Bool, true, false, L
 use Rattle.mir_base.specs.declared.place_in_text.Pos.{Pos}
 use Rattle.mir_base.specs.declared.rule.Rule.{Rule}
 use Rattle.mir_ty.specs.declared.ty.TyId.{TyId}
-use Rattle.src_tree.specs.declared.node.Node.{Node}
+use Rattle.src_tree.specs.declared.node.SyntaxNode.{SyntaxNode}
 use Rattle.src_ast.specs.Seen.{is_none, syn_of, word_of}
 use Rattle.src_ast.specs.Sorts.{arm_part}
 use Rattle.src_ast.specs.Syntax.{Syn, syn, Shape, Syns, no_syn, a_syn, MaybeSyn, nothing, just, at_of, shape_of, Ident, LabelOf, Literal, TruthLiteral, Path, Minus, Bang, Star, Ampersand, Calculate, Compare, Both, Either, Store, CallOf, MethodOf, FieldOf, PartOf, ElementOf, StructOf, FieldInit, Parens, TupleOf, ArrayOf, Braces, IfElse, IfLetElse, MatchOn, ArmOf, LoopOf, WhileOf, WhileLetOf, BreakOf, ContinueOf, ReturnOf, MoveOf, PanicOf, LetOf, Empty, Semi, AnyPattern, BindPattern, LiteralPattern, TruthPattern, PathPattern, PartsPattern, FieldsPattern, FieldPattern, ParensPattern, TuplePattern, ArrayPattern, Alternatives, NamedType, GenericType, DynType, SelfType, ParensType, TupleType, ArrayType, NeverType, RefType, StructItem, EnumItem, FieldDecl, VariantDecl, TraitItem, ImplItem, FnItem, ParamOf, SelfParam, Odd}
 use Rattle.src_ast.proofs.Named.{seen_as}
 use Rattle.typed_tree.specs.Tree as tree
 use Rattle.typed_tree.specs.Tree.{Nodes, a_node}
-use Rattle.typing_rules.specs.Check.{Check, State, Broken, ◌>>=◌, and_then, breaks, number, pure}
+use Rattle.typing_rules.specs.Check.{Check, TypingState, Broken, ◌>>=◌, and_then, breaks, number, pure}
 use Rattle.typing_rules.specs.Rows.{Expected, loop_around, match_row, no_reference, scrutinised, used_if_place}
 use Rattle.typing_rules.specs.Scope.{Env, within_loop}
 use Rattle.typing_rules.specs.Typed.{base_of, typed_arms, value}
@@ -102,7 +102,7 @@ arm_form e w ty want at (ParamOf a b) = refl
 arm_form e w ty want at (SelfParam a) = refl
 arm_form e w ty want at Odd = refl
 
-pub arm_seen : (e : Env) (w : Expected) (ty : TyId) (want : Option TyId) (n : Node) →
+pub arm_seen : (e : Env) (w : Expected) (ty : TyId) (want : Option TyId) (n : SyntaxNode) →
     arm_of_syn e w ty want (syn_of n) ≡ arm_check e w ty want n.at (arm_part (shape_of (syn_of n)))
 arm_seen e w ty want n =
     of_syn (syn_of n) ∙ ap (λ (x : Syn). arm_check e w ty want (at_of x) (arm_part (shape_of (syn_of n)))) (seen_as n)
@@ -110,7 +110,7 @@ arm_seen e w ty want n =
     of_syn : (x : Syn) → arm_of_syn e w ty want x ≡ arm_check e w ty want (at_of x) (arm_part (shape_of x))
     of_syn (syn at form) = arm_form e w ty want at form
 
-arms_form : (e : Env) (w : Expected) (ty : TyId) (want : Option TyId) (at : Pos) (form : Shape) (xs : Syns) (s : State) →
+arms_form : (e : Env) (w : Expected) (ty : TyId) (want : Option TyId) (at : Pos) (form : Shape) (xs : Syns) (s : TypingState) →
     typed_arms e w ty want (a_syn (syn at form) xs) s
     ≡ and_then (arm_of_syn e w ty want (syn at form) s) (λ n. λ t. and_then (typed_arms e w ty want xs t) (λ ns. pure (a_node n ns.0, ty_of n ∷ ns.1)))
 arms_form e w ty want at (Ident a) xs s = refl
@@ -185,19 +185,19 @@ arms_form e w ty want at (ParamOf a b) xs s = refl
 arms_form e w ty want at (SelfParam a) xs s = refl
 arms_form e w ty want at Odd xs s = refl
 
-with_arm : (e : Env) (w : Expected) (ty : TyId) (want : Option TyId) (x : Syn) (xs : Syns) (s : State) →
+with_arm : (e : Env) (w : Expected) (ty : TyId) (want : Option TyId) (x : Syn) (xs : Syns) (s : TypingState) →
     typed_arms e w ty want (a_syn x xs) s
     ≡ and_then (arm_of_syn e w ty want x s) (λ n. λ t. and_then (typed_arms e w ty want xs t) (λ ns. pure (a_node n ns.0, ty_of n ∷ ns.1)))
 with_arm e w ty want (syn at form) xs s = arms_form e w ty want at form xs s
 
-one_typed : (k : ℕ) (ns ms : List tree.Node) (o : Result ((Nodes × List TyId) × State) Broken) → below ms ≡ ns →
+one_typed : (k : ℕ) (ns ms : List tree.Node) (o : Result ((Nodes × List TyId) × TypingState) Broken) → below ms ≡ ns →
     behind_typed k ns (and_then o (λ more. pure (a_node (top ms) more.0, ty_of (top ms) ∷ more.1))) ≡ behind_typed (suc k) ms o
 one_typed k ns ms (Ok p) h =
     ap (λ (l : List tree.Node). Ok ((nodes_on k l (a_node (top ms) p.0.0), types_on k l (ty_of (top ms) ∷ p.0.1)), p.1)) (sym h)
 one_typed k ns ms (Err e) h = refl
 
-pub one_arm : (e : Env) (w : Expected) (ty : TyId) (want : Option TyId) (whole : Result ((Nodes × List TyId) × State) Broken) (k m : ℕ)
-    (ns ms : List tree.Node) (ss : Syns) (x : Syn) (xs : Syns) (s t : State) →
+pub one_arm : (e : Env) (w : Expected) (ty : TyId) (want : Option TyId) (whole : Result ((Nodes × List TyId) × TypingState) Broken) (k m : ℕ)
+    (ns ms : List tree.Node) (ss : Syns) (x : Syn) (xs : Syns) (s t : TypingState) →
     whole ≡ behind_typed k ns (typed_arms e w ty want ss s) → a_syn x xs ≡ ss →
     arm_of_syn e w ty want x s ≡ Ok (top ms, t) → below ms ≡ ns → m ≡ k + 1 →
     whole ≡ behind_typed m ms (typed_arms e w ty want xs t)
@@ -208,38 +208,38 @@ one_arm e w ty want whole k m ns ms ss x xs s t h split here under next =
     ∙ one_typed k ns ms (typed_arms e w ty want xs t) under
     ∙ ap (λ (n : ℕ). behind_typed n ms (typed_arms e w ty want xs t)) (sym (next ∙ add-one k))
 
-pub no_arms : (e : Env) (at : Pos) (x : Syn) (ss : Syns) (want : Option TyId) (s : State) → is_none ss ≡ true →
+pub no_arms : (e : Env) (at : Pos) (x : Syn) (ss : Syns) (want : Option TyId) (s : TypingState) → is_none ss ≡ true →
     value e at (MatchOn x ss) want s ≡ breaks Rule.T20 at s
 no_arms e at x no_syn want s h = refl
 no_arms e at x (a_syn y ys) want s h = absurd (cc)
 
-pub some_arms : (e : Env) (at : Pos) (x : Syn) (ss : Syns) (want : Option TyId) (s : State) → is_none ss ≡ false →
+pub some_arms : (e : Env) (at : Pos) (x : Syn) (ss : Syns) (want : Option TyId) (s : TypingState) → is_none ss ≡ false →
     value e at (MatchOn x ss) want s ≡ match_row e at (base_of e x) (λ w ty want. typed_arms e w ty want ss) want s
 some_arms e at x no_syn want s h = absurd (cc)
 some_arms e at x (a_syn y ys) want s h = refl
 
-refuses_behind : (k : ℕ) (ns : List tree.Node) (o : Result (tree.Node × State) Broken) (f : tree.Node → Check (Nodes × List TyId)) (err : RuleError) → Refuses o err →
+refuses_behind : (k : ℕ) (ns : List tree.Node) (o : Result (tree.Node × TypingState) Broken) (f : tree.Node → Check (Nodes × List TyId)) (err : RuleError) → Refuses o err →
     Refuses (behind_typed k ns (and_then o f)) err
 refuses_behind k ns o f (RuleError.Broken rule at) h = ap (λ r. behind_typed k ns (and_then r f)) h
 refuses_behind k ns o f RuleError.Memory h = tt
 
 -- an arm that is refused
-pub refused_arm : (e : Env) (w : Expected) (ty : TyId) (want : Option TyId) (whole : Result ((Nodes × List TyId) × State) Broken) (k : ℕ)
-    (ns : List tree.Node) (ss : Syns) (x : Syn) (xs : Syns) (s : State) (err : RuleError) →
+pub refused_arm : (e : Env) (w : Expected) (ty : TyId) (want : Option TyId) (whole : Result ((Nodes × List TyId) × TypingState) Broken) (k : ℕ)
+    (ns : List tree.Node) (ss : Syns) (x : Syn) (xs : Syns) (s : TypingState) (err : RuleError) →
     whole ≡ behind_typed k ns (typed_arms e w ty want ss s) → a_syn x xs ≡ ss → Refuses (arm_of_syn e w ty want x s) err → Refuses whole err
 refused_arm e w ty want whole k ns ss x xs s err h split here =
-    subst (λ (o : Result ((Nodes × List TyId) × State) Broken). Refuses o err)
+    subst (λ (o : Result ((Nodes × List TyId) × TypingState) Broken). Refuses o err)
     (sym (h ∙ ap (λ z. behind_typed k ns (typed_arms e w ty want z s)) (sym split) ∙ ap (behind_typed k ns) (with_arm e w ty want x xs s)))
     (refuses_behind k ns (arm_of_syn e w ty want x s) (λ n. λ t. and_then (typed_arms e w ty want xs t) (λ ns. pure (a_node n ns.0, ty_of n ∷ ns.1))) err here)
 
 -- before the first
-pub none_yet : (ns : List tree.Node) (o : Result ((Nodes × List TyId) × State) Broken) → o ≡ behind_typed 0 ns o
+pub none_yet : (ns : List tree.Node) (o : Result ((Nodes × List TyId) × TypingState) Broken) → o ≡ behind_typed 0 ns o
 none_yet ns (Ok p) = refl
 none_yet ns (Err e) = refl
 
 -- ---- what was looked at
 
-pub matched : (e f : Env) (at : Pos) (sc : Check tree.Node) (ss : Syns) (want : Option TyId) (id : ℕ) (n : tree.Node) (s s1 s2 : State) →
+pub matched : (e f : Env) (at : Pos) (sc : Check tree.Node) (ss : Syns) (want : Option TyId) (id : ℕ) (n : tree.Node) (s s1 s2 : TypingState) →
     number s ≡ Ok (id, s1) → scrutinised sc s1 ≡ Ok (n, s2) → f ≡ e →
     match_row e at sc (λ w ty want. typed_arms e w ty want ss) want s ≡ arms_rest f id at n ss want s2
 matched e f at sc ss want id n s s1 s2 h1 h2 same =
@@ -250,12 +250,12 @@ matched e f at sc ss want id n s s1 s2 h1 h2 same =
 abbrev if_let_from : Env → Pos → Syn → Syn → Syn → MaybeSyn → Option TyId → Check tree.Node
 if_let_from e at p x b o want = number >>= (λ i. scrutinised (base_of e x) >>= (λ n. if_let_rest e i at n p b o want))
 
-if_let_is : (e : Env) (at : Pos) (p x b : Syn) (o : MaybeSyn) (want : Option TyId) (s : State) →
+if_let_is : (e : Env) (at : Pos) (p x b : Syn) (o : MaybeSyn) (want : Option TyId) (s : TypingState) →
     value e at (IfLetElse p x b o) want s ≡ if_let_from e at p x b o want s
 if_let_is e at p x b nothing want s = refl
 if_let_is e at p x b (just y) want s = refl
 
-pub if_let_looked : (e f : Env) (at : Pos) (p x b : Syn) (o : MaybeSyn) (want : Option TyId) (id : ℕ) (n : tree.Node) (s s1 s2 : State) →
+pub if_let_looked : (e f : Env) (at : Pos) (p x b : Syn) (o : MaybeSyn) (want : Option TyId) (id : ℕ) (n : tree.Node) (s s1 s2 : TypingState) →
     number s ≡ Ok (id, s1) → scrutinised (base_of e x) s1 ≡ Ok (n, s2) → f ≡ e →
     value e at (IfLetElse p x b o) want s ≡ if_let_rest f id at n p b o want s2
 if_let_looked e f at p x b o want id n s s1 s2 h1 h2 same =
@@ -264,14 +264,14 @@ if_let_looked e f at p x b o want id n s s1 s2 h1 h2 same =
     ∙ ap (λ r. and_then r (λ n. if_let_rest e id at n p b o want)) h2
     ∙ ap (λ (g : Env). if_let_rest g id at n p b o want s2) (sym same)
 
-pub if_let_refused : (e : Env) (at : Pos) (p x b : Syn) (o : MaybeSyn) (want : Option TyId) (id : ℕ) (s s1 : State) (err : RuleError) →
+pub if_let_refused : (e : Env) (at : Pos) (p x b : Syn) (o : MaybeSyn) (want : Option TyId) (id : ℕ) (s s1 : TypingState) (err : RuleError) →
     number s ≡ Ok (id, s1) → Refuses (scrutinised (base_of e x) s1) err → Refuses (value e at (IfLetElse p x b o) want s) err
 if_let_refused e at p x b o want id s s1 err h1 here =
-    subst (λ (r : Result (tree.Node × State) Broken). Refuses r err)
+    subst (λ (r : Result (tree.Node × TypingState) Broken). Refuses r err)
     (sym (if_let_is e at p x b o want s ∙ ap (λ r. and_then r (λ i. scrutinised (base_of e x) >>= (λ n. if_let_rest e i at n p b o want))) h1))
     (stopped (scrutinised (base_of e x) s1) (λ n. if_let_rest e id at n p b o want) err here)
 
-pub while_let_looked : (e f : Env) (at : Pos) (label : Option (Bor (List ℕ))) (p x b : Syn) (want : Option TyId) (id : ℕ) (n m : tree.Node) (s s1 s2 s3 : State) →
+pub while_let_looked : (e f : Env) (at : Pos) (label : Option (Bor (List ℕ))) (p x b : Syn) (want : Option TyId) (id : ℕ) (n m : tree.Node) (s s1 s2 s3 : TypingState) →
     number s ≡ Ok (id, s1) → base_of (within_loop (loop_around (word_in label) id false None) e) x s1 ≡ Ok (n, s2) →
     scrutinised_rest n s2 ≡ Ok (m, s3) → f ≡ e →
     value e at (WhileLetOf (word_of label) p x b) want s ≡ while_let_rest f id at (word_in label) m p b want s3

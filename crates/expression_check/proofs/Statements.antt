@@ -1,6 +1,6 @@
 -- Statements by the forms that are borrowed from them, and one after another.
 use Rattle.std.proofs.Common.{◌≡◌, ◌≤◌, ◌+◌, ℕ, zero, suc, Bool, true, false, ◌||◌, if◌then◌else◌, List, [], ◌∷◌, ◌++◌, length, Option, Some, None, Result, Ok, Err, refl, ap, sym, ◌∙◌, arith, add-one}
-use Rattle.src_tree.specs.declared.node.Node.{Node}
+use Rattle.src_tree.specs.declared.node.SyntaxNode.{SyntaxNode}
 use Rattle.src_ast.specs.Seen.{syn_of}
 use Rattle.src_ast.specs.Sorts.{statement_part}
 use Rattle.src_ast.specs.Syntax.{Syn, syn, Shape, Syns, no_syn, a_syn, at_of, shape_of, Ident, LabelOf, Literal, TruthLiteral, Path, Minus, Bang, Star, Ampersand, Calculate, Compare, Both, Either, Store, CallOf, MethodOf, FieldOf, PartOf, ElementOf, StructOf, FieldInit, Parens, TupleOf, ArrayOf, Braces, IfElse, IfLetElse, MatchOn, ArmOf, LoopOf, WhileOf, WhileLetOf, BreakOf, ContinueOf, ReturnOf, MoveOf, PanicOf, LetOf, Empty, Semi, AnyPattern, BindPattern, LiteralPattern, TruthPattern, PathPattern, PartsPattern, FieldsPattern, FieldPattern, ParensPattern, TuplePattern, ArrayPattern, Alternatives, NamedType, GenericType, DynType, SelfType, ParensType, TupleType, ArrayType, NeverType, RefType, StructItem, EnumItem, FieldDecl, VariantDecl, TraitItem, ImplItem, FnItem, ParamOf, SelfParam, Odd}
@@ -8,8 +8,8 @@ use Rattle.src_ast.proofs.Named.{seen_as}
 use Rattle.mir_base.specs.declared.place_in_text.Pos.{Pos}
 use Rattle.typed_tree.specs.Tree as tree
 use Rattle.typed_tree.specs.Tree.{Nodes, a_node}
-use Rattle.typing_rules.specs.Check.{State, Broken, and_then, pure}
-use Rattle.typing_rules.specs.Scope.{Env, Entry, joined, with_variables}
+use Rattle.typing_rules.specs.Check.{TypingState, Broken, and_then, pure}
+use Rattle.typing_rules.specs.Scope.{Env, NamedEntry, joined, with_variables}
 use Rattle.typing_rules.specs.Typed.{statement, typed_all, with_statement}
 use Rattle.call_rows.specs.Lists.{below_all, nodes_on}
 use Rattle.name_rows.specs.Scopes.{OnlyPlace, with_only}
@@ -18,7 +18,7 @@ use Rattle.type_rows.specs.Stand.{Stays, below, env, stack, top}
 use Rattle.type_rows.specs.declared.checker.Checker.{Checker}
 use Rattle.expression_check.specs.Blocks.{Grows, behind_statements, below_if, last_if, more_if, statement_as}
 
-statement_form : (e : Env) (at : Pos) (form : Shape) (s : State) →
+statement_form : (e : Env) (at : Pos) (form : Shape) (s : TypingState) →
     statement e (syn at form) s ≡ statement_as e (syn at form) at (statement_part form) s
 statement_form e at (Ident a) s = refl
 statement_form e at (LabelOf a) s = refl
@@ -92,7 +92,7 @@ statement_form e at (ParamOf a b) s = refl
 statement_form e at (SelfParam a) s = refl
 statement_form e at Odd s = refl
 
-pub statement_seen : (e : Env) (n : Node) (s : State) →
+pub statement_seen : (e : Env) (n : SyntaxNode) (s : TypingState) →
     statement e (syn_of n) s ≡ statement_as e (syn_of n) n.at (statement_part (shape_of (syn_of n))) s
 statement_seen e n s =
     of_syn (syn_of n) ∙ ap (λ (x : Syn). statement_as e (syn_of n) (at_of x) (statement_part (shape_of (syn_of n))) s) (seen_as n)
@@ -106,7 +106,7 @@ or_assoc : (a b c : Bool) → (a || (b || c)) ≡ ((a || b) || c)
 or_assoc true b c = refl
 or_assoc false b c = refl
 
-one_behind : (k : ℕ) (is_made ends b : Bool) (ns ms : List tree.Node) (o : Result ((Nodes × Bool × Env) × State) Broken) →
+one_behind : (k : ℕ) (is_made ends b : Bool) (ns ms : List tree.Node) (o : Result ((Nodes × Bool × Env) × TypingState) Broken) →
     below_if is_made ms ≡ ns →
     behind_statements k b ns (and_then o (λ more. pure (with_statement (last_if is_made ms) more.0, ends || more.1, more.2)))
     ≡ behind_statements (more_if is_made k) (b || ends) ms o
@@ -120,8 +120,8 @@ one_behind k false ends b ns ms (Ok p) h =
 one_behind k true ends b ns ms (Err e) h = refl
 one_behind k false ends b ns ms (Err e) h = refl
 
-pub one_statement : (e f : Env) (whole : Result ((Nodes × Bool × Env) × State) Broken) (k m : ℕ) (is_made ends b c : Bool)
-    (ns ms : List tree.Node) (ss : Syns) (x : Syn) (xs : Syns) (s t : State) →
+pub one_statement : (e f : Env) (whole : Result ((Nodes × Bool × Env) × TypingState) Broken) (k m : ℕ) (is_made ends b c : Bool)
+    (ns ms : List tree.Node) (ss : Syns) (x : Syn) (xs : Syns) (s t : TypingState) →
     whole ≡ behind_statements k b ns (typed_all e ss s) → a_syn x xs ≡ ss →
     statement e x s ≡ Ok ((last_if is_made ms, ends, f), t) → below_if is_made ms ≡ ns → m ≡ more_if is_made k → c ≡ (b || ends) →
     whole ≡ behind_statements m c ms (typed_all f xs t)
@@ -134,7 +134,7 @@ one_statement e f whole k m is_made ends b c ns ms ss x xs s t h split here unde
 
 -- ---- variables that came into scope
 
-joined_both : (xs ys old : List Entry) → joined ys (joined xs old) ≡ joined (xs ++ ys) old
+joined_both : (xs ys old : List NamedEntry) → joined ys (joined xs old) ≡ joined (xs ++ ys) old
 joined_both [] ys old = refl
 joined_both (x ∷ xs) ys old = joined_both xs ys (x ∷ old)
 
@@ -142,7 +142,7 @@ pub grows_on : (a b c : Checker) → Grows a b → Grows b c → Grows a c
 grows_on a b c (x, t) (y, u) =
     ((x.0 ++ y.0, y.1 ∙ ap (with_variables y.0) x.1 ∙ ap (λ vs. record (env a) { variables = vs }) (joined_both x.0 y.0 (env a).variables)), u ∙ t)
 
-joined_length : (xs old : List Entry) → length old ≤ length (joined xs old)
+joined_length : (xs old : List NamedEntry) → length old ≤ length (joined xs old)
 joined_length [] old = omega arith
 joined_length (x ∷ xs) old = omega (arith, joined_length xs (x ∷ old))
 
@@ -168,10 +168,10 @@ below_statement k m true ns ms others h under next =
 below_statement k m false ns ms others h under next = ap (λ (n : ℕ). below_all n ms) next ∙ ap (below_all k) under ∙ h
 
 -- what was entered around an expression is left behind it
-pub scoped_grows : (a b d : Checker) (xs : List Entry) → env b ≡ with_variables xs (env a) → OnlyPlace a b → Stays b d → Grows a d
+pub scoped_grows : (a b d : Checker) (xs : List NamedEntry) → env b ≡ with_variables xs (env a) → OnlyPlace a b → Stays b d → Grows a d
 scoped_grows a b d xs entered (same, walked, tables) (stays, same_tables) = ((xs, stays ∙ entered), same_tables ∙ tables)
 
-pub scope_left : (a b d f : Checker) (n : ℕ) (xs : List Entry) → env b ≡ with_variables xs (env a) → OnlyPlace a b → below (stack d) ≡ stack b → Stays b d →
+pub scope_left : (a b d f : Checker) (n : ℕ) (xs : List NamedEntry) → env b ≡ with_variables xs (env a) → OnlyPlace a b → below (stack d) ≡ stack b → Stays b d →
     OnlyPlace d f → n ≡ length (env a).variables → env f ≡ with_only n (env d) → (below (stack f) ≡ stack a) × Stays a f
 scope_left a b d f n xs entered (same, walked, tables) under stays only is left =
     block_left a d f n only is left (under ∙ same) (scoped_grows a b d xs entered (same, walked, tables) stays)

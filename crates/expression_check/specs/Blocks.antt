@@ -5,10 +5,10 @@ use Rattle.mir_base.specs.declared.rule.RuleError.{RuleError}
 use Rattle.mir_ty.specs.declared.ty.TyId.{TyId}
 use Rattle.typed_tree.specs.Tree as tree
 use Rattle.typed_tree.specs.Tree.{Node, Nodes, MaybeNode}
-use Rattle.typing_rules.specs.Check.{Check, State, Broken, ◌>>=◌, ◌<$>◌}
+use Rattle.typing_rules.specs.Check.{Check, TypingState, Broken, ◌>>=◌, ◌<$>◌}
 use Rattle.typing_rules.specs.Places.{a_node_of}
 use Rattle.typing_rules.specs.Rows.{Typer, block_ty, evaluate, settled}
-use Rattle.typing_rules.specs.Scope.{Env, Entry, with_variables}
+use Rattle.typing_rules.specs.Scope.{Env, NamedEntry, with_variables}
 use Rattle.typing_rules.specs.Typed.{a_statement, for_parts, other_statement, typed}
 use Rattle.src_ast.specs.Syntax.{Shape, Syn}
 use Rattle.item_heads.specs.Answers.{Refuses}
@@ -35,9 +35,10 @@ more_if false count = count
 -- an expression stands where it stood, but for variables that came into scope
 abbrev pub Grows : Checker → Checker → Type 0
 Grows before after =
-    ((xs : List Entry) × (env after ≡ with_variables xs (env before))) × (after.tables ≡ before.tables)
+    ((xs : List NamedEntry) × (env after ≡ with_variables xs (env before))) × (after.tables ≡ before.tables)
 
-abbrev pub GivesStatement : Result ((Option Node × Bool × Env) × State) Broken → Result StatementNode RuleError → Checker →
+abbrev pub GivesStatement : Result ((Option Node × Bool × Env) × TypingState) Broken → Result StatementNode RuleError →
+    Checker →
     Type 0
 GivesStatement outcome (Ok s) after = outcome ≡ Ok ((last_if s.is_made (stack after), s.ends, env after), state after)
 GivesStatement outcome (Err e) after = Refuses outcome e
@@ -46,7 +47,8 @@ abbrev pub KeepsStatement : List Node → Checker → Result StatementNode RuleE
 KeepsStatement others before (Ok s) after = (below_if s.is_made (stack after) ≡ others) × Grows before after
 KeepsStatement others before (Err e) after = ⊤
 
-abbrev pub GivesStatements : Result ((Nodes × Bool × Env) × State) Broken → Result Statements RuleError → Checker → Type 0
+abbrev pub GivesStatements : Result ((Nodes × Bool × Env) × TypingState) Broken → Result Statements RuleError →
+    Checker → Type 0
 GivesStatements outcome (Ok s) after = outcome ≡ Ok ((last_nodes s.count (stack after), s.ends, env after), state after)
 GivesStatements outcome (Err e) after = Refuses outcome e
 
@@ -60,8 +62,8 @@ KeepsGrown others before (Ok b) after = (below (stack after) ≡ others) × Grow
 KeepsGrown others before (Err e) after = ⊤
 
 -- what is given of the rest, behind the last nodes that were made
-abbrev pub behind_statements : ℕ → Bool → List Node → Result ((Nodes × Bool × Env) × State) Broken →
-    Result ((Nodes × Bool × Env) × State) Broken
+abbrev pub behind_statements : ℕ → Bool → List Node → Result ((Nodes × Bool × Env) × TypingState) Broken →
+    Result ((Nodes × Bool × Env) × TypingState) Broken
 behind_statements k ends ns (Ok a) = Ok ((nodes_on k ns a.0.0, ends || a.0.1, a.0.2), a.1)
 behind_statements k ends ns (Err e) = Err e
 

@@ -13,7 +13,7 @@ use Rattle.typing_rules.specs.Check.{Check, ◌>>=◌, breaks, the_items}
 use Rattle.typing_rules.specs.Patterns.{pattern}
 use Rattle.typing_rules.specs.Places.{a_node_of, bool, unit}
 use Rattle.typing_rules.specs.Rows.{Expected, arm, expected, loop_around, settled}
-use Rattle.typing_rules.specs.Scope.{Env, Entry, in_guard, with_variables, within_loop}
+use Rattle.typing_rules.specs.Scope.{Env, NamedEntry, in_guard, with_variables, within_loop}
 use Rattle.typing_rules.specs.Typed.{matcher, typed, typed_arms, typed_maybe}
 use Rattle.well_typed.specs.Places.{ty_of}
 
@@ -30,7 +30,7 @@ abbrev pub arm_of_syn : Env → Expected → TyId → Option TyId → Syn → Ch
 arm_of_syn env e ty want (syn at form) = arm_check env e ty want at (Some form)
 
 -- an arm, once its pattern is checked
-abbrev pub arm_parts : Env → ℕ → Node → List Entry → MaybeSyn → Syn → Option TyId → Check Node
+abbrev pub arm_parts : Env → ℕ → Node → List NamedEntry → MaybeSyn → Syn → Option TyId → Check Node
 arm_parts env id p xs guard body want = do
   g ← typed_maybe (with_variables (in_guard xs) env) guard (Some bool)
   b ← typed (with_variables xs env) body want
@@ -46,7 +46,7 @@ arms_rest env id at s arms want = do
 -- ---- `if let`
 
 -- once its pattern is checked, and once its scrutinee is
-abbrev pub if_let_parts : Env → ℕ → Pos → Node → Node → List Entry → Syn → MaybeSyn → Option TyId → Check Node
+abbrev pub if_let_parts : Env → ℕ → Pos → Node → Node → List NamedEntry → Syn → MaybeSyn → Option TyId → Check Node
 if_let_parts env id at s p xs body nothing want = do
   b ← typed (with_variables xs env) body (Some unit)
   settled want (a_node_of id at unit (tree.IfLet p s b absent))

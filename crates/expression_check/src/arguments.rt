@@ -13,7 +13,7 @@ use expression_rows::{ArgumentForm, argument_form, borrow_end, one_more, passed_
 use mir_base::{Pos, RuleError};
 use mir_ty::TyId;
 use src_ast::Nodes;
-use src_tree::Node;
+use src_tree::SyntaxNode;
 use type_env::reference_of;
 use type_rows::Checker;
 
@@ -23,7 +23,7 @@ fn borrow(
     checker: &mut Checker,
     at: Pos,
     unique: bool,
-    base: &Node,
+    base: &SyntaxNode,
     is_unique: bool,
     to: TyId,
 ) -> Result<(), RuleError>
@@ -61,7 +61,7 @@ fn referred(
 #[cycle(typed)]
 fn by_reference(
     checker: &mut Checker,
-    node: &Node,
+    node: &SyntaxNode,
     want: TyId,
     is_unique: bool,
     to: TyId,
@@ -74,7 +74,7 @@ fn by_reference(
 }
 
 #[cycle(typed)]
-fn argument(checker: &mut Checker, node: &Node, param: TyId) -> Result<(), RuleError>
+fn argument(checker: &mut Checker, node: &SyntaxNode, param: TyId) -> Result<(), RuleError>
     ensures gives { Gives (rows.argument param (rules.typed (env checker.old) (syn_of node.now)) (rules.by_reference (env checker.old) (syn_of node.now)) (state checker.old)) result checker.new }
     ensures kept { Keeps (stack checker.old) checker.old result checker.new }
 {
@@ -86,7 +86,11 @@ fn argument(checker: &mut Checker, node: &Node, param: TyId) -> Result<(), RuleE
 
 /// An argument for a parameter, or one for which there is none.
 #[cycle(typed)]
-fn argument_if(checker: &mut Checker, node: &Node, param: Option<TyId>) -> Result<(), RuleError>
+fn argument_if(
+    checker: &mut Checker,
+    node: &SyntaxNode,
+    param: Option<TyId>,
+) -> Result<(), RuleError>
     ensures gives { Gives (argument_at (env checker.old) param (syn_of node.now) (state checker.old)) result checker.new }
     ensures kept { Keeps (stack checker.old) checker.old result checker.new }
 {

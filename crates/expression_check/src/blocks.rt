@@ -16,7 +16,7 @@ use mir_ty::TyId;
 use name_rows::{count, leave, written_if};
 use pattern_check::{is_one_name, let_end};
 use src_ast::{Nodes, StatementForm, statement_form};
-use src_tree::Node;
+use src_tree::SyntaxNode;
 use type_rows::Checker;
 
 /// What a statement gives: whether it has a node, and whether its expression or initialiser has the type `!`.
@@ -38,7 +38,7 @@ pub struct Statements {
 fn evaluate(
     checker: &mut Checker,
     at: Pos,
-    expression: &Node,
+    expression: &SyntaxNode,
     has_semicolon: bool,
 ) -> Result<StatementNode, RuleError>
     ensures gives { GivesStatement (evaluated at (env checker.old) has_semicolon (rules.typed (env checker.old) (syn_of expression.now)) (state checker.old)) result checker.new }
@@ -57,7 +57,7 @@ fn evaluate(
 fn initialiser(
     checker: &mut Checker,
     is_one_name: bool,
-    value: &Node,
+    value: &SyntaxNode,
     want: Option<TyId>,
 ) -> Result<(), RuleError>
     ensures gives { Gives (initialiser_of (env checker.old) is_one_name want (syn_of value.now) (state checker.old)) result checker.new }
@@ -75,7 +75,7 @@ fn initialiser(
 fn initialised(
     checker: &mut Checker,
     is_one_name: bool,
-    value: Option<&Node>,
+    value: Option<&SyntaxNode>,
     want: Option<TyId>,
 ) -> Result<bool, RuleError>
     ensures gives { GivesValue (λ has_value. value_if has_value (stack checker.new)) (rules.initialised (env checker.old) is_one_name (maybe_of value.entry) want (state checker.old)) result checker.new }
@@ -95,9 +95,9 @@ fn initialised(
 fn let_statement(
     checker: &mut Checker,
     at: Pos,
-    pattern: &Node,
-    ty: Option<&Node>,
-    value: Option<&Node>,
+    pattern: &SyntaxNode,
+    ty: Option<&SyntaxNode>,
+    value: Option<&SyntaxNode>,
 ) -> Result<StatementNode, RuleError>
     ensures gives { GivesStatement (rules.other_statement (env checker.old) at (LetOf (syn_of pattern.now) (maybe_of ty.entry) (maybe_of value.entry)) (state checker.old)) result checker.new }
     ensures kept { KeepsStatement (stack checker.old) checker.old result checker.new }
@@ -116,7 +116,7 @@ fn let_statement(
 /// A statement.
 #[cycle(typed)]
 #[tactic(auto, using(crate::proofs::Statements::statement_seen))]
-fn statement(checker: &mut Checker, node: &Node) -> Result<StatementNode, RuleError>
+fn statement(checker: &mut Checker, node: &SyntaxNode) -> Result<StatementNode, RuleError>
     ensures gives { GivesStatement (rules.statement (env checker.old) (syn_of node.now) (state checker.old)) result checker.new }
     ensures kept { KeepsStatement (stack checker.old) checker.old result checker.new }
 {
@@ -165,7 +165,7 @@ fn block_behind(
     id: NodeId,
     at: Pos,
     done: Statements,
-    tail: Option<&Node>,
+    tail: Option<&SyntaxNode>,
     want: Option<TyId>,
 ) -> Result<(), RuleError>
     ensures gives { Gives (block_rest id.0 at (last_nodes done.count (stack checker.old)) done.ends (rules.typed_maybe (env checker.old) (maybe_of tail.entry)) want (state checker.old)) result checker.new }
@@ -185,7 +185,7 @@ fn block_inside(
     checker: &mut Checker,
     at: Pos,
     statements: Nodes,
-    tail: Option<&Node>,
+    tail: Option<&SyntaxNode>,
     want: Option<TyId>,
 ) -> Result<(), RuleError>
     ensures gives { Gives (rules.value (env checker.old) at (Braces (nodes_of statements.entry) (maybe_of tail.entry)) want (state checker.old)) result checker.new }
@@ -202,7 +202,7 @@ pub fn block(
     checker: &mut Checker,
     at: Pos,
     statements: Nodes,
-    tail: Option<&Node>,
+    tail: Option<&SyntaxNode>,
     want: Option<TyId>,
 ) -> Result<(), RuleError>
     ensures gives { Gives (rules.value (env checker.old) at (Braces (nodes_of statements.entry) (maybe_of tail.entry)) want (state checker.old)) result checker.new }

@@ -11,16 +11,16 @@ use crate::expressions::typed;
 use expression_rows::if_else_end;
 use mir_base::{Pos, RuleError};
 use mir_ty::TyId;
-use src_tree::Node;
-use type_rows::{Checker, Two};
+use src_tree::SyntaxNode;
+use type_rows::{Checker, TwoParts};
 
 /// `if` without `else`.
 #[cycle(typed)]
 fn if_alone(
     checker: &mut Checker,
     at: Pos,
-    condition: &Node,
-    body: &Node,
+    condition: &SyntaxNode,
+    body: &SyntaxNode,
     want: Option<TyId>,
 ) -> Result<(), RuleError>
     ensures gives { Gives (rows.if_alone at (rules.typed (env checker.old) (syn_of condition.now)) (rules.typed (env checker.old) (syn_of body.now)) want (state checker.old)) result checker.new }
@@ -29,7 +29,7 @@ fn if_alone(
     let id = checker.number()?;
     typed(checker, condition, Some(TyId(1)))?;
     typed(checker, body, Some(TyId(0)))?;
-    checker.settled_two(id, at, TyId(0), Two::If, want)
+    checker.settled_two(id, at, TyId(0), TwoParts::If, want)
 }
 
 /// `if` with `else`.
@@ -37,9 +37,9 @@ fn if_alone(
 fn if_else(
     checker: &mut Checker,
     at: Pos,
-    condition: &Node,
-    body: &Node,
-    otherwise: &Node,
+    condition: &SyntaxNode,
+    body: &SyntaxNode,
+    otherwise: &SyntaxNode,
     want: Option<TyId>,
 ) -> Result<(), RuleError>
     ensures gives { Gives (rows.if_else at (rules.typed (env checker.old) (syn_of condition.now)) (rules.typed (env checker.old) (syn_of body.now)) (rules.typed (env checker.old) (syn_of otherwise.now)) want (state checker.old)) result checker.new }
@@ -57,9 +57,9 @@ fn if_else(
 pub fn if_of(
     checker: &mut Checker,
     at: Pos,
-    condition: &Node,
-    body: &Node,
-    otherwise: Option<&Node>,
+    condition: &SyntaxNode,
+    body: &SyntaxNode,
+    otherwise: Option<&SyntaxNode>,
     want: Option<TyId>,
 ) -> Result<(), RuleError>
     ensures gives { Gives (rules.value (env checker.old) at (IfElse (syn_of condition.now) (syn_of body.now) (maybe_of otherwise.entry)) want (state checker.old)) result checker.new }

@@ -19,7 +19,7 @@ use member_rows::{method_end, method_receiver};
 use mir_base::{NodeId, Pos, RuleError};
 use mir_ty::TyId;
 use src_ast::Nodes;
-use src_tree::Node;
+use src_tree::SyntaxNode;
 use type_rows::Checker;
 
 /// A call of what is no value.
@@ -61,7 +61,7 @@ fn closure_behind(
 fn closure_call(
     checker: &mut Checker,
     at: Pos,
-    callee: &Node,
+    callee: &SyntaxNode,
     args: Nodes,
     want: Option<TyId>,
 ) -> Result<(), RuleError>
@@ -79,7 +79,7 @@ fn found_call(
     checker: &mut Checker,
     at: Pos,
     found: Callee,
-    callee: &Node,
+    callee: &SyntaxNode,
     args: Nodes,
     want: Option<TyId>,
 ) -> Result<(), RuleError>
@@ -97,7 +97,7 @@ fn found_call(
 pub fn call(
     checker: &mut Checker,
     at: Pos,
-    callee: &Node,
+    callee: &SyntaxNode,
     args: Nodes,
     want: Option<TyId>,
 ) -> Result<(), RuleError>
@@ -131,7 +131,7 @@ fn method_behind(
 pub fn method_call(
     checker: &mut Checker,
     at: Pos,
-    receiver: &Node,
+    receiver: &SyntaxNode,
     name: &str,
     args: Nodes,
     want: Option<TyId>,

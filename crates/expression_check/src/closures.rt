@@ -14,7 +14,7 @@ use function_rows::{ClosureBegun, body_end, closure_begin, closure_end, closure_
 use mir_base::{Pos, RuleError};
 use mir_ty::TyId;
 use src_ast::Nodes;
-use src_tree::Node;
+use src_tree::SyntaxNode;
 use type_rows::Checker;
 
 /// The body of a closure, which stands among the bodies that are whole then.
@@ -24,8 +24,8 @@ fn closure_body(
     at: Pos,
     begun: &ClosureBegun,
     params: Nodes,
-    answer: Option<&Node>,
-    block: &Node,
+    answer: Option<&SyntaxNode>,
+    block: &SyntaxNode,
 ) -> Result<(), RuleError>
     ensures gives { GivesValue (λ u. u) (unvalued (bodies.closure_body (env checker.old) at begun.now.body begun.now.ty (reverse begun.now.captures) (nodes_of params.entry) (maybe_of answer.entry)
         (λ (inner : Env). rules.typed inner (syn_of block.now))) (state checker.old)) result checker.new }
@@ -51,8 +51,8 @@ pub fn closure(
     at: Pos,
     captures: Nodes,
     params: Nodes,
-    answer: Option<&Node>,
-    block: &Node,
+    answer: Option<&SyntaxNode>,
+    block: &SyntaxNode,
     want: Option<TyId>,
 ) -> Result<(), RuleError>
     ensures gives { Gives (rules.value (env checker.old) at (MoveOf (syns_of (idents (nodes_of captures.entry))) (nodes_of params.entry) (maybe_of answer.entry) (syn_of block.now)) want (state checker.old)) result checker.new }

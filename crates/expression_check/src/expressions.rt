@@ -25,13 +25,13 @@ use mir_ty::TyId;
 use name_rows::put_variable;
 use pattern_check::place_for_parts;
 use src_ast::{ExpressionForm, PathForm, expression_form};
-use src_tree::Node;
-use type_rows::{Checker, Leaf, Two};
+use src_tree::SyntaxNode;
+use type_rows::{Checker, Leaf, TwoParts};
 
 /// An expression whose value is used, of the type that is required, if one is.
 #[cycle(typed)]
 #[tactic(auto, using(expression_rows::proofs::Shapes::typed_place, expression_rows::proofs::Shapes::typed_value))]
-pub fn typed(checker: &mut Checker, node: &Node, want: Option<TyId>) -> Result<(), RuleError>
+pub fn typed(checker: &mut Checker, node: &SyntaxNode, want: Option<TyId>) -> Result<(), RuleError>
     ensures gives { Gives (rules.typed (env checker.old) (syn_of node.now) want (state checker.old)) result checker.new }
     ensures kept { Keeps (stack checker.old) checker.old result checker.new }
 {
@@ -47,7 +47,7 @@ pub fn typed(checker: &mut Checker, node: &Node, want: Option<TyId>) -> Result<(
 /// An expression whose place is gone through: a place, or a value that becomes a temporary.
 #[cycle(typed)]
 #[tactic(auto, using(expression_rows::proofs::Shapes::base_value))]
-pub fn base_of(checker: &mut Checker, node: &Node) -> Result<(), RuleError>
+pub fn base_of(checker: &mut Checker, node: &SyntaxNode) -> Result<(), RuleError>
     ensures gives { Gives (rules.base_of (env checker.old) (syn_of node.now) (state checker.old)) result checker.new }
     ensures kept { Keeps (stack checker.old) checker.old result checker.new }
 {
@@ -60,7 +60,11 @@ pub fn base_of(checker: &mut Checker, node: &Node) -> Result<(), RuleError>
 /// The initialiser of a pattern with parts: a place is taken apart where it stands.
 #[cycle(typed)]
 #[tactic(auto, using(crate::proofs::Lets::parts_of_place, crate::proofs::Lets::parts_of_value))]
-pub fn for_parts(checker: &mut Checker, node: &Node, want: Option<TyId>) -> Result<(), RuleError>
+pub fn for_parts(
+    checker: &mut Checker,
+    node: &SyntaxNode,
+    want: Option<TyId>,
+) -> Result<(), RuleError>
     ensures gives { Gives (rules.for_parts (env checker.old) want (syn_of node.now) (state checker.old)) result checker.new }
     ensures kept { Keeps (stack checker.old) checker.old result checker.new }
 {
@@ -75,7 +79,7 @@ pub fn for_parts(checker: &mut Checker, node: &Node, want: Option<TyId>) -> Resu
 
 /// The same, where it is no reference variable.
 #[cycle(typed)]
-pub fn plain_base(checker: &mut Checker, node: &Node) -> Result<(), RuleError>
+pub fn plain_base(checker: &mut Checker, node: &SyntaxNode) -> Result<(), RuleError>
     ensures gives { Gives (bases.plain_base (env checker.old) (syn_of node.now) (state checker.old)) result checker.new }
     ensures kept { Keeps (stack checker.old) checker.old result checker.new }
 {
@@ -137,8 +141,8 @@ fn value(
             left,
             right,
         } => comparison(checker, at, operator, left, right, want),
-        ExpressionForm::And { left, right } => logic(checker, at, Two::And, left, right, want),
-        ExpressionForm::Or { left, right } => logic(checker, at, Two::Or, left, right, want),
+        ExpressionForm::And { left, right } => logic(checker, at, TwoParts::And, left, right, want),
+        ExpressionForm::Or { left, right } => logic(checker, at, TwoParts::Or, left, right, want),
         ExpressionForm::Assign { place, value } => store(checker, at, place, value, want),
         ExpressionForm::Parens(inside) => typed(checker, inside, want),
         ExpressionForm::Tuple(parts) => tuple(checker, at, parts, want),

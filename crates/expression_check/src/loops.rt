@@ -16,8 +16,8 @@ use expression_rows::{
 use mir_base::{NodeId, Pos, RuleError};
 use mir_ty::TyId;
 use name_rows::{enter_loop, leave_loop};
-use src_tree::Node;
-use type_rows::{Checker, One, Two};
+use src_tree::SyntaxNode;
+use type_rows::{Checker, One, TwoParts};
 
 /// An expression inside a loop.
 #[cycle(typed)]
@@ -26,7 +26,7 @@ fn inside_loop(
     label: Option<&str>,
     id: NodeId,
     breaks_with: Breaks,
-    node: &Node,
+    node: &SyntaxNode,
     want: Option<TyId>,
 ) -> Result<(), RuleError>
     ensures gives { Gives (rules.typed (within_loop (loop_around (word_in label.entry) id.0 breaks_with.has_value breaks_with.want) (env checker.old)) (syn_of node.now) want (state checker.old)) result checker.new }
@@ -51,7 +51,7 @@ pub fn loop_of(
     checker: &mut Checker,
     at: Pos,
     label: Option<&str>,
-    body: &Node,
+    body: &SyntaxNode,
     want: Option<TyId>,
 ) -> Result<(), RuleError>
     ensures gives { Gives (rules.value (env checker.old) at (LoopOf (word_of label.entry) (syn_of body.now)) want (state checker.old)) result checker.new }
@@ -72,8 +72,8 @@ pub fn while_of(
     checker: &mut Checker,
     at: Pos,
     label: Option<&str>,
-    condition: &Node,
-    body: &Node,
+    condition: &SyntaxNode,
+    body: &SyntaxNode,
     want: Option<TyId>,
 ) -> Result<(), RuleError>
     ensures gives { Gives (rules.value (env checker.old) at (WhileOf (word_of label.entry) (syn_of condition.now) (syn_of body.now)) want (state checker.old)) result checker.new }
@@ -86,7 +86,7 @@ pub fn while_of(
     };
     inside_loop(checker, label, id, breaks, condition, Some(TyId(1)))?;
     inside_loop(checker, label, id, breaks, body, Some(TyId(0)))?;
-    checker.settled_two(id, at, TyId(0), Two::While, want)
+    checker.settled_two(id, at, TyId(0), TwoParts::While, want)
 }
 
 /// `break`.
@@ -95,7 +95,7 @@ pub fn break_of(
     checker: &mut Checker,
     at: Pos,
     label: Option<&str>,
-    value: Option<&Node>,
+    value: Option<&SyntaxNode>,
     want: Option<TyId>,
 ) -> Result<(), RuleError>
     ensures gives { Gives (rules.value (env checker.old) at (BreakOf (word_of label.entry) (maybe_of value.entry)) want (state checker.old)) result checker.new }
@@ -139,7 +139,7 @@ fn answer(checker: &Checker) -> TyId
 pub fn return_of(
     checker: &mut Checker,
     at: Pos,
-    value: Option<&Node>,
+    value: Option<&SyntaxNode>,
     want: Option<TyId>,
 ) -> Result<(), RuleError>
     ensures gives { Gives (rules.value (env checker.old) at (ReturnOf (maybe_of value.entry)) want (state checker.old)) result checker.new }

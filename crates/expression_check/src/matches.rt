@@ -27,7 +27,7 @@ use pattern_check::{
 };
 use pattern_rows::Expected;
 use src_ast::{ArmForm, Nodes, arm_form};
-use src_tree::Node;
+use src_tree::SyntaxNode;
 use type_env::Variables;
 use type_rows::{Checker, Three};
 
@@ -36,7 +36,7 @@ use type_rows::{Checker, Three};
 fn inside_scope(
     checker: &mut Checker,
     bound: &Variables,
-    node: &Node,
+    node: &SyntaxNode,
     want: Option<TyId>,
 ) -> Result<(), RuleError>
     ensures gives { Gives (rules.typed (with_variables (reverse bound.now) (env checker.old)) (syn_of node.now) want (state checker.old)) result checker.new }
@@ -51,7 +51,11 @@ fn inside_scope(
 
 /// A guard, inside which bindings stand for the parts that they would bind.
 #[cycle(typed)]
-fn inside_guard(checker: &mut Checker, bound: &Variables, guard: &Node) -> Result<(), RuleError>
+fn inside_guard(
+    checker: &mut Checker,
+    bound: &Variables,
+    guard: &SyntaxNode,
+) -> Result<(), RuleError>
     ensures gives { Gives (rules.typed (with_variables (in_guard (reverse bound.now)) (env checker.old)) (syn_of guard.now) (Some places.bool) (state checker.old)) result checker.new }
     ensures kept { Keeps (stack checker.old) checker.old result checker.new }
 {
@@ -68,8 +72,8 @@ fn arm_behind(
     checker: &mut Checker,
     id: NodeId,
     bound: &Variables,
-    guard: Option<&Node>,
-    body: &Node,
+    guard: Option<&SyntaxNode>,
+    body: &SyntaxNode,
     want: Option<TyId>,
 ) -> Result<(), RuleError>
     ensures gives { Gives (arm_parts (env checker.old) id.0 (top (stack checker.old)) (reverse bound.now) (maybe_of guard.entry) (syn_of body.now) want (state checker.old)) result checker.new }
@@ -113,7 +117,7 @@ fn arm_of_node(
     checker: &mut Checker,
     e: Expected,
     ty: TyId,
-    node: &Node,
+    node: &SyntaxNode,
     want: Option<TyId>,
 ) -> Result<(), RuleError>
     ensures gives { Gives (arm_of_syn (env checker.old) (expected_of e) ty want (syn_of node.now) (state checker.old)) result checker.new }
@@ -167,7 +171,7 @@ fn arms_behind(
 
 /// What a pattern looks at.
 #[cycle(typed)]
-fn scrutinee_of(checker: &mut Checker, scrutinee: &Node) -> Result<(), RuleError>
+fn scrutinee_of(checker: &mut Checker, scrutinee: &SyntaxNode) -> Result<(), RuleError>
     ensures gives { Gives (rows.scrutinised (rules.base_of (env checker.old) (syn_of scrutinee.now)) (state checker.old)) result checker.new }
     ensures kept { Keeps (stack checker.old) checker.old result checker.new }
 {
@@ -179,7 +183,7 @@ fn scrutinee_of(checker: &mut Checker, scrutinee: &Node) -> Result<(), RuleError
 fn match_row(
     checker: &mut Checker,
     at: Pos,
-    scrutinee: &Node,
+    scrutinee: &SyntaxNode,
     arms: Nodes,
     want: Option<TyId>,
 ) -> Result<(), RuleError>
@@ -197,7 +201,7 @@ fn match_row(
 pub fn match_on(
     checker: &mut Checker,
     at: Pos,
-    scrutinee: &Node,
+    scrutinee: &SyntaxNode,
     arms: Nodes,
     want: Option<TyId>,
 ) -> Result<(), RuleError>
@@ -217,8 +221,8 @@ fn if_let_branches(
     id: NodeId,
     at: Pos,
     bound: &Variables,
-    body: &Node,
-    otherwise: Option<&Node>,
+    body: &SyntaxNode,
+    otherwise: Option<&SyntaxNode>,
     want: Option<TyId>,
 ) -> Result<(), RuleError>
     ensures gives { Gives (if_let_parts (env checker.old) id.0 at (top (below (stack checker.old))) (top (stack checker.old)) (reverse bound.now) (syn_of body.now) (maybe_of otherwise.entry) want (state checker.old)) result checker.new }
@@ -243,9 +247,9 @@ fn if_let_behind(
     checker: &mut Checker,
     id: NodeId,
     at: Pos,
-    pattern: &Node,
-    body: &Node,
-    otherwise: Option<&Node>,
+    pattern: &SyntaxNode,
+    body: &SyntaxNode,
+    otherwise: Option<&SyntaxNode>,
     want: Option<TyId>,
 ) -> Result<(), RuleError>
     ensures gives { Gives (if_let_rest (env checker.old) id.0 at (top (stack checker.old)) (syn_of pattern.now) (syn_of body.now) (maybe_of otherwise.entry) want (state checker.old)) result checker.new }
@@ -262,10 +266,10 @@ fn if_let_behind(
 pub fn if_let(
     checker: &mut Checker,
     at: Pos,
-    pattern: &Node,
-    scrutinee: &Node,
-    body: &Node,
-    otherwise: Option<&Node>,
+    pattern: &SyntaxNode,
+    scrutinee: &SyntaxNode,
+    body: &SyntaxNode,
+    otherwise: Option<&SyntaxNode>,
     want: Option<TyId>,
 ) -> Result<(), RuleError>
     ensures gives { Gives (rules.value (env checker.old) at (IfLetElse (syn_of pattern.now) (syn_of scrutinee.now) (syn_of body.now) (maybe_of otherwise.entry)) want (state checker.old)) result checker.new }
@@ -283,7 +287,7 @@ fn body_inside_loop(
     label: Option<&str>,
     id: NodeId,
     bound: &Variables,
-    body: &Node,
+    body: &SyntaxNode,
 ) -> Result<(), RuleError>
     ensures gives { Gives (rules.typed (with_variables (reverse bound.now) (within_loop (loop_around (word_in label.entry) id.0 false None) (env checker.old))) (syn_of body.now) (Some places.unit) (state checker.old)) result checker.new }
     ensures kept { Keeps (stack checker.old) checker.old result checker.new }
@@ -300,7 +304,7 @@ fn base_inside_loop(
     checker: &mut Checker,
     label: Option<&str>,
     id: NodeId,
-    scrutinee: &Node,
+    scrutinee: &SyntaxNode,
 ) -> Result<(), RuleError>
     ensures gives { Gives (rules.base_of (within_loop (loop_around (word_in label.entry) id.0 false None) (env checker.old)) (syn_of scrutinee.now) (state checker.old)) result checker.new }
     ensures kept { Keeps (stack checker.old) checker.old result checker.new }
@@ -318,8 +322,8 @@ fn while_let_behind(
     id: NodeId,
     at: Pos,
     label: Option<&str>,
-    pattern: &Node,
-    body: &Node,
+    pattern: &SyntaxNode,
+    body: &SyntaxNode,
     want: Option<TyId>,
 ) -> Result<(), RuleError>
     ensures gives { Gives (while_let_rest (env checker.old) id.0 at (word_in label.entry) (top (stack checker.old)) (syn_of pattern.now) (syn_of body.now) want (state checker.old)) result checker.new }
@@ -339,9 +343,9 @@ pub fn while_let(
     checker: &mut Checker,
     at: Pos,
     label: Option<&str>,
-    pattern: &Node,
-    scrutinee: &Node,
-    body: &Node,
+    pattern: &SyntaxNode,
+    scrutinee: &SyntaxNode,
+    body: &SyntaxNode,
     want: Option<TyId>,
 ) -> Result<(), RuleError>
     ensures gives { Gives (rules.value (env checker.old) at (WhileLetOf (word_of label.entry) (syn_of pattern.now) (syn_of scrutinee.now) (syn_of body.now)) want (state checker.old)) result checker.new }

@@ -14,15 +14,15 @@ use expression_rows::{
 };
 use mir_base::{Cmp, Math, Pos, RuleError};
 use mir_ty::TyId;
-use src_tree::Node;
-use type_rows::{Checker, Two};
+use src_tree::SyntaxNode;
+use type_rows::{Checker, TwoParts};
 
 /// `!e`.
 #[cycle(typed)]
 pub fn not(
     checker: &mut Checker,
     at: Pos,
-    operand: &Node,
+    operand: &SyntaxNode,
     want: Option<TyId>,
 ) -> Result<(), RuleError>
     ensures gives { Gives (rows.not_row at (rules.typed (env checker.old) (syn_of operand.now)) want (state checker.old)) result checker.new }
@@ -37,7 +37,7 @@ pub fn not(
 fn negate(
     checker: &mut Checker,
     at: Pos,
-    operand: &Node,
+    operand: &SyntaxNode,
     want: Option<TyId>,
 ) -> Result<(), RuleError>
     ensures gives { Gives (rows.negate at (rules.typed (env checker.old) (syn_of operand.now)) want (state checker.old)) result checker.new }
@@ -54,7 +54,7 @@ fn negate(
 pub fn minus(
     checker: &mut Checker,
     at: Pos,
-    operand: &Node,
+    operand: &SyntaxNode,
     want: Option<TyId>,
 ) -> Result<(), RuleError>
     ensures gives { Gives (rules.minus at (rules.literal_in (syn_of operand.now)) (rules.typed (env checker.old) (syn_of operand.now)) want (state checker.old)) result checker.new }
@@ -70,8 +70,8 @@ pub fn minus(
 #[cycle(typed)]
 fn left_first(
     checker: &mut Checker,
-    left: &Node,
-    right: &Node,
+    left: &SyntaxNode,
+    right: &SyntaxNode,
     want: Option<TyId>,
 ) -> Result<(), RuleError>
     ensures gives { GivesValue (λ u. (top (below (stack checker.new)), top (stack checker.new)))
@@ -85,7 +85,7 @@ fn left_first(
 
 /// The right operand is checked first, and its type is required of the left one.
 #[cycle(typed)]
-fn left_last(checker: &mut Checker, left: &Node, right: &Node) -> Result<(), RuleError>
+fn left_last(checker: &mut Checker, left: &SyntaxNode, right: &SyntaxNode) -> Result<(), RuleError>
     ensures gives { GivesValue (λ u. (top (stack checker.new), top (below (stack checker.new))))
         (rows.left_last (rules.typed (env checker.old) (syn_of left.now)) (rules.typed (env checker.old) (syn_of right.now)) (state checker.old)) result checker.new }
     ensures kept { KeepsTwo (stack checker.old) checker.old result checker.new }
@@ -96,7 +96,11 @@ fn left_last(checker: &mut Checker, left: &Node, right: &Node) -> Result<(), Rul
 }
 
 #[cycle(typed)]
-fn swapped_operands(checker: &mut Checker, left: &Node, right: &Node) -> Result<bool, RuleError>
+fn swapped_operands(
+    checker: &mut Checker,
+    left: &SyntaxNode,
+    right: &SyntaxNode,
+) -> Result<bool, RuleError>
     ensures gives { GivesValue (λ swapped. (left_of swapped (stack checker.new), right_of swapped (stack checker.new)))
         (rows.left_last (rules.typed (env checker.old) (syn_of left.now)) (rules.typed (env checker.old) (syn_of right.now)) (state checker.old)) result checker.new }
     ensures kept { KeepsTwo (stack checker.old) checker.old result checker.new }
@@ -108,8 +112,8 @@ fn swapped_operands(checker: &mut Checker, left: &Node, right: &Node) -> Result<
 #[cycle(typed)]
 fn plain_operands(
     checker: &mut Checker,
-    left: &Node,
-    right: &Node,
+    left: &SyntaxNode,
+    right: &SyntaxNode,
     want: Option<TyId>,
 ) -> Result<bool, RuleError>
     ensures gives { GivesValue (λ swapped. (left_of swapped (stack checker.new), right_of swapped (stack checker.new)))
@@ -125,8 +129,8 @@ fn plain_operands(
 #[cycle(typed)]
 fn operands(
     checker: &mut Checker,
-    left: &Node,
-    right: &Node,
+    left: &SyntaxNode,
+    right: &SyntaxNode,
     want: Option<TyId>,
 ) -> Result<bool, RuleError>
     ensures gives { GivesValue (λ swapped. (left_of swapped (stack checker.new), right_of swapped (stack checker.new)))
@@ -151,8 +155,8 @@ pub fn arithmetic(
     checker: &mut Checker,
     at: Pos,
     operator: Math,
-    left: &Node,
-    right: &Node,
+    left: &SyntaxNode,
+    right: &SyntaxNode,
     want: Option<TyId>,
 ) -> Result<(), RuleError>
     ensures gives { Gives (rows.arithmetic at operator (rules.is_plain (syn_of left.now)) (rules.typed (env checker.old) (syn_of left.now)) (rules.typed (env checker.old) (syn_of right.now)) want (state checker.old)) result checker.new }
@@ -170,8 +174,8 @@ pub fn comparison(
     checker: &mut Checker,
     at: Pos,
     operator: Cmp,
-    left: &Node,
-    right: &Node,
+    left: &SyntaxNode,
+    right: &SyntaxNode,
     want: Option<TyId>,
 ) -> Result<(), RuleError>
     ensures gives { Gives (rows.comparison at operator (rules.is_plain (syn_of left.now)) (rules.typed (env checker.old) (syn_of left.now)) (rules.typed (env checker.old) (syn_of right.now)) want (state checker.old)) result checker.new }
@@ -187,9 +191,9 @@ pub fn comparison(
 pub fn logic(
     checker: &mut Checker,
     at: Pos,
-    two: Two,
-    left: &Node,
-    right: &Node,
+    two: TwoParts,
+    left: &SyntaxNode,
+    right: &SyntaxNode,
     want: Option<TyId>,
 ) -> Result<(), RuleError>
     ensures gives { Gives (rows.logic at (two_form two) (rules.typed (env checker.old) (syn_of left.now)) (rules.typed (env checker.old) (syn_of right.now)) want (state checker.old)) result checker.new }
@@ -206,8 +210,8 @@ pub fn logic(
 pub fn store(
     checker: &mut Checker,
     at: Pos,
-    place: &Node,
-    value: &Node,
+    place: &SyntaxNode,
+    value: &SyntaxNode,
     want: Option<TyId>,
 ) -> Result<(), RuleError>
     ensures gives { Gives (rows.store (env checker.old) at (rules.base_of (env checker.old) (syn_of place.now)) (rules.typed (env checker.old) (syn_of value.now)) want (state checker.old)) result checker.new }

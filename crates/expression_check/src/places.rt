@@ -13,12 +13,17 @@ use item_heads::broken;
 use member_rows::{field_end, part_end};
 use mir_base::{Pos, Rule, RuleError};
 use mir_ty::TyId;
-use src_tree::Node;
+use src_tree::SyntaxNode;
 use type_rows::Checker;
 
 /// `a[i]`.
 #[cycle(typed)]
-pub fn element(checker: &mut Checker, at: Pos, base: &Node, index: &Node) -> Result<(), RuleError>
+pub fn element(
+    checker: &mut Checker,
+    at: Pos,
+    base: &SyntaxNode,
+    index: &SyntaxNode,
+) -> Result<(), RuleError>
     ensures gives { Gives (rows.element at (rules.base_of (env checker.old) (syn_of base.now)) (rules.typed (env checker.old) (syn_of index.now)) (state checker.old)) result checker.new }
     ensures kept { Keeps (stack checker.old) checker.old result checker.new }
 {
@@ -30,7 +35,7 @@ pub fn element(checker: &mut Checker, at: Pos, base: &Node, index: &Node) -> Res
 
 /// `*e`.
 #[cycle(typed)]
-pub fn deref(checker: &mut Checker, at: Pos, base: &Node) -> Result<(), RuleError>
+pub fn deref(checker: &mut Checker, at: Pos, base: &SyntaxNode) -> Result<(), RuleError>
     ensures gives { Gives (rows.deref at (rules.base_of (env checker.old) (syn_of base.now)) (state checker.old)) result checker.new }
     ensures kept { Keeps (stack checker.old) checker.old result checker.new }
 {
@@ -41,7 +46,7 @@ pub fn deref(checker: &mut Checker, at: Pos, base: &Node) -> Result<(), RuleErro
 
 /// `e.f`.
 #[cycle(typed)]
-pub fn field(checker: &mut Checker, at: Pos, base: &Node, name: &str) -> Result<(), RuleError>
+pub fn field(checker: &mut Checker, at: Pos, base: &SyntaxNode, name: &str) -> Result<(), RuleError>
     ensures gives { Gives (rows.field at (places.struct_field name.now) (rules.base_of (env checker.old) (syn_of base.now)) (state checker.old)) result checker.new }
     ensures kept { Keeps (stack checker.old) checker.old result checker.new }
 {
@@ -52,7 +57,7 @@ pub fn field(checker: &mut Checker, at: Pos, base: &Node, name: &str) -> Result<
 
 /// `e.0`.
 #[cycle(typed)]
-pub fn part(checker: &mut Checker, at: Pos, base: &Node, number: u64) -> Result<(), RuleError>
+pub fn part(checker: &mut Checker, at: Pos, base: &SyntaxNode, number: u64) -> Result<(), RuleError>
     ensures gives { Gives (rows.field at (places.numbered_part number) (rules.base_of (env checker.old) (syn_of base.now)) (state checker.old)) result checker.new }
     ensures kept { Keeps (stack checker.old) checker.old result checker.new }
 {
@@ -63,7 +68,7 @@ pub fn part(checker: &mut Checker, at: Pos, base: &Node, number: u64) -> Result<
 
 /// `&e` and `&mut e` where it is no argument for a reference.
 #[cycle(typed)]
-pub fn borrowed_value(checker: &mut Checker, at: Pos, operand: &Node) -> Result<(), RuleError>
+pub fn borrowed_value(checker: &mut Checker, at: Pos, operand: &SyntaxNode) -> Result<(), RuleError>
     ensures gives { Gives (bases.borrowed_value (env checker.old) at (syn_of operand.now) (state checker.old)) result checker.new }
     ensures kept { Keeps (stack checker.old) checker.old result checker.new }
 {

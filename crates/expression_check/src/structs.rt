@@ -16,7 +16,7 @@ use mir_base::{List, Pos, Rule, RuleError};
 use mir_ty::TyId;
 use pattern_rows::target_of;
 use src_ast::{InitForm, Nodes, PathForm, init_form};
-use src_tree::Node;
+use src_tree::SyntaxNode;
 use struct_rows::{field_wanted, struct_begin, struct_end};
 use type_rows::Checker;
 
@@ -26,7 +26,7 @@ fn init_value(
     checker: &mut Checker,
     at: Pos,
     name: &str,
-    value: Option<&Node>,
+    value: Option<&SyntaxNode>,
     want: Option<TyId>,
 ) -> Result<(), RuleError>
     ensures gives { Gives (rules.init_value (env checker.old) at name.now (maybe_of value.entry) want (state checker.old)) result checker.new }
@@ -70,7 +70,7 @@ fn init_of_node(
     adt: u32,
     variant: u32,
     types: &[TyId],
-    node: &Node,
+    node: &SyntaxNode,
 ) -> Result<Option<u32>, RuleError>
     ensures gives { (own : Word) → GivesInit (one_init (env checker.old) (variant_by own checker.old.tables adt variant types.now) (syn_of node.now) (state checker.old)) result checker.new }
     ensures kept { Keeps (stack checker.old) checker.old result checker.new }

@@ -6,7 +6,7 @@ use Rattle.src_ast.specs.Syntax.{Syn, Syns, a_syn}
 use Rattle.typed_tree.specs.Tree.{Node, Nodes, a_node}
 use Rattle.mir_base.specs.declared.rule.RuleError.{RuleError}
 use Rattle.item_heads.specs.Answers.{Refuses}
-use Rattle.typing_rules.specs.Check.{Check, State, Broken, and_then, pure}
+use Rattle.typing_rules.specs.Check.{Check, TypingState, Broken, and_then, pure}
 use Rattle.typing_rules.specs.Scope.{Env}
 use Rattle.typing_rules.specs.Typed.{first_want, other_wants, part_ty, typed, typed_args, typed_elements, typed_parts}
 use Rattle.well_typed.specs.Places.{ty_of}
@@ -17,12 +17,12 @@ use Rattle.expression_rows.specs.Lists.{argument_at, behind_nodes, behind_parts,
 
 -- ---- nodes
 
-one_behind : (k : ℕ) (ns ms : List Node) (o : Result (Nodes × State) Broken) → below ms ≡ ns →
+one_behind : (k : ℕ) (ns ms : List Node) (o : Result (Nodes × TypingState) Broken) → below ms ≡ ns →
     behind_nodes k ns (and_then o (λ more. pure (a_node (top ms) more))) ≡ behind_nodes (suc k) ms o
 one_behind k ns ms (Ok p) h = ap (λ (l : List Node). Ok (nodes_on k l (a_node (top ms) p.0), p.1)) (sym h)
 one_behind k ns ms (Err e) h = refl
 
-with_argument : (e : Env) (params : List TyId) (x : Syn) (xs : Syns) (s : State) →
+with_argument : (e : Env) (params : List TyId) (x : Syn) (xs : Syns) (s : TypingState) →
     typed_args e params (a_syn x xs) s
     ≡ and_then (argument_at e (slice_get params 0) x s) (λ n. λ t. and_then (typed_args e (drop 1 params) xs t) (λ more. pure (a_node n more)))
 with_argument e [] x xs s = refl
@@ -37,8 +37,8 @@ first_dropped (suc k) [] = search rules
 first_dropped zero (x ∷ xs) = refl
 first_dropped (suc k) (x ∷ xs) = first_dropped k xs
 
-pub one_argument : (e : Env) (whole : Result (Nodes × State) Broken) (k m : ℕ) (ns ms : List Node) (params : List TyId)
-    (want : Option TyId) (ss : Syns) (x : Syn) (xs : Syns) (s t : State) →
+pub one_argument : (e : Env) (whole : Result (Nodes × TypingState) Broken) (k m : ℕ) (ns ms : List Node) (params : List TyId)
+    (want : Option TyId) (ss : Syns) (x : Syn) (xs : Syns) (s t : TypingState) →
     whole ≡ behind_nodes k ns (typed_args e (drop k params) ss s) → a_syn x xs ≡ ss → want ≡ slice_get params k →
     argument_at e want x s ≡ Ok (top ms, t) → below ms ≡ ns → m ≡ k + 1 →
     whole ≡ behind_nodes m ms (typed_args e (drop m params) xs t)
@@ -52,18 +52,18 @@ one_argument e whole k m ns ms params want ss x xs s t h split wanted here under
     ∙ ap (λ (n : ℕ). behind_nodes n ms (typed_args e (drop (k + 1) params) xs t)) (sym (add-one k))
     ∙ ap (λ (n : ℕ). behind_nodes n ms (typed_args e (drop n params) xs t)) (sym next)
 
-refuses_behind : (k : ℕ) (ns : List Node) (o : Result (Node × State) Broken) (f : Node → Check Nodes) (err : RuleError) → Refuses o err →
+refuses_behind : (k : ℕ) (ns : List Node) (o : Result (Node × TypingState) Broken) (f : Node → Check Nodes) (err : RuleError) → Refuses o err →
     Refuses (behind_nodes k ns (and_then o f)) err
 refuses_behind k ns o f (RuleError.Broken rule at) h = ap (λ r. behind_nodes k ns (and_then r f)) h
 refuses_behind k ns o f RuleError.Memory h = tt
 
 -- an argument that is refused
-pub refused_argument : (e : Env) (whole : Result (Nodes × State) Broken) (k : ℕ) (ns : List Node) (params : List TyId)
-    (want : Option TyId) (ss : Syns) (x : Syn) (xs : Syns) (s : State) (err : RuleError) →
+pub refused_argument : (e : Env) (whole : Result (Nodes × TypingState) Broken) (k : ℕ) (ns : List Node) (params : List TyId)
+    (want : Option TyId) (ss : Syns) (x : Syn) (xs : Syns) (s : TypingState) (err : RuleError) →
     whole ≡ behind_nodes k ns (typed_args e (drop k params) ss s) → a_syn x xs ≡ ss → want ≡ slice_get params k →
     Refuses (argument_at e want x s) err → Refuses whole err
 refused_argument e whole k ns params want ss x xs s err h split wanted here =
-    subst (λ (o : Result (Nodes × State) Broken). Refuses o err)
+    subst (λ (o : Result (Nodes × TypingState) Broken). Refuses o err)
     (sym (h ∙ ap (λ z. behind_nodes k ns (typed_args e (drop k params) z s)) (sym split)
     ∙ ap (behind_nodes k ns) (with_argument e (drop k params) x xs s)
     ∙ ap (λ w. behind_nodes k ns (and_then (argument_at e w x s) (λ n. λ u. and_then (typed_args e (drop 1 (drop k params)) xs u) (λ more. pure (a_node n more))))) (first_dropped k params ∙ sym wanted)))
@@ -76,14 +76,14 @@ below_next k m ns ms others h under next =
 
 -- ---- elements
 
-one_typed : (k : ℕ) (ns ms : List Node) (o : Result ((Nodes × List TyId) × State) Broken) → below ms ≡ ns →
+one_typed : (k : ℕ) (ns ms : List Node) (o : Result ((Nodes × List TyId) × TypingState) Broken) → below ms ≡ ns →
     behind_typed k ns (and_then o (λ more. pure (a_node (top ms) more.0, ty_of (top ms) ∷ more.1))) ≡ behind_typed (suc k) ms o
 one_typed k ns ms (Ok p) h =
     ap (λ (l : List Node). Ok ((nodes_on k l (a_node (top ms) p.0.0), types_on k l (ty_of (top ms) ∷ p.0.1)), p.1)) (sym h)
 one_typed k ns ms (Err e) h = refl
 
-pub one_element : (e : Env) (whole : Result ((Nodes × List TyId) × State) Broken) (k m : ℕ) (ns ms : List Node)
-    (want : Option TyId) (ss : Syns) (x : Syn) (xs : Syns) (s t : State) →
+pub one_element : (e : Env) (whole : Result ((Nodes × List TyId) × TypingState) Broken) (k m : ℕ) (ns ms : List Node)
+    (want : Option TyId) (ss : Syns) (x : Syn) (xs : Syns) (s t : TypingState) →
     whole ≡ behind_typed k ns (typed_elements e want ss s) → a_syn x xs ≡ ss →
     typed e x want s ≡ Ok (top ms, t) → below ms ≡ ns → m ≡ k + 1 →
     whole ≡ behind_typed m ms (typed_elements e want xs t)
@@ -95,7 +95,7 @@ one_element e whole k m ns ms want ss x xs s t h split here under next =
 
 -- ---- parts
 
-one_part_behind : (tys more : List TyId) (ty : TyId) (ns ms : List Node) (o : Result ((Nodes × List TyId) × State) Broken) →
+one_part_behind : (tys more : List TyId) (ty : TyId) (ns ms : List Node) (o : Result ((Nodes × List TyId) × TypingState) Broken) →
     below ms ≡ ns → more ≡ tys ++ ty ∷ [] →
     behind_parts tys ns (and_then o (λ rest. pure (a_node (top ms) rest.0, ty ∷ rest.1))) ≡ behind_parts more ms o
 one_part_behind tys more ty ns ms (Ok p) h pushed =
@@ -115,8 +115,8 @@ wants_behind : (wants : List (Option TyId)) → other_wants wants ≡ drop 1 wan
 wants_behind [] = cc
 wants_behind (w ∷ ws) = cc
 
-pub one_part : (e : Env) (whole : Result ((Nodes × List TyId) × State) Broken) (tys more : List TyId) (ty : TyId) (ns ms : List Node)
-    (wants : List TyId) (want : Option TyId) (ss : Syns) (x : Syn) (xs : Syns) (s t : State) →
+pub one_part : (e : Env) (whole : Result ((Nodes × List TyId) × TypingState) Broken) (tys more : List TyId) (ty : TyId) (ns ms : List Node)
+    (wants : List TyId) (want : Option TyId) (ss : Syns) (x : Syn) (xs : Syns) (s t : TypingState) →
     whole ≡ behind_parts tys ns (typed_parts e (drop (length tys) (map Some wants)) ss s) → a_syn x xs ≡ ss →
     want ≡ slice_get wants (length tys) → typed e x want s ≡ Ok (top ms, t) → below ms ≡ ns →
     ty ≡ part_ty want (top ms) → more ≡ tys ++ ty ∷ [] →
@@ -130,18 +130,18 @@ one_part e whole tys more ty ns ms wants want ss x xs s t h split wanted here un
     ∙ ap (λ ws. behind_parts more ms (typed_parts e ws xs t)) (wants_behind (drop (length tys) (map Some wants)) ∙ drop_more (length tys) (map Some wants))
     ∙ ap (λ (n : ℕ). behind_parts more ms (typed_parts e (drop n (map Some wants)) xs t)) (let j : length tys + 1 ≡ length more = omega (arith, length-append tys (ty ∷ []), ap length pushed) in j)
 
-refuses_parts : (tys : List TyId) (ns : List Node) (o : Result (Node × State) Broken) (f : Node → Check (Nodes × List TyId)) (err : RuleError) →
+refuses_parts : (tys : List TyId) (ns : List Node) (o : Result (Node × TypingState) Broken) (f : Node → Check (Nodes × List TyId)) (err : RuleError) →
     Refuses o err → Refuses (behind_parts tys ns (and_then o f)) err
 refuses_parts tys ns o f (RuleError.Broken rule at) h = ap (λ r. behind_parts tys ns (and_then r f)) h
 refuses_parts tys ns o f RuleError.Memory h = tt
 
 -- a part that is refused
-pub refused_part : (e : Env) (whole : Result ((Nodes × List TyId) × State) Broken) (tys : List TyId) (ns : List Node)
-    (wants : List TyId) (want : Option TyId) (ss : Syns) (x : Syn) (xs : Syns) (s : State) (err : RuleError) →
+pub refused_part : (e : Env) (whole : Result ((Nodes × List TyId) × TypingState) Broken) (tys : List TyId) (ns : List Node)
+    (wants : List TyId) (want : Option TyId) (ss : Syns) (x : Syn) (xs : Syns) (s : TypingState) (err : RuleError) →
     whole ≡ behind_parts tys ns (typed_parts e (drop (length tys) (map Some wants)) ss s) → a_syn x xs ≡ ss →
     want ≡ slice_get wants (length tys) → Refuses (typed e x want s) err → Refuses whole err
 refused_part e whole tys ns wants want ss x xs s err h split wanted here =
-    subst (λ (o : Result ((Nodes × List TyId) × State) Broken). Refuses o err)
+    subst (λ (o : Result ((Nodes × List TyId) × TypingState) Broken). Refuses o err)
     (sym (h ∙ ap (λ z. behind_parts tys ns (typed_parts e (drop (length tys) (map Some wants)) z s)) (sym split)
     ∙ ap (λ (w : Option TyId). behind_parts tys ns (and_then (typed e x w s) (λ n. λ u. and_then (typed_parts e (other_wants (drop (length tys) (map Some wants))) xs u) (λ rest. pure (a_node n rest.0, part_ty w n ∷ rest.1))))) (wants_at (length tys) wants ∙ sym wanted)))
     (refuses_parts tys ns (typed e x want s) (λ n. λ u. and_then (typed_parts e (other_wants (drop (length tys) (map Some wants))) xs u) (λ rest. pure (a_node n rest.0, part_ty want n ∷ rest.1))) err here)

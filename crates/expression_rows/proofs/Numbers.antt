@@ -2,7 +2,7 @@
 use Rattle.std.proofs.Common.{◌≡◌, ℕ, false, Option, None, refl}
 use Rattle.std.specs.Borrow.{Bor}
 use Rattle.mir_base.specs.declared.int_kind.IntKind.{IntKind}
-use Rattle.src_tree.specs.declared.node.Node.{Node}
+use Rattle.src_tree.specs.declared.node.SyntaxNode.{SyntaxNode}
 use Rattle.src_ast.specs.declared.expression.ExpressionForm.{ExpressionForm}
 use Rattle.src_ast.specs.Expressions.{expression_of}
 use Rattle.expression_rows.specs.Forms.{is_plain_as, literal_as}
@@ -47,8 +47,8 @@ no_literal ExpressionForm.Panic hNumber = refl
 no_literal ExpressionForm.Other hNumber = refl
 
 pub not_plain : (f : ExpressionForm) →
-    ((a : Bor Node) → f ≡ ExpressionForm.Parens a → ⊥)
-    → ((a : Bor Node) → f ≡ ExpressionForm.Negate a → ⊥)
+    ((a : Bor SyntaxNode) → f ≡ ExpressionForm.Parens a → ⊥)
+    → ((a : Bor SyntaxNode) → f ≡ ExpressionForm.Negate a → ⊥)
     → ((a : ℕ) (b : Option IntKind) → f ≡ ExpressionForm.Number a b → ⊥) →
     is_plain_as (expression_of f) ≡ false
 not_plain (ExpressionForm.Number a b) hParens hNegate hNumber = absurd (hNumber a b refl)

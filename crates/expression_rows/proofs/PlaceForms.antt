@@ -3,7 +3,7 @@ use Rattle.std.proofs.Common.{◌≡◌, ℕ, false, if◌then◌else◌, Option
 use Rattle.std.specs.Borrow.{Bor}
 use Rattle.std.specs.Prelude.{option_map, is_some}
 use Rattle.mir_base.specs.declared.place_in_text.Pos.{Pos}
-use Rattle.src_tree.specs.declared.node.Node.{Node}
+use Rattle.src_tree.specs.declared.node.SyntaxNode.{SyntaxNode}
 use Rattle.src_ast.specs.declared.expression.ExpressionForm.{ExpressionForm}
 use Rattle.src_ast.specs.declared.path.PathForm.{PathForm}
 use Rattle.src_ast.specs.Expressions.{expression_of}
@@ -27,11 +27,11 @@ by_variable e at f s (Some n) h =
 pub no_place : (e : Env) (f : ExpressionForm) →
     ((a : PathForm) → f ≡ ExpressionForm.Path a → ⊥)
     → (f ≡ ExpressionForm.SelfValue → ⊥)
-    → ((a : Bor Node) (b : Bor Word) → f ≡ ExpressionForm.Field a b → ⊥)
-    → ((a : Bor Node) (b : ℕ) → f ≡ ExpressionForm.Part a b → ⊥)
-    → ((a : Bor Node) (b : Bor Node) → f ≡ ExpressionForm.Index a b → ⊥)
-    → ((a : Bor Node) → f ≡ ExpressionForm.Deref a → ⊥)
-    → ((a : Bor Node) → f ≡ ExpressionForm.Parens a → ⊥) →
+    → ((a : Bor SyntaxNode) (b : Bor Word) → f ≡ ExpressionForm.Field a b → ⊥)
+    → ((a : Bor SyntaxNode) (b : ℕ) → f ≡ ExpressionForm.Part a b → ⊥)
+    → ((a : Bor SyntaxNode) (b : Bor SyntaxNode) → f ≡ ExpressionForm.Index a b → ⊥)
+    → ((a : Bor SyntaxNode) → f ≡ ExpressionForm.Deref a → ⊥)
+    → ((a : Bor SyntaxNode) → f ≡ ExpressionForm.Parens a → ⊥) →
     is_place_as e (expression_of f) ≡ false
 no_place e (ExpressionForm.Number a b) hPath hSelfValue hField hPart hIndex hDeref hParens = refl
 no_place e (ExpressionForm.Truth a) hPath hSelfValue hField hPart hIndex hDeref hParens = refl
@@ -69,13 +69,13 @@ no_place e (ExpressionForm.Closure a b c d) hPath hSelfValue hField hPart hIndex
 no_place e ExpressionForm.Panic hPath hSelfValue hField hPart hIndex hDeref hParens = refl
 no_place e ExpressionForm.Other hPath hSelfValue hField hPart hIndex hDeref hParens = refl
 
-pub by_index : (e : Env) (at : Pos) (form : ExpressionForm) (base index : Bor Node) → form ≡ ExpressionForm.Index base index →
+pub by_index : (e : Env) (at : Pos) (form : ExpressionForm) (base index : Bor SyntaxNode) → form ≡ ExpressionForm.Index base index →
     IsPlaceAs e at (expression_of form) (Some (PlaceForm.Element at base index))
 by_index e at form base index h =
     subst (λ (f : ExpressionForm). IsPlaceAs e at (expression_of f) (Some (PlaceForm.Element at base index))) (sym h) (refl, refl, omega arith)
 
 -- the form of a node is that of its expression
-pub of_node : (e : Env) (n : Node) (o : Option Shape) (r : Option PlaceForm) → o ≡ expression_part (shape_of (syn_of n)) → IsPlaceAs e n.at o r →
+pub of_node : (e : Env) (n : SyntaxNode) (o : Option Shape) (r : Option PlaceForm) → o ≡ expression_part (shape_of (syn_of n)) → IsPlaceAs e n.at o r →
     IsPlaceOf e (syn_of n) r
 of_node e n o None h is = place_seen e n ∙ ap (is_place_as e) (sym h) ∙ is
 of_node e n o (Some p) h (is, same, small) = (

@@ -4,7 +4,7 @@ use Rattle.std.specs.Borrow.{Bor}
 use Rattle.std.specs.Prelude.{option_map, is_some}
 use Rattle.mir_base.specs.declared.place_in_text.Pos.{Pos}
 use Rattle.mir_ty.specs.declared.ty.TyId.{TyId}
-use Rattle.src_tree.specs.declared.node.Node.{Node}
+use Rattle.src_tree.specs.declared.node.SyntaxNode.{SyntaxNode}
 use Rattle.src_ast.specs.declared.expression.ExpressionForm.{ExpressionForm}
 use Rattle.src_ast.specs.declared.path.PathForm.{PathForm}
 use Rattle.src_ast.specs.Expressions.{expression_of}
@@ -13,9 +13,9 @@ use Rattle.src_ast.specs.Sorts.{expression_part}
 use Rattle.src_ast.specs.Syntax.{Word, Syn, syn, Shape, shape_of, Ident, LabelOf, Literal, TruthLiteral, Path, Minus, Bang, Star, Ampersand, Calculate, Compare, Both, Either, Store, CallOf, MethodOf, FieldOf, PartOf, ElementOf, StructOf, FieldInit, Parens, TupleOf, ArrayOf, Braces, IfElse, IfLetElse, MatchOn, ArmOf, LoopOf, WhileOf, WhileLetOf, BreakOf, ContinueOf, ReturnOf, MoveOf, PanicOf, LetOf, Empty, Semi, AnyPattern, BindPattern, LiteralPattern, TruthPattern, PathPattern, PartsPattern, FieldsPattern, FieldPattern, ParensPattern, TuplePattern, ArrayPattern, Alternatives, NamedType, GenericType, DynType, SelfType, ParensType, TupleType, ArrayType, NeverType, RefType, StructItem, EnumItem, FieldDecl, VariantDecl, TraitItem, ImplItem, FnItem, ParamOf, SelfParam, Odd}
 use Rattle.typed_tree.specs.Tree as tree
 use Rattle.well_typed.specs.Types.{is_reference}
-use Rattle.typing_rules.specs.Check.{Check, State, ◌>>=◌}
+use Rattle.typing_rules.specs.Check.{Check, TypingState, ◌>>=◌}
 use Rattle.typing_rules.specs.Rows.{passed_on, taken}
-use Rattle.typing_rules.specs.Scope.{Env, Entry}
+use Rattle.typing_rules.specs.Scope.{Env, NamedEntry}
 use Rattle.typing_rules.specs.Typed.{by_reference, may_refer, passed, path, path_alone, path_by, reference_form, typed, variable_base, variable_of}
 use Rattle.expression_rows.specs.Forms.{IsArgumentOf, argument_size, entry_named, may_refer_as, reference_among, referred_by}
 use Rattle.expression_rows.specs.Sizes.{size}
@@ -28,16 +28,16 @@ use Rattle.expression_rows.specs.declared.place_forms.NamedVariable.{NamedVariab
 path_typed : (e : Env) (at : Pos) (f s : Option Word) (want : Option TyId) → path e at f s want ≡ typed e (syn at (Path f s)) want
 path_typed e at f s want = by (variable_of e f s)
   where
-    by : (o : Option Entry) →
+    by : (o : Option NamedEntry) →
         path_by e at f s o want ≡ (if is_some o then variable_base e at f s o >>= taken e want else path_alone e at f s want)
     by None = refl
     by (Some x) = refl
 
-abbrev argument_of : Pos → Bor Node → Option NamedVariable → ArgumentForm
+abbrev argument_of : Pos → Bor SyntaxNode → Option NamedVariable → ArgumentForm
 argument_of at node None = ArgumentForm.Value node
 argument_of at node (Some v) = ArgumentForm.Passed at v
 
-module _ (e : Env) (at : Pos) (f s : Option Word) (node : Bor Node) (is : syn_of node.now ≡ syn at (Path f s)) (st : State) where
+module _ (e : Env) (at : Pos) (f s : Option Word) (node : Bor SyntaxNode) (is : syn_of node.now ≡ syn at (Path f s)) (st : TypingState) where
   as_value : (want : TyId) → path e at f s (Some want) st ≡ typed e (syn_of node.now) (Some want) st
   as_value want = ap (λ (c : Check tree.Node). c st) (path_typed e at f s (Some want)) ∙ ap (λ (x : Syn). typed e x (Some want) st) (sym is)
 
@@ -141,10 +141,10 @@ may_refer_form (SelfParam a) = refl
 may_refer_form Odd = refl
 
 pub refers_to_none : (f : ExpressionForm) →
-    ((a : Bool) (b : Bor Node) → f ≡ ExpressionForm.Borrow a b → ⊥)
+    ((a : Bool) (b : Bor SyntaxNode) → f ≡ ExpressionForm.Borrow a b → ⊥)
     → ((a : PathForm) → f ≡ ExpressionForm.Path a → ⊥)
     → (f ≡ ExpressionForm.SelfValue → ⊥)
-    → ((a : Bor Node) → f ≡ ExpressionForm.Parens a → ⊥) →
+    → ((a : Bor SyntaxNode) → f ≡ ExpressionForm.Parens a → ⊥) →
     may_refer_as (expression_of f) ≡ false
 refers_to_none (ExpressionForm.Number a b) hBorrow hPath hSelfValue hParens = refl
 refers_to_none (ExpressionForm.Truth a) hBorrow hPath hSelfValue hParens = refl
@@ -194,25 +194,25 @@ by_value e (syn at form) want unique to h = by (may_refer form) (may_refer_form 
 
 -- ---- a node by its form
 
-module _ (e : Env) (n : Node) (st : State) where
-  pub as_borrow : (unique : Bool) (base : Bor Node) → Some (Ampersand unique (syn_of base.now)) ≡ expression_part (shape_of (syn_of n)) →
+module _ (e : Env) (n : SyntaxNode) (st : TypingState) where
+  pub as_borrow : (unique : Bool) (base : Bor SyntaxNode) → Some (Ampersand unique (syn_of base.now)) ≡ expression_part (shape_of (syn_of n)) →
       IsArgumentOf e (syn_of n) st (ArgumentForm.Borrow n.at unique base)
   as_borrow unique base h = (
     λ want is_unique to. ap (λ (x : Syn). by_reference e x want is_unique to st) (is_expression n (Ampersand unique (syn_of base.now)) (sym h)),
     omega (arith, part_size n (Ampersand unique (syn_of base.now)) (sym h)),
   )
 
-  pub as_inside : (inside : Bor Node) (form : ArgumentForm) → Some (Parens (syn_of inside.now)) ≡ expression_part (shape_of (syn_of n)) →
+  pub as_inside : (inside : Bor SyntaxNode) (form : ArgumentForm) → Some (Parens (syn_of inside.now)) ≡ expression_part (shape_of (syn_of n)) →
       IsArgumentOf e (syn_of inside.now) st form → IsArgumentOf e (syn_of n) st form
   as_inside inside form h (is, small) = (
     λ want is_unique to. ap (λ (x : Syn). by_reference e x want is_unique to st) (is_expression n (Parens (syn_of inside.now)) (sym h)) ∙ is want is_unique to,
     omega (arith, part_size n (Parens (syn_of inside.now)) (sym h), small),
   )
 
-  pub as_other : (node : Bor Node) (f : ExpressionForm) → node.now ≡ n → expression_of f ≡ expression_part (shape_of (syn_of n)) → may_refer_as (expression_of f) ≡ false →
+  pub as_other : (node : Bor SyntaxNode) (f : ExpressionForm) → node.now ≡ n → expression_of f ≡ expression_part (shape_of (syn_of n)) → may_refer_as (expression_of f) ≡ false →
       IsArgumentOf e (syn_of n) st (ArgumentForm.Value node)
   as_other node f at h none = (
     λ want is_unique to. ap (λ (c : Check tree.Node). c st) (by_value e (syn_of n) want is_unique to (ap may_refer_as (sym h) ∙ none))
-        ∙ ap (λ (m : Node). typed e (syn_of m) (Some want) st) (sym at),
-    omega (arith, ap (λ (m : Node). size (syn_of m)) at),
+        ∙ ap (λ (m : SyntaxNode). typed e (syn_of m) (Some want) st) (sym at),
+    omega (arith, ap (λ (m : SyntaxNode). size (syn_of m)) at),
   )

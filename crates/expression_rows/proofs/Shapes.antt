@@ -3,7 +3,7 @@ use Rattle.std.proofs.Common.{◌≡◌, suc, ◌<◌, Bool, true, false, if◌t
 use Rattle.std.specs.Prelude.{◌==◌}
 use Rattle.mir_base.specs.declared.place_in_text.Pos.{Pos}
 use Rattle.mir_ty.specs.declared.ty.TyId.{TyId}
-use Rattle.src_tree.specs.declared.node.Node.{Node}
+use Rattle.src_tree.specs.declared.node.SyntaxNode.{SyntaxNode}
 use Rattle.src_ast.specs.Seen.{syn_of}
 use Rattle.src_ast.specs.Sorts.{sort_of, some_if, expression_part}
 use Rattle.src_ast.specs.Syntax.{Syn, syn, Shape, at_of, shape_of, Ident, LabelOf, Literal, TruthLiteral, Path, Minus, Bang, Star, Ampersand, Calculate, Compare, Both, Either, Store, CallOf, MethodOf, FieldOf, PartOf, ElementOf, StructOf, FieldInit, Parens, TupleOf, ArrayOf, Braces, IfElse, IfLetElse, MatchOn, ArmOf, LoopOf, WhileOf, WhileLetOf, BreakOf, ContinueOf, ReturnOf, MoveOf, PanicOf, LetOf, Empty, Semi, AnyPattern, BindPattern, LiteralPattern, TruthPattern, PathPattern, PartsPattern, FieldsPattern, FieldPattern, ParensPattern, TuplePattern, ArrayPattern, Alternatives, NamedType, GenericType, DynType, SelfType, ParensType, TupleType, ArrayType, NeverType, RefType, StructItem, EnumItem, FieldDecl, VariantDecl, TraitItem, ImplItem, FnItem, ParamOf, SelfParam, Odd}
@@ -235,13 +235,13 @@ plain_form (ParamOf a b) = refl
 plain_form (SelfParam a) = refl
 plain_form Odd = refl
 
-pub place_seen : (e : Env) (n : Node) → is_place_syn e (syn_of n) ≡ is_place_as e (expression_part (shape_of (syn_of n)))
+pub place_seen : (e : Env) (n : SyntaxNode) → is_place_syn e (syn_of n) ≡ is_place_as e (expression_part (shape_of (syn_of n)))
 place_seen e n = of_syn (syn_of n)
   where
     of_syn : (x : Syn) → is_place_syn e x ≡ is_place_as e (expression_part (shape_of x))
     of_syn (syn at form) = is_place_form e form
 
-pub plain_seen : (n : Node) → is_plain (syn_of n) ≡ is_plain_as (expression_part (shape_of (syn_of n)))
+pub plain_seen : (n : SyntaxNode) → is_plain (syn_of n) ≡ is_plain_as (expression_part (shape_of (syn_of n)))
 plain_seen n = of_syn (syn_of n)
   where
     of_syn : (x : Syn) → is_plain x ≡ is_plain_as (expression_part (shape_of x))
@@ -254,7 +254,7 @@ is_form true form g h = cc
 is_form false form g h = absurd (cc)
 
 -- a node that is an expression, by its form
-pub is_expression : (n : Node) (g : Shape) → expression_part (shape_of (syn_of n)) ≡ Some g → syn_of n ≡ syn n.at g
+pub is_expression : (n : SyntaxNode) (g : Shape) → expression_part (shape_of (syn_of n)) ≡ Some g → syn_of n ≡ syn n.at g
 is_expression n g h =
     whole (syn_of n) ∙ ap (λ f. syn (at_of (syn_of n)) f) (of_syn (syn_of n) h) ∙ ap (λ (x : Syn). syn (at_of x) g) (seen_as n)
   where
@@ -290,7 +290,7 @@ syn_base e (syn at form) is = by (is_place e form) is ∙ value_form e at form N
     by true h = cc
     by false h = refl
 
-pub base_seen : (e : Env) (n : Node) → base_of e (syn_of n) ≡ base_as e n.at (expression_part (shape_of (syn_of n)))
+pub base_seen : (e : Env) (n : SyntaxNode) → base_of e (syn_of n) ≡ base_as e n.at (expression_part (shape_of (syn_of n)))
 base_seen e n =
     of_syn (syn_of n) ∙ ap (λ (x : Syn). base_as e (at_of x) (expression_part (shape_of (syn_of n)))) (seen_as n)
   where
@@ -306,15 +306,15 @@ base_seen e n =
     of_syn : (x : Syn) → base_of e x ≡ base_as e (at_of x) (expression_part (shape_of x))
     of_syn (syn at form) = of_form at form (expression_part form) refl
 
-at_node : (e : Env) (n : Node) (want : Option TyId) →
+at_node : (e : Env) (n : SyntaxNode) (want : Option TyId) →
     value_as e (at_of (syn_of n)) (expression_part (shape_of (syn_of n))) want ≡ value_as e n.at (expression_part (shape_of (syn_of n))) want
 at_node e n want = ap (λ (x : Syn). value_as e (at_of x) (expression_part (shape_of (syn_of n))) want) (seen_as n)
 
-pub typed_value : (e : Env) (n : Node) (want : Option TyId) → is_place_syn e (syn_of n) ≡ false →
+pub typed_value : (e : Env) (n : SyntaxNode) (want : Option TyId) → is_place_syn e (syn_of n) ≡ false →
     typed e (syn_of n) want ≡ value_as e n.at (expression_part (shape_of (syn_of n))) want
 typed_value e n want is = syn_value e (syn_of n) want is ∙ at_node e n want
 
-pub base_value : (e : Env) (n : Node) → is_place_syn e (syn_of n) ≡ false →
+pub base_value : (e : Env) (n : SyntaxNode) → is_place_syn e (syn_of n) ≡ false →
     base_of e (syn_of n) ≡ value_as e n.at (expression_part (shape_of (syn_of n))) None
 base_value e n is = syn_base e (syn_of n) is ∙ at_node e n None
 
@@ -327,10 +327,10 @@ some_size false form = omega arith
 syn_size : (x : Syn) → seen_size (expression_part (shape_of x)) < size x
 syn_size (syn at form) = some_size (sort_of form == 13) form
 
-pub node_size : (n : Node) → seen_size (expression_part (shape_of (syn_of n))) < size (syn_of n)
+pub node_size : (n : SyntaxNode) → seen_size (expression_part (shape_of (syn_of n))) < size (syn_of n)
 node_size n = syn_size (syn_of n)
 
-pub part_size : (n : Node) (g : Shape) → expression_part (shape_of (syn_of n)) ≡ Some g → form_size g < size (syn_of n)
+pub part_size : (n : SyntaxNode) (g : Shape) → expression_part (shape_of (syn_of n)) ≡ Some g → form_size g < size (syn_of n)
 part_size n g h = omega (arith, node_size n, ap seen_size h)
 
 -- ---- literals
@@ -408,7 +408,7 @@ literal_form (ParamOf a b) at = refl
 literal_form (SelfParam a) at = refl
 literal_form Odd at = refl
 
-pub literal_seen : (n : Node) → literal_in (syn_of n) ≡ literal_as (expression_part (shape_of (syn_of n)))
+pub literal_seen : (n : SyntaxNode) → literal_in (syn_of n) ≡ literal_as (expression_part (shape_of (syn_of n)))
 literal_seen n = of_syn (syn_of n)
   where
     of_syn : (x : Syn) → literal_in x ≡ literal_as (expression_part (shape_of x))

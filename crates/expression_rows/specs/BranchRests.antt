@@ -9,7 +9,7 @@ use Rattle.typed_tree.specs.Tree.{Node, MaybeNode, absent, present}
 use Rattle.typing_rules.specs.Check.{Check, ◌>>=◌, ◌>>◌, pure, obeys, known, the_items, breaks_out, types_of_breaks}
 use Rattle.typing_rules.specs.Places.{place_in_text, a_node_of, unit, never}
 use Rattle.typing_rules.specs.Rows.{settled, one_of_two, one_type, may_carry, ty_carried}
-use Rattle.typing_rules.specs.Scope.{Around, Env}
+use Rattle.typing_rules.specs.Scope.{LabelledLoop, Env}
 use Rattle.well_typed.specs.Places.{ty_of}
 use Rattle.well_typed.specs.Types.{is_unit, is_never}
 
@@ -32,13 +32,13 @@ loop_rest id at want b = do
   ty ← known Rule.T03 at (one_type items tys)
   settled want (a_node_of id at ty (tree.Loop b))
 
-abbrev pub continue_rest : ℕ → Pos → Option TyId → Option Around → Check Node
+abbrev pub continue_rest : ℕ → Pos → Option TyId → Option LabelledLoop → Check Node
 continue_rest id at want to = do
   a ← known Rule.T06 at to
   settled want (a_node_of id at never (tree.Continue a.loop))
 
 -- a jump out of the loop with this number, if it is known
-abbrev pub break_rest : ℕ → Pos → Option TyId → Option Around → MaybeNode → Check Node
+abbrev pub break_rest : ℕ → Pos → Option TyId → Option LabelledLoop → MaybeNode → Check Node
 break_rest id at want to v = do
   a ← known Rule.T06 at to
   obeys Rule.T06 at (may_carry v a)

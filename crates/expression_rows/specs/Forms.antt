@@ -9,11 +9,11 @@ use Rattle.name_rows.specs.Variables.{found_as}
 use Rattle.src_ast.specs.Seen.{syn_of}
 use Rattle.src_ast.specs.Syntax.{Syn, Shape, Literal, FieldOf, PartOf, ElementOf, Star}
 use Rattle.typed_tree.specs.Tree.{Node}
-use Rattle.typing_rules.specs.Check.{Check, State, breaks}
+use Rattle.typing_rules.specs.Check.{Check, TypingState, breaks}
 use Rattle.typing_rules.specs.Places.{variable_place}
 use Rattle.typing_rules.specs.Rows as rows
 use Rattle.typing_rules.specs.Rows.{Typer, Referrer}
-use Rattle.typing_rules.specs.Scope.{Env, Entry}
+use Rattle.typing_rules.specs.Scope.{Env, NamedEntry}
 use Rattle.typing_rules.specs.Typed.{base_of, by_reference, is_place, is_place_syn, is_plain_form, may_refer, place, typed, value}
 use Rattle.well_typed.specs.Types.{is_reference}
 use Rattle.expression_rows.specs.Sizes.{size, seen_size}
@@ -54,7 +54,7 @@ is_plain_literal (Some n) = is_none n.1
 
 -- ---- places
 
-abbrev pub entry_named : NamedVariable → Entry
+abbrev pub entry_named : NamedVariable → NamedEntry
 entry_named v = found_as v.name.now v.found
 
 -- a place by its form, through parentheses
@@ -109,7 +109,7 @@ argument_size (ArgumentForm.Passed at variable) = 0
 argument_size (ArgumentForm.Value node) = size (syn_of node.now)
 
 -- what an argument is, at a point of the walk
-abbrev pub IsArgumentOf : Env → Syn → State → ArgumentForm → Type 0
+abbrev pub IsArgumentOf : Env → Syn → TypingState → ArgumentForm → Type 0
 IsArgumentOf env x s form =
     ((want : TyId) (is_unique : Bool) (to : TyId) →
     by_reference env x want is_unique to s ≡ referred_by env form want is_unique to s)

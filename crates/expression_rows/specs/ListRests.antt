@@ -8,11 +8,11 @@ use Rattle.typed_tree.specs.Tree.{Node, Nodes}
 use Rattle.typing_rules.specs.Check.{Check, ◌>>=◌, ◌>>◌, known, number, obeys, the_items}
 use Rattle.typing_rules.specs.Places.{a_node_of, variable_place}
 use Rattle.typing_rules.specs.Rows.{borrow_of, element_ty}
-use Rattle.typing_rules.specs.Scope.{Entry}
+use Rattle.typing_rules.specs.Scope.{NamedEntry}
 use Rattle.call_rows.specs.Rests.{array_rest}
 
 -- a borrow of what a reference variable names
-abbrev pub passed_rest : Pos → Entry → Bool → TyId → Check Node
+abbrev pub passed_rest : Pos → NamedEntry → Bool → TyId → Check Node
 passed_rest at x is_unique to = do
   id ← number
   through_id ← number

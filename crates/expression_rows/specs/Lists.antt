@@ -3,7 +3,7 @@ use Rattle.std.specs.Prelude.{◌≡◌, ⊤, ℕ, List, ◌++◌, length, Optio
 use Rattle.mir_base.specs.declared.rule.RuleError.{RuleError}
 use Rattle.mir_ty.specs.declared.ty.TyId.{TyId}
 use Rattle.typed_tree.specs.Tree.{Node, Nodes}
-use Rattle.typing_rules.specs.Check.{Check, State, Broken}
+use Rattle.typing_rules.specs.Check.{Check, TypingState, Broken}
 use Rattle.typing_rules.specs.Rows.{argument}
 use Rattle.typing_rules.specs.Scope.{Env}
 use Rattle.typing_rules.specs.Typed.{by_reference, typed}
@@ -23,7 +23,7 @@ argument_at env (Some param) x = argument param (typed env x) (by_reference env 
 -- ---- nodes
 
 -- the last nodes, so many, are what a check gives
-abbrev pub GivesNodes : Result (Nodes × State) Broken → Result ℕ RuleError → Checker → Type 0
+abbrev pub GivesNodes : Result (Nodes × TypingState) Broken → Result ℕ RuleError → Checker → Type 0
 GivesNodes outcome (Ok count) after = outcome ≡ Ok (last_nodes count (stack after), state after)
 GivesNodes outcome (Err e) after = Refuses outcome e
 
@@ -33,25 +33,27 @@ KeepsBelow others before (Ok count) after = (below_all count (stack after) ≡ o
 KeepsBelow others before (Err e) after = ⊤
 
 -- what is given of the rest, behind the last ones that were made
-abbrev pub behind_nodes : ℕ → List Node → Result (Nodes × State) Broken → Result (Nodes × State) Broken
+abbrev pub behind_nodes : ℕ → List Node → Result (Nodes × TypingState) Broken → Result (Nodes × TypingState) Broken
 behind_nodes k ns (Ok a) = Ok (nodes_on k ns a.0, a.1)
 behind_nodes k ns (Err e) = Err e
 
 -- ---- nodes and their types
 
-abbrev pub GivesTyped : Result ((Nodes × List TyId) × State) Broken → Result ℕ RuleError → Checker → Type 0
+abbrev pub GivesTyped : Result ((Nodes × List TyId) × TypingState) Broken → Result ℕ RuleError → Checker → Type 0
 GivesTyped outcome (Ok count) after =
     outcome ≡ Ok ((last_nodes count (stack after), last_types count (stack after)), state after)
 GivesTyped outcome (Err e) after = Refuses outcome e
 
-abbrev pub behind_typed : ℕ → List Node → Result ((Nodes × List TyId) × State) Broken → Result ((Nodes × List TyId) × State)
+abbrev pub behind_typed : ℕ → List Node → Result ((Nodes × List TyId) × TypingState) Broken →
+    Result ((Nodes × List TyId) × TypingState)
     Broken
 behind_typed k ns (Ok a) = Ok ((nodes_on k ns a.0.0, types_on k ns a.0.1), a.1)
 behind_typed k ns (Err e) = Err e
 
 -- ---- parts, with types of their own
 
-abbrev pub GivesParts : Result ((Nodes × List TyId) × State) Broken → Result (List TyId) RuleError → Checker → Type 0
+abbrev pub GivesParts : Result ((Nodes × List TyId) × TypingState) Broken → Result (List TyId) RuleError → Checker →
+    Type 0
 GivesParts outcome (Ok types) after = outcome ≡ Ok ((last_nodes (length types) (stack after), types), state after)
 GivesParts outcome (Err e) after = Refuses outcome e
 
@@ -60,7 +62,7 @@ KeepsBelowParts others before (Ok types) after =
     (below_all (length types) (stack after) ≡ others) × Stays before after
 KeepsBelowParts others before (Err e) after = ⊤
 
-abbrev pub behind_parts : List TyId → List Node → Result ((Nodes × List TyId) × State) Broken →
-    Result ((Nodes × List TyId) × State) Broken
+abbrev pub behind_parts : List TyId → List Node → Result ((Nodes × List TyId) × TypingState) Broken →
+    Result ((Nodes × List TyId) × TypingState) Broken
 behind_parts types ns (Ok a) = Ok ((nodes_on (length types) ns a.0.0, types ++ a.0.1), a.1)
 behind_parts types ns (Err e) = Err e

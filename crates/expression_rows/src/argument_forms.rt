@@ -8,7 +8,7 @@ ghost use Rattle.type_rows.specs.Stand.{env, state};
 use crate::place_forms::{NamedVariable, variable_of};
 use mir_base::Pos;
 use src_ast::{ExpressionForm, PathForm, expression_form};
-use src_tree::Node;
+use src_tree::SyntaxNode;
 use type_env::is_reference;
 use type_rows::Checker;
 
@@ -19,7 +19,7 @@ pub enum ArgumentForm<'a> {
     Borrow {
         at: Pos,
         unique: bool,
-        base: &'a Node,
+        base: &'a SyntaxNode,
     },
     /// A reference variable.
     Passed {
@@ -27,7 +27,7 @@ pub enum ArgumentForm<'a> {
         variable: NamedVariable<'a>,
     },
     /// A value.
-    Value(&'a Node),
+    Value(&'a SyntaxNode),
 }
 
 /// A variable, where it is a reference.
@@ -51,7 +51,11 @@ fn reference_in<'a>(
 
 /// A path as an argument for a reference.
 #[tactic(auto, using(crate::proofs::Referring::by_path))]
-fn path_argument<'a>(checker: &Checker, node: &'a Node, path: PathForm<'a>) -> ArgumentForm<'a>
+fn path_argument<'a>(
+    checker: &Checker,
+    node: &'a SyntaxNode,
+    path: PathForm<'a>,
+) -> ArgumentForm<'a>
     requires { syn_of node.now ≡ syn node.now.at (Path (word_of path.first) (word_of path.second)) }
     ensures { IsArgumentOf (env checker.now) (syn_of node.entry.now) (state checker.now) result }
 {
@@ -65,7 +69,7 @@ fn path_argument<'a>(checker: &Checker, node: &'a Node, path: PathForm<'a>) -> A
 }
 
 /// What an argument for a reference is, through parentheses.
-pub fn argument_form<'a>(checker: &Checker, node: &'a Node) -> ArgumentForm<'a>
+pub fn argument_form<'a>(checker: &Checker, node: &'a SyntaxNode) -> ArgumentForm<'a>
     ensures { IsArgumentOf (env checker.now) (syn_of node.entry.now) (state checker.now) result }
 {
     match expression_form(node) {

@@ -9,7 +9,7 @@ use crate::borrow_of;
 use item_heads::obeys;
 use mir_base::{Pos, Rule, RuleError};
 use mir_ty::TyId;
-use name_rows::{Found, put_variable};
+use name_rows::{FoundVariable, put_variable};
 use type_env::reference_of;
 use type_rows::{Checker, One};
 
@@ -27,7 +27,7 @@ fn passed(
     checker: &mut Checker,
     at: Pos,
     name: &str,
-    found: Found,
+    found: FoundVariable,
     is_unique: bool,
     to: TyId,
 ) -> Result<(), RuleError>
@@ -46,7 +46,7 @@ pub fn passed_on(
     checker: &mut Checker,
     at: Pos,
     name: &str,
-    found: Found,
+    found: FoundVariable,
     is_unique: bool,
     to: TyId,
 ) -> Result<(), RuleError>

@@ -17,7 +17,7 @@ use type_rows::{Checker, Leaf, One};
 
 /// The loop that a jump leaves.
 #[derive(Clone, Copy)]
-pub struct Target {
+pub struct JumpTarget {
     pub id: NodeId,
     /// A `break` may carry a value.
     pub has_value: bool,
@@ -27,11 +27,11 @@ pub struct Target {
 
 /// The loop that a `break` or `continue` leaves: the innermost, or the innermost of its label.
 #[tactic(auto, using(crate::proofs::Targets::loops_are))]
-pub fn jump_target(checker: &Checker, label: Option<&str>) -> Option<Target>
+pub fn jump_target(checker: &Checker, label: Option<&str>) -> Option<JumpTarget>
     ensures { option_map target_of result ≡ option_map unlabelled (jumps_to (env checker.now).loops (word_in label.entry)) }
 {
     match loop_left(checker.around.loops.as_slice(), label) {
-        Some(around) => Some(Target {
+        Some(around) => Some(JumpTarget {
             id: around.id,
             has_value: around.has_value,
             want: around.want,
@@ -41,7 +41,7 @@ pub fn jump_target(checker: &Checker, label: Option<&str>) -> Option<Target>
 }
 
 /// What is required of the value of a `break`.
-pub fn carried(target: Option<Target>) -> Option<TyId>
+pub fn carried(target: Option<JumpTarget>) -> Option<TyId>
     ensures { result ≡ rows.carried (option_map target_of target) }
 {
     match target {
@@ -55,7 +55,7 @@ pub fn continue_end(
     checker: &mut Checker,
     id: NodeId,
     at: Pos,
-    target: Option<Target>,
+    target: Option<JumpTarget>,
     want: Option<TyId>,
 ) -> Result<(), RuleError>
     ensures gives { Gives (continue_rest id.0 at want (option_map target_of target) (state checker.old)) result checker.new }
@@ -72,7 +72,7 @@ pub fn break_alone_end(
     checker: &mut Checker,
     id: NodeId,
     at: Pos,
-    target: Option<Target>,
+    target: Option<JumpTarget>,
     want: Option<TyId>,
 ) -> Result<(), RuleError>
     ensures gives { Gives (break_rest id.0 at want (option_map target_of target) absent (state checker.old)) result checker.new }
@@ -103,7 +103,7 @@ pub fn break_end(
     checker: &mut Checker,
     id: NodeId,
     at: Pos,
-    target: Option<Target>,
+    target: Option<JumpTarget>,
     want: Option<TyId>,
 ) -> Result<(), RuleError>
     ensures gives { Gives (break_rest id.0 at want (option_map target_of target) (present (top (stack checker.old))) (state checker.old)) result checker.new }

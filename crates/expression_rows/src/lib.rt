@@ -29,7 +29,7 @@ pub use branches::{if_else_end, if_let_else_end};
 pub use breaks::loop_end;
 pub use counts::{count_of, one_more};
 pub use jumps::{
-    Target, break_alone_end, break_end, carried, continue_end, jump_target, return_alone_end,
+    JumpTarget, break_alone_end, break_end, carried, continue_end, jump_target, return_alone_end,
 };
 pub use literals::{Digits, is_plain, literal_in};
 pub use operands::{arithmetic_of, comparison_of, unless_never};

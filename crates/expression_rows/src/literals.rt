@@ -6,7 +6,7 @@ ghost use Rattle.expression_rows.specs.Forms.{digits_of, is_plain_literal};
 
 use mir_base::IntKind;
 use src_ast::{ExpressionForm, expression_form};
-use src_tree::Node;
+use src_tree::SyntaxNode;
 
 /// A number as it is written.
 #[derive(Clone, Copy)]
@@ -17,7 +17,7 @@ pub struct Digits {
 
 /// The number that a node is, if it is one.
 #[tactic(auto, using(crate::proofs::Shapes::literal_seen, crate::proofs::Numbers::no_literal))]
-pub fn literal_in(node: &Node) -> Option<Digits>
+pub fn literal_in(node: &SyntaxNode) -> Option<Digits>
     ensures { option_map digits_of result ≡ rules.literal_in (syn_of node.now) }
 {
     match expression_form(node) {
@@ -26,7 +26,7 @@ pub fn literal_in(node: &Node) -> Option<Digits>
     }
 }
 
-fn is_plain_number(node: &Node) -> bool
+fn is_plain_number(node: &SyntaxNode) -> bool
     ensures { result ≡ is_plain_literal (rules.literal_in (syn_of node.now)) }
 {
     match literal_in(node) {
@@ -37,7 +37,7 @@ fn is_plain_number(node: &Node) -> bool
 
 /// Whether a node is a number without a suffix, with a `-` before it or not, in parentheses or not.
 #[tactic(auto, using(crate::proofs::Shapes::plain_seen, crate::proofs::Numbers::not_plain))]
-pub fn is_plain(node: &Node) -> bool
+pub fn is_plain(node: &SyntaxNode) -> bool
     ensures { result ≡ rules.is_plain (syn_of node.now) }
 {
     match expression_form(node) {

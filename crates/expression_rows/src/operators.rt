@@ -10,7 +10,7 @@ use item_heads::{broken, obeys};
 use mir_base::{Cmp, Math, NodeId, Pos, Rule, RuleError};
 use mir_ty::{Items, TyId};
 use type_env::{fits, is_bool, is_int, one_of_two};
-use type_rows::{Checker, One, Two};
+use type_rows::{Checker, One, TwoParts};
 
 /// The type that this is where it is an integer type.
 pub fn if_int(items: &Items, ty: TyId) -> Option<TyId>
@@ -101,7 +101,7 @@ pub fn arithmetic_end(
     ensures kept { Keeps (below (below (stack checker.old))) checker.old result checker.new }
 {
     match common_int(&checker.walk.items, checker.second_ty(), checker.last_ty()) {
-        Some(ty) => checker.fitted_two(id, at, ty, Two::Arithmetic(operator), want),
+        Some(ty) => checker.fitted_two(id, at, ty, TwoParts::Arithmetic(operator), want),
         None => Err(broken(Rule::T03, at)),
     }
 }
@@ -118,7 +118,7 @@ pub fn arithmetic_last_end(
     ensures kept { Keeps (below (below (stack checker.old))) checker.old result checker.new }
 {
     match common_int(&checker.walk.items, checker.last_ty(), checker.second_ty()) {
-        Some(ty) => checker.fitted_two(id, at, ty, Two::ArithmeticLast(operator), want),
+        Some(ty) => checker.fitted_two(id, at, ty, TwoParts::ArithmeticLast(operator), want),
         None => Err(broken(Rule::T03, at)),
     }
 }
@@ -135,7 +135,7 @@ pub fn comparison_end(
     ensures kept { Keeps (below (below (stack checker.old))) checker.old result checker.new }
 {
     match common(&checker.walk.items, checker.second_ty(), checker.last_ty()) {
-        Some(_) => checker.fitted_two(id, at, TyId(1), Two::Comparison(operator), want),
+        Some(_) => checker.fitted_two(id, at, TyId(1), TwoParts::Comparison(operator), want),
         None => Err(broken(Rule::T03, at)),
     }
 }
@@ -152,7 +152,7 @@ pub fn comparison_last_end(
     ensures kept { Keeps (below (below (stack checker.old))) checker.old result checker.new }
 {
     match common(&checker.walk.items, checker.last_ty(), checker.second_ty()) {
-        Some(_) => checker.fitted_two(id, at, TyId(1), Two::ComparisonLast(operator), want),
+        Some(_) => checker.fitted_two(id, at, TyId(1), TwoParts::ComparisonLast(operator), want),
         None => Err(broken(Rule::T03, at)),
     }
 }
@@ -162,7 +162,7 @@ pub fn logic_end(
     checker: &mut Checker,
     id: NodeId,
     at: Pos,
-    two: Two,
+    two: TwoParts,
     want: Option<TyId>,
 ) -> Result<(), RuleError>
     ensures gives { Gives (logic_rest id.0 at (two_form two) want (top (below (stack checker.old))) (top (stack checker.old)) (state checker.old)) result checker.new }

@@ -8,16 +8,16 @@ ghost use Rattle.expression_rows.specs.Forms.{IsPlaceAs, IsPlaceOf, entry_named}
 ghost use Rattle.type_rows.specs.Stand.{env};
 
 use mir_base::Pos;
-use name_rows::{Found, variable};
+use name_rows::{FoundVariable, variable};
 use src_ast::{ExpressionForm, PathForm, expression_form};
-use src_tree::Node;
+use src_tree::SyntaxNode;
 use type_rows::Checker;
 
 /// A variable by its name.
 #[derive(Clone, Copy)]
 pub struct NamedVariable<'a> {
     pub name: &'a str,
-    pub found: Found,
+    pub found: FoundVariable,
 }
 
 /// A place by its form.
@@ -29,23 +29,23 @@ pub enum PlaceForm<'a> {
     },
     Field {
         at: Pos,
-        base: &'a Node,
+        base: &'a SyntaxNode,
         name: &'a str,
     },
     /// A part of a tuple, or of a struct by its number.
     Part {
         at: Pos,
-        base: &'a Node,
+        base: &'a SyntaxNode,
         number: u64,
     },
     Element {
         at: Pos,
-        base: &'a Node,
-        index: &'a Node,
+        base: &'a SyntaxNode,
+        index: &'a SyntaxNode,
     },
     Deref {
         at: Pos,
-        base: &'a Node,
+        base: &'a SyntaxNode,
     },
 }
 
@@ -104,7 +104,7 @@ fn place_of<'a>(checker: &Checker, at: Pos, form: ExpressionForm<'a>) -> Option<
 
 /// A place by its form, through parentheses; `None` where a node is no place.
 #[cycle(places)]
-pub fn place_form<'a>(checker: &Checker, node: &'a Node) -> Option<PlaceForm<'a>>
+pub fn place_form<'a>(checker: &Checker, node: &'a SyntaxNode) -> Option<PlaceForm<'a>>
     ensures { IsPlaceOf (env checker.now) (syn_of node.entry.now) result }
 {
     place_of(checker, node.at, expression_form(node))

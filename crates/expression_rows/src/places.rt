@@ -6,7 +6,7 @@ ghost use Rattle.type_rows.specs.Stand.{Gives, Keeps, below, stack, state, top};
 use item_heads::broken;
 use mir_base::{NodeId, Pos, Rule, RuleError};
 use type_env::{array_of, inside_of};
-use type_rows::{Checker, One, Two};
+use type_rows::{Checker, One, TwoParts};
 
 /// `*e`.
 pub fn deref_end(checker: &mut Checker, id: NodeId, at: Pos) -> Result<(), RuleError>
@@ -25,7 +25,7 @@ pub fn element_end(checker: &mut Checker, id: NodeId, at: Pos) -> Result<(), Rul
     ensures kept { Keeps (below (below (stack checker.old))) checker.old result checker.new }
 {
     match array_of(&checker.walk.items, checker.second_ty()) {
-        Some((element, count)) => checker.wrap_two(id, at, element, Two::Index(count)),
+        Some((element, count)) => checker.wrap_two(id, at, element, TwoParts::Index(count)),
         None => Err(broken(Rule::T03, at)),
     }
 }

@@ -10,7 +10,7 @@ use item_heads::{broken, obeys};
 use mir_base::{NodeId, Pos, Rule, RuleError};
 use mir_ty::TyId;
 use type_env::is_dyn;
-use type_rows::{Checker, Two};
+use type_rows::{Checker, TwoParts};
 
 /// `p = e`: what is stored into is a place, and no binding inside its own guard.
 pub fn store_end(
@@ -27,7 +27,7 @@ pub fn store_end(
     let is_shared = checker.is_second_shared();
     let place_at = checker.second_at();
     obeys(Rule::T03, at, is_whole)?;
-    checker.fitted_two(id, at, TyId(0), Two::Assign, want)?;
+    checker.fitted_two(id, at, TyId(0), TwoParts::Assign, want)?;
     if !is_stored {
         return Err(broken(Rule::T05, at));
     }

@@ -8,8 +8,8 @@ use Rattle.store_model.specs.Places.Place.{Step, ToContent, ToElement, Place, Wa
 use Rattle.store_model.specs.Abstract.Presence.{Presence, itself_gone, presence_at, presence_along, all_present, containers_present, is_whole_at, is_there_at}
 use Rattle.store_model.specs.Abstract.Effects.{may_use, may_test, may_store}
 use Rattle.cfg_graph.specs.declared.graph.Body.{Body}
-use Rattle.cfg_graph.specs.Uses.{Use, Copies, Moves, Borrows, Touches, Tests, Stores, Drops, Frees}
-use Rattle.cfg_graph.specs.Moves.Gone.{Action, containers, has_index, counts, is_gone_after, is_whole_after}
+use Rattle.cfg_graph.specs.Uses.{PlaceUse, Copies, Moves, Borrows, Touches, Tests, Stores, Drops, Frees}
+use Rattle.cfg_graph.specs.Moves.Gone.{PathAction, containers, has_index, counts, is_gone_after, is_whole_after}
 use Rattle.cfg_graph.specs.Moves.Present.{present_after}
 use Rattle.cfg_graph.specs.Moves.BadUses.{may_not_read, may_not_test, may_not_store}
 use Rattle.cfg_graph.proofs.Present.{gone_is_not_present}
@@ -19,7 +19,7 @@ use Rattle.move_errors.specs.Reaches.{is_bad}
 use Rattle.free_walks.proofs.Watching.{Seen, whole, reference, element, seen, gone-beyond}
 
 -- what a free walk asks of a use
-abbrev pub allowed : Use → Watched → Presence → Bool
+abbrev pub allowed : PlaceUse → Watched → Presence → Bool
 allowed Copies w p = may_use w p
 allowed Moves w p = may_use w p
 allowed Borrows w p = may_use w p
@@ -147,7 +147,7 @@ store-element false false false h = refl
 not-false : (gone : Bool) → gone ≡ false → not gone ≡ true
 not-false gone h = ap not h
 
-module _ (items : ItemTable) (body : Body) (actions : List Action) (local : ℕ) where
+module _ (items : ItemTable) (body : Body) (actions : List PathAction) (local : ℕ) where
   abbrev at : List Step → Place
   at steps = record { local = local; steps = steps }
 
@@ -262,7 +262,7 @@ module _ (items : ItemTable) (body : Body) (actions : List Action) (local : ℕ)
       broken = λ i. has i && not (is_whole (array i))
 
 module _ (items : ItemTable) (body : Body) where
-  pub is-allowed : (earlier : List Action) (a : Action)
+  pub is-allowed : (earlier : List PathAction) (a : PathAction)
       → allowed a.how (watched items (slice_get body.locals a.place.local) a.place.steps) (present_after items body earlier a.place.local)
       ≡ not (is_bad items body earlier a a.how)
   is-allowed earlier a = by a.how
@@ -270,7 +270,7 @@ module _ (items : ItemTable) (body : Body) where
       it : Agree items body earlier a.place.local a.place.steps (watched items (slice_get body.locals a.place.local) a.place.steps)
       it = agree items body earlier a.place.local a.place.steps (watched items (slice_get body.locals a.place.local) a.place.steps) (seen items (slice_get body.locals a.place.local) a.place.steps)
 
-      by : (how : Use) → allowed how (watched items (slice_get body.locals a.place.local) a.place.steps) (present_after items body earlier a.place.local)
+      by : (how : PlaceUse) → allowed how (watched items (slice_get body.locals a.place.local) a.place.steps) (present_after items body earlier a.place.local)
           ≡ not (is_bad items body earlier a how)
       by Copies = it.read
       by Moves = it.read

@@ -7,7 +7,7 @@ use Rattle.store_model.specs.Abstract.Effects.{AbstractState, abstract_effects}
 use Rattle.cfg_graph.specs.declared.graph.Block.{Block}
 use Rattle.cfg_graph.specs.declared.graph.Body.{Body}
 use Rattle.cfg_graph.specs.Uses.{term_uses}
-use Rattle.cfg_graph.specs.Moves.Gone.{Action}
+use Rattle.cfg_graph.specs.Moves.Gone.{PathAction}
 use Rattle.cfg_meaning.specs.Walk.{Next, term_does, does_block}
 use Rattle.move_flow.proofs.Along.{actions_in, actions_between}
 use Rattle.free_walks.specs.Meets.{PanicsLeadElsewhere}
@@ -23,20 +23,20 @@ module _ (items : ItemTable) (body : Body) (elsewhere : PanicsLeadElsewhere body
   abbrev pub LeavesBlock : ℕ → Block → Next AbstractState → AbstractState → Out AbstractState → Type 0
   LeavesBlock n block next = Leaves items body node n (length block.stmts) next block.term
 
-  pub block-performs : (n : ℕ) (block : Block) → slice_get body.blocks n ≡ Some block → (next : Next AbstractState) (done : List Action) (w : AbstractState) → Tells items body w done
+  pub block-performs : (n : ℕ) (block : Block) → slice_get body.blocks n ≡ Some block → (next : Next AbstractState) (done : List PathAction) (w : AbstractState) → Tells items body w done
       → Performed items body node done (actions_in body n) (LeavesBlock n block next) w (does_block eff 0 node body n block next w)
   block-performs n block there next done w tells =
-      subst (λ (z : List Action). Performed items body node done z (LeavesBlock n block next) w (does_block eff 0 node body n block next w)) (sym acts)
+      subst (λ (z : List PathAction). Performed items body node done z (LeavesBlock n block next) w (does_block eff 0 node body n block next w)) (sym acts)
       (performed-more items body node stmts last done (LeavesBlock n block next) w (does_block eff 0 node body n block next w)
       (subst (Performed items body node done stmts After w) (sym (stmts-are items body node n block.stmts 0 rest w))
       (performed items body node After rest
       (λ v told. term-performs items body node n (length block.stmts) next block.term (λ m on_way panic. elsewhere n m block there on_way panic) (done ++ stmts) v told)
       stmts done w tells)))
     where
-      stmts : List Action
+      stmts : List PathAction
       stmts = stmt_actions n 0 block.stmts
 
-      last : List Action
+      last : List PathAction
       last = at_line n (length block.stmts) (term_uses block.term)
 
       rest : AbstractState → Out AbstractState

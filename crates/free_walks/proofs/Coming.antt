@@ -12,7 +12,7 @@ use Rattle.cfg_graph.specs.declared.graph.Block.{Block}
 use Rattle.cfg_graph.specs.declared.graph.Body.{Body}
 use Rattle.cfg_graph.specs.declared.graph.Kind.{Kind}
 use Rattle.cfg_graph.specs.Edges.{ToBlock, is_turn, is_turn_kind}
-use Rattle.cfg_graph.specs.Moves.Gone.{Action}
+use Rattle.cfg_graph.specs.Moves.Gone.{PathAction}
 use Rattle.cfg_graph.specs.Moves.Actions.{actions_on}
 use Rattle.cfg_graph.specs.Moves.Paths.{ways, IsPath}
 use Rattle.cfg_graph.specs.Moves.BadUses.{BadUse}
@@ -38,7 +38,7 @@ module _ (items : ItemTable) (body : Body) (elsewhere : PanicsLeadElsewhere body
   record Came (n : ℕ) (w : AbstractState) : Type 0 where
     front : List ℕ
     used : List Bool
-    earlier : List Action
+    earlier : List PathAction
     path : IsPath items body (front ++ n ∷ []) (used ++ entry_choices items body n)
     acts : actions_on body (front ++ n ∷ []) ≡ earlier ++ actions_on body (n ∷ [])
     clean : first_bad items body [] earlier ≡ None
@@ -49,7 +49,7 @@ module _ (items : ItemTable) (body : Body) (elsewhere : PanicsLeadElsewhere body
   record Within (n : ℕ) (w : AbstractState) : Type 0 where
     front : List ℕ
     used : List Bool
-    earlier : List Action
+    earlier : List PathAction
     path : IsPath items body (front ++ n ∷ []) used
     acts : actions_on body (front ++ n ∷ []) ≡ earlier ++ actions_on body (n ∷ [])
     clean : first_bad items body [] earlier ≡ None
@@ -82,13 +82,13 @@ module _ (items : ItemTable) (body : Body) (elsewhere : PanicsLeadElsewhere body
         by (performed items body node (λ x o. o ≡ next m x) (next m) (λ x. refl) (result_of items body node n (length block.stmts) next block.term m) before u
         (λ local. ap (λ z. presence_in local z) cells ∙ tells local))
       where
-        before : List Action
+        before : List PathAction
         before = at.earlier ++ actions_in body n
 
         presence_in : ℕ → List (ℕ × Presence) → Presence
         presence_in local z = presence local z
 
-        stored : List Action
+        stored : List PathAction
         stored = result_of items body node n (length block.stmts) next block.term m
 
         between : stored ≡ actions_between body n m
@@ -117,10 +117,10 @@ module _ (items : ItemTable) (body : Body) (elsewhere : PanicsLeadElsewhere body
               used = at.used ++ choices;
               earlier = before ++ actions_between body n m;
               path = path-snoc items body (at.front ++ n ∷ []) at.front n m at.used choices refl at.path (way-between items body n m block choices there way);
-              acts = actions-snoc body at.front n m ∙ ap (λ (z : List Action). (z ++ actions_between body n m) ++ actions_on body (m ∷ [])) on_path;
+              acts = actions-snoc body at.front n m ∙ ap (λ (z : List PathAction). (z ++ actions_between body n m) ++ actions_on body (m ∷ [])) on_path;
               clean = some-rest items body [] before (actions_between body n m) plain ∙ ap (first_bad items body before) (sym between) ∙ calm;
               lasts = none-of-both items body node before (actions_between body n m) free (ap (list_any (ends_runs items body)) (sym between) ∙ long);
-              tells = subst (λ (z : List Action). Tells items body x (before ++ z)) between told;
+              tells = subst (λ (z : List PathAction). Tells items body x (before ++ z)) between told;
               given_is = taken x kept;
             }))
         by (met bad x is kept some long) = λ halt y e refused. (
@@ -144,10 +144,10 @@ module _ (items : ItemTable) (body : Body) (elsewhere : PanicsLeadElsewhere body
             stores = refl;
             first = (λ i. first_bad items body (on_path i) (sym between i)) ∙ some;
           })
-              (ap (λ (z : List Action). list_any (ends_runs items body) (before_bad items body [] (z ++ actions_between body n m))) on_path
+              (ap (λ (z : List PathAction). list_any (ends_runs items body) (before_bad items body [] (z ++ actions_between body n m))) on_path
               ∙ ap (list_any (ends_runs items body)) (before-append items body [] before (actions_between body n m) plain)
               ∙ none-of-both items body node before (before_bad items body before (actions_between body n m)) free
-              (ap (λ (z : List Action). list_any (ends_runs items body) (before_bad items body before z)) (sym between) ∙ long)),
+              (ap (λ (z : List PathAction). list_any (ends_runs items body) (before_bad items body before z)) (sym between) ∙ long)),
           taken y (choices-same halt (halt_of node bad) y x (sym e ∙ is) ∙ kept),
           halts-same items body node halt (halt_of node bad) y x (sym e ∙ is),
         )
@@ -179,7 +179,7 @@ module _ (items : ItemTable) (body : Body) (elsewhere : PanicsLeadElsewhere body
             none = at.clean;
             first = some;
           })
-              (ap (λ (z : List Action). list_any (ends_runs items body) (before_bad items body [] z)) at.acts
+              (ap (λ (z : List PathAction). list_any (ends_runs items body) (before_bad items body [] z)) at.acts
               ∙ ap (list_any (ends_runs items body)) (before-append items body [] at.earlier (actions_in body n) at.clean)
               ∙ none-of-both items body node at.earlier (before_bad items body at.earlier (actions_in body n)) at.lasts long),
           at.given_is ∙ ap (λ (z : List Bool). at.used ++ z) (sym (choices-same halt (halt_of node bad) y v (sym e ∙ is) ∙ same)),

@@ -5,7 +5,7 @@ use Rattle.mir_ty.specs.declared.ty.Ty.{Ty}
 use Rattle.mir_ty.specs.declared.ty.TyId.{TyId}
 use Rattle.mir_ty.specs.ItemTable.{ItemTable}
 use Rattle.store_model.specs.Effects as effects
-use Rattle.store_model.specs.Effects.{Site, Halt, BadStore, NoChoice, Infeasible, Unreachable, Out, Go, Unwind, Halts}
+use Rattle.store_model.specs.Effects.{EffectSite, Halt, BadStore, NoChoice, Infeasible, Unreachable, Out, Go, Unwind, Halts}
 use Rattle.store_model.specs.Places.Place.{whole_local, ToPart}
 use Rattle.store_model.specs.Abstract.Effects.{AbstractState}
 use Rattle.cfg_graph.specs.declared.graph.Block.{Block}
@@ -78,7 +78,7 @@ on_path blocks path = told (bad_uses_on items (body blocks) path)
 abbrev given : List Block → List ℕ → List (List Bool)
 given blocks path = choices_of_path items (body blocks) path
 
-abbrev site : ℕ → ℕ → Site
+abbrev site : ℕ → ℕ → EffectSite
 site node local = record { node = node; place = whole_local local }
 
 -- a box that is taken in each turn of a loop

@@ -15,7 +15,7 @@ use Rattle.cfg_graph.specs.declared.graph.Body.{Body}
 use Rattle.cfg_graph.specs.declared.graph.Kind.{Kind}
 use Rattle.cfg_graph.specs.Edges.{IsRanked, ToBlock, is_turn, is_turn_kind}
 use Rattle.cfg_graph.specs.Uses.{term_uses}
-use Rattle.cfg_graph.specs.Moves.Gone.{Action}
+use Rattle.cfg_graph.specs.Moves.Gone.{PathAction}
 use Rattle.cfg_graph.specs.Moves.Actions.{actions_on}
 use Rattle.cfg_graph.specs.Moves.Paths.{ways, IsPath}
 use Rattle.cfg_graph.specs.Moves.BadUses.{BadUse}
@@ -59,13 +59,13 @@ module _ (items : ItemTable) (body : Body) (ranked : IsRanked body) (elsewhere :
   abbrev inside : ℕ → AbstractState → Out AbstractState
   inside n w = if_there effects_of 0 node body (slice_get body.blocks n) n (λ block. does_block effects_of 0 node body n block next) w
 
-  abbrev ends_any : List Action → Bool
+  abbrev ends_any : List PathAction → Bool
   ends_any acts = list_any (ends_runs items body) acts
 
-  any-first : (xs ys : List Action) → ends_any (xs ++ ys) ≡ false → ends_any xs ≡ false
+  any-first : (xs ys : List PathAction) → ends_any (xs ++ ys) ≡ false → ends_any xs ≡ false
   any-first xs ys h = first-false (ends_any xs) (ends_any ys) (sym (list_any-append (ends_runs items body) xs ys) ∙ h)
 
-  any-rest : (xs ys : List Action) → ends_any (xs ++ ys) ≡ false → ends_any ys ≡ false
+  any-rest : (xs ys : List PathAction) → ends_any (xs ++ ys) ≡ false → ends_any ys ≡ false
   any-rest xs ys h = second-false (ends_any xs) (ends_any ys) (sym (list_any-append (ends_runs items body) xs ys) ∙ h)
 
   abbrev with_left : AbstractState → List Bool → AbstractState
@@ -100,13 +100,13 @@ module _ (items : ItemTable) (body : Body) (ranked : IsRanked body) (elsewhere :
       by (Some block) e = so block block.kind e
 
   -- through a block without a bad use, and by a way out of it, up to the store of its result
-  record Left (n m : ℕ) (w : AbstractState) (done : List Action) (left : List Bool) : Type 0 where
+  record Left (n m : ℕ) (w : AbstractState) (done : List PathAction) (left : List Bool) : Type 0 where
     u : AbstractState
     choices : u.choices ≡ left
     tells : Tells items body u (done ++ actions_in body n)
     is : inside n w ≡ perform items body node (actions_between body n m) (next m) u
 
-  leave : (n m : ℕ) (block : Block) → slice_get body.blocks n ≡ Some block → (w : AbstractState) (done : List Action) → Tells items body w done
+  leave : (n m : ℕ) (block : Block) → slice_get body.blocks n ≡ Some block → (w : AbstractState) (done : List PathAction) → Tells items body w done
       → first_bad items body done (actions_in body n) ≡ None → ends_any (actions_in body n) ≡ false
       → (given left : List Bool) → Contains (ways items body block.term) (by_way given (ToBlock m)) → w.choices ≡ given ++ left
       → Left n m w done left
@@ -132,17 +132,17 @@ module _ (items : ItemTable) (body : Body) (ranked : IsRanked body) (elsewhere :
             choices = append_cancel_left choices u.choices left taken;
             tells = λ local. ap (λ z. presence_in local z) cells ∙ told local;
             is = there_is ∙ is ∙ (λ i. perform items body node (result_of items body node n (length block.stmts) next block.term (sym it.1 i)) (next (sym it.1 i)) u)
-                ∙ ap (λ (z : List Action). perform items body node z (next m) u) (result-is items body elsewhere node n m block there next);
+                ∙ ap (λ (z : List PathAction). perform items body node z (next m) u) (result-is items body elsewhere node n m block there next);
           }
 
   -- along a path, to its last block
-  record Arrives (n : ℕ) (rest : List ℕ) (w : AbstractState) (done : List Action) (left : List Bool) : Type 0 where
+  record Arrives (n : ℕ) (rest : List ℕ) (w : AbstractState) (done : List PathAction) (left : List Bool) : Type 0 where
     v : AbstractState
     is : inside n w ≡ inside (last_of n rest) v
     tells : Tells items body v (done ++ came body n rest)
     choices : v.choices ≡ left
 
-  arrives : (rest : List ℕ) (n : ℕ) (w : AbstractState) (more left : List Bool) (done : List Action) → Contains (along items body n rest) more
+  arrives : (rest : List ℕ) (n : ℕ) (w : AbstractState) (more left : List Bool) (done : List PathAction) → Contains (along items body n rest) more
       → Tells items body w done → w.choices ≡ more ++ left → length w.choices < fuel
       → first_bad items body done (came body n rest) ≡ None → ends_any (came body n rest) ≡ false → Arrives n rest w done left
   arrives [] n w more left done has tells e short clean lasts = elim (first-or more [] [] has) [
@@ -160,7 +160,7 @@ module _ (items : ItemTable) (body : Body) (ranked : IsRanked body) (elsewhere :
       let way = between-way items body n m one.0 one.1 in
       go one.0 two.0 way.0 way.1 way.2 two.2 (λ v done told list short clean lasts. arrives rest m v two.0 left done two.1 told list short clean lasts)
     where
-      both : List Action
+      both : List PathAction
       both = actions_in body n ++ actions_between body n m
 
       none-both : first_bad items body done both ≡ None
@@ -171,7 +171,7 @@ module _ (items : ItemTable) (body : Body) (ranked : IsRanked body) (elsewhere :
 
       go : (given later : List Bool) (block : Block) → slice_get body.blocks n ≡ Some block → Contains (ways items body block.term) (by_way given (ToBlock m))
           → given ++ entry_choices items body m ++ later ≡ more
-          → ((v : AbstractState) (done : List Action) → Tells items body v done → v.choices ≡ later ++ left → length v.choices < fuel
+          → ((v : AbstractState) (done : List PathAction) → Tells items body v done → v.choices ≡ later ++ left → length v.choices < fuel
           → first_bad items body done (came body m rest) ≡ None → ends_any (came body m rest) ≡ false → Arrives m rest v done left)
           → Arrives n (m ∷ rest) w done left
       go given later block there way whole again =
@@ -252,7 +252,7 @@ module _ (items : ItemTable) (body : Body) (ranked : IsRanked body) (elsewhere :
   Meets list bad left = (w : AbstractState) × (free_walk items node body list ≡ Halts (halt_of node bad) w) × (w.choices ≡ left)
 
   -- in the last block
-  last-meets : (list left : List Bool) (n : ℕ) (bad : BadUse) (v : AbstractState) (earlier : List Action)
+  last-meets : (list left : List Bool) (n : ℕ) (bad : BadUse) (v : AbstractState) (earlier : List PathAction)
       → free_walk items node body list ≡ within list n v → Tells items body v earlier → v.choices ≡ left
       → first_bad items body earlier (actions_in body n) ≡ Some bad
       → list_any (ends_runs items body) (before_bad items body earlier (actions_in body n)) ≡ false → Meets list bad left
@@ -274,7 +274,7 @@ module _ (items : ItemTable) (body : Body) (ranked : IsRanked body) (elsewhere :
           )
 
   -- on a way out of it
-  way-meets : (list left given : List Bool) (n m : ℕ) (block : Block) (bad : BadUse) (v : AbstractState) (earlier : List Action) → slice_get body.blocks n ≡ Some block
+  way-meets : (list left given : List Bool) (n m : ℕ) (block : Block) (bad : BadUse) (v : AbstractState) (earlier : List PathAction) → slice_get body.blocks n ≡ Some block
       → free_walk items node body list ≡ within list n v → Tells items body v earlier → v.choices ≡ given ++ left
       → Contains (ways items body block.term) (by_way given (ToBlock m))
       → first_bad items body earlier (actions_in body n) ≡ None → list_any (ends_runs items body) (actions_in body n) ≡ false
@@ -304,7 +304,7 @@ module _ (items : ItemTable) (body : Body) (ranked : IsRanked body) (elsewhere :
       by it =
           let there = it.come (ap (first_bad items body []) (sym same) ∙ r.none) (any-first items body ranked elsewhere node 0 (came body 0 it.rest) (before_bad items body (came body 0 it.rest) (actions_on body (r.last ∷ []))) split) in
           last-meets (given ++ left) left r.last bad there.0 (came body 0 it.rest) (there.1 ∙ ap (λ (n : ℕ). within (given ++ left) n there.0) last) there.2 there.3
-          (ap (λ (z : List Action). first_bad items body z (actions_in body r.last)) (sym same) ∙ r.first)
+          (ap (λ (z : List PathAction). first_bad items body z (actions_in body r.last)) (sym same) ∙ r.first)
           (any-rest items body ranked elsewhere node 0 (came body 0 it.rest) (before_bad items body (came body 0 it.rest) (actions_on body (r.last ∷ []))) split)
         where
           last : last_of 0 it.rest ≡ r.last
@@ -323,7 +323,7 @@ module _ (items : ItemTable) (body : Body) (ranked : IsRanked body) (elsewhere :
           split =
               ap (list_any (ends_runs items body))
               (sym (before-append items body [] (came body 0 it.rest) (actions_on body (r.last ∷ [])) (ap (first_bad items body []) (sym same) ∙ r.none))
-              ∙ ap (λ (z : List Action). before_bad items body [] (z ++ actions_on body (r.last ∷ []))) (sym same)
+              ∙ ap (λ (z : List PathAction). before_bad items body [] (z ++ actions_on body (r.last ∷ []))) (sym same)
               ∙ ap (before_bad items body []) (sym r.before))
               ∙ lasts
   path-meets path given left bad (on_way r lasts) = by (reached (given ++ left) path r.before (r.choices ++ left) r.is_path (ap (λ (z : List Bool). z ++ left) r.given_is ∙ append_assoc r.before r.choices left))

@@ -7,18 +7,18 @@ use Rattle.std.proofs.lemmas.List.{append-nil}
 use Rattle.mir_ty.specs.declared.ty.TyId.{TyId}
 use Rattle.mir_ty.specs.Facts.{needs_drop}
 use Rattle.mir_ty.specs.ItemTable.{ItemTable}
-use Rattle.store_model.specs.Effects.{Site, Halt, Aborted, BadUse, BadStore, NoChoice, Infeasible, Unreachable, Out, Go, Unwind, Halts, Effects, on_go, halting_if}
+use Rattle.store_model.specs.Effects.{EffectSite, Halt, Aborted, BadUse, BadStore, NoChoice, Infeasible, Unreachable, Out, Go, Unwind, Halts, Effects, on_go, halting_if}
 use Rattle.store_model.specs.Abstract.Effects.{AbstractState, presence, after, when, never_at, operand_used, operands_used, store, next_choice, chosen_next, choice_after, computed_by_choice, returns_by_choice, panics_by_choice, dropped, unwound}
 use Rattle.cfg_graph.specs.declared.place.Place.{Place}
 use Rattle.cfg_graph.specs.declared.place.Operand.{Operand}
 use Rattle.cfg_graph.specs.declared.terminator.Term.{Term}
 use Rattle.cfg_graph.specs.declared.terminator.Unwind.{Unwind as UnwindTo}
 use Rattle.cfg_graph.specs.declared.graph.Body.{Body}
-use Rattle.cfg_graph.specs.Edges.{Exit, ToBlock, LeavesBody, onward, unwind_targets, unwind_exit, unwind_block}
+use Rattle.cfg_graph.specs.Edges.{BlockExit, ToBlock, LeavesBody, onward, unwind_targets, unwind_exit, unwind_block}
 use Rattle.cfg_graph.specs.Places.{named, place_id}
-use Rattle.cfg_graph.specs.Uses.{Use, Tests, Stores, Drops, operand_uses, term_uses, stored_by_term}
-use Rattle.cfg_graph.specs.Moves.Gone.{Action}
-use Rattle.cfg_graph.specs.Moves.Paths.{Way, ways}
+use Rattle.cfg_graph.specs.Uses.{PlaceUse, Tests, Stores, Drops, operand_uses, term_uses, stored_by_term}
+use Rattle.cfg_graph.specs.Moves.Gone.{PathAction}
+use Rattle.cfg_graph.specs.Moves.Paths.{PathWay, ways}
 use Rattle.cfg_graph.specs.Moves.BadUses.{BadUse as Bad}
 use Rattle.cfg_meaning.specs.Actions.{site_of, operand_of, operands_of, mode_of}
 use Rattle.cfg_meaning.specs.Walk.{Next, stuck_in, branch, renamed, renamed_choice, unwinding, acts, term_does}
@@ -29,7 +29,7 @@ use Rattle.free_walks.proofs.Allowing.{allowed, is-allowed}
 use Rattle.free_walks.proofs.Lines.{Passes, at_line, stored, all-used, lasting-passes, store-is, all_effects}
 use Rattle.free_walks.proofs.Performing.{Tells, watched_of, left_by, left-tells, left-choices, perform, IsNotRefused, halts-same, Performed, on, met, performed}
 
-abbrev pub by_way : List Bool → Exit → Way
+abbrev pub by_way : List Bool → BlockExit → PathWay
 by_way choices exit = record { choices = choices; exit = exit }
 
 -- Lists of choices, and ways by them.
@@ -44,37 +44,37 @@ true-false : true ≡ false → ⊥
 true-false e = false≢true (sym e)
 
 block-is : (a b : ℕ) → ToBlock a ≡ ToBlock b → a ≡ b
-block-is a b e = ap (λ (x : Exit). elim x [ ToBlock n ↦ n | LeavesBody ↦ a ]) e
+block-is a b e = ap (λ (x : BlockExit). elim x [ ToBlock n ↦ n | LeavesBody ↦ a ]) e
 
 not-out : (a : ℕ) → LeavesBody ≡ ToBlock a → ⊥
-not-out a e = false≢true (ap (λ (x : Exit). elim x [ ToBlock n ↦ true | LeavesBody ↦ false ]) e)
+not-out a e = false≢true (ap (λ (x : BlockExit). elim x [ ToBlock n ↦ true | LeavesBody ↦ false ]) e)
 
-two-cases : (a m : ℕ) (e : Exit) (choices : List Bool) → Contains (by_way (false ∷ []) (ToBlock a) ∷ by_way (true ∷ []) e ∷ []) (by_way choices (ToBlock m))
+two-cases : (a m : ℕ) (e : BlockExit) (choices : List Bool) → Contains (by_way (false ∷ []) (ToBlock a) ∷ by_way (true ∷ []) e ∷ []) (by_way choices (ToBlock m))
     → ((choices ≡ false ∷ []) × (m ≡ a)) ⊎ ((choices ≡ true ∷ []) × (e ≡ ToBlock m))
 two-cases a m e choices has = elim (first-or (by_way choices (ToBlock m)) (by_way (false ∷ []) (ToBlock a)) (by_way (true ∷ []) e ∷ []) has) [
-  | inl same ↦ inl (sym (ap (λ (x : Way). x.choices) same), sym (block-is a m (ap (λ (x : Way). x.exit) same)))
+  | inl same ↦ inl (sym (ap (λ (x : PathWay). x.choices) same), sym (block-is a m (ap (λ (x : PathWay). x.exit) same)))
   | inr later ↦ elim (first-or (by_way choices (ToBlock m)) (by_way (true ∷ []) e) [] later) [
-    | inl same ↦ inr (sym (ap (λ (x : Way). x.choices) same), ap (λ (x : Way). x.exit) same)
+    | inl same ↦ inr (sym (ap (λ (x : PathWay). x.choices) same), ap (λ (x : PathWay). x.exit) same)
     | inr stop ↦ absurd (none-in (by_way choices (ToBlock m)) stop)
   ]
 ]
 
-one-case : (m : ℕ) (given choices : List Bool) (e : Exit) → Contains (by_way given e ∷ []) (by_way choices (ToBlock m)) → (choices ≡ given) × (e ≡ ToBlock m)
+one-case : (m : ℕ) (given choices : List Bool) (e : BlockExit) → Contains (by_way given e ∷ []) (by_way choices (ToBlock m)) → (choices ≡ given) × (e ≡ ToBlock m)
 one-case m given choices e has = elim (first-or (by_way choices (ToBlock m)) (by_way given e) [] has) [
-  | inl same ↦ (sym (ap (λ (x : Way). x.choices) same), ap (λ (x : Way). x.exit) same)
+  | inl same ↦ (sym (ap (λ (x : PathWay). x.choices) same), ap (λ (x : PathWay). x.exit) same)
   | inr stop ↦ absurd (none-in (by_way choices (ToBlock m)) stop)
 ]
 
 module _ (items : ItemTable) (body : Body) (node : ℕ → ℕ → ℕ) (n line : ℕ) (next : Next AbstractState) where
   -- the result of a terminator is stored on its way on
-  abbrev pub result_of : Term → ℕ → List Action
+  abbrev pub result_of : Term → ℕ → List PathAction
   result_of term m = if list_any (nat_eq m) (onward term) then at_line n line (map (λ place. (Stores, place)) (stored_by_term term)) else []
 
-  abbrev pub OnlyWay : List Way → List Bool → List Bool → ℕ → Type 0
+  abbrev pub OnlyWay : List PathWay → List Bool → List Bool → ℕ → Type 0
   OnlyWay all list choices m =
       (others : List Bool) (k : ℕ) (rest : List Bool) → Contains all (by_way others (ToBlock k)) → list ≡ others ++ rest → (others ≡ choices) × (k ≡ m)
 
-  abbrev pub NoWay : List Way → List Bool → Type 0
+  abbrev pub NoWay : List PathWay → List Bool → Type 0
   NoWay all list = (others : List Bool) (k : ℕ) (rest : List Bool) → Contains all (by_way others (ToBlock k)) → list ≡ others ++ rest → ⊥
 
   -- a walk leaves by a way, and stores the result there; or it goes to no block
@@ -104,7 +104,7 @@ module _ (items : ItemTable) (body : Body) (node : ℕ → ℕ → ℕ) (n line 
       → ((others : List Bool) (k : ℕ) (rest : List Bool) → Contains (ways items body term) (by_way others (ToBlock k)) → w.choices ≡ others ++ rest → (others ≡ choices) × (unwind_exit unwind ≡ ToBlock k))
       → Leaves term w (unwinding unwind next v)
   panics term (UnwindTo.Block b) w v choices has none is cells only =
-      goes choices b v has is cells (ap (λ (z : List Action). perform items body node z (next b) v) (sym (none b refl)))
+      goes choices b v has is cells (ap (λ (z : List PathAction). perform items body node z (next b) v) (sym (none b refl)))
       (λ others k rest there same. let it = only others k rest there same in (it.0, sym (block-is b k it.1)))
   panics term UnwindTo.Resume w v choices has none is cells only =
       stops (unwind-not-refused v) (λ others k rest there same. not-out k (only others k rest there same).1)
@@ -115,14 +115,14 @@ module _ (items : ItemTable) (body : Body) (node : ℕ → ℕ → ℕ) (n line 
   module _ (term : Term) (a : ℕ) (unwind : UnwindTo) (ways-are : ways items body term ≡ by_way (false ∷ []) (ToBlock a) ∷ by_way (true ∷ []) (unwind_exit unwind) ∷ [])
       (elsewhere : (b : ℕ) → unwind ≡ UnwindTo.Block b → result_of term b ≡ []) where
     abbrev here-on : Contains (ways items body term) (by_way (false ∷ []) (ToBlock a))
-    here-on = subst (λ (z : List Way). Contains z (by_way (false ∷ []) (ToBlock a))) (sym ways-are) (here (by_way (false ∷ []) (ToBlock a)) (by_way (true ∷ []) (unwind_exit unwind) ∷ []))
+    here-on = subst (λ (z : List PathWay). Contains z (by_way (false ∷ []) (ToBlock a))) (sym ways-are) (here (by_way (false ∷ []) (ToBlock a)) (by_way (true ∷ []) (unwind_exit unwind) ∷ []))
 
     abbrev here-panic : Contains (ways items body term) (by_way (true ∷ []) (unwind_exit unwind))
-    here-panic = subst (λ (z : List Way). Contains z (by_way (true ∷ []) (unwind_exit unwind))) (sym ways-are)
+    here-panic = subst (λ (z : List PathWay). Contains z (by_way (true ∷ []) (unwind_exit unwind))) (sym ways-are)
         (there (by_way (true ∷ []) (unwind_exit unwind)) (by_way (false ∷ []) (ToBlock a)) (by_way (true ∷ []) (unwind_exit unwind) ∷ []) (here (by_way (true ∷ []) (unwind_exit unwind)) []))
 
     cases : (others : List Bool) (k : ℕ) → Contains (ways items body term) (by_way others (ToBlock k)) → ((others ≡ false ∷ []) × (k ≡ a)) ⊎ ((others ≡ true ∷ []) × (unwind_exit unwind ≡ ToBlock k))
-    cases others k has = two-cases a k (unwind_exit unwind) others (subst (λ (z : List Way). Contains z (by_way others (ToBlock k))) ways-are has)
+    cases others k has = two-cases a k (unwind_exit unwind) others (subst (λ (z : List PathWay). Contains z (by_way others (ToBlock k))) ways-are has)
 
     two : (w : AbstractState) (out : List Bool → Out AbstractState) → IsNotRefused items body node (out [])
         → ((rest : List Bool) → out (false ∷ rest) ≡ perform items body node (result_of term a) (next a) (with_choices w rest))
@@ -151,7 +151,7 @@ module _ (items : ItemTable) (body : Body) (node : ℕ → ℕ → ℕ) (n line 
   module _ (term : Term) (unwind : UnwindTo) (ways-are : ways items body term ≡ by_way (true ∷ []) (unwind_exit unwind) ∷ [])
       (elsewhere : (b : ℕ) → unwind ≡ UnwindTo.Block b → result_of term b ≡ []) where
     cases-second : (others : List Bool) (k : ℕ) → Contains (ways items body term) (by_way others (ToBlock k)) → (others ≡ true ∷ []) × (unwind_exit unwind ≡ ToBlock k)
-    cases-second others k has = one-case k (true ∷ []) others (unwind_exit unwind) (subst (λ (z : List Way). Contains z (by_way others (ToBlock k))) ways-are has)
+    cases-second others k has = one-case k (true ∷ []) others (unwind_exit unwind) (subst (λ (z : List PathWay). Contains z (by_way others (ToBlock k))) ways-are has)
 
     second : (w : AbstractState) (out : List Bool → Out AbstractState) → IsNotRefused items body node (out [])
         → ((rest : List Bool) → IsNotRefused items body node (out (false ∷ rest)))
@@ -165,19 +165,19 @@ module _ (items : ItemTable) (body : Body) (node : ℕ → ℕ → ℕ) (n line 
             (λ others k more has is. false≢true (first-is false true rest more (sym e ∙ is ∙ ap (λ (z : List Bool). z ++ more) (cases-second others k has).0)))
         by (true ∷ rest) e = subst (Leaves term w) (sym (panic rest))
             (panics term unwind w (with_choices w rest) (true ∷ [])
-            (subst (λ (z : List Way). Contains z (by_way (true ∷ []) (unwind_exit unwind))) (sym ways-are) (here (by_way (true ∷ []) (unwind_exit unwind)) []))
+            (subst (λ (z : List PathWay). Contains z (by_way (true ∷ []) (unwind_exit unwind))) (sym ways-are) (here (by_way (true ∷ []) (unwind_exit unwind)) []))
             elsewhere e refl (λ others k more has is. cases-second others k has))
 
   -- a way without a choice
   only-way : (term : Term) (a : ℕ) (w : AbstractState) → ways items body term ≡ by_way [] (ToBlock a) ∷ [] → result_of term a ≡ [] → Leaves term w (next a w)
   only-way term a w ways-are none =
-      goes [] a w (subst (λ (z : List Way). Contains z (by_way [] (ToBlock a))) (sym ways-are) (here (by_way [] (ToBlock a)) [])) refl refl
-      (ap (λ (z : List Action). perform items body node z (next a) w) (sym none))
-      (λ others k rest has is. let it = one-case k [] others (ToBlock a) (subst (λ (z : List Way). Contains z (by_way others (ToBlock k))) ways-are has) in (it.0, sym (block-is a k it.1)))
+      goes [] a w (subst (λ (z : List PathWay). Contains z (by_way [] (ToBlock a))) (sym ways-are) (here (by_way [] (ToBlock a)) [])) refl refl
+      (ap (λ (z : List PathAction). perform items body node z (next a) w) (sym none))
+      (λ others k rest has is. let it = one-case k [] others (ToBlock a) (subst (λ (z : List PathWay). Contains z (by_way others (ToBlock k))) ways-are has) in (it.0, sym (block-is a k it.1)))
 
   no-way : (term : Term) (w : AbstractState) (out : Out AbstractState) → ways items body term ≡ [] → IsNotRefused items body node out → Leaves term w out
   no-way term w out ways-are fine =
-      stops fine (λ others k rest has is. none-in (by_way others (ToBlock k)) (subst (λ (z : List Way). Contains z (by_way others (ToBlock k))) ways-are has))
+      stops fine (λ others k rest has is. none-in (by_way others (ToBlock k)) (subst (λ (z : List PathWay). Contains z (by_way others (ToBlock k))) ways-are has))
 
   -- Results.
 
@@ -185,20 +185,20 @@ module _ (items : ItemTable) (body : Body) (node : ℕ → ℕ → ℕ) (n line 
   nothing true = refl
   nothing false = refl
 
-  stored-on : (a : ℕ) (uses : List (Use × Place)) → (if list_any (nat_eq a) (a ∷ []) then at_line n line uses else []) ≡ at_line n line uses
+  stored-on : (a : ℕ) (uses : List (PlaceUse × Place)) → (if list_any (nat_eq a) (a ∷ []) then at_line n line uses else []) ≡ at_line n line uses
   stored-on a uses = ap (λ (b : Bool). if b || false then at_line n line uses else []) (eq-eqb a a refl)
 
   abbrev pub Elsewhere : Term → Type 0
   Elsewhere term = (m : ℕ) → Contains (onward term) m → Contains (unwind_targets term) m → ⊥
 
-  stored-off : (a b : ℕ) (uses : List (Use × Place)) → (a ≡ b → ⊥) → (if list_any (nat_eq b) (a ∷ []) then at_line n line uses else []) ≡ []
+  stored-off : (a b : ℕ) (uses : List (PlaceUse × Place)) → (a ≡ b → ⊥) → (if list_any (nat_eq b) (a ∷ []) then at_line n line uses else []) ≡ []
   stored-off a b uses apart = by (nat_eq b a) refl
     where
       by : (e : Bool) → nat_eq b a ≡ e → (if e || false then at_line n line uses else []) ≡ []
       by true is = absurd (apart (sym (eqb-true b a is)))
       by false is = refl
 
-  off : (a : ℕ) (unwind : UnwindTo) (uses : List (Use × Place)) → ((m : ℕ) → Contains (a ∷ []) m → Contains (unwind_block unwind ++ []) m → ⊥)
+  off : (a : ℕ) (unwind : UnwindTo) (uses : List (PlaceUse × Place)) → ((m : ℕ) → Contains (a ∷ []) m → Contains (unwind_block unwind ++ []) m → ⊥)
       → (b : ℕ) → unwind ≡ UnwindTo.Block b → (if list_any (nat_eq b) (a ∷ []) then at_line n line uses else []) ≡ []
   off a unwind uses apart b is =
       stored-off a b uses
@@ -225,11 +225,11 @@ module _ (items : ItemTable) (body : Body) (node : ℕ → ℕ → ℕ) (n line 
   choice-passes : (if_true if_false : ℕ) → Passes (from_choice if_true if_false)
   choice-passes if_true if_false = record { bad_use = λ site w. refl; bad_store = λ site w. refl; unreachable = λ w. refl; no_choice = λ w. refl; infeasible = λ w. refl }
 
-  abbrev Performs : Term → List Action → List (Use × Place) → AbstractState → Out AbstractState → Type 0
+  abbrev Performs : Term → List PathAction → List (PlaceUse × Place) → AbstractState → Out AbstractState → Type 0
   Performs term done uses w out = Performed items body node done (at_line n line uses) (Leaves term) w out
 
   -- operands, and then what is told of a state
-  operands-then : (term : Term) (c k : AbstractState → Out AbstractState) (done : List Action) (uses : List (Use × Place)) (w : AbstractState) (out : Out AbstractState)
+  operands-then : (term : Term) (c k : AbstractState → Out AbstractState) (done : List PathAction) (uses : List (PlaceUse × Place)) (w : AbstractState) (out : Out AbstractState)
       → out ≡ perform items body node (at_line n line uses) k w → ((v : AbstractState) → Leaves term v (k v)) → Tells items body w done
       → Performs term done uses w out
   operands-then term c k done uses w out is leaves tells =
@@ -250,7 +250,7 @@ module _ (items : ItemTable) (body : Body) (node : ℕ → ℕ → ℕ) (n line 
   abbrev locals : ℕ → Option TyId
   locals = slice_get body.locals
 
-  abbrev place_site : Place → Site
+  abbrev place_site : Place → EffectSite
   place_site place = site_of (node n line) place
 
   abbrev never_to : Place → Bool
@@ -266,7 +266,7 @@ module _ (items : ItemTable) (body : Body) (node : ℕ → ℕ → ℕ) (n line 
       two term a unwind ways-are elsewhere v (λ list. from_effect a unwind (halting_if (never_to to) Unreachable (next_choice list v (store items locals (place_site to)) Unwind)))
       (no-choice-by (never_to to) a unwind v)
       (λ rest. store-is items body node n line (from_effect a unwind) (from-passes a unwind) to (next a) (λ w. refl) (with_choices v rest)
-      ∙ ap (λ (z : List Action). perform items body node z (next a) (with_choices v rest)) (sym result))
+      ∙ ap (λ (z : List PathAction). perform items body node z (next a) (with_choices v rest)) (sym result))
       (λ rest. unwinding-by (never_to to) a unwind (with_choices v rest))
 
   returned : (term : Term) (to : Place) (a : ℕ) (unwind : UnwindTo) (never : Bool) → never_to to ≡ never
@@ -285,7 +285,7 @@ module _ (items : ItemTable) (body : Body) (node : ℕ → ℕ → ℕ) (n line 
       (no-choice-by (never_to to) a unwind v)
       (λ rest. ap (λ (b : Bool). from_effect a unwind (halting_if (never_to to) Unreachable ((if b then Halts Infeasible else store items locals (place_site to)) (with_choices v rest)))) e
       ∙ store-is items body node n line (from_effect a unwind) (from-passes a unwind) to (next a) (λ w. refl) (with_choices v rest)
-      ∙ ap (λ (z : List Action). perform items body node z (next a) (with_choices v rest)) (sym result))
+      ∙ ap (λ (z : List PathAction). perform items body node z (next a) (with_choices v rest)) (sym result))
       (λ rest. unwinding-by (never_to to) a unwind (with_choices v rest))
 
   -- a test
@@ -294,11 +294,11 @@ module _ (items : ItemTable) (body : Body) (node : ℕ → ℕ → ℕ) (n line 
   chosen term if_true if_false ways-are none v =
       two term if_false (UnwindTo.Block if_true) ways-are (λ b is. none b) v (λ list. branch (renamed_choice naming_halts (chosen_next list v)) (next if_true) (next if_false))
       (not-refused NoChoice v refl)
-      (λ rest. ap (λ (z : List Action). perform items body node z (next if_false) (with_choices v rest)) (sym (none if_false)))
+      (λ rest. ap (λ (z : List PathAction). perform items body node z (next if_false) (with_choices v rest)) (sym (none if_false)))
       (λ rest. refl)
 
   -- one use, where it may be made
-  one-performed : (term : Term) (how : Use) (place : Place) (done : List Action) (w : AbstractState) (out : Out AbstractState)
+  one-performed : (term : Term) (how : PlaceUse) (place : Place) (done : List PathAction) (w : AbstractState) (out : Out AbstractState)
       → ends_runs items body (record { how = how; place = named place; block = n; line = line }) ≡ false
       → Leaves term (left_by items body (record { how = how; place = named place; block = n; line = line }) w) out → Tells items body w done
       → Performs term done ((how, place) ∷ []) w
@@ -307,7 +307,7 @@ module _ (items : ItemTable) (body : Body) (node : ℕ → ℕ → ℕ) (n line 
       by (allowed how (watched_of items body (named place)) (presence place.local w.cells)) (is_bad items body done a how) refl
       (ap (allowed how (watched_of items body (named place))) (tells place.local) ∙ is-allowed items body done a)
     where
-      a : Action
+      a : PathAction
       a = record { how = how; place = named place; block = n; line = line }
 
       bad : Bad
@@ -335,7 +335,7 @@ module _ (items : ItemTable) (body : Body) (node : ℕ → ℕ → ℕ) (n line 
       two (Term.DropAt place a unwind) a unwind ways-are (λ b is. nothing (list_any (nat_eq b) (a ∷ []))) (after_drop place w)
       (λ list. from_effect a unwind (next_choice list w (λ w. Go (after_drop place w)) (λ w. unwound items locals (mode_of unwind) (after_drop place w))))
       (not-refused NoChoice w refl)
-      (λ rest. ap (λ (z : List Action). perform items body node z (next a) (with_choices (after_drop place w) rest)) (sym (nothing (list_any (nat_eq a) (a ∷ [])))))
+      (λ rest. ap (λ (z : List PathAction). perform items body node z (next a) (with_choices (after_drop place w) rest)) (sym (nothing (list_any (nat_eq a) (a ∷ [])))))
       (λ rest. by unwind (with_choices (after_drop place w) rest))
     where
       by : (unwind : UnwindTo) (v : AbstractState) → from_effect a unwind (unwound items locals (mode_of unwind) v) ≡ unwinding unwind next v
@@ -360,15 +360,15 @@ module _ (items : ItemTable) (body : Body) (node : ℕ → ℕ → ℕ) (n line 
   abbrev needed : Place → Bool
   needed place = option_map_or (needs_drop items) (place_id items body.locals place) false
 
-  abbrev used_up : List Operand → List (Use × Place)
+  abbrev used_up : List Operand → List (PlaceUse × Place)
   used_up operands = flat_map operand_uses operands
 
   -- operands, and then a result or none
-  all-then : (term : Term) (operands : List Operand) (v : Bool) (a : ℕ) (unwind : UnwindTo) (k : AbstractState → Out AbstractState) (done : List Action) (w : AbstractState)
+  all-then : (term : Term) (operands : List Operand) (v : Bool) (a : ℕ) (unwind : UnwindTo) (k : AbstractState → Out AbstractState) (done : List PathAction) (w : AbstractState)
       → ((u : AbstractState) → Leaves term u (from_effect a unwind (halting_if v Unreachable (k u)))) → Tells items body w done
       → Performs term done (used_up operands ++ []) w (from_effect a unwind (halting_if v Unreachable (operands_used items locals (operands_of (node n line) operands) k w)))
   all-then term operands v a unwind k done w leaves tells =
-      subst (λ (z : List (Use × Place)). Performs term done z w (from_effect a unwind (halting_if v Unreachable (operands_used items locals (operands_of (node n line) operands) k w)))) (sym (append-nil (used_up operands)))
+      subst (λ (z : List (PlaceUse × Place)). Performs term done z w (from_effect a unwind (halting_if v Unreachable (operands_used items locals (operands_of (node n line) operands) k w)))) (sym (append-nil (used_up operands)))
       (operands-then term Go (λ u. from_effect a unwind (halting_if v Unreachable (k u))) done (used_up operands) w _
       (all-used items body node n line (λ o. from_effect a unwind (halting_if v Unreachable o)) (lasting-passes items body node n line v (from_effect a unwind) (from-passes a unwind)) operands k
       (λ u. from_effect a unwind (halting_if v Unreachable (k u))) (λ u. refl) w)
@@ -379,13 +379,13 @@ module _ (items : ItemTable) (body : Body) (node : ℕ → ℕ → ℕ) (n line 
   on-go (Unwind w) = refl
   on-go (Halts halt w) = refl
 
-  pub term-performs : (term : Term) → Elsewhere term → (done : List Action) (w : AbstractState) → Tells items body w done
+  pub term-performs : (term : Term) → Elsewhere term → (done : List PathAction) (w : AbstractState) → Tells items body w done
       → Performs term done (term_uses term) w (term_does named_effects (node n line) term next w)
   term-performs (Term.Goto b) apart done w tells =
       performed items body node (Leaves (Term.Goto b)) (next b) (λ v. only-way (Term.Goto b) b v refl (nothing (list_any (nat_eq b) (b ∷ [])))) [] done w tells
   term-performs (Term.If operand if_true if_false) apart done w tells =
       subst (λ (o : Out AbstractState). Performs (Term.If operand if_true if_false) done (used_up (operand ∷ []) ++ []) w (from_choice if_true if_false o)) (on-go (operand_used items locals (operand_of (node n line) operand) w))
-      (subst (λ (z : List (Use × Place)). Performs (Term.If operand if_true if_false) done z w (from_choice if_true if_false (operands_used items locals (operands_of (node n line) (operand ∷ [])) Go w))) (sym (append-nil (used_up (operand ∷ []))))
+      (subst (λ (z : List (PlaceUse × Place)). Performs (Term.If operand if_true if_false) done z w (from_choice if_true if_false (operands_used items locals (operands_of (node n line) (operand ∷ [])) Go w))) (sym (append-nil (used_up (operand ∷ []))))
       (operands-then (Term.If operand if_true if_false) Go (λ u. from_choice if_true if_false (Go u)) done (used_up (operand ∷ [])) w _
       (all-used items body node n line (from_choice if_true if_false) (choice-passes if_true if_false) (operand ∷ []) Go (λ u. from_choice if_true if_false (Go u)) (λ u. refl) w)
       (chosen (Term.If operand if_true if_false) if_true if_false refl (λ m. nothing (list_any (nat_eq m) (if_false ∷ if_true ∷ [])))) tells))
@@ -408,7 +408,7 @@ module _ (items : ItemTable) (body : Body) (node : ℕ → ℕ → ℕ) (n line 
       all-then (Term.Bounds index count a unwind) (index ∷ []) false a unwind (λ v. panics_by_choice v Go) done w
       (λ v. two (Term.Bounds index count a unwind) a unwind refl (λ b is. nothing (list_any (nat_eq b) (a ∷ []))) v (λ list. from_effect a unwind (next_choice list v Go Unwind))
       (not-refused NoChoice v refl)
-      (λ rest. ap (λ (z : List Action). perform items body node z (next a) (with_choices v rest)) (sym (nothing (list_any (nat_eq a) (a ∷ [])))))
+      (λ rest. ap (λ (z : List PathAction). perform items body node z (next a) (with_choices v rest)) (sym (nothing (list_any (nat_eq a) (a ∷ [])))))
       (λ rest. refl)) tells
   term-performs (Term.Call to callee args a unwind) apart done w tells =
       all-then (Term.Call to callee args a unwind) args (never_to to) a unwind (returns_by_choice items locals (place_site to)) done w

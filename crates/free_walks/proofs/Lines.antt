@@ -2,33 +2,33 @@
 use Rattle.std.proofs.Common.{◌≡◌, ℕ, suc, Bool, true, false, List, [], ◌∷◌, ◌++◌, map, flat_map, slice_get, refl, sym, ap, ◌∙◌}
 use Rattle.std.proofs.lemmas.List.{append-nil, map-append}
 use Rattle.mir_ty.specs.ItemTable.{ItemTable}
-use Rattle.store_model.specs.Effects.{Site, BadUse, BadStore, NoChoice, Infeasible, Unreachable, Out, Go, Halts, Effects, on_go, halting_if}
+use Rattle.store_model.specs.Effects.{EffectSite, BadUse, BadStore, NoChoice, Infeasible, Unreachable, Out, Go, Halts, Effects, on_go, halting_if}
 use Rattle.store_model.specs.Abstract.Effects.{AbstractState, presence, may_use, may_store, after, when, never_at, unless_never, using, operand_used, operands_used, store, abstract_effects}
 use Rattle.cfg_graph.specs.declared.place.Place.{Place}
 use Rattle.cfg_graph.specs.declared.place.Operand.{Operand}
 use Rattle.cfg_graph.specs.declared.statement.Stmt.{Stmt}
 use Rattle.cfg_graph.specs.declared.graph.Body.{Body}
 use Rattle.cfg_graph.specs.Places.{named}
-use Rattle.cfg_graph.specs.Uses.{Use, Borrows, Touches, Stores, operand_uses, stmt_uses}
-use Rattle.cfg_graph.specs.Moves.Gone.{Action}
+use Rattle.cfg_graph.specs.Uses.{PlaceUse, Borrows, Touches, Stores, operand_uses, stmt_uses}
+use Rattle.cfg_graph.specs.Moves.Gone.{PathAction}
 use Rattle.cfg_meaning.specs.Actions.{site_of, operand_of, operands_of, action_of}
 use Rattle.cfg_meaning.specs.Walk.{stuck_in, ◌>>=◌, renamed, naming, stmts_do}
 use Rattle.free_walks.proofs.Performing.{perform, perform-append, unless_ended, watched_of}
 
-abbrev pub at_line : (block line : ℕ) → List (Use × Place) → List Action
+abbrev pub at_line : (block line : ℕ) → List (PlaceUse × Place) → List PathAction
 at_line block line uses = map (λ made. record { how = made.0; place = named made.1; block = block; line = line }) uses
 
-abbrev pub stmt_actions : (block line : ℕ) → List Stmt → List Action
+abbrev pub stmt_actions : (block line : ℕ) → List Stmt → List PathAction
 stmt_actions block line [] = []
 stmt_actions block line (stmt ∷ stmts) = at_line block line (stmt_uses stmt) ++ stmt_actions block (suc line) stmts
 
-abbrev pub stored : Place → List (Use × Place)
+abbrev pub stored : Place → List (PlaceUse × Place)
 stored to = (Stores, to) ∷ []
 
 -- what comes of an effect passes on that it halts
 pub record Passes (c : Out AbstractState → Out AbstractState) : Type 0 where
-  pub bad_use : (site : Site) (w : AbstractState) → c (Halts (BadUse site) w) ≡ Halts (BadUse site) w
-  pub bad_store : (site : Site) (w : AbstractState) → c (Halts (BadStore site) w) ≡ Halts (BadStore site) w
+  pub bad_use : (site : EffectSite) (w : AbstractState) → c (Halts (BadUse site) w) ≡ Halts (BadUse site) w
+  pub bad_store : (site : EffectSite) (w : AbstractState) → c (Halts (BadStore site) w) ≡ Halts (BadStore site) w
   pub unreachable : (w : AbstractState) → c (Halts Unreachable w) ≡ Halts Unreachable w
   pub no_choice : (w : AbstractState) → c (Halts NoChoice w) ≡ Halts NoChoice w
   pub infeasible : (w : AbstractState) → c (Halts Infeasible w) ≡ Halts Infeasible w
@@ -37,23 +37,23 @@ module _ (items : ItemTable) (body : Body) (node : ℕ → ℕ → ℕ) (n line 
   abbrev eff : Effects AbstractState
   eff = abstract_effects items (slice_get body.locals)
 
-  abbrev site : Place → Site
+  abbrev site : Place → EffectSite
   site place = site_of (node n line) place
 
   abbrev never : Place → Bool
   never place = never_at items (slice_get body.locals) (site place)
 
-  abbrev doing : List (Use × Place) → (AbstractState → Out AbstractState) → AbstractState → Out AbstractState
+  abbrev doing : List (PlaceUse × Place) → (AbstractState → Out AbstractState) → AbstractState → Out AbstractState
   doing uses next w = perform items body node (at_line n line uses) next w
 
-  doing-append : (xs ys : List (Use × Place)) (next : AbstractState → Out AbstractState) (w : AbstractState)
+  doing-append : (xs ys : List (PlaceUse × Place)) (next : AbstractState → Out AbstractState) (w : AbstractState)
       → doing (xs ++ ys) next w ≡ doing xs (λ w. doing ys next w) w
   doing-append xs ys next w =
-      ap (λ (z : List Action). perform items body node z next w) (map-append (λ (made : Use × Place). record { how = made.0; place = named made.1; block = n; line = line }) xs ys)
+      ap (λ (z : List PathAction). perform items body node z next w) (map-append (λ (made : PlaceUse × Place). record { how = made.0; place = named made.1; block = n; line = line }) xs ys)
       ∙ perform-append items body node (at_line n line xs) (at_line n line ys) next w
 
   module _ (c : Out AbstractState → Out AbstractState) (passes : Passes c) where
-    pub one-used : (operand : Operand) (k : AbstractState → Out AbstractState) (more : List (Use × Place)) (next : AbstractState → Out AbstractState)
+    pub one-used : (operand : Operand) (k : AbstractState → Out AbstractState) (more : List (PlaceUse × Place)) (next : AbstractState → Out AbstractState)
         → ((w : AbstractState) → c (k w) ≡ doing more next w) → (w : AbstractState)
         → c (on_go (operand_used items (slice_get body.locals) (operand_of (node n line) operand) w) k) ≡ doing (operand_uses operand ++ more) next w
     one-used (Operand.Copied place) k more next same w =
@@ -125,13 +125,13 @@ module _ (items : ItemTable) (body : Body) (node : ℕ → ℕ → ℕ) (n line 
         all-used (lasting (never to) bound bound-passes) (lasting-passes (never to) bound bound-passes) operands (store items (slice_get body.locals) (site to)) (doing (stored to) rest)
         (store-is bound bound-passes to rest (λ w. refl)) w
         ∙ sym (doing-append (flat_map operand_uses operands) (stored to) rest w)
-        ∙ ap (λ (z : List (Use × Place)). doing z rest w) (ap (λ (z : List (Use × Place)). z ++ stored to) (sym (append-nil (flat_map operand_uses operands))))
+        ∙ ap (λ (z : List (PlaceUse × Place)). doing z rest w) (ap (λ (z : List (PlaceUse × Place)). z ++ stored to) (sym (append-nil (flat_map operand_uses operands))))
 
     reading : (operands : List Operand) (w : AbstractState)
         → bound (operands_used items (slice_get body.locals) (operands_of (node n line) operands) Go w) ≡ doing (flat_map operand_uses operands ++ [] ++ []) rest w
     reading operands w =
         all-used bound bound-passes operands Go rest (λ w. refl) w
-        ∙ ap (λ (z : List (Use × Place)). doing z rest w) (sym (append-nil (flat_map operand_uses operands ++ []) ∙ append-nil (flat_map operand_uses operands)))
+        ∙ ap (λ (z : List (PlaceUse × Place)). doing z rest w) (sym (append-nil (flat_map operand_uses operands ++ []) ∙ append-nil (flat_map operand_uses operands)))
 
     borrowing : (to of : Place) (w : AbstractState)
         → bound (halting_if (never to) Unreachable (using items (slice_get body.locals) (site of) (store items (slice_get body.locals) (site to)) w))

@@ -13,7 +13,7 @@ use Rattle.store_model.specs.Places.Place.{Step, Place, Watched, Whole, ThroughR
 use Rattle.store_model.specs.Abstract.Presence.{Presence, is_present, is_gone, after_action}
 use Rattle.store_model.specs.Abstract.Effects.{AbstractState, presence, with_presence, params_present, at_start, when}
 use Rattle.cfg_graph.specs.declared.graph.Body.{Body}
-use Rattle.cfg_graph.specs.Moves.Gone.{Action, leaves_gone, counts}
+use Rattle.cfg_graph.specs.Moves.Gone.{PathAction, leaves_gone, counts}
 use Rattle.cfg_graph.specs.Moves.Present.{changed_by, present_by, present_from, present_at_start, present_after}
 use Rattle.cfg_graph.specs.Moves.BadUses.{BadUse}
 use Rattle.move_errors.specs.Reaches.{rule_of, is_bad, first_bad}
@@ -97,10 +97,10 @@ params-start n local = by (nat_lt 0 local) refl (nat_le local n) refl
 
 module _ (items : ItemTable) (body : Body) where
   -- the cells of a walk tell what is present after actions of a path
-  abbrev pub Tells : AbstractState → List Action → Type 0
+  abbrev pub Tells : AbstractState → List PathAction → Type 0
   Tells w actions = (local : ℕ) → presence local w.cells ≡ present_after items body actions local
 
-  present-more : (local : ℕ) (xs : List Action) (a : Action) (p : Presence)
+  present-more : (local : ℕ) (xs : List PathAction) (a : PathAction) (p : Presence)
       → present_from items body local (xs ++ a ∷ []) p ≡ present_by items body local a (present_from items body local xs p)
   present-more local [] a p = refl
   present-more local (x ∷ xs) a p = present-more local xs a (present_by items body local x p)
@@ -122,14 +122,14 @@ module _ (items : ItemTable) (body : Body) where
   acted-counts takes id steps _ (element upto more i is not_whole array has) p = refl
 
   -- what an action leaves
-  abbrev changed : Option Bool → Action → AbstractState → AbstractState
+  abbrev changed : Option Bool → PathAction → AbstractState → AbstractState
   changed None a w = w
   changed (Some takes) a w = record w { cells = with_presence a.place.local (acted takes (watched_of a.place)) w.cells }
 
-  abbrev pub left_by : Action → AbstractState → AbstractState
+  abbrev pub left_by : PathAction → AbstractState → AbstractState
   left_by a w = changed (leaves_gone a.how) a w
 
-  pub left-tells : (a : Action) (w : AbstractState) (done : List Action) → Tells w done → Tells (left_by a w) (done ++ a ∷ [])
+  pub left-tells : (a : PathAction) (w : AbstractState) (done : List PathAction) → Tells w done → Tells (left_by a w) (done ++ a ∷ [])
   left-tells a w done tells local = by (leaves_gone a.how) refl ∙ sym (present-more local done a (present_at_start items body local))
     where
       before : Presence
@@ -158,7 +158,7 @@ module _ (items : ItemTable) (body : Body) where
           swap false true = refl
           swap false false = refl
 
-  pub left-choices : (a : Action) (w : AbstractState) → (left_by a w).choices ≡ w.choices
+  pub left-choices : (a : PathAction) (w : AbstractState) → (left_by a w).choices ≡ w.choices
   left-choices a w = by (leaves_gone a.how)
     where
       by : (left : Option Bool) → (changed left a w).choices ≡ w.choices
@@ -170,7 +170,7 @@ module _ (items : ItemTable) (body : Body) where
 
   -- Lists of actions, the first bad one, and those before it.
 
-  pub none-first : (done xs ys : List Action) → first_bad items body done (xs ++ ys) ≡ None → first_bad items body done xs ≡ None
+  pub none-first : (done xs ys : List PathAction) → first_bad items body done (xs ++ ys) ≡ None → first_bad items body done xs ≡ None
   none-first done [] ys h = refl
   none-first done (a ∷ xs) ys h = by (is_bad items body done a a.how) (none-first (done ++ a ∷ []) xs ys) h
     where
@@ -180,17 +180,17 @@ module _ (items : ItemTable) (body : Body) where
       by true later h = absurd (none-some (record { rule = rule_of a.how; action = a }) (sym h))
       by false later h = later h
 
-  pub none-rest : (done xs ys : List Action) → first_bad items body done (xs ++ ys) ≡ None → first_bad items body (done ++ xs) ys ≡ None
-  none-rest done [] ys h = ap (λ (z : List Action). first_bad items body z ys) (append-nil done) ∙ h
+  pub none-rest : (done xs ys : List PathAction) → first_bad items body done (xs ++ ys) ≡ None → first_bad items body (done ++ xs) ys ≡ None
+  none-rest done [] ys h = ap (λ (z : List PathAction). first_bad items body z ys) (append-nil done) ∙ h
   none-rest done (a ∷ xs) ys h = by (is_bad items body done a a.how) (none-rest (done ++ a ∷ []) xs ys) h
     where
       by : (b : Bool) → (first_bad items body (done ++ a ∷ []) (xs ++ ys) ≡ None → first_bad items body ((done ++ a ∷ []) ++ xs) ys ≡ None)
           → (if b then Some (record { rule = rule_of a.how; action = a }) else first_bad items body (done ++ a ∷ []) (xs ++ ys)) ≡ None
           → first_bad items body (done ++ a ∷ xs) ys ≡ None
       by true later h = absurd (none-some (record { rule = rule_of a.how; action = a }) (sym h))
-      by false later h = ap (λ (z : List Action). first_bad items body z ys) (sym (append_assoc done (a ∷ []) xs)) ∙ later h
+      by false later h = ap (λ (z : List PathAction). first_bad items body z ys) (sym (append_assoc done (a ∷ []) xs)) ∙ later h
 
-  pub before-none : (done xs : List Action) → first_bad items body done xs ≡ None → before_bad items body done xs ≡ xs
+  pub before-none : (done xs : List PathAction) → first_bad items body done xs ≡ None → before_bad items body done xs ≡ xs
   before-none done [] h = refl
   before-none done (a ∷ xs) h = by (is_bad items body done a a.how) (before-none (done ++ a ∷ []) xs) h
     where
@@ -198,30 +198,30 @@ module _ (items : ItemTable) (body : Body) where
           → (if b then Some (record { rule = rule_of a.how; action = a }) else first_bad items body (done ++ a ∷ []) xs) ≡ None
           → (if b then [] else a ∷ before_bad items body (done ++ a ∷ []) xs) ≡ a ∷ xs
       by true later h = absurd (none-some (record { rule = rule_of a.how; action = a }) (sym h))
-      by false later h = ap (λ (z : List Action). a ∷ z) (later h)
+      by false later h = ap (λ (z : List PathAction). a ∷ z) (later h)
 
-  pub before-append : (done xs ys : List Action) → first_bad items body done xs ≡ None
+  pub before-append : (done xs ys : List PathAction) → first_bad items body done xs ≡ None
       → before_bad items body done (xs ++ ys) ≡ xs ++ before_bad items body (done ++ xs) ys
-  before-append done [] ys h = ap (λ (z : List Action). before_bad items body z ys) (sym (append-nil done))
+  before-append done [] ys h = ap (λ (z : List PathAction). before_bad items body z ys) (sym (append-nil done))
   before-append done (a ∷ xs) ys h = by (is_bad items body done a a.how) (before-append (done ++ a ∷ []) xs ys) h
     where
       by : (b : Bool) → (first_bad items body (done ++ a ∷ []) xs ≡ None → before_bad items body (done ++ a ∷ []) (xs ++ ys) ≡ xs ++ before_bad items body ((done ++ a ∷ []) ++ xs) ys)
           → (if b then Some (record { rule = rule_of a.how; action = a }) else first_bad items body (done ++ a ∷ []) xs) ≡ None
           → (if b then [] else a ∷ before_bad items body (done ++ a ∷ []) (xs ++ ys)) ≡ a ∷ (xs ++ before_bad items body (done ++ a ∷ xs) ys)
       by true later h = absurd (none-some (record { rule = rule_of a.how; action = a }) (sym h))
-      by false later h = ap (λ (z : List Action). a ∷ z) (later h ∙ ap (λ (z : List Action). xs ++ before_bad items body z ys) (append_assoc done (a ∷ []) xs))
+      by false later h = ap (λ (z : List PathAction). a ∷ z) (later h ∙ ap (λ (z : List PathAction). xs ++ before_bad items body z ys) (append_assoc done (a ∷ []) xs))
 
-  pub some-rest : (done xs ys : List Action) → first_bad items body done xs ≡ None → first_bad items body done (xs ++ ys) ≡ first_bad items body (done ++ xs) ys
-  some-rest done [] ys h = ap (λ (z : List Action). first_bad items body z ys) (sym (append-nil done))
+  pub some-rest : (done xs ys : List PathAction) → first_bad items body done xs ≡ None → first_bad items body done (xs ++ ys) ≡ first_bad items body (done ++ xs) ys
+  some-rest done [] ys h = ap (λ (z : List PathAction). first_bad items body z ys) (sym (append-nil done))
   some-rest done (a ∷ xs) ys h = by (is_bad items body done a a.how) (some-rest (done ++ a ∷ []) xs ys) h
     where
       by : (b : Bool) → (first_bad items body (done ++ a ∷ []) xs ≡ None → first_bad items body (done ++ a ∷ []) (xs ++ ys) ≡ first_bad items body ((done ++ a ∷ []) ++ xs) ys)
           → (if b then Some (record { rule = rule_of a.how; action = a }) else first_bad items body (done ++ a ∷ []) xs) ≡ None
           → (if b then Some (record { rule = rule_of a.how; action = a }) else first_bad items body (done ++ a ∷ []) (xs ++ ys)) ≡ first_bad items body (done ++ a ∷ xs) ys
       by true later h = absurd (none-some (record { rule = rule_of a.how; action = a }) (sym h))
-      by false later h = later h ∙ ap (λ (z : List Action). first_bad items body z ys) (append_assoc done (a ∷ []) xs)
+      by false later h = later h ∙ ap (λ (z : List PathAction). first_bad items body z ys) (append_assoc done (a ∷ []) xs)
 
-  pub some-first : (done xs ys : List Action) (bad : BadUse) → first_bad items body done xs ≡ Some bad → first_bad items body done (xs ++ ys) ≡ Some bad
+  pub some-first : (done xs ys : List PathAction) (bad : BadUse) → first_bad items body done xs ≡ Some bad → first_bad items body done (xs ++ ys) ≡ Some bad
   some-first done [] ys bad h = absurd (none-some bad h)
   some-first done (a ∷ xs) ys bad h = by (is_bad items body done a a.how) (some-first (done ++ a ∷ []) xs ys bad) h
     where
@@ -231,7 +231,7 @@ module _ (items : ItemTable) (body : Body) where
       by true later h = h
       by false later h = later h
 
-  pub before-some : (done xs ys : List Action) (bad : BadUse) → first_bad items body done xs ≡ Some bad → before_bad items body done (xs ++ ys) ≡ before_bad items body done xs
+  pub before-some : (done xs ys : List PathAction) (bad : BadUse) → first_bad items body done xs ≡ Some bad → before_bad items body done (xs ++ ys) ≡ before_bad items body done xs
   before-some done [] ys bad h = absurd (none-some bad h)
   before-some done (a ∷ xs) ys bad h = by (is_bad items body done a a.how) (before-some (done ++ a ∷ []) xs ys bad) h
     where
@@ -239,7 +239,7 @@ module _ (items : ItemTable) (body : Body) where
           → (if b then Some (record { rule = rule_of a.how; action = a }) else first_bad items body (done ++ a ∷ []) xs) ≡ Some bad
           → (if b then [] else a ∷ before_bad items body (done ++ a ∷ []) (xs ++ ys)) ≡ (if b then [] else a ∷ before_bad items body (done ++ a ∷ []) xs)
       by true later h = refl
-      by false later h = ap (λ (z : List Action). a ∷ z) (later h)
+      by false later h = ap (λ (z : List PathAction). a ∷ z) (later h)
 
   module _ (node : ℕ → ℕ → ℕ) where
     abbrev pub unless_ended : Bool → (AbstractState → Out AbstractState) → AbstractState → Out AbstractState
@@ -247,13 +247,13 @@ module _ (items : ItemTable) (body : Body) where
     unless_ended false next w = next w
 
     -- actions in turn, each where it may be done
-    abbrev pub perform : List Action → (AbstractState → Out AbstractState) → AbstractState → Out AbstractState
+    abbrev pub perform : List PathAction → (AbstractState → Out AbstractState) → AbstractState → Out AbstractState
     perform [] next w = next w
     perform (a ∷ acts) next w =
         when (allowed a.how (watched_of a.place) (presence a.place.local w.cells)) (halt_by (rule_of a.how) (site_of node a))
         (λ w. unless_ended (ends_runs items body a) (perform acts next) (left_by a w)) w
 
-    pub perform-append : (xs ys : List Action) (next : AbstractState → Out AbstractState) (w : AbstractState)
+    pub perform-append : (xs ys : List PathAction) (next : AbstractState → Out AbstractState) (w : AbstractState)
         → perform (xs ++ ys) next w ≡ perform xs (λ w. perform ys next w) w
     perform-append [] ys next w = refl
     perform-append (a ∷ xs) ys next w =
@@ -265,7 +265,7 @@ module _ (items : ItemTable) (body : Body) where
     IsNotRefused out = (halt : Halt) (w : AbstractState) → out ≡ Halts halt w → is_refused halt ≡ false
 
     -- Actions come to their end, where something holds of the rest; or to the first bad one; or to a value of type `!`.
-    pub data Performed (done acts : List Action) (R : AbstractState → Out AbstractState → Type 0) (w : AbstractState) (out : Out AbstractState) : Type 0 where
+    pub data Performed (done acts : List PathAction) (R : AbstractState → Out AbstractState → Type 0) (w : AbstractState) (out : Out AbstractState) : Type 0 where
       on : (v : AbstractState) → R v out → Tells v (done ++ acts) → v.choices ≡ w.choices → first_bad items body done acts ≡ None
           → list_any (ends_runs items body) acts ≡ false → Performed done acts R w out
       met : (bad : BadUse) (v : AbstractState) → out ≡ Halts (halt_of node bad) v → v.choices ≡ w.choices → first_bad items body done acts ≡ Some bad
@@ -282,7 +282,7 @@ module _ (items : ItemTable) (body : Body) where
     unreachable v halt w e = ap is_refused (sym (halts-same Unreachable halt v w e))
 
     module _ (R : AbstractState → Out AbstractState → Type 0) (next : AbstractState → Out AbstractState) (holds : (v : AbstractState) → R v (next v)) where
-      pub performed : (acts : List Action) (done : List Action) (w : AbstractState) → Tells w done → Performed done acts R w (perform acts next w)
+      pub performed : (acts : List PathAction) (done : List PathAction) (w : AbstractState) → Tells w done → Performed done acts R w (perform acts next w)
       performed [] done w tells = on w (holds w) (subst (Tells w) (sym (append-nil done)) tells) refl refl refl
       performed (a ∷ acts) done w tells =
           by (allowed a.how (watched_of a.place) (presence a.place.local w.cells)) (is_bad items body done a a.how) refl
@@ -327,13 +327,13 @@ module _ (items : ItemTable) (body : Body) where
                   ended not_refused
                   (ap (list_any (ends_runs items body)) before ∙ ap (λ (z : Bool). z || list_any (ends_runs items body) (before_bad items body (done ++ a ∷ []) acts)) f ∙ end)
 
-    any-append : (xs ys : List Action) → list_any (ends_runs items body) (xs ++ ys) ≡ (list_any (ends_runs items body) xs || list_any (ends_runs items body) ys)
+    any-append : (xs ys : List PathAction) → list_any (ends_runs items body) (xs ++ ys) ≡ (list_any (ends_runs items body) xs || list_any (ends_runs items body) ys)
     any-append xs ys = list_any-append (ends_runs items body) xs ys
 
-    pub none-of-both : (xs ys : List Action) → list_any (ends_runs items body) xs ≡ false → list_any (ends_runs items body) ys ≡ false → list_any (ends_runs items body) (xs ++ ys) ≡ false
+    pub none-of-both : (xs ys : List PathAction) → list_any (ends_runs items body) xs ≡ false → list_any (ends_runs items body) ys ≡ false → list_any (ends_runs items body) (xs ++ ys) ≡ false
     none-of-both xs ys h k = any-append xs ys ∙ (λ i. h i || k i)
 
-    some-behind : (xs ys : List Action) → list_any (ends_runs items body) ys ≡ true → list_any (ends_runs items body) (xs ++ ys) ≡ true
+    some-behind : (xs ys : List PathAction) → list_any (ends_runs items body) ys ≡ true → list_any (ends_runs items body) (xs ++ ys) ≡ true
     some-behind xs ys h = any-append xs ys ∙ by (list_any (ends_runs items body) xs) ∙ h
       where
         by : (b : Bool) → (b || list_any (ends_runs items body) ys) ≡ (list_any (ends_runs items body) ys)
@@ -341,7 +341,7 @@ module _ (items : ItemTable) (body : Body) where
         by true = sym h
 
     -- actions, and then further ones
-    pub performed-more : (xs ys done : List Action) (R : AbstractState → Out AbstractState → Type 0) (w : AbstractState) (out : Out AbstractState)
+    pub performed-more : (xs ys done : List PathAction) (R : AbstractState → Out AbstractState → Type 0) (w : AbstractState) (out : Out AbstractState)
         → Performed done xs (λ v o. Tells v (done ++ xs) → Performed (done ++ xs) ys R v o) w out → Performed done (xs ++ ys) R w out
     performed-more xs ys done R w out (met bad v is choices some clean) =
         met bad v is choices (some-first done xs ys bad some) (ap (list_any (ends_runs items body)) (before-some done xs ys bad some) ∙ clean)

@@ -10,7 +10,7 @@ use Rattle.mir_ty.specs.declared.ty.TyId.{TyId}
 use Rattle.mir_ty.specs.ItemTable.{ItemTable, type_at}
 use Rattle.store_model.specs.Places.Place.{Step, ToPart, ToField, ToContent, ToElement, same_step, Place, Watched, Whole, ThroughReference, ByElement, watched, watched_step, watched_content, step_ty, content_of, is_reference, before_element}
 use Rattle.cfg_graph.specs.declared.graph.Body.{Body}
-use Rattle.cfg_graph.specs.Moves.Gone.{Action, leaves_gone, are_first, is_at_or_above, has_index, counts, left_by, last_left, is_param, is_gone_after}
+use Rattle.cfg_graph.specs.Moves.Gone.{PathAction, leaves_gone, are_first, is_at_or_above, has_index, counts, left_by, last_left, is_param, is_gone_after}
 use Rattle.cfg_graph.proofs.WholePlaces.{same_step-sound, same_step-refl}
 use Rattle.move_flow.proofs.Upward.{counts-up}
 
@@ -98,7 +98,7 @@ module _ (items : ItemTable) (body : Body) (local : ℕ) (upto : List Step) (s :
   at steps = record { local = local; steps = steps }
 
   module _ (ends : counts items body (at (upto ++ s ∷ [])) ≡ false) (more : List Step) where
-    left-beyond : (a : Action) → left_by items body (at (upto ++ s ∷ more)) a ≡ left_by items body (at upto) a
+    left-beyond : (a : PathAction) → left_by items body (at (upto ++ s ∷ more)) a ≡ left_by items body (at upto) a
     left-beyond a =
         left-same (counts items body a.place) (is_at_or_above a.place (at upto)) (is_at_or_above a.place (at (upto ++ s ∷ more))) (leaves_gone a.how) down up
       where
@@ -115,9 +115,9 @@ module _ (items : ItemTable) (body : Body) (local : ℕ) (upto : List Step) (s :
               c))
         ]
 
-    last-beyond : (actions : List Action) → last_left items body (at (upto ++ s ∷ more)) actions ≡ last_left items body (at upto) actions
+    last-beyond : (actions : List PathAction) → last_left items body (at (upto ++ s ∷ more)) actions ≡ last_left items body (at upto) actions
     last-beyond [] = refl
     last-beyond (a ∷ later) = λ i. option_or (last-beyond later i) (left-beyond a i)
 
-    pub gone-beyond : (actions : List Action) → is_gone_after items body actions (at (upto ++ s ∷ more)) ≡ is_gone_after items body actions (at upto)
+    pub gone-beyond : (actions : List PathAction) → is_gone_after items body actions (at (upto ++ s ∷ more)) ≡ is_gone_after items body actions (at upto)
     gone-beyond actions = ap (λ (z : Option Bool). unwrap_or z (not (is_param items body local))) (last-beyond actions)

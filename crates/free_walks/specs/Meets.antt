@@ -5,14 +5,14 @@ use Rattle.mir_ty.specs.ItemTable.{ItemTable, type_at}
 use Rattle.store_model.specs.Places.Place.{place_ty}
 use Rattle.store_model.specs.Places.TypeForms.{is_never}
 use Rattle.store_model.specs.Effects as effects
-use Rattle.store_model.specs.Effects.{Site, Halt, BadStore, Halts}
+use Rattle.store_model.specs.Effects.{EffectSite, Halt, BadStore, Halts}
 use Rattle.store_model.specs.Abstract.Effects.{AbstractState}
 use Rattle.cfg_graph.specs.declared.graph.Block.{Block}
 use Rattle.cfg_graph.specs.declared.graph.Body.{Body}
 use Rattle.cfg_graph.specs.declared.graph.Graph.{Graph}
 use Rattle.cfg_graph.specs.Edges.{onward, unwind_targets, IsRanked}
-use Rattle.cfg_graph.specs.Uses.{Use, Copies, Stores}
-use Rattle.cfg_graph.specs.Moves.Gone.{Action}
+use Rattle.cfg_graph.specs.Uses.{PlaceUse, Copies, Stores}
+use Rattle.cfg_graph.specs.Moves.Gone.{PathAction}
 use Rattle.cfg_graph.specs.Moves.Actions.{actions_on}
 use Rattle.cfg_graph.specs.Moves.BadUses.{UseRule, U1, U2, BadUse}
 use Rattle.cfg_graph.specs.WellFormed.Faults.{IsWellFormed}
@@ -25,11 +25,11 @@ PanicsLeadElsewhere body =
     (n next : ℕ) (block : Block) → slice_get body.blocks n ≡ Some block →
     Contains (onward block.term) next → Contains (unwind_targets block.term) next → ⊥
 
-abbrev pub site_of : (node : ℕ → ℕ → ℕ) → Action → Site
+abbrev pub site_of : (node : ℕ → ℕ → ℕ) → PathAction → EffectSite
 site_of node action = record { node = node action.block action.line; place = action.place }
 
 -- how a free walk halts at a bad use, where each line stands for a node of the source
-abbrev pub halt_by : UseRule → Site → Halt
+abbrev pub halt_by : UseRule → EffectSite → Halt
 halt_by U1 site = effects.BadUse site
 halt_by U2 site = BadStore site
 
@@ -41,20 +41,20 @@ is_refused (effects.BadUse site) = true
 is_refused (BadStore site) = true
 is_refused halt = false
 
-abbrev pub is_copy_or_store : Use → Bool
+abbrev pub is_copy_or_store : PlaceUse → Bool
 is_copy_or_store Copies = true
 is_copy_or_store Stores = true
 is_copy_or_store how = false
 
 module _ (items : ItemTable) (body : Body) where
   -- A value of type `!` is copied or stored: none is ever made, so no run goes on behind it, while a path does.
-  abbrev pub ends_runs : Action → Bool
+  abbrev pub ends_runs : PathAction → Bool
   ends_runs action =
       is_copy_or_store action.how
       && is_never (option_and_then (type_at items) (place_ty items (slice_get body.locals) action.place))
 
   -- of these actions, after earlier ones, those before the first bad one
-  abbrev pub before_bad : List Action → List Action → List Action
+  abbrev pub before_bad : List PathAction → List PathAction → List PathAction
   before_bad earlier [] = []
   before_bad earlier (action ∷ later) =
       if is_bad items body earlier action action.how then [] else action ∷ before_bad (earlier ++ action ∷ []) later

@@ -8,11 +8,11 @@ use Rattle.src_ast.specs.View.{syns_of}
 use Rattle.type_rows.specs.Stand.{below, top}
 use Rattle.typed_tree.specs.Tree.{Node, Nodes, a_node}
 use Rattle.typing_rules.specs.Bodies.{capture, captured}
-use Rattle.typing_rules.specs.Check.{Check, State, Broken, and_then, pure}
-use Rattle.typing_rules.specs.Scope.{Env, Entry}
+use Rattle.typing_rules.specs.Check.{Check, TypingState, Broken, and_then, pure}
+use Rattle.typing_rules.specs.Scope.{Env, NamedEntry}
 
 abbrev pub Listed : Type 0
-Listed = Result ((Nodes × List Entry) × State) Broken
+Listed = Result ((Nodes × List NamedEntry) × TypingState) Broken
 
 -- behind as many nodes, the last of them on top
 abbrev pub behind : ℕ → List Node → Listed → Listed
@@ -31,7 +31,7 @@ pub under_one : (k m : ℕ) (ns more origin : List Node) → below_all k ns ≡ 
     below_all m more ≡ origin
 under_one k m ns more origin h under next = ap (λ (n : ℕ). below_all n more) (next_is k m next) ∙ ap (below_all k) under ∙ h
 
-pub capture_step : (w : Env) (whole : Listed) (k m : ℕ) (ns more : List Node) (all rest : List Named) (name : Named) (xs ys : List Entry) (s t : State) →
+pub capture_step : (w : Env) (whole : Listed) (k m : ℕ) (ns more : List Node) (all rest : List Named) (name : Named) (xs ys : List NamedEntry) (s t : TypingState) →
     whole ≡ behind k ns (captured w k (syns_of all) xs s) → name ∷ rest ≡ all →
     capture w k (syn name.0 (Ident name.1)) xs s ≡ Ok ((top more, ys), t) → below more ≡ ns → m ≡ k + 1 →
     whole ≡ behind m more (captured w m (syns_of rest) ys t)
@@ -41,12 +41,12 @@ capture_step w whole k m ns more all rest name xs ys s t h split here under next
     ∙ one_node k ns more (captured w (suc k) (syns_of rest) ys t) under
     ∙ ap (λ (n : ℕ). behind n more (captured w n (syns_of rest) ys t)) (sym (next_is k m next))
 
-stopped_behind : {A : Type 0} (k : ℕ) (ns : List Node) (o : Result (A × State) Broken) (f : A → Check (Nodes × List Entry)) (err : RuleError) →
+stopped_behind : {A : Type 0} (k : ℕ) (ns : List Node) (o : Result (A × TypingState) Broken) (f : A → Check (Nodes × List NamedEntry)) (err : RuleError) →
     Refuses o err → Refuses (behind k ns (and_then o f)) err
 stopped_behind k ns o f (RuleError.Broken rule at) h = ap (λ p. behind k ns (and_then p f)) h
 stopped_behind k ns o f RuleError.Memory h = tt
 
-pub capture_stop : (w : Env) (whole : Listed) (k : ℕ) (ns : List Node) (all rest : List Named) (name : Named) (xs : List Entry) (s : State) (err : RuleError) →
+pub capture_stop : (w : Env) (whole : Listed) (k : ℕ) (ns : List Node) (all rest : List Named) (name : Named) (xs : List NamedEntry) (s : TypingState) (err : RuleError) →
     whole ≡ behind k ns (captured w k (syns_of all) xs s) → name ∷ rest ≡ all →
     Refuses (capture w k (syn name.0 (Ident name.1)) xs s) err → Refuses whole err
 capture_stop w whole k ns all rest name xs s (RuleError.Broken rule at) h split here =

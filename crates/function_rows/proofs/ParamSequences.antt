@@ -6,8 +6,8 @@ use Rattle.call_rows.specs.Lists.{below_all, nodes_on}
 use Rattle.type_rows.specs.Stand.{below, top}
 use Rattle.typed_tree.specs.Tree.{Node, Nodes, no_node, a_node, ParamTree}
 use Rattle.typing_rules.specs.Bodies.{param, params_of}
-use Rattle.typing_rules.specs.Check.{Check, State, Broken, and_then, pure}
-use Rattle.typing_rules.specs.Scope.{Env, Entry}
+use Rattle.typing_rules.specs.Check.{Check, TypingState, Broken, and_then, pure}
+use Rattle.typing_rules.specs.Scope.{Env, NamedEntry}
 use Rattle.body_rows.specs.Whole.{params_from}
 use Rattle.function_rows.specs.ParamAnswers.{last_param, last_params}
 
@@ -44,7 +44,7 @@ under_one tys later ty ns more origin h under next =
 -- ---- their check
 
 abbrev pub Listed : Type 0
-Listed = Result ((List ParamTree × List Entry) × State) Broken
+Listed = Result ((List ParamTree × List NamedEntry) × TypingState) Broken
 
 -- behind those that were checked
 abbrev pub behind : List ParamTree → Listed → Listed
@@ -57,7 +57,7 @@ one_behind made p (Ok q) = ap (λ (l : List ParamTree). Ok ((l, q.0.1), q.1)) (s
 one_behind made p (Err e) = refl
 
 pub params_step : (w : Env) (f : Syn → Check TyId) (whole : Listed) (tys later : List TyId) (ty : TyId) (ns more : List Node) (ss : Syns) (first : Syn) (rest : Syns)
-    (xs ys : List Entry) (s t : State) → whole ≡ behind (last_params tys ns) (params_of w f ss xs s) → a_syn first rest ≡ ss →
+    (xs ys : List NamedEntry) (s t : TypingState) → whole ≡ behind (last_params tys ns) (params_of w f ss xs s) → a_syn first rest ≡ ss →
     param w f first xs s ≡ Ok ((last_param ty more, ys), t) → below more ≡ ns → later ≡ tys ++ ty ∷ [] →
     whole ≡ behind (last_params later more) (params_of w f rest ys t)
 params_step w f whole tys later ty ns more ss first rest xs ys s t h split here under next =

@@ -1,7 +1,7 @@
 -- Nodes by the forms that are borrowed from them: what a definition says of a node is what it says of its form.
 use Rattle.std.proofs.Common.{◌≡◌, Bool, List, refl, ap, sym, ◌∙◌}
 use Rattle.mir_base.specs.declared.place_in_text.Pos.{Pos}
-use Rattle.src_tree.specs.declared.node.Node.{Node}
+use Rattle.src_tree.specs.declared.node.SyntaxNode.{SyntaxNode}
 use Rattle.src_ast.specs.PartForms.{param_of}
 use Rattle.src_ast.specs.Seen.{syn_of}
 use Rattle.src_ast.specs.Sorts.{param_part, pattern_part}
@@ -9,8 +9,8 @@ use Rattle.src_ast.specs.declared.part.ParamForm.{ParamForm}
 use Rattle.src_ast.specs.Syntax.{Syn, syn, Shape, at_of, shape_of, Ident, LabelOf, Literal, TruthLiteral, Path, Minus, Bang, Star, Ampersand, Calculate, Compare, Both, Either, Store, CallOf, MethodOf, FieldOf, PartOf, ElementOf, StructOf, FieldInit, Parens, TupleOf, ArrayOf, Braces, IfElse, IfLetElse, MatchOn, ArmOf, LoopOf, WhileOf, WhileLetOf, BreakOf, ContinueOf, ReturnOf, MoveOf, PanicOf, LetOf, Empty, Semi, AnyPattern, BindPattern, LiteralPattern, TruthPattern, PathPattern, PartsPattern, FieldsPattern, FieldPattern, ParensPattern, TuplePattern, ArrayPattern, Alternatives, NamedType, GenericType, DynType, SelfType, ParensType, TupleType, ArrayType, NeverType, RefType, StructItem, EnumItem, FieldDecl, VariantDecl, TraitItem, ImplItem, FnItem, ParamOf, SelfParam, Odd}
 use Rattle.src_ast.proofs.Named.{seen_as}
 use Rattle.typing_rules.specs.Bodies.{is_name_or_wildcard, is_name_or_wildcard_form, param}
-use Rattle.typing_rules.specs.Check.{State}
-use Rattle.typing_rules.specs.Scope.{Env, Entry}
+use Rattle.typing_rules.specs.Check.{TypingState}
+use Rattle.typing_rules.specs.Scope.{Env, NamedEntry}
 use Rattle.function_rows.specs.ParamForms.{param_as, plain_as}
 use Rattle.function_rows.specs.ParamRests.{type_by}
 
@@ -90,10 +90,10 @@ form_plain Odd = refl
 as_plain : (x : Syn) → is_name_or_wildcard x ≡ plain_as (pattern_part (shape_of x))
 as_plain (syn at form) = form_plain form
 
-pub plain_seen : (n : Node) → is_name_or_wildcard (syn_of n) ≡ plain_as (pattern_part (shape_of (syn_of n)))
+pub plain_seen : (n : SyntaxNode) → is_name_or_wildcard (syn_of n) ≡ plain_as (pattern_part (shape_of (syn_of n)))
 plain_seen n = as_plain (syn_of n)
 
-form_param : (w : Env) (refers : Bool) (at : Pos) (form : Shape) (xs : List Entry) (s : State) →
+form_param : (w : Env) (refers : Bool) (at : Pos) (form : Shape) (xs : List NamedEntry) (s : TypingState) →
     param w (type_by w refers) (syn at form) xs s ≡ param_as w refers at (param_part form) xs s
 form_param w refers at (Ident a) xs s = refl
 form_param w refers at (LabelOf a) xs s = refl
@@ -167,16 +167,16 @@ form_param w refers at (ParamOf a b) xs s = refl
 form_param w refers at (SelfParam a) xs s = refl
 form_param w refers at Odd xs s = refl
 
-as_param : (w : Env) (b : Bool) (x : Syn) (xs : List Entry) (s : State) →
+as_param : (w : Env) (b : Bool) (x : Syn) (xs : List NamedEntry) (s : TypingState) →
     param w (type_by w b) x xs s ≡ param_as w b (at_of x) (param_part (shape_of x)) xs s
 as_param w b (syn at form) xs s = form_param w b at form xs s
 
-pub param_seen : (w : Env) (b : Bool) (n : Node) (xs : List Entry) (s : State) →
+pub param_seen : (w : Env) (b : Bool) (n : SyntaxNode) (xs : List NamedEntry) (s : TypingState) →
     param w (type_by w b) (syn_of n) xs s ≡ param_as w b n.at (param_part (shape_of (syn_of n))) xs s
 param_seen w b n xs s =
     as_param w b (syn_of n) xs s ∙ ap (λ (x : Syn). param_as w b (at_of x) (param_part (shape_of (syn_of n))) xs s) (seen_as n)
 
-pub seen_by : (w : Env) (b : Bool) (n : Node) (xs : List Entry) (s : State) (f g : ParamForm) →
+pub seen_by : (w : Env) (b : Bool) (n : SyntaxNode) (xs : List NamedEntry) (s : TypingState) (f g : ParamForm) →
     param_of f ≡ param_part (shape_of (syn_of n)) → f ≡ g → param w (type_by w b) (syn_of n) xs s ≡ param_as w b n.at (param_of g) xs s
 seen_by w b n xs s f g h is =
     param_seen w b n xs s ∙ ap (λ o. param_as w b n.at o xs s) (sym h) ∙ ap (λ (z : ParamForm). param_as w b n.at (param_of z) xs s) is

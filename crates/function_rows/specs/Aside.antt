@@ -1,13 +1,13 @@
 -- Where a body stands: without the variables around, and, in its block, without the loops.
 use Rattle.std.specs.Prelude.{◌≡◌, List, []}
 use Rattle.mir_ty.specs.declared.ty.TyId.{TyId}
-use Rattle.typing_rules.specs.Scope.{Around, Env}
+use Rattle.typing_rules.specs.Scope.{LabelledLoop, Env}
 use Rattle.type_rows.specs.declared.surroundings.Surroundings.{Surroundings}
 
 abbrev pub alone : Env → Env
 alone env = record env { variables = [] }
 
-abbrev pub with_loops : List Around → Env → Env
+abbrev pub with_loops : List LabelledLoop → Env → Env
 with_loops loops env = record env { loops = loops }
 
 -- in the block of a body whose result has this type

@@ -8,10 +8,10 @@ use Rattle.src_ast.specs.Syntax.{MaybeSyn, Syns}
 use Rattle.typed_tree.specs.Tree as tree
 use Rattle.typed_tree.specs.Tree.{Node, Nodes}
 use Rattle.typing_rules.specs.Bodies.{captured, closure_body, types_of}
-use Rattle.typing_rules.specs.Check.{Broken, Check, State, ◌>>=◌, body_number, closure_added, interned, number, pure}
+use Rattle.typing_rules.specs.Check.{Broken, Check, TypingState, ◌>>=◌, body_number, closure_added, interned, number, pure}
 use Rattle.typing_rules.specs.Places.{a_node_of}
 use Rattle.typing_rules.specs.Rows.{Typer, fitted}
-use Rattle.typing_rules.specs.Scope.{Entry, Env}
+use Rattle.typing_rules.specs.Scope.{NamedEntry, Env}
 use Rattle.call_rows.specs.Lists.{below_all, last_nodes}
 use Rattle.item_heads.specs.Answers.{Refuses}
 use Rattle.type_rows.specs.Stand.{Stays, stack, state}
@@ -20,7 +20,7 @@ use Rattle.function_rows.specs.declared.closures.ClosureBegun.{ClosureBegun}
 use Rattle.function_rows.specs.declared.closures.ClosureTy.{ClosureTy}
 
 -- the number of a closure with these captures and this body, and of its type
-abbrev pub closure_ty : List Entry → ℕ → Check (ℕ × TyId)
+abbrev pub closure_ty : List NamedEntry → ℕ → Check (ℕ × TyId)
 closure_ty captures body = do
   k ← closure_added (types_of captures) body
   ty ← interned (Ty.Closure k)
@@ -29,13 +29,13 @@ closure_ty captures body = do
 abbrev pub ty_seen : ClosureTy → ℕ × TyId
 ty_seen c = (c.closure, c.ty)
 
--- a closure whose body is still to come: the numbers of its node and of its body, its captures and what they are inside,
--- its own number and that of its type
+-- a closure whose body is still to come: the numbers of its node and of its body, its captures and what they are
+-- inside, its own number and that of its type
 pub record Start : Type 0 where
   pub id : ℕ
   pub body : ℕ
   pub captures : Nodes
-  pub entries : List Entry
+  pub entries : List NamedEntry
   pub closure : ℕ
   pub ty : TyId
 
@@ -70,7 +70,7 @@ start_of begun nodes =
       ty = begun.ty;
     }
 
-abbrev pub GivesStart : Result (Start × State) Broken → Result ClosureBegun RuleError → Checker → Type 0
+abbrev pub GivesStart : Result (Start × TypingState) Broken → Result ClosureBegun RuleError → Checker → Type 0
 GivesStart outcome (Ok begun) after = outcome ≡ Ok (start_of begun (stack after), state after)
 GivesStart outcome (Err e) after = Refuses outcome e
 

@@ -6,9 +6,9 @@ use Rattle.mir_ty.specs.declared.ty.TyId.{TyId}
 use Rattle.src_ast.specs.Syntax.{MaybeSyn, Syns}
 use Rattle.typed_tree.specs.Tree.{BodyTree, Node, ParamTree}
 use Rattle.typing_rules.specs.Bodies.{answer_of, body_of, inside, name_param, params_of, within_limit}
-use Rattle.typing_rules.specs.Check.{Broken, Check, State, ◌>>=◌, in_new_body, pure, with_body}
+use Rattle.typing_rules.specs.Check.{Broken, Check, TypingState, ◌>>=◌, in_new_body, pure, with_body}
 use Rattle.typing_rules.specs.Rows.{Typer}
-use Rattle.typing_rules.specs.Scope.{Entry, Env}
+use Rattle.typing_rules.specs.Scope.{NamedEntry, Env}
 use Rattle.body_rows.specs.Around.{behind_body}
 use Rattle.body_rows.specs.Whole.{body_on}
 use Rattle.body_rows.specs.declared.around.Outer.{Outer}
@@ -19,13 +19,13 @@ use Rattle.function_rows.specs.ParamRests.{type_by}
 use Rattle.type_rows.specs.Stand.{below, env, env_in, stack, state}
 use Rattle.type_rows.specs.declared.checker.Checker.{Checker}
 use Rattle.function_rows.specs.Aside.{with_loops}
-use Rattle.function_rows.specs.declared.scopes.Begun.{Begun}
+use Rattle.function_rows.specs.declared.scopes.BegunBody.{BegunBody}
 use Rattle.function_rows.specs.declared.scopes.BodyHead.{BodyHead}
 
 -- ---- before the block
 
 -- behind the parameters
-abbrev pub answered : Pos → ℕ → List ParamTree → Env → MaybeSyn → List Entry → (Env → Typer) → Check BodyTree
+abbrev pub answered : Pos → ℕ → List ParamTree → Env → MaybeSyn → List NamedEntry → (Env → Typer) → Check BodyTree
 answered at n params env answer entries block = do
   t ← answer_of env answer
   b ← block (inside env t entries) (Some t)
@@ -59,7 +59,7 @@ abbrev pub unvalued : Check BodyTree → Check (Unit {0})
 unvalued check = check >>= (λ b. pure tt)
 
 -- a body ends, and the walk goes on in the body around it
-abbrev pub closed : Outer → Result (BodyTree × State) Broken → Result (Unit {0} × State) Broken
+abbrev pub closed : Outer → Result (BodyTree × TypingState) Broken → Result (Unit {0} × TypingState) Broken
 closed outer (Ok b) = Ok (tt, behind_body outer b.0 b.1)
 closed outer (Err e) = Err e
 
@@ -70,17 +70,18 @@ ended head nodes = λ s. closed head.outer (body_on head.at head.number head.par
 -- ---- what calls answer
 
 -- what a check gives with a block, whatever it is, is what the block gives here, and then the rest behind it
-abbrev pub GivesBlock : ((Env → Typer) → Check BodyTree) → State → Result BodyHead RuleError → Checker → Type 0
+abbrev pub GivesBlock : ((Env → Typer) → Check BodyTree) → TypingState → Result BodyHead RuleError → Checker → Type 0
 GivesBlock check before (Ok head) after =
     (block : Env → Typer) → check block before
     ≡ block_rest head.at head.number (last_params head.params (stack after)) head.answer block (env after) (state after)
 GivesBlock check before (Err e) after = (block : Env → Typer) → Refuses (check block before) e
 
 -- the same of a body as a whole
-abbrev pub GivesHead : ((Env → Typer) → Check BodyTree) → State → Result BodyHead RuleError → Checker → Type 0
+abbrev pub GivesHead : ((Env → Typer) → Check BodyTree) → TypingState → Result BodyHead RuleError → Checker → Type 0
 GivesHead check before (Ok head) after =
     (block : Env → Typer) → unvalued (check block) before
-    ≡ closed head.outer (block_rest head.at head.number (last_params head.params (stack after)) head.answer block (env after)
+    ≡ closed head.outer (block_rest head.at head.number (last_params head.params (stack after)) head.answer block
+    (env after)
     (state after))
 GivesHead check before (Err e) after = (block : Env → Typer) → Refuses (unvalued (check block) before) e
 
@@ -92,7 +93,7 @@ KeepsHead before (Ok head) after =
     × (after.tables ≡ before.tables)
 KeepsHead before (Err e) after = ⊤
 
-abbrev pub KeepsBlock : Begun → List TyId → Checker → Result BodyHead RuleError → Checker → Type 0
+abbrev pub KeepsBlock : BegunBody → List TyId → Checker → Result BodyHead RuleError → Checker → Type 0
 KeepsBlock begun params before (Ok head) after =
     (stack after ≡ stack before)
     × (after.tables ≡ before.tables)

@@ -10,8 +10,8 @@ use Rattle.type_rows.specs.Stand.{Stays, stack, state, top}
 use Rattle.type_rows.specs.declared.checker.Checker.{Checker}
 use Rattle.typed_tree.specs.Tree.{Node, ParamTree}
 use Rattle.typing_rules.specs.Bodies.{name_entry}
-use Rattle.typing_rules.specs.Check.{State, Broken}
-use Rattle.typing_rules.specs.Scope.{Entry}
+use Rattle.typing_rules.specs.Check.{TypingState, Broken}
+use Rattle.typing_rules.specs.Scope.{NamedEntry}
 use Rattle.body_rows.specs.Whole.{params_from}
 
 -- the parameter of a type whose pattern is the last node
@@ -23,16 +23,20 @@ abbrev pub last_params : List TyId → List Node → List ParamTree
 last_params tys nodes = params_from (last_nodes (length tys) nodes) tys
 
 -- the last node is a parameter that is one name, whose entry has the number of the node
-abbrev pub GivesNamed : Result ((ParamTree × Entry) × State) Broken → Word → TyId → Result NodeId RuleError → Checker → Type 0
-GivesNamed outcome name ty (Ok id) after = outcome ≡ Ok ((last_param ty (stack after), name_entry name ty id.0), state after)
+abbrev pub GivesNamed : Result ((ParamTree × NamedEntry) × TypingState) Broken → Word → TyId → Result NodeId RuleError →
+    Checker → Type 0
+GivesNamed outcome name ty (Ok id) after = outcome ≡
+    Ok ((last_param ty (stack after), name_entry name ty id.0), state after)
 GivesNamed outcome name ty (Err e) after = Refuses outcome e
 
 -- the last parameter, and the bindings so far, of which the youngest is the first here and the last there
-abbrev pub GivesParam : Result ((ParamTree × List Entry) × State) Broken → Result TyId RuleError → List Entry → Checker → Type 0
+abbrev pub GivesParam : Result ((ParamTree × List NamedEntry) × TypingState) Broken → Result TyId RuleError →
+    List NamedEntry → Checker → Type 0
 GivesParam outcome (Ok ty) bound after = outcome ≡ Ok ((last_param ty (stack after), reverse bound), state after)
 GivesParam outcome (Err e) bound after = Refuses outcome e
 
-abbrev pub GivesParams : Result ((List ParamTree × List Entry) × State) Broken → Result (List TyId) RuleError → List Entry →
+abbrev pub GivesParams : Result ((List ParamTree × List NamedEntry) × TypingState) Broken →
+    Result (List TyId) RuleError → List NamedEntry →
     Checker → Type 0
 GivesParams outcome (Ok tys) bound after = outcome ≡ Ok ((last_params tys (stack after), reverse bound), state after)
 GivesParams outcome (Err e) bound after = Refuses outcome e

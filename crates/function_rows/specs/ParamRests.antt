@@ -10,7 +10,7 @@ use Rattle.typed_tree.specs.Tree.{ParamTree}
 use Rattle.typing_rules.specs.Bodies.{all_rules, is_name_or_wildcard, name_param, param_expected, receiver_ty, self_ty}
 use Rattle.typing_rules.specs.Check.{Check, ◌>>=◌, ◌>>◌, pure, obeys, the_items, interned}
 use Rattle.typing_rules.specs.Patterns.{pattern}
-use Rattle.typing_rules.specs.Scope.{Env, Entry}
+use Rattle.typing_rules.specs.Scope.{Env, NamedEntry}
 use Rattle.typing_rules.specs.Written.{written, written_param}
 use Rattle.well_typed.specs.Types.{is_reference}
 
@@ -21,12 +21,12 @@ receiver_rest receiver n = do
   own ← interned (Ty.Adt n)
   self_ty receiver own
 
-abbrev pub self_rest : Pos → TyId → List Entry → Check (ParamTree × List Entry)
+abbrev pub self_rest : Pos → TyId → List NamedEntry → Check (ParamTree × List NamedEntry)
 self_rest at ty earlier = do
   p ← name_param at self_name ty
   pure (p.0, earlier ++ p.1 ∷ [])
 
-abbrev pub self_param_of : Env → Pos → Receiver → List Entry → Check (ParamTree × List Entry)
+abbrev pub self_param_of : Env → Pos → Receiver → List NamedEntry → Check (ParamTree × List NamedEntry)
 self_param_of env at receiver earlier = do
   ty ← receiver_ty env at receiver
   self_rest at ty earlier
@@ -37,18 +37,18 @@ self_param_of env at receiver earlier = do
 abbrev pub type_by : Env → Bool → Syn → Check TyId
 type_by env may_refer ty = if may_refer then written_param (all_rules env) ty else written (all_rules env) ty
 
-abbrev pub part_rest : Env → TyId → Syn → List Entry → Check (ParamTree × List Entry)
+abbrev pub part_rest : Env → TyId → Syn → List NamedEntry → Check (ParamTree × List NamedEntry)
 part_rest env ty p earlier = do
   n ← pattern env param_expected ty p earlier
   pure (record { pattern = n.0; ty = ty }, n.1)
 
-abbrev pub pattern_rest : Env → Pos → TyId → Syn → List Entry → Check (ParamTree × List Entry)
+abbrev pub pattern_rest : Env → Pos → TyId → Syn → List NamedEntry → Check (ParamTree × List NamedEntry)
 pattern_rest env at ty p earlier = do
   items ← the_items
   obeys Rule.T08 at (is_name_or_wildcard p || not (is_reference items ty))
   part_rest env ty p earlier
 
-abbrev pub typed_param_of : Env → Pos → Bool → Syn → Syn → List Entry → Check (ParamTree × List Entry)
+abbrev pub typed_param_of : Env → Pos → Bool → Syn → Syn → List NamedEntry → Check (ParamTree × List NamedEntry)
 typed_param_of env at may_refer p ty earlier = do
   t ← type_by env may_refer ty
   pattern_rest env at t p earlier

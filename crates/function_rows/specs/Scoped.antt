@@ -5,11 +5,11 @@ use Rattle.call_rows.specs.Lists.{below_all}
 use Rattle.type_rows.specs.Stand.{env, env_in, stack}
 use Rattle.type_rows.specs.declared.checker.Checker.{Checker}
 use Rattle.function_rows.specs.Aside.{with_loops}
-use Rattle.function_rows.specs.declared.scopes.Begun.{Begun}
+use Rattle.function_rows.specs.declared.scopes.BegunBody.{BegunBody}
 use Rattle.function_rows.specs.declared.scopes.BodyHead.{BodyHead}
 
 -- the patterns of the parameters stand above what stood there, and the loops around stand with what was put aside
-abbrev pub KeepsSelf : Begun → Checker → Result BodyHead RuleError → Checker → Type 0
+abbrev pub KeepsSelf : BegunBody → Checker → Result BodyHead RuleError → Checker → Type 0
 KeepsSelf begun before (Ok head) after =
     (below_all (length head.params) (stack after) ≡ stack before)
     × (after.tables ≡ before.tables)

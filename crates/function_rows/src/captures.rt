@@ -16,13 +16,18 @@ use crate::names::first_name;
 use item_heads::{broken, obeys};
 use mir_base::{Key, Name, NoMemory, Pos, Rule, RuleError};
 use mir_ty::TyId;
-use name_rows::{Found, put_variable, variable};
+use name_rows::{FoundVariable, put_variable, variable};
 use src_ast::Nodes;
-use type_env::{Meaning, Variable, Variables};
+use type_env::{Variable, VariableMeaning, Variables};
 use type_rows::Checker;
 
 /// A variable as a value, of whatever type.
-fn take_variable(checker: &mut Checker, at: Pos, name: &str, found: Found) -> Result<(), RuleError>
+fn take_variable(
+    checker: &mut Checker,
+    at: Pos,
+    name: &str,
+    found: FoundVariable,
+) -> Result<(), RuleError>
     ensures gives { Gives (taken_variable (env checker.old) at (found_as name.now found) (state checker.old)) result checker.new }
     ensures kept { Keeps (stack checker.old) checker.old result checker.new }
 {
@@ -44,7 +49,7 @@ fn note(
     let Ok(name) = Name::from_str(checker.alloc, name) else {
         return Err(RuleError::Memory);
     };
-    let meaning = Meaning::Capture {
+    let meaning = VariableMeaning::Capture {
         closure: Key(0),
         part,
     };
@@ -61,7 +66,7 @@ fn capture_as(
     part: u32,
     at: Pos,
     name: &str,
-    found: Found,
+    found: FoundVariable,
 ) -> Result<(), RuleError>
     ensures gives { GivesBound (capture_rest (env checker.old) part at (found_as name.now found) (reverse bound.old) (state checker.old)) result bound.new checker.new }
     ensures kept { Keeps (stack checker.old) checker.old result checker.new }
@@ -85,7 +90,7 @@ fn capture_found(
     part: u32,
     at: Pos,
     name: &str,
-    found: Found,
+    found: FoundVariable,
 ) -> Result<(), RuleError>
     ensures gives { GivesBound (new_rest (env checker.old) part at (found_as name.now found) (reverse bound.old) (state checker.old)) result bound.new checker.new }
     ensures kept { Keeps (stack checker.old) checker.old result checker.new }

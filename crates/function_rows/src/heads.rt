@@ -9,14 +9,14 @@ ghost use Rattle.function_rows.specs.Heads.{GivesBlock, GivesHead, KeepsHead, cl
 ghost use Rattle.function_rows.specs.Scoped.{KeepsSelf};
 
 use crate::numbers::body_number;
-use crate::scopes::{Begun, BodyHead, begin, block_scope};
+use crate::scopes::{BegunBody, BodyHead, begin, block_scope};
 use crate::{name_param, params_of};
 use item_heads::pushed;
 use mir_base::{List, Pos, RuleError};
 use mir_ty::TyId;
 use pattern_check::enter_bound;
 use src_ast::Nodes;
-use src_tree::Node;
+use src_tree::SyntaxNode;
 use std::alloc::Global;
 use type_env::Variables;
 use type_rows::Checker;
@@ -26,7 +26,7 @@ fn numbered_head(
     at: Pos,
     number: u32,
     params: Nodes,
-    answer: Option<&Node>,
+    answer: Option<&SyntaxNode>,
 ) -> Result<BodyHead, RuleError>
     ensures gives { GivesHead (numbered_fn at number (alone (env checker.old)) (nodes_of params.entry) (maybe_of answer.entry)) (state checker.old) result checker.new }
     ensures kept { KeepsHead checker.old result checker.new }
@@ -48,7 +48,7 @@ pub fn fn_head(
     checker: &mut Checker,
     at: Pos,
     params: Nodes,
-    answer: Option<&Node>,
+    answer: Option<&SyntaxNode>,
 ) -> Result<BodyHead, RuleError>
     ensures gives { GivesHead (bodies.fn_body (alone (env checker.old)) at (nodes_of params.entry) (maybe_of answer.entry)) (state checker.old) result checker.new }
     ensures kept { KeepsHead checker.old result checker.new }
@@ -75,12 +75,12 @@ fn with_first(first: TyId, rest: List<TyId>, alloc: Global) -> Result<List<TyId>
 /// The body of a closure, from its value on, which is its first parameter.
 fn closure_params(
     checker: &mut Checker,
-    begun: Begun,
+    begun: BegunBody,
     at: Pos,
     number: u32,
     ty: TyId,
     params: Nodes,
-    answer: Option<&Node>,
+    answer: Option<&SyntaxNode>,
 ) -> Result<BodyHead, RuleError>
     ensures gives { GivesBlock (closure_inside at number ty (env checker.old) (nodes_of params.entry) (maybe_of answer.entry)) (state checker.old) result checker.new }
     ensures kept { KeepsSelf begun checker.old result checker.new }
@@ -105,7 +105,7 @@ pub fn closure_head(
     ty: TyId,
     captures: &Variables,
     params: Nodes,
-    answer: Option<&Node>,
+    answer: Option<&SyntaxNode>,
 ) -> Result<BodyHead, RuleError>
     ensures gives { GivesHead (bodies.closure_body (env checker.old) at number ty (reverse captures.now) (nodes_of params.entry) (maybe_of answer.entry)) (state checker.old) result checker.new }
     ensures kept { KeepsHead checker.old result checker.new }

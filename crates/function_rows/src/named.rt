@@ -16,7 +16,7 @@ use mir_base::{Key, Name, NoMemory, NodeId, Pos, Rule, RuleError};
 use mir_ty::{Ty, TyId};
 use name_rows::adt_at_head;
 use src_ast::Receiver;
-use type_env::{Meaning, Variable, Variables, taking};
+use type_env::{Variable, VariableMeaning, Variables, taking};
 use type_rows::Checker;
 use typed_tree::Form;
 
@@ -73,7 +73,7 @@ fn enter_self(
     let variable = Variable {
         name,
         ty,
-        meaning: Meaning::Local(Key(id.0)),
+        meaning: VariableMeaning::Local(Key(id.0)),
     };
     match bound.enter(checker.alloc, variable) {
         Ok(()) => Ok(()),

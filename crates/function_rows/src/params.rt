@@ -12,7 +12,7 @@ use item_heads::{broken, pushed};
 use mir_base::{List, Rule, RuleError};
 use mir_ty::TyId;
 use src_ast::{Nodes, ParamForm, param_form};
-use src_tree::Node;
+use src_tree::SyntaxNode;
 use type_env::Variables;
 use type_rows::Checker;
 
@@ -27,7 +27,7 @@ pub fn param(
     checker: &mut Checker,
     bound: &mut Variables,
     may_refer: bool,
-    node: &Node,
+    node: &SyntaxNode,
 ) -> Result<TyId, RuleError>
     ensures gives { GivesParam (bodies.param (env checker.old) (type_by (env checker.old) may_refer) (syn_of node.now) (reverse bound.old) (state checker.old)) result bound.new checker.new }
     ensures kept { Keeps (stack checker.old) checker.old result checker.new }

@@ -14,13 +14,13 @@ use name_rows::{written, written_param};
 use pattern_check::pattern as check_pattern;
 use pattern_rows::Expected;
 use src_ast::{PatternForm, pattern_form};
-use src_tree::Node;
+use src_tree::SyntaxNode;
 use type_env::{Variables, is_reference};
 use type_rows::Checker;
 
 /// Whether a pattern is one name or `_`, in parentheses or not.
 #[tactic(auto, using(crate::proofs::ParamShapes::plain_seen))]
-fn is_name_or_wildcard(node: &Node) -> bool
+fn is_name_or_wildcard(node: &SyntaxNode) -> bool
     ensures { result ≡ bodies.is_name_or_wildcard (syn_of node.now) }
 {
     match pattern_form(node) {
@@ -32,7 +32,7 @@ fn is_name_or_wildcard(node: &Node) -> bool
 }
 
 /// Whether a parameter of a type may have a pattern: a reference has a name or `_`.
-fn may_have(items: &Items, ty: TyId, pattern: &Node) -> bool
+fn may_have(items: &Items, ty: TyId, pattern: &SyntaxNode) -> bool
     ensures { result ≡ (bodies.is_name_or_wildcard (syn_of pattern.now) || not (types.is_reference items.now ty)) }
 {
     is_name_or_wildcard(pattern) || !is_reference(items, ty)
@@ -42,7 +42,7 @@ fn part_param(
     checker: &mut Checker,
     bound: &mut Variables,
     ty: TyId,
-    pattern: &Node,
+    pattern: &SyntaxNode,
 ) -> Result<TyId, RuleError>
     ensures gives { GivesParam (part_rest (env checker.old) ty (syn_of pattern.now) (reverse bound.old) (state checker.old)) result bound.new checker.new }
     ensures kept { Keeps (stack checker.old) checker.old result checker.new }
@@ -60,7 +60,7 @@ fn pattern_param(
     bound: &mut Variables,
     at: Pos,
     ty: TyId,
-    pattern: &Node,
+    pattern: &SyntaxNode,
 ) -> Result<TyId, RuleError>
     ensures gives { GivesParam (pattern_rest (env checker.old) at ty (syn_of pattern.now) (reverse bound.old) (state checker.old)) result bound.new checker.new }
     ensures kept { Keeps (stack checker.old) checker.old result checker.new }
@@ -71,7 +71,7 @@ fn pattern_param(
 }
 
 /// The type of a parameter, which may be a reference or not.
-fn param_ty(checker: &mut Checker, may_refer: bool, node: &Node) -> Result<TyId, RuleError>
+fn param_ty(checker: &mut Checker, may_refer: bool, node: &SyntaxNode) -> Result<TyId, RuleError>
     ensures gives { GivesValue (λ ty. ty) (type_by (env checker.old) may_refer (syn_of node.now) (state checker.old)) result checker.new }
     ensures same { OnOk result (Same checker.old checker.new) }
 {
@@ -88,8 +88,8 @@ pub fn typed_param(
     bound: &mut Variables,
     at: Pos,
     may_refer: bool,
-    pattern: &Node,
-    ty: &Node,
+    pattern: &SyntaxNode,
+    ty: &SyntaxNode,
 ) -> Result<TyId, RuleError>
     ensures gives { GivesParam (typed_param_of (env checker.old) at may_refer (syn_of pattern.now) (syn_of ty.now) (reverse bound.old) (state checker.old)) result bound.new checker.new }
     ensures kept { Keeps (stack checker.old) checker.old result checker.new }

@@ -13,13 +13,13 @@ use mir_base::{List, Pos, RuleError};
 use mir_ty::TyId;
 use name_rows::answer_of;
 use pattern_check::enter_bound;
-use src_tree::Node;
+use src_tree::SyntaxNode;
 use type_env::Variables;
 use type_rows::{Checker, Surroundings};
 
 /// What is put aside of the body around another: of the walk, and where it stands.
 #[derive(Drop)]
-pub struct Begun {
+pub struct BegunBody {
     pub outer: Outer,
     pub aside: Surroundings,
 }
@@ -40,7 +40,7 @@ pub struct BodyHead {
 }
 
 /// A body of its own begins, without the variables around.
-pub fn begin(checker: &mut Checker) -> Begun
+pub fn begin(checker: &mut Checker) -> BegunBody
     ensures state { state checker.new ≡ in_body (state checker.old) }
     ensures outer { with_outer result.outer (state checker.new) ≡ state checker.old }
     ensures alone { env checker.new ≡ alone (env checker.old) }
@@ -50,18 +50,18 @@ pub fn begin(checker: &mut Checker) -> Begun
 {
     let outer = begin_body(checker);
     let aside = put_aside(checker);
-    Begun { outer, aside }
+    BegunBody { outer, aside }
 }
 
 /// The type of a body's result, and the scope of its block, in which its parameters are.
 pub fn block_scope(
     checker: &mut Checker,
-    begun: Begun,
+    begun: BegunBody,
     at: Pos,
     number: u32,
     params: List<TyId>,
     bound: &Variables,
-    answer: Option<&Node>,
+    answer: Option<&SyntaxNode>,
 ) -> Result<BodyHead, RuleError>
     ensures gives { GivesBlock (answered at number (last_params params (stack checker.old)) (env checker.old) (maybe_of answer.entry) (reverse bound.now)) (state checker.old) result checker.new }
     ensures kept { KeepsBlock begun params checker.old result checker.new }

@@ -6,43 +6,43 @@ use Rattle.std.proofs.lemmas.List.{get_or-set_same, get_or-set_other, get_or-rep
 use Rattle.std.proofs.Math.ListN.{get_or-eq_default}
 use Rattle.std.proofs.lemmas.List.Sums.{sum_by-set}
 use Rattle.bit_rows.specs.Words.{union}
-use Rattle.init_flow.specs.Carried.{Row}
-use Rattle.init_flow.specs.WorkList.{Problem, State, row_at, is_reached, waits, way_at, Onward, here, there, Made, one, both, Law, Good, Started, Grows, arrived, untouched, is_off, off, unsettled}
+use Rattle.init_flow.specs.Carried.{Bits}
+use Rattle.init_flow.specs.WorkList.{Problem, SolverState, row_at, is_reached, waits, way_at, Onward, here, there, Made, one, both, Law, Good, Started, Grows, arrived, untouched, is_off, off, unsettled}
 use Rattle.init_flow.proofs.Rows.{union-length, union-again, union-stays, union-none, in_between, fewer, fewer-than}
 
 module _ (f : Problem) where
-  pub further : (n : ℕ) (row : Row) (last : ℕ) (end : Row) (k m : ℕ) → Onward f n row last end → f.target last k ≡ Some m → k < 2
+  pub further : (n : ℕ) (row : Bits) (last : ℕ) (end : Bits) (k m : ℕ) → Onward f n row last end → f.target last k ≡ Some m → k < 2
       → Onward f n row m (f.pass last k end)
   further _ _ _ _ k m (here n row) leads below = there n k m row m (f.pass n k row) leads below (here m (f.pass n k row))
   further _ _ _ _ k m (there n j l row last end to small rest) leads below =
       there n j l row m (f.pass last k end) to small (further l (f.pass n j row) last end k m rest leads below)
 
   module _ (law : Law f) where
-    pub onward-width : (n : ℕ) (row : Row) (last : ℕ) (end : Row) → Onward f n row last end → length row ≡ f.width → length end ≡ f.width
+    pub onward-width : (n : ℕ) (row : Bits) (last : ℕ) (end : Bits) → Onward f n row last end → length row ≡ f.width → length end ≡ f.width
     onward-width _ _ _ _ (here n row) h = h
     onward-width _ _ _ _ (there n k m row last end to small rest) h = onward-width m (f.pass n k row) last end rest (law.keeps n k row h)
 
-    pub made-width : (n : ℕ) (row : Row) → Made f n row → length row ≡ f.width
+    pub made-width : (n : ℕ) (row : Bits) → Made f n row → length row ≡ f.width
     made-width _ _ (one n row o) = onward-width 0 f.start n row o law.begins
     made-width _ _ (both n a b p q) =
         union-length a b (made-width n a p ∙ sym (made-width n b q)) ∙ made-width n a p
 
-    pub passed : (n k m : ℕ) (row : Row) → f.target n k ≡ Some m → k < 2 → Made f n row → Made f m (f.pass n k row)
+    pub passed : (n k m : ℕ) (row : Bits) → f.target n k ≡ Some m → k < 2 → Made f n row → Made f m (f.pass n k row)
     passed _ k m _ leads small (one n row o) = one m (f.pass n k row) (further 0 f.start n row k m o leads small)
     passed _ k m _ leads small (both n a b p q) =
         subst (Made f m) (sym (law.distributes n k a b (made-width n a p) (made-width n b q)))
         (both m (f.pass n k a) (f.pass n k b) (passed n k m a leads small p) (passed n k m b leads small q))
 
     -- what is in a row is, past a way, in what the way makes of the row
-    passes : (n k : ℕ) (a b : Row) → length a ≡ f.width → length b ≡ f.width → union a b ≡ b → union (f.pass n k a) (f.pass n k b) ≡ f.pass n k b
+    passes : (n k : ℕ) (a b : Bits) → length a ≡ f.width → length b ≡ f.width → union a b ≡ b → union (f.pass n k a) (f.pass n k b) ≡ f.pass n k b
     passes n k a b la lb is = sym (law.distributes n k a b la lb) ∙ ap (f.pass n k) is
 
     -- what is in a row that is in another is in the other
-    more : (a b c : Row) → length a ≡ f.width → length b ≡ f.width → length c ≡ f.width → union a b ≡ b → union b c ≡ c → union a c ≡ c
+    more : (a b c : Bits) → length a ≡ f.width → length b ≡ f.width → length c ≡ f.width → union a b ≡ b → union b c ≡ c → union a c ≡ c
     more a b c la lb lc ab bc = in_between a b c (la ∙ sym lb) (lb ∙ sym lc) ab bc
 
     -- At the end: no way waits, and what paths carry is in the rows.
-    module _ (s : State) (done : Good f s [] (f.blocks * 2)) (started : Started f s) where
+    module _ (s : SolverState) (done : Good f s [] (f.blocks * 2)) (started : Started f s) where
       nothing_waits : (i : ℕ) → waits s i ≡ false
       nothing_waits i = by (waits s i) refl
         where
@@ -52,11 +52,11 @@ module _ (f : Problem) where
 
       -- a block with a way exists
       module _ (exists : (n k m : ℕ) → f.target n k ≡ Some m → n < f.blocks) where
-        met : (m : ℕ) (row : Row) (last : ℕ) (end : Row) → Onward f m row last end → last < f.blocks → m < f.blocks
+        met : (m : ℕ) (row : Bits) (last : ℕ) (end : Bits) → Onward f m row last end → last < f.blocks → m < f.blocks
         met _ _ _ _ (here m row) l = l
         met _ _ _ _ (there m k n row last end to small rest) l = exists m k n to
 
-        carried_in : (n : ℕ) (row : Row) (last : ℕ) (end : Row) → Onward f n row last end → last < f.blocks → length row ≡ f.width
+        carried_in : (n : ℕ) (row : Bits) (last : ℕ) (end : Bits) → Onward f n row last end → last < f.blocks → length row ≡ f.width
             → is_reached s n ≡ true → union row (row_at s n) ≡ row_at s n
             → (is_reached s last ≡ true) × (union end (row_at s last) ≡ row_at s last)
         carried_in _ _ _ _ (here n row) l w r is = (r, is)
@@ -68,7 +68,7 @@ module _ (f : Problem) where
             (more (f.pass n k row) (f.pass n k (row_at s n)) (row_at s m) (law.keeps n k row w) (law.keeps n k (row_at s n) (done.widths n here)) (done.widths m next) (passes n k row (row_at s n) w (done.widths n here) is) step.1)
 
         -- the bits of a row that paths carry there are on, and only they
-        pub carried : (n : ℕ) (end : Row) → n < f.blocks → Onward f 0 f.start n end → union end (row_at s n) ≡ row_at s n
+        pub carried : (n : ℕ) (end : Bits) → n < f.blocks → Onward f 0 f.start n end → union end (row_at s n) ≡ row_at s n
         carried n end below o =
             let some : 0 < f.blocks = omega (below, arith) in
             let began = started some in
@@ -77,11 +77,11 @@ module _ (f : Problem) where
 -- One turn.
 
 module _ (f : Problem) (law : Law f) where
-  abbrev Is : State → List ℕ → ℕ → Type 0
+  abbrev Is : SolverState → List ℕ → ℕ → Type 0
   Is = Good f
 
-  module _ (s : State) (heap : List ℕ) (but : ℕ) (good : Is s heap but) (m : ℕ) (here : m < f.blocks) (row : Row) (long : length row ≡ f.width) (makes : Made f m row) where
-    new : Row
+  module _ (s : SolverState) (heap : List ℕ) (but : ℕ) (good : Is s heap but) (m : ℕ) (here : m < f.blocks) (row : Bits) (long : length row ≡ f.width) (makes : Made f m row) where
+    new : Bits
     new = union row (row_at s m)
 
     new-length : length new ≡ f.width
@@ -120,7 +120,7 @@ module _ (f : Problem) (law : Law f) where
     still n r = elim (cases_eq n m) [ inl e ↦ subst (λ (z : ℕ). slice_index_or (slice_set s.reached m true) z false ≡ true) (sym e) reached_there | inr o ↦ reached_else n o ∙ r ]
 
     -- and what was in a row is
-    grown : (n : ℕ) (other : Row) → n < f.blocks → length other ≡ f.width → union other (row_at s n) ≡ row_at s n
+    grown : (n : ℕ) (other : Bits) → n < f.blocks → length other ≡ f.width → union other (row_at s n) ≡ row_at s n
         → union other (slice_index_or (slice_set s.rows m new) n []) ≡ slice_index_or (slice_set s.rows m new) n []
     unfolding new
     grown n other below l is =
@@ -246,7 +246,7 @@ module _ (f : Problem) (law : Law f) where
           one_block_less e = let is : is_off (is_reached s m) ≡ 1 = ap is_off e in omega (flags, is, arith)
 
   -- A way that waited is taken up: it is the one that is left out.
-  pub good-taken : (s : State) (heap next : List ℕ) (i : ℕ) → Is s heap (f.blocks * 2) → i < f.blocks * 2
+  pub good-taken : (s : SolverState) (heap next : List ℕ) (i : ℕ) → Is s heap (f.blocks * 2) → i < f.blocks * 2
       → ((c : ℕ) → Contains heap c → (c ≡ i) ⊎ Contains next c) → ((c : ℕ) → Contains next c → Contains heap c)
       → Is (record s { waiting = slice_set s.waiting i false }) next i
   good-taken s heap next i good within kept only =
@@ -267,7 +267,7 @@ module _ (f : Problem) (law : Law f) where
       }
 
   -- The way that was left out leads nowhere, or has done what it does.
-  pub good-done : (s : State) (heap : List ℕ) (but : ℕ) → Is s heap but
+  pub good-done : (s : SolverState) (heap : List ℕ) (but : ℕ) → Is s heap but
       → ((n k c : ℕ) → n < f.blocks → c < f.blocks → k < 2 → f.target n k ≡ Some c → is_reached s n ≡ true → way_at n k ≡ but → (is_reached s c ≡ true) × (union (f.pass n k (row_at s n)) (row_at s c) ≡ row_at s c))
       → Is s heap (f.blocks * 2)
   good-done s heap but good did =

@@ -2,11 +2,11 @@
 use Rattle.std.proofs.Common.{◌≡◌, ◌≢◌, ℕ, zero, suc, ◌<◌, ◌≤◌, Bool, true, false, ◌||◌, [], ◌∷◌, length, replicate, refl, sym, ap, arith}
 use Rattle.std.specs.Prelude.{slice_index_or}
 use Rattle.std.proofs.lemmas.Bool.{false≢true}
-use Rattle.init_flow.specs.Carried.{Row}
+use Rattle.init_flow.specs.Carried.{Bits}
 use Rattle.init_flow.specs.WorkList.{is_off, off}
 use Rattle.bit_rows.specs.Words.{union}
 
-pub union-length : (a b : Row) → length a ≡ length b → length (union a b) ≡ length a
+pub union-length : (a b : Bits) → length a ≡ length b → length (union a b) ≡ length a
 union-length [] [] e = refl
 union-length [] (y ∷ ys) e = absurd (omega (e, arith))
 union-length (x ∷ xs) [] e = absurd (omega (e, arith))
@@ -22,23 +22,23 @@ or-among false true c e = e
 or-among true true c e = refl
 
 -- what is taken in is in
-pub union-again : (a b : Row) → length a ≡ length b → union a (union a b) ≡ union a b
+pub union-again : (a b : Bits) → length a ≡ length b → union a (union a b) ≡ union a b
 union-again [] [] e = refl
 union-again [] (y ∷ ys) e = absurd (omega (e, arith))
 union-again (x ∷ xs) [] e = absurd (omega (e, arith))
 union-again (x ∷ xs) (y ∷ ys) e =
     let rest = union-again xs ys (omega (e, arith)) in rw (or-same x y, rest) refl
 
-head_or : Bool → Row → Bool
+head_or : Bool → Bits → Bool
 head_or none [] = none
 head_or none (x ∷ xs) = x
 
-rest_of : Row → Row
+rest_of : Bits → Bits
 rest_of [] = []
 rest_of (x ∷ xs) = xs
 
 -- and stays in
-pub union-stays : (a b c : Row) → length a ≡ length c → length b ≡ length c → union b c ≡ c → union b (union a c) ≡ union a c
+pub union-stays : (a b c : Bits) → length a ≡ length c → length b ≡ length c → union b c ≡ c → union b (union a c) ≡ union a c
 unfolding head_or rest_of
 union-stays [] [] [] e d is = refl
 union-stays (x ∷ xs) (y ∷ ys) (z ∷ zs) e d is =
@@ -56,7 +56,7 @@ or-between true true c e d = d
 or-between true false c e d = absurd (false≢true (sym e))
 
 -- a row in a row that is in a third
-pub in_between : (a b c : Row) → length a ≡ length b → length b ≡ length c → union a b ≡ b → union b c ≡ c → union a c ≡ c
+pub in_between : (a b c : Bits) → length a ≡ length b → length b ≡ length c → union a b ≡ b → union b c ≡ c → union a c ≡ c
 unfolding head_or rest_of
 in_between [] [] [] e d ab bc = refl
 in_between (x ∷ xs) (y ∷ ys) (z ∷ zs) e d ab bc =
@@ -67,13 +67,13 @@ in_between (x ∷ xs) [] c e d ab bc = absurd (omega (e, arith))
 in_between (x ∷ xs) (y ∷ ys) [] e d ab bc = absurd (omega (d, arith))
 
 -- the union with a row of no bits
-pub union-none : (a : Row) → union a (replicate (length a) false) ≡ a
+pub union-none : (a : Bits) → union a (replicate (length a) false) ≡ a
 union-none [] = refl
 union-none (true ∷ xs) = ap (λ z. true ∷ z) (union-none xs)
 union-none (false ∷ xs) = ap (λ z. false ∷ z) (union-none xs)
 
 -- a bit of a union
-pub union-bit : (a b : Row) (i : ℕ) → length a ≡ length b → slice_index_or (union a b) i false ≡ (slice_index_or a i false || slice_index_or b i false)
+pub union-bit : (a b : Bits) (i : ℕ) → length a ≡ length b → slice_index_or (union a b) i false ≡ (slice_index_or a i false || slice_index_or b i false)
 union-bit [] [] i e = refl
 union-bit [] (y ∷ ys) i e = absurd (omega (e, arith))
 union-bit (x ∷ xs) [] i e = absurd (omega (e, arith))
@@ -84,14 +84,14 @@ fewer-bit : (x y : Bool) → is_off (x || y) ≤ is_off y
 fewer-bit true y = omega arith
 fewer-bit false y = omega arith
 
-pub fewer : (a b : Row) → length a ≡ length b → off (union a b) ≤ off b
+pub fewer : (a b : Bits) → length a ≡ length b → off (union a b) ≤ off b
 fewer [] [] e = omega arith
 fewer [] (y ∷ ys) e = absurd (omega (e, arith))
 fewer (x ∷ xs) [] e = absurd (omega (e, arith))
 fewer (x ∷ xs) (y ∷ ys) e = let one = fewer-bit x y in let rest = fewer xs ys (omega (e, arith)) in omega (one, rest, arith)
 
 -- a union that is another row has fewer bits off
-pub fewer-than : (a b : Row) → length a ≡ length b → union a b ≢ b → off (union a b) < off b
+pub fewer-than : (a b : Bits) → length a ≡ length b → union a b ≢ b → off (union a b) < off b
 fewer-than [] [] e other = absurd (other refl)
 fewer-than [] (y ∷ ys) e other = absurd (omega (e, arith))
 fewer-than (x ∷ xs) [] e other = absurd (omega (e, arith))

@@ -4,15 +4,15 @@ use Rattle.std.specs.Prelude.{Contains, slice_index_or, slice_set, OnOk}
 use Rattle.std.proofs.Common.{Result, Ok, Err}
 use Rattle.std.proofs.lemmas.List.{get_or-set_other}
 use Rattle.bit_rows.specs.Words.{union}
-use Rattle.init_flow.specs.Carried.{Row}
+use Rattle.init_flow.specs.Carried.{Bits}
 use Rattle.init_flow.specs.declared.flow.Flow.{Flow}
-use Rattle.init_flow.specs.WorkList.{Problem, State, state_of, ways_in, row_at, is_reached, waits, way_at, arrived, Waits, Taken, Changes, Arrives, Good, Law, Made, one, here, Started, untouched, Grows, Turns, bit, unsettled, left}
+use Rattle.init_flow.specs.WorkList.{Problem, SolverState, state_of, ways_in, row_at, is_reached, waits, way_at, arrived, Waits, Taken, Changes, Arrives, Good, Law, Made, one, here, Started, untouched, Grows, Turns, bit, unsettled, left}
 use Rattle.init_flow.proofs.Invariant.{good-arrived, started-arrived, left-arrived, arrived-there, good-done, good-taken, good-untouched, passed}
 
-abbrev waiting_too : ℕ → State → State
+abbrev waiting_too : ℕ → SolverState → SolverState
 waiting_too i s = record s { waiting = slice_set s.waiting i true }
 
-pub changes : (old mid half two : Flow) (m : ℕ) (row : Row)
+pub changes : (old mid half two : Flow) (m : ℕ) (row : Bits)
     → mid.rows ≡ slice_set old.rows m (union row (row_at (state_of old) m)) → mid.reached ≡ slice_set old.reached m true → mid.waiting ≡ old.waiting → mid.heap ≡ old.heap
     → Waits mid half (way_at m 0) → Waits half two (way_at m 1)
     → ((union row (row_at (state_of old) m) ≢ row_at (state_of old) m) ⊎ (is_reached (state_of old) m ≡ false))
@@ -44,20 +44,20 @@ changes old mid half two m row rows reached waiting heap first second news =
     before w =
         ap (λ (z : List Bool). slice_index_or z (way_at m 1) false) (sym waiting)
         ∙ sym (get_or-set_other mid.waiting (way_at m 0) (way_at m 1) true false (λ e. absurd (omega (e, arith))))
-        ∙ sym (ap (λ (s : State). waits s (way_at m 1)) first.state) ∙ w
+        ∙ sym (ap (λ (s : SolverState). waits s (way_at m 1)) first.state) ∙ w
 
 module _ (f : Problem) (law : Law f) where
   -- a row came to a block from the way that was left out, or at the start
-  pub arrives : (old new : Flow) (but m : ℕ) (row : Row) → Good f (state_of old) (ways_in old) but → m < f.blocks → length row ≡ f.width → Made f m row
+  pub arrives : (old new : Flow) (but m : ℕ) (row : Bits) → Good f (state_of old) (ways_in old) but → m < f.blocks → length row ≡ f.width → Made f m row
       → ((n k c : ℕ) → n < f.blocks → k < 2 → f.target n k ≡ Some c → way_at n k ≡ but → (c ≡ m) × (row ≡ f.pass n k (row_at (state_of old) n)))
       → Arrives old new m row
       → Good f (state_of new) (ways_in new) (f.blocks * 2) × (left new ≤ left old) × (Started f (state_of old) → Started f (state_of new)) × (is_reached (state_of new) m ≡ true) × (union row (row_at (state_of new) m) ≡ row_at (state_of new) m)
   arrives old new but m row good inside long makes hole (inl changed) = (
-    subst (λ (s : State). Good f s (ways_in new) (f.blocks * 2)) (sym changed.state) (good-arrived f law (state_of old) (ways_in old) but good m inside row long makes (ways_in new) grows hole),
+    subst (λ (s : SolverState). Good f s (ways_in new) (f.blocks * 2)) (sym changed.state) (good-arrived f law (state_of old) (ways_in old) but good m inside row long makes (ways_in new) grows hole),
     lessened,
     λ started. subst (Started f) (sym changed.state) (started-arrived f law (state_of old) (ways_in old) but good m inside row long makes (ways_in new) grows hole started),
-    ap (λ (s : State). is_reached s m) changed.state ∙ there.0,
-    subst (λ (s : State). union row (row_at s m) ≡ row_at s m) (sym changed.state) there.1,
+    ap (λ (s : SolverState). is_reached s m) changed.state ∙ there.0,
+    subst (λ (s : SolverState). union row (row_at s m) ≡ row_at s m) (sym changed.state) there.1,
   )
     where
       there : (is_reached (arrived (state_of old) m row) m ≡ true) × (union row (row_at (arrived (state_of old) m row) m) ≡ row_at (arrived (state_of old) m row) m)
@@ -78,17 +78,17 @@ module _ (f : Problem) (law : Law f) where
           let same : unsettled (state_of new) ≡ unsettled (arrived (state_of old) m row) = ap unsettled changed.state in
           omega (less, same, changed.longer, arith)
   arrives old new but m row good inside long makes hole (inr stays) = (
-    subst (λ (s : State). Good f s (ways_in new) (f.blocks * 2)) (sym stays.state) (subst (λ (h : List ℕ). Good f (state_of old) h (f.blocks * 2)) (sym stays.heap) closed),
+    subst (λ (s : SolverState). Good f s (ways_in new) (f.blocks * 2)) (sym stays.state) (subst (λ (h : List ℕ). Good f (state_of old) h (f.blocks * 2)) (sym stays.heap) closed),
     (let same : unsettled (state_of new) ≡ unsettled (state_of old) = ap unsettled stays.state in let heaps = ap length stays.heap in omega (same, heaps, arith)),
     λ started. subst (Started f) (sym stays.state) started,
-    ap (λ (s : State). is_reached s m) stays.state ∙ stays.reached,
-    subst (λ (s : State). union row (row_at s m) ≡ row_at s m) (sym stays.state) stays.within,
+    ap (λ (s : SolverState). is_reached s m) stays.state ∙ stays.reached,
+    subst (λ (s : SolverState). union row (row_at s m) ≡ row_at s m) (sym stays.state) stays.within,
   )
     where
       closed : Good f (state_of old) (ways_in old) (f.blocks * 2)
       closed = good-done f law (state_of old) (ways_in old) but good (λ n k c h l small leads r e. let at = hole n k c h small leads e in
           subst (λ (z : ℕ). (is_reached (state_of old) z ≡ true) × (union (f.pass n k (row_at (state_of old) n)) (row_at (state_of old) z) ≡ row_at (state_of old) z)) (sym at.0)
-          (stays.reached, ap (λ (z : Row). union z (row_at (state_of old) m)) (sym at.1) ∙ stays.within))
+          (stays.reached, ap (λ (z : Bits). union z (row_at (state_of old) m)) (sym at.1) ∙ stays.within))
 
 pub on_ok : {T E P Q : Type 0} → (P → Q) → (r : Result T E) → OnOk r P → OnOk r Q
 on_ok to (Ok x) h = to h
@@ -117,7 +117,7 @@ module _ (f : Problem) (law : Law f) where
       }
 
   -- the way leads to a block, and the row came there
-  pub turned : (old new : Flow) (block m : ℕ) (way : Bool) (row : Row) → Good f (state_of old) (ways_in old) (way_at block (bit way))
+  pub turned : (old new : Flow) (block m : ℕ) (way : Bool) (row : Bits) → Good f (state_of old) (ways_in old) (way_at block (bit way))
       → block < f.blocks → is_reached (state_of old) block ≡ true → f.target block (bit way) ≡ Some m → m < f.blocks
       → row ≡ f.pass block (bit way) (row_at (state_of old) block) → Arrives old new m row → Turns f old new
   turned old new block m way row good inside reached to there is arrived =
@@ -140,27 +140,27 @@ no_some x o none some = absurd (cc)
 
 module _ (f : Problem) (law : Law f) where
   -- at the start
-  pub begins : (old new : Flow) (row : Row) → state_of old ≡ untouched f.width f.blocks → ways_in old ≡ [] → 0 < f.blocks → row ≡ f.start → Arrives old new 0 row
+  pub begins : (old new : Flow) (row : Bits) → state_of old ≡ untouched f.width f.blocks → ways_in old ≡ [] → 0 < f.blocks → row ≡ f.start → Arrives old new 0 row
       → Good f (state_of new) (ways_in new) (f.blocks * 2) × Started f (state_of new)
   begins old new row state heap some is arrived =
-      let good = subst (λ (s : State). Good f s (ways_in old) (f.blocks * 2)) (sym state) (subst (λ (h : List ℕ). Good f (untouched f.width f.blocks) h (f.blocks * 2)) (sym heap) (good-untouched f law)) in
+      let good = subst (λ (s : SolverState). Good f s (ways_in old) (f.blocks * 2)) (sym state) (subst (λ (h : List ℕ). Good f (untouched f.width f.blocks) h (f.blocks * 2)) (sym heap) (good-untouched f law)) in
       let makes = subst (Made f 0) (sym is) (one 0 f.start (here 0 f.start)) in
       let all = arrives f law old new (f.blocks * 2) 0 row good some (ap length is ∙ law.begins) makes (λ n k c h small to e. absurd (omega (e, h, small, arith))) arrived in
-      (all.0, λ below. (all.3, subst (λ (z : Row). union z (row_at (state_of new) 0) ≡ row_at (state_of new) 0) is all.4))
+      (all.0, λ below. (all.3, subst (λ (z : Bits). union z (row_at (state_of new) 0) ≡ row_at (state_of new) 0) is all.4))
 
   pub begins-empty : (old : Flow) → state_of old ≡ untouched f.width f.blocks → ways_in old ≡ [] → Good f (state_of old) (ways_in old) (f.blocks * 2)
   begins-empty old state heap =
-      subst (λ (s : State). Good f s (ways_in old) (f.blocks * 2)) (sym state) (subst (λ (h : List ℕ). Good f (untouched f.width f.blocks) h (f.blocks * 2)) (sym heap) (good-untouched f law))
+      subst (λ (s : SolverState). Good f s (ways_in old) (f.blocks * 2)) (sym state) (subst (λ (h : List ℕ). Good f (untouched f.width f.blocks) h (f.blocks * 2)) (sym heap) (good-untouched f law))
 
   -- a way is taken up
   pub took : (old new : Flow) (block : ℕ) (way : Bool) → Good f (state_of old) (ways_in old) (f.blocks * 2) → Taken old new (way_at block (bit way))
       → Good f (state_of new) (ways_in new) (way_at block (bit way)) × (block < f.blocks) × (is_reached (state_of new) block ≡ true) × (left new < left old) × (Started f (state_of old) → Started f (state_of new))
   took old new block way good taken =
       let at = good.known block (bit way) (bit-small way) taken.was in (
-        subst (λ (s : State). Good f s (ways_in new) (way_at block (bit way))) (sym taken.state)
+        subst (λ (s : SolverState). Good f s (ways_in new) (way_at block (bit way))) (sym taken.state)
             (good-taken f law (state_of old) (ways_in old) (ways_in new) (way_at block (bit way)) good (good.within (way_at block (bit way)) taken.was) taken.kept taken.only),
         at.0,
-        ap (λ (s : State). is_reached s block) taken.state ∙ at.1,
+        ap (λ (s : SolverState). is_reached s block) taken.state ∙ at.1,
         (let same : unsettled (state_of new) ≡ unsettled (state_of old) = ap unsettled taken.state in omega (same, taken.shorter, arith)),
         λ started. subst (Started f) (sym taken.state) started,
       )

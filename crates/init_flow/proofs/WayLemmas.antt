@@ -12,7 +12,7 @@ use Rattle.cfg_graph.specs.declared.graph.Block.{Block}
 use Rattle.cfg_graph.specs.declared.graph.Body.{Body}
 use Rattle.cfg_graph.specs.declared.terminator.Term.{Term}
 use Rattle.cfg_graph.specs.declared.terminator.Unwind.{Unwind}
-use Rattle.cfg_graph.specs.Edges.{Exit, ToBlock, unwind_exit}
+use Rattle.cfg_graph.specs.Edges.{BlockExit, ToBlock, unwind_exit}
 use Rattle.cfg_graph.specs.Places.{place_id, ty_of_place}
 use Rattle.init_flow.specs.Ways.{block_of, target_among, way_target, target, exit_at, on_paths}
 
@@ -38,17 +38,17 @@ if-none : (c : Bool) (x : Option ℕ) → x ≡ None → (if c then x else None)
 if-none true x e = e
 if-none false x e = refl
 
-past_two : (a b : Exit) (k : ℕ) → option_and_then block_of (slice_get (a ∷ b ∷ []) (suc (suc k))) ≡ None
+past_two : (a b : BlockExit) (k : ℕ) → option_and_then block_of (slice_get (a ∷ b ∷ []) (suc (suc k))) ≡ None
 past_two a b k = ap (option_and_then block_of) (third a b k)
 
-no_third : (a b : Exit) (k : ℕ) → target_among (suc (suc k)) (record { choices = false ∷ []; exit = a } ∷ record { choices = true ∷ []; exit = b } ∷ []) ≡ None
+no_third : (a b : BlockExit) (k : ℕ) → target_among (suc (suc k)) (record { choices = false ∷ []; exit = a } ∷ record { choices = true ∷ []; exit = b } ∷ []) ≡ None
 no_third a b k = rw (zero_past (suc k), one_past k) refl
 
-no_second : (choice : Bool) (a : Exit) (k : ℕ) → target_among (suc (suc k)) (record { choices = choice ∷ []; exit = a } ∷ []) ≡ None
+no_second : (choice : Bool) (a : BlockExit) (k : ℕ) → target_among (suc (suc k)) (record { choices = choice ∷ []; exit = a } ∷ []) ≡ None
 no_second true a k = rw (one_past k) refl
 no_second false a k = rw (zero_past (suc k)) refl
 
-alone : (a : Exit) (k : ℕ) → target_among (suc k) (record { choices = []; exit = a } ∷ []) ≡ None
+alone : (a : BlockExit) (k : ℕ) → target_among (suc k) (record { choices = []; exit = a } ∷ []) ≡ None
 alone a k = rw (zero_past k) refl
 
 abbrev Is : ItemTable → Body → Term → ℕ → Type 0
@@ -74,12 +74,12 @@ drop false next unwind zero = refl
 drop false next unwind (suc zero) = refl
 drop false next unwind (suc (suc way)) = alone (ToBlock next) (suc way) ∙ sym (if-none (suc (suc way) == 0 || false) _ (past_two (ToBlock next) (unwind_exit unwind) way))
 
-two : (a b : Exit) (way : ℕ) → target_among way (record { choices = false ∷ []; exit = a } ∷ record { choices = true ∷ []; exit = b } ∷ []) ≡ option_and_then block_of (slice_get (a ∷ b ∷ []) way)
+two : (a b : BlockExit) (way : ℕ) → target_among way (record { choices = false ∷ []; exit = a } ∷ record { choices = true ∷ []; exit = b } ∷ []) ≡ option_and_then block_of (slice_get (a ∷ b ∷ []) way)
 two a b zero = refl
 two a b (suc zero) = refl
 two a b (suc (suc way)) = no_third a b way ∙ sym (past_two a b way)
 
-one : (a : Exit) (way : ℕ) → target_among way (record { choices = []; exit = a } ∷ []) ≡ option_and_then block_of (slice_get (a ∷ []) way)
+one : (a : BlockExit) (way : ℕ) → target_among way (record { choices = []; exit = a } ∷ []) ≡ option_and_then block_of (slice_get (a ∷ []) way)
 one a zero = refl
 one a (suc way) = alone a way ∙ sym (ap (option_and_then block_of) (second a way))
 

@@ -8,19 +8,19 @@ use Rattle.store_model.specs.Places.TypeForms.{is_never}
 use Rattle.cfg_graph.specs.Places.{place_id, ty_of_place}
 use Rattle.cfg_graph.specs.declared.graph.Body.{Body}
 use Rattle.cfg_graph.specs.declared.terminator.Term.{Term}
-use Rattle.cfg_graph.specs.Edges.{Exit, ToBlock, LeavesBody, ways_out}
-use Rattle.cfg_graph.specs.Moves.Paths.{Way, ways}
+use Rattle.cfg_graph.specs.Edges.{BlockExit, ToBlock, LeavesBody, ways_out}
+use Rattle.cfg_graph.specs.Moves.Paths.{PathWay, ways}
 
 abbrev pub number_of : List Bool → ℕ
 number_of (true ∷ rest) = 1
 number_of choices = 0
 
-abbrev pub block_of : Exit → Option ℕ
+abbrev pub block_of : BlockExit → Option ℕ
 block_of (ToBlock block) = Some block
 block_of LeavesBody = None
 
 -- the block to which the way with this number leads
-abbrev pub target_among : ℕ → List Way → Option ℕ
+abbrev pub target_among : ℕ → List PathWay → Option ℕ
 target_among number [] = None
 target_among number (way ∷ rest) =
     if number_of way.choices == number then block_of way.exit else target_among number rest

@@ -1,7 +1,7 @@
 //! The rows of blocks, and the work list: the ways out of blocks whose row changed, the block of the greatest rank
 //! first, so that a block is met when the blocks before it are done.
 ghost use Rattle.std.specs.Prelude.{◌≡◌, ◌<◌, ◌≤◌, ◌+◌, ◌*◌, ◌↔◌, IsFalse, ℕ, Contains, IfOk, OnOk, IfSome, IfNone, [], length, replicate, slice_set, slice_index_or, false, true};
-ghost use Rattle.init_flow.specs.WorkList.{State, state_of, ways_in, way_at, bit, untouched, row_at, Waits, Taken, Arrives};
+ghost use Rattle.init_flow.specs.WorkList.{SolverState, state_of, ways_in, way_at, bit, untouched, row_at, Waits, Taken, Arrives};
 ghost use Rattle.bit_rows.specs.Words.{union};
 
 use bit_rows::BitRow;

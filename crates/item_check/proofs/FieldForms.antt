@@ -1,17 +1,17 @@
 -- Fields by their forms.
 use Rattle.std.proofs.Common.{◌≡◌, List, refl, ap, sym, ◌∙◌}
 use Rattle.mir_base.specs.declared.place_in_text.Pos.{Pos}
-use Rattle.src_tree.specs.declared.node.Node.{Node}
+use Rattle.src_tree.specs.declared.node.SyntaxNode.{SyntaxNode}
 use Rattle.src_ast.specs.Seen.{syn_of}
 use Rattle.src_ast.specs.Sorts.{field_part}
 use Rattle.src_ast.specs.Syntax.{Word, Syn, syn, Shape, at_of, shape_of, Ident, LabelOf, Literal, TruthLiteral, Path, Minus, Bang, Star, Ampersand, Calculate, Compare, Both, Either, Store, CallOf, MethodOf, FieldOf, PartOf, ElementOf, StructOf, FieldInit, Parens, TupleOf, ArrayOf, Braces, IfElse, IfLetElse, MatchOn, ArmOf, LoopOf, WhileOf, WhileLetOf, BreakOf, ContinueOf, ReturnOf, MoveOf, PanicOf, LetOf, Empty, Semi, AnyPattern, BindPattern, LiteralPattern, TruthPattern, PathPattern, PartsPattern, FieldsPattern, FieldPattern, ParensPattern, TuplePattern, ArrayPattern, Alternatives, NamedType, GenericType, DynType, SelfType, ParensType, TupleType, ArrayType, NeverType, RefType, StructItem, EnumItem, FieldDecl, VariantDecl, TraitItem, ImplItem, FnItem, ParamOf, SelfParam, Odd}
 use Rattle.src_ast.proofs.Named.{seen_as}
-use Rattle.typing_rules.specs.Check.{State}
+use Rattle.typing_rules.specs.Check.{TypingState}
 use Rattle.typing_rules.specs.Program.{field}
 use Rattle.typing_rules.specs.Scope.{Env}
 use Rattle.item_check.specs.Forms.{field_by}
 
-form_field : (w : Env) (earlier : List Word) (at : Pos) (form : Shape) (s : State) →
+form_field : (w : Env) (earlier : List Word) (at : Pos) (form : Shape) (s : TypingState) →
     field w earlier (syn at form) s ≡ field_by w earlier at (syn at form) (field_part form) s
 form_field w earlier at (Ident a) s = refl
 form_field w earlier at (LabelOf a) s = refl
@@ -85,12 +85,12 @@ form_field w earlier at (ParamOf a b) s = refl
 form_field w earlier at (SelfParam a) s = refl
 form_field w earlier at Odd s = refl
 
-as_field : (w : Env) (earlier : List Word) (x : Syn) (s : State) →
+as_field : (w : Env) (earlier : List Word) (x : Syn) (s : TypingState) →
     field w earlier x s ≡ field_by w earlier (at_of x) x (field_part (shape_of x)) s
 as_field w earlier (syn at form) s = form_field w earlier at form s
 
 -- a field is known by its form
-pub field_seen : (w : Env) (earlier : List Word) (n : Node) (s : State) →
+pub field_seen : (w : Env) (earlier : List Word) (n : SyntaxNode) (s : TypingState) →
     field w earlier (syn_of n) s ≡ field_by w earlier n.at (syn_of n) (field_part (shape_of (syn_of n))) s
 field_seen w earlier n s =
     as_field w earlier (syn_of n) s

@@ -4,12 +4,12 @@ use Rattle.std.specs.Str.{bytes_eq}
 use Rattle.mir_base.specs.declared.rule.Rule.{Rule}
 use Rattle.well_typed.specs.Names.{is_among}
 use Rattle.mir_base.specs.declared.place_in_text.Pos.{Pos}
-use Rattle.src_tree.specs.declared.node.Node.{Node}
+use Rattle.src_tree.specs.declared.node.SyntaxNode.{SyntaxNode}
 use Rattle.src_ast.specs.Seen.{syn_of}
 use Rattle.src_ast.specs.Sorts.{item_part}
 use Rattle.src_ast.specs.Syntax.{Word, Named, Syns, list_of, Syn, syn, Shape, at_of, shape_of, Ident, LabelOf, Literal, TruthLiteral, Path, Minus, Bang, Star, Ampersand, Calculate, Compare, Both, Either, Store, CallOf, MethodOf, FieldOf, PartOf, ElementOf, StructOf, FieldInit, Parens, TupleOf, ArrayOf, Braces, IfElse, IfLetElse, MatchOn, ArmOf, LoopOf, WhileOf, WhileLetOf, BreakOf, ContinueOf, ReturnOf, MoveOf, PanicOf, LetOf, Empty, Semi, AnyPattern, BindPattern, LiteralPattern, TruthPattern, PathPattern, PartsPattern, FieldsPattern, FieldPattern, ParensPattern, TuplePattern, ArrayPattern, Alternatives, NamedType, GenericType, DynType, SelfType, ParensType, TupleType, ArrayType, NeverType, RefType, StructItem, EnumItem, FieldDecl, VariantDecl, TraitItem, ImplItem, FnItem, ParamOf, SelfParam, Odd}
 use Rattle.src_ast.proofs.Named.{seen_as}
-use Rattle.typing_rules.specs.Check.{State, and_then, the_items, ◌>>=◌}
+use Rattle.typing_rules.specs.Check.{TypingState, and_then, the_items, ◌>>=◌}
 use Rattle.typing_rules.specs.Program as rules
 use Rattle.typing_rules.specs.Program.{Before, Seen, head_rules, item_rules, method_heads, method_name, trait_heads}
 use Rattle.typing_rules.specs.Scope.{Env, adt_named, body_named}
@@ -94,12 +94,12 @@ form_name at Odd = refl
 as_name : (x : Syn) → method_name x ≡ method_name_by (item_part (shape_of x))
 as_name (syn at form) = form_name at form
 
-pub name_seen_of : (n : Node) → method_name (syn_of n) ≡ method_name_by (item_part (shape_of (syn_of n)))
+pub name_seen_of : (n : SyntaxNode) → method_name (syn_of n) ≡ method_name_by (item_part (shape_of (syn_of n)))
 name_seen_of n = as_name (syn_of n)
 
 -- ---- the heads of a trait
 
-form_head : (w : Env) (earlier : List Word) (at : Pos) (form : Shape) (hs : List Syn) (s : State) →
+form_head : (w : Env) (earlier : List Word) (at : Pos) (form : Shape) (hs : List Syn) (s : TypingState) →
     trait_heads w earlier (syn at form ∷ hs) s ≡ and_then (trait_head_by w earlier at (item_part form) s) (λ more. trait_heads w more hs)
 form_head w earlier at (Ident a) hs s = refl
 form_head w earlier at (LabelOf a) hs s = refl
@@ -173,11 +173,11 @@ form_head w earlier at (ParamOf a b) hs s = refl
 form_head w earlier at (SelfParam a) hs s = refl
 form_head w earlier at Odd hs s = refl
 
-as_head : (w : Env) (earlier : List Word) (x : Syn) (hs : List Syn) (s : State) →
+as_head : (w : Env) (earlier : List Word) (x : Syn) (hs : List Syn) (s : TypingState) →
     trait_heads w earlier (x ∷ hs) s ≡ and_then (trait_head_by w earlier (at_of x) (item_part (shape_of x)) s) (λ more. trait_heads w more hs)
 as_head w earlier (syn at form) hs s = form_head w earlier at form hs s
 
-pub head_seen : (w : Env) (earlier : List Word) (n : Node) (hs : List Syn) (s : State) →
+pub head_seen : (w : Env) (earlier : List Word) (n : SyntaxNode) (hs : List Syn) (s : TypingState) →
     trait_heads w earlier (syn_of n ∷ hs) s ≡ and_then (trait_head_by w earlier n.at (item_part (shape_of (syn_of n))) s) (λ more. trait_heads w more hs)
 head_seen w earlier n hs s =
     as_head w earlier (syn_of n) hs s
@@ -185,7 +185,7 @@ head_seen w earlier n hs s =
 
 -- ---- the methods of an impl
 
-form_method : (w : Env) (trait_ : Option Named) (owner : Word) (seen : Seen) (at : Pos) (form : Shape) (ms : List Syn) (s : State) →
+form_method : (w : Env) (trait_ : Option Named) (owner : Word) (seen : Seen) (at : Pos) (form : Shape) (ms : List Syn) (s : TypingState) →
     method_heads w trait_ owner seen (syn at form ∷ ms) s
     ≡ and_then (method_by w trait_ owner seen at (item_part form) s) (λ more. method_heads w trait_ owner more ms)
 form_method w trait_ owner seen at (Ident a) ms s = refl
@@ -260,12 +260,12 @@ form_method w trait_ owner seen at (ParamOf a b) ms s = refl
 form_method w trait_ owner seen at (SelfParam a) ms s = refl
 form_method w trait_ owner seen at Odd ms s = refl
 
-as_method : (w : Env) (trait_ : Option Named) (owner : Word) (seen : Seen) (x : Syn) (ms : List Syn) (s : State) →
+as_method : (w : Env) (trait_ : Option Named) (owner : Word) (seen : Seen) (x : Syn) (ms : List Syn) (s : TypingState) →
     method_heads w trait_ owner seen (x ∷ ms) s
     ≡ and_then (method_by w trait_ owner seen (at_of x) (item_part (shape_of x)) s) (λ more. method_heads w trait_ owner more ms)
 as_method w trait_ owner seen (syn at form) ms s = form_method w trait_ owner seen at form ms s
 
-pub method_seen : (w : Env) (trait_ : Option Named) (owner : Word) (seen : Seen) (n : Node) (ms : List Syn) (s : State) →
+pub method_seen : (w : Env) (trait_ : Option Named) (owner : Word) (seen : Seen) (n : SyntaxNode) (ms : List Syn) (s : TypingState) →
     method_heads w trait_ owner seen (syn_of n ∷ ms) s
     ≡ and_then (method_by w trait_ owner seen n.at (item_part (shape_of (syn_of n))) s) (λ more. method_heads w trait_ owner more ms)
 method_seen w trait_ owner seen n ms s =
@@ -274,7 +274,7 @@ method_seen w trait_ owner seen n ms s =
 
 -- ---- items
 
-form_item : (w : Env) (before : Before) (at : Pos) (form : Shape) (s : State) →
+form_item : (w : Env) (before : Before) (at : Pos) (form : Shape) (s : TypingState) →
     item_rules w before (syn at form) s ≡ item_by w before at (item_part form) s
 form_item w before at (Ident a) s = refl
 form_item w before at (LabelOf a) s = refl
@@ -348,10 +348,10 @@ form_item w before at (ParamOf a b) s = refl
 form_item w before at (SelfParam a) s = refl
 form_item w before at Odd s = refl
 
-as_item : (w : Env) (before : Before) (x : Syn) (s : State) → item_rules w before x s ≡ item_by w before (at_of x) (item_part (shape_of x)) s
+as_item : (w : Env) (before : Before) (x : Syn) (s : TypingState) → item_rules w before x s ≡ item_by w before (at_of x) (item_part (shape_of x)) s
 as_item w before (syn at form) s = form_item w before at form s
 
-pub item_seen : (w : Env) (before : Before) (n : Node) (s : State) →
+pub item_seen : (w : Env) (before : Before) (n : SyntaxNode) (s : TypingState) →
     item_rules w before (syn_of n) s ≡ item_by w before n.at (item_part (shape_of (syn_of n))) s
 item_seen w before n s =
     as_item w before (syn_of n) s ∙ ap (λ (x : Syn). item_by w before (at_of x) (item_part (shape_of (syn_of n))) s) (seen_as n)

@@ -11,7 +11,7 @@ use Rattle.mir_ty.specs.ItemTable.{ItemTable}
 use Rattle.mir_ty.specs.declared.def.Sig.{Sig}
 use Rattle.mir_ty.specs.declared.def.TraitDef.{TraitDef}
 use Rattle.src_ast.specs.Syntax.{Word}
-use Rattle.type_rows.specs.Tables.{IsReady, method_words}
+use Rattle.type_rows.specs.Tables.{AreTablesOf, method_words}
 use Rattle.type_rows.specs.declared.tables.Tables.{Tables}
 use Rattle.typing_rules.specs.Scope.{trait_named}
 
@@ -22,7 +22,7 @@ prefix_mapped p f (x ∷ xs) = ap (λ n. if p (f x) then 1 + n else 0) (prefix_m
 position_mapped : {X Y : Type 0} (p : Y → Bool) (f : X → Y) (xs : List X) → position_of p (map f xs) ≡ position_of (λ x. p (f x)) xs
 position_mapped p f xs = λ i. cond (nat_lt (prefix_mapped (λ y. not (p y)) f xs i) (length-map xs f i)) (Some (prefix_mapped (λ y. not (p y)) f xs i)) None
 
-pub trait_found : (items : ItemTable) (t : Tables) (name : Word) → IsReady items t → position_of (bytes_eq name) t.trait_names ≡ trait_named items name
+pub trait_found : (items : ItemTable) (t : Tables) (name : Word) → AreTablesOf items t → position_of (bytes_eq name) t.trait_names ≡ trait_named items name
 trait_found items t name ready =
     ap (position_of (bytes_eq name)) ready.traits ∙ position_mapped (bytes_eq name) (λ (def : TraitDef). def.name) items.traits
     ∙ (λ i. position_of (λ (def : TraitDef). nat_list_eq_equiv.symm name def.name i) items.traits)

@@ -1,7 +1,7 @@
 -- Parameters by their forms.
 use Rattle.std.proofs.Common.{◌≡◌, Bool, true, false, if◌then◌else◌, refl, ap, sym, ◌∙◌}
 use Rattle.mir_base.specs.declared.place_in_text.Pos.{Pos}
-use Rattle.src_tree.specs.declared.node.Node.{Node}
+use Rattle.src_tree.specs.declared.node.SyntaxNode.{SyntaxNode}
 use Rattle.src_ast.specs.Seen.{syn_of}
 use Rattle.src_ast.specs.Sorts.{param_part}
 use Rattle.src_ast.specs.Syntax.{ByValue, ByShared, ByUnique, Syns, no_syn, a_syn, Syn, syn, Shape, at_of, shape_of, Ident, LabelOf, Literal, TruthLiteral, Path, Minus, Bang, Star, Ampersand, Calculate, Compare, Both, Either, Store, CallOf, MethodOf, FieldOf, PartOf, ElementOf, StructOf, FieldInit, Parens, TupleOf, ArrayOf, Braces, IfElse, IfLetElse, MatchOn, ArmOf, LoopOf, WhileOf, WhileLetOf, BreakOf, ContinueOf, ReturnOf, MoveOf, PanicOf, LetOf, Empty, Semi, AnyPattern, BindPattern, LiteralPattern, TruthPattern, PathPattern, PartsPattern, FieldsPattern, FieldPattern, ParensPattern, TuplePattern, ArrayPattern, Alternatives, NamedType, GenericType, DynType, SelfType, ParensType, TupleType, ArrayType, NeverType, RefType, StructItem, EnumItem, FieldDecl, VariantDecl, TraitItem, ImplItem, FnItem, ParamOf, SelfParam, Odd}
@@ -96,7 +96,7 @@ form_asked at Odd rest = refl
 as_asked : (x : Syn) (rest : Syns) → asked x rest ≡ asked_by x (shape_of x) rest
 as_asked (syn at form) rest = form_asked at form rest
 
-pub reference_seen : (n : Node) → is_by_reference (syn_of n) ≡ reference_by (param_part (shape_of (syn_of n)))
+pub reference_seen : (n : SyntaxNode) → is_by_reference (syn_of n) ≡ reference_by (param_part (shape_of (syn_of n)))
 reference_seen n = ap (λ (p : Asked). p.0) (as_asked (syn_of n) no_syn)
 
 pub unique_seen : (x : Syn) (rest : Syns) → takes_unique (a_syn x rest) ≡ is_unique_by (param_part (shape_of x))

@@ -3,18 +3,18 @@ use Rattle.std.proofs.Common.{◌≡◌, not, nat_le, List, [], ◌∷◌, refl,
 use Rattle.mir_base.specs.declared.place_in_text.Pos.{Pos}
 use Rattle.mir_base.specs.declared.rule.Rule.{Rule}
 use Rattle.well_typed.specs.Names.{is_among}
-use Rattle.src_tree.specs.declared.node.Node.{Node}
+use Rattle.src_tree.specs.declared.node.SyntaxNode.{SyntaxNode}
 use Rattle.src_ast.specs.Seen.{syn_of}
 use Rattle.src_ast.specs.Sorts.{variant_part}
 use Rattle.src_ast.specs.Syntax.{Word, Syns, list_of, Syn, syn, Shape, at_of, shape_of, Ident, LabelOf, Literal, TruthLiteral, Path, Minus, Bang, Star, Ampersand, Calculate, Compare, Both, Either, Store, CallOf, MethodOf, FieldOf, PartOf, ElementOf, StructOf, FieldInit, Parens, TupleOf, ArrayOf, Braces, IfElse, IfLetElse, MatchOn, ArmOf, LoopOf, WhileOf, WhileLetOf, BreakOf, ContinueOf, ReturnOf, MoveOf, PanicOf, LetOf, Empty, Semi, AnyPattern, BindPattern, LiteralPattern, TruthPattern, PathPattern, PartsPattern, FieldsPattern, FieldPattern, ParensPattern, TuplePattern, ArrayPattern, Alternatives, NamedType, GenericType, DynType, SelfType, ParensType, TupleType, ArrayType, NeverType, RefType, StructItem, EnumItem, FieldDecl, VariantDecl, TraitItem, ImplItem, FnItem, ParamOf, SelfParam, Odd}
 use Rattle.src_ast.proofs.Named.{seen_as}
-use Rattle.typing_rules.specs.Check.{State, and_then}
+use Rattle.typing_rules.specs.Check.{TypingState, and_then}
 use Rattle.typing_rules.specs.Program.{count_of, fields, variants}
 use Rattle.typing_rules.specs.Scope.{Env}
 use Rattle.item_check.specs.Forms.{variant_by}
 use Rattle.item_check.proofs.Steps.{two_rules}
 
-form_variant : (w : Env) (earlier : List Word) (at : Pos) (form : Shape) (vs : List Syn) (s : State) →
+form_variant : (w : Env) (earlier : List Word) (at : Pos) (form : Shape) (vs : List Syn) (s : TypingState) →
     variants w earlier (syn at form ∷ vs) s ≡ and_then (variant_by w earlier at (variant_part form) s) (λ more. variants w more vs)
 form_variant w earlier at (Ident a) vs s = refl
 form_variant w earlier at (LabelOf a) vs s = refl
@@ -88,12 +88,12 @@ form_variant w earlier at (ParamOf a b) vs s = refl
 form_variant w earlier at (SelfParam a) vs s = refl
 form_variant w earlier at Odd vs s = refl
 
-as_variant : (w : Env) (earlier : List Word) (x : Syn) (vs : List Syn) (s : State) →
+as_variant : (w : Env) (earlier : List Word) (x : Syn) (vs : List Syn) (s : TypingState) →
     variants w earlier (x ∷ vs) s ≡ and_then (variant_by w earlier (at_of x) (variant_part (shape_of x)) s) (λ more. variants w more vs)
 as_variant w earlier (syn at form) vs s = form_variant w earlier at form vs s
 
 -- a variant is known by its form
-pub variant_seen : (w : Env) (earlier : List Word) (n : Node) (vs : List Syn) (s : State) →
+pub variant_seen : (w : Env) (earlier : List Word) (n : SyntaxNode) (vs : List Syn) (s : TypingState) →
     variants w earlier (syn_of n ∷ vs) s ≡ and_then (variant_by w earlier n.at (variant_part (shape_of (syn_of n))) s) (λ more. variants w more vs)
 variant_seen w earlier n vs s =
     as_variant w earlier (syn_of n) vs s

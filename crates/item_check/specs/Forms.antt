@@ -1,5 +1,5 @@
--- The rules of items over forms that are borrowed from a tree, each with the rest of its lines by a name of its own: `None`
--- is a node that is none of the sort.
+-- The rules of items over forms that are borrowed from a tree, each with the rest of its lines by a name of its own:
+-- `None` is a node that is none of the sort.
 use Rattle.std.specs.Prelude.{◌≡◌, ℕ, Bool, true, false, ◌&&◌, not, List, [], ◌∷◌, map, nat_le, Option, Some, None, codes, if◌then◌else◌, option_and_then, slice_get}
 use Rattle.std.specs.Option.{option_map_or}
 use Rattle.std.specs.Str.{bytes_eq}
@@ -9,7 +9,7 @@ use Rattle.mir_ty.specs.declared.ty.TyId.{TyId}
 use Rattle.mir_ty.specs.ItemTable.{ItemTable}
 use Rattle.src_ast.specs.Syntax.{Word, Named, ByShared, ByUnique, Syn, Shape, StructItem, EnumItem, FieldDecl, VariantDecl, TraitItem, ImplItem, FnItem, SelfParam, Syns, MaybeSyn, list_of}
 use Rattle.typing_rules.specs.Bodies.{all_rules}
-use Rattle.typing_rules.specs.Check.{Check, State, ◌>>=◌, ◌>>◌, pure, breaks, obeys, the_items}
+use Rattle.typing_rules.specs.Check.{Check, TypingState, ◌>>=◌, ◌>>◌, pure, breaks, obeys, the_items}
 use Rattle.typing_rules.specs.Program.{Before, Seen, asked_for, behind_self, body_head, count_of, fields, has_all, has_head, head_rules, in_impl, is_called_drop, is_drop, is_drop_sig, is_repeated, is_same_head, is_seen, main_rule, method_heads, method_names, takes_reference, takes_unique, trait_heads, trait_method, variants, with_impl}
 use Rattle.typing_rules.specs.Scope.{Env, adt_named, body_named, trait_named}
 use Rattle.typing_rules.specs.Written.{written}
@@ -24,10 +24,10 @@ abbrev pub done : {A : Type 0} → Check A → Check (Unit {0})
 done p = p >>= (λ _. pure tt)
 
 -- a state where a body of its own begins, and one behind it
-abbrev pub fresh : State → State
+abbrev pub fresh : TypingState → TypingState
 fresh s = record s { next_node = 0; breaks = [] }
 
-abbrev pub with_outside : ℕ → List (ℕ × TyId) → State → State
+abbrev pub with_outside : ℕ → List (ℕ × TyId) → TypingState → TypingState
 with_outside next_node breaks s = record s { next_node = next_node; breaks = breaks }
 
 -- ---- fields

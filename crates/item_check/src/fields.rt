@@ -12,7 +12,7 @@ use item_heads::{NameTable, obeys};
 use mir_base::{Pos, Rule, RuleError};
 use name_rows::written;
 use src_ast::{Nodes, field_form};
-use src_tree::Node;
+use src_tree::SyntaxNode;
 use type_rows::Checker;
 
 /// A name that has to be new, behind those so far.
@@ -33,7 +33,7 @@ fn field_with_name(
     names: NameTable,
     at: Pos,
     name: &str,
-    ty: &Node,
+    ty: &SyntaxNode,
 ) -> Result<NameTable, RuleError>
     ensures gives { GivesValue reverse (named_field (env checker.old) at name.now (syn_of ty.now) (reverse names) (state checker.old)) result checker.new }
     ensures same { OnOk result (Same checker.old checker.new) }
@@ -45,7 +45,7 @@ fn field_with_name(
 fn field_by_order(
     checker: &mut Checker,
     names: NameTable,
-    ty: &Node,
+    ty: &SyntaxNode,
 ) -> Result<NameTable, RuleError>
     ensures gives { GivesValue reverse (plain_field (env checker.old) (syn_of ty.now) (reverse names) (state checker.old)) result checker.new }
     ensures same { OnOk result (Same checker.old checker.new) }
@@ -55,7 +55,7 @@ fn field_by_order(
 }
 
 /// One field: its type, and its name behind those so far, where it has one.
-fn field(checker: &mut Checker, names: NameTable, node: &Node) -> Result<NameTable, RuleError>
+fn field(checker: &mut Checker, names: NameTable, node: &SyntaxNode) -> Result<NameTable, RuleError>
     ensures gives { GivesValue reverse (rules.field (env checker.old) (reverse names) (syn_of node.now) (state checker.old)) result checker.new }
     ensures same { OnOk result (Same checker.old checker.new) }
 {

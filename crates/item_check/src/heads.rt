@@ -15,7 +15,7 @@ use function_rows::params_of;
 use mir_base::{List, RuleError};
 use name_rows::answer_of;
 use src_ast::Nodes;
-use src_tree::Node;
+use src_tree::SyntaxNode;
 use std::mem;
 use type_env::{BreakOut, Variables};
 use type_rows::Checker;
@@ -78,7 +78,7 @@ fn head_params(checker: &mut Checker, params: Nodes) -> Result<(), RuleError>
 pub fn head_rules(
     checker: &mut Checker,
     params: Nodes,
-    answer: Option<&Node>,
+    answer: Option<&SyntaxNode>,
 ) -> Result<(), RuleError>
     ensures gives { GivesValue (λ u. u) (rules.head_rules (env checker.old) (nodes_of params.entry) (maybe_of answer.entry) (state checker.old)) result checker.new }
     ensures same { OnOk result (Same checker.old checker.new) }

@@ -18,7 +18,7 @@ use crate::{has_all, trait_named};
 use item_heads::NameTable;
 use mir_base::RuleError;
 use src_ast::{Nodes, name_of};
-use src_tree::Node;
+use src_tree::SyntaxNode;
 use std::alloc::Global;
 use type_rows::Checker;
 
@@ -46,7 +46,7 @@ fn has_all_named(checker: &Checker, trait_: &str, given: &NameTable) -> bool
 }
 
 /// Whether an impl has all methods that it has to have.
-fn has_asked(checker: &Checker, trait_: Option<&Node>, given: &NameTable) -> bool
+fn has_asked(checker: &Checker, trait_: Option<&SyntaxNode>, given: &NameTable) -> bool
     ensures { result ≡ rules.has_all (rules.asked_for checker.now.walk.items (name_seen trait_.entry)) given.now }
 {
     match trait_ {
@@ -60,7 +60,11 @@ fn has_asked(checker: &Checker, trait_: Option<&Node>, given: &NameTable) -> boo
 /// # Errors
 ///
 /// [`RuleError::Memory`] alone, where memory is wanted.
-pub fn is_whole(checker: &Checker, trait_: Option<&Node>, methods: Nodes) -> Result<bool, RuleError>
+pub fn is_whole(
+    checker: &Checker,
+    trait_: Option<&SyntaxNode>,
+    methods: Nodes,
+) -> Result<bool, RuleError>
     ensures told { IfOk result (λ is. is ≡ rules.has_all (rules.asked_for checker.now.walk.items (name_seen trait_.entry)) (rules.method_names (nodes_of methods.entry))) }
     ensures short { IfErr result (λ e. e ≡ RuleError.Memory) }
 {
@@ -76,7 +80,7 @@ pub fn is_whole(checker: &Checker, trait_: Option<&Node>, methods: Nodes) -> Res
 pub fn note_impl(
     impls: &mut NamePairs,
     alloc: Global,
-    trait_: Option<&Node>,
+    trait_: Option<&SyntaxNode>,
     owner: &str,
 ) -> Result<bool, RuleError>
     ensures told { IfOk result (λ is_new. is_new ≡ not (rules.is_repeated (name_seen trait_.entry) owner.now impls.old)) }
@@ -93,7 +97,7 @@ pub fn note_impl(
 pub fn own_methods(
     checker: &mut Checker,
     seen: &mut NamePairs,
-    trait_: Option<&Node>,
+    trait_: Option<&SyntaxNode>,
     owner: &str,
     nodes: Nodes,
 ) -> Result<(), RuleError>

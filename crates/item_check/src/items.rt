@@ -16,7 +16,7 @@ use crate::trait_heads::trait_heads;
 use item_heads::{broken, obeys};
 use mir_base::{Pos, Rule, RuleError};
 use src_ast::{ItemForm, Nodes, item_form, name_of};
-use src_tree::Node;
+use src_tree::SyntaxNode;
 use type_rows::Checker;
 
 fn both(a: bool, b: bool) -> bool
@@ -30,7 +30,7 @@ fn impl_item(
     checker: &mut Checker,
     before: &mut Before,
     at: Pos,
-    trait_: Option<&Node>,
+    trait_: Option<&SyntaxNode>,
     owner: &str,
     methods: Nodes,
 ) -> Result<(), RuleError>
@@ -49,7 +49,7 @@ fn fn_item(
     at: Pos,
     name: &str,
     params: Nodes,
-    answer: Option<&Node>,
+    answer: Option<&SyntaxNode>,
 ) -> Result<(), RuleError>
     ensures gives { GivesValue (λ u. u) (fn_rules (env checker.old) at name.now (nodes_of params.entry) (maybe_of answer.entry) (state checker.old)) result checker.new }
     ensures same { OnOk result (Same checker.old checker.new) }
@@ -63,7 +63,11 @@ fn fn_item(
 /// # Errors
 ///
 /// The first rule that it breaks, with its place; [`RuleError::Memory`] where memory is wanted.
-pub fn item_rules(checker: &mut Checker, before: &mut Before, node: &Node) -> Result<(), RuleError>
+pub fn item_rules(
+    checker: &mut Checker,
+    before: &mut Before,
+    node: &SyntaxNode,
+) -> Result<(), RuleError>
     ensures gives { GivesValue (λ u. had before.new) (rules.item_rules (env checker.old) (had before.old) (syn_of node.now) (state checker.old)) result checker.new }
     ensures same { OnOk result (Same checker.old checker.new) }
 {

@@ -11,7 +11,7 @@ use crate::trait_heads::is_called_drop;
 use crate::{has_drop_head, has_trait_head};
 use mir_base::RuleError;
 use src_ast::{Nodes, name_of};
-use src_tree::Node;
+use src_tree::SyntaxNode;
 use type_rows::Checker;
 
 /// Whether a trait is `Drop`.
@@ -92,7 +92,7 @@ fn is_impl_head(
 /// [`RuleError::Memory`] alone, where memory is wanted.
 pub fn has_head(
     checker: &Checker,
-    trait_: Option<&Node>,
+    trait_: Option<&SyntaxNode>,
     owner: &str,
     name: &str,
     params: Nodes,

@@ -18,7 +18,7 @@ use crate::pairs::NamePairs;
 use item_heads::{broken, obeys};
 use mir_base::{NoMemory, Pos, Rule, RuleError};
 use src_ast::{Function, ItemForm, Nodes, item_form, name_of};
-use src_tree::Node;
+use src_tree::SyntaxNode;
 use std::alloc::Global;
 use type_rows::Checker;
 
@@ -42,7 +42,7 @@ pub fn noted(
 /// A method has the head that its impl asks for.
 fn obeys_head(
     checker: &Checker,
-    trait_: Option<&Node>,
+    trait_: Option<&SyntaxNode>,
     owner: &str,
     at: Pos,
     name: &str,
@@ -58,7 +58,7 @@ fn obeys_head(
 fn closed_at(
     checker: &Checker,
     seen: &mut NamePairs,
-    trait_: Option<&Node>,
+    trait_: Option<&SyntaxNode>,
     owner: &str,
     at: Pos,
     name_at: Pos,
@@ -75,10 +75,10 @@ fn closed_at(
 fn closed(
     checker: &Checker,
     seen: &mut NamePairs,
-    trait_: Option<&Node>,
+    trait_: Option<&SyntaxNode>,
     owner: &str,
     at: Pos,
-    name: &Node,
+    name: &SyntaxNode,
     params: Nodes,
 ) -> Result<(), RuleError>
     ensures { GivesValue (λ u. seen.new) (closed_method (name_seen trait_.entry) owner.now at (named (syn_of name.now)) (nodes_of params.entry) seen.old (state checker.now)) result checker.now }
@@ -98,7 +98,7 @@ fn closed(
 fn with_head(
     checker: &mut Checker,
     seen: &mut NamePairs,
-    trait_: Option<&Node>,
+    trait_: Option<&SyntaxNode>,
     owner: &str,
     at: Pos,
     function: Function,
@@ -122,9 +122,9 @@ fn with_head(
 fn method(
     checker: &mut Checker,
     seen: &mut NamePairs,
-    trait_: Option<&Node>,
+    trait_: Option<&SyntaxNode>,
     owner: &str,
-    node: &Node,
+    node: &SyntaxNode,
 ) -> Result<(), RuleError>
     ensures gives { GivesValue (λ u. seen.new) (method_by (env checker.old) (name_seen trait_.entry) owner.now seen.old node.now.at (item_part (shape_of (syn_of node.now))) (state checker.old)) result checker.new }
     ensures same { OnOk result (Same checker.old checker.new) }
@@ -144,7 +144,7 @@ fn method(
 pub fn method_heads(
     checker: &mut Checker,
     seen: &mut NamePairs,
-    trait_: Option<&Node>,
+    trait_: Option<&SyntaxNode>,
     owner: &str,
     nodes: Nodes,
 ) -> Result<(), RuleError>

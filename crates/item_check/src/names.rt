@@ -9,7 +9,7 @@ ghost use Rattle.item_check.specs.Forms.{listed};
 use item_heads::NameTable;
 use mir_base::{NoMemory, RuleError};
 use src_ast::{ItemForm, Nodes, item_form, name_of};
-use src_tree::Node;
+use src_tree::SyntaxNode;
 use std::alloc::Global;
 
 /// Whether a name is new.
@@ -34,7 +34,7 @@ pub fn with_name(alloc: Global, names: NameTable, name: &str) -> Result<NameTabl
 
 /// The name of a method, if a node is one.
 #[tactic(auto, using(crate::proofs::ItemForms::name_seen_of))]
-fn method_name(node: &Node) -> Option<&str>
+fn method_name(node: &SyntaxNode) -> Option<&str>
     ensures { word_of result ≡ rules.method_name (syn_of node.now) }
 {
     match item_form(node) {

@@ -7,11 +7,11 @@ ghost use Rattle.typing_rules.specs.Program as rules;
 ghost use Rattle.item_check.specs.Forms.{is_self_by, is_unique_by};
 
 use src_ast::{Nodes, ParamForm, Receiver, param_form};
-use src_tree::Node;
+use src_tree::SyntaxNode;
 
 /// Whether a parameter is `&self` or `&mut self`.
 #[tactic(auto, using(crate::proofs::ParamForms::reference_seen))]
-fn is_by_reference(node: &Node) -> bool
+fn is_by_reference(node: &SyntaxNode) -> bool
     ensures { result ≡ rules.is_by_reference (syn_of node.now) }
 {
     match param_form(node) {
@@ -26,7 +26,7 @@ fn is_by_reference(node: &Node) -> bool
 }
 
 /// Whether a parameter is `&mut self`.
-fn is_by_unique(node: &Node) -> bool
+fn is_by_unique(node: &SyntaxNode) -> bool
     ensures { result ≡ is_unique_by (param_part (shape_of (syn_of node.now))) }
 {
     match param_form(node) {
@@ -41,7 +41,7 @@ fn is_by_unique(node: &Node) -> bool
 }
 
 /// Whether a parameter is `self`, however it is taken.
-fn is_self(node: &Node) -> bool
+fn is_self(node: &SyntaxNode) -> bool
     ensures { result ≡ is_self_by (param_part (shape_of (syn_of node.now))) }
 {
     match param_form(node) {

@@ -16,7 +16,7 @@ use crate::receivers::{behind_self, takes_reference};
 use item_heads::{NameTable, broken, obeys};
 use mir_base::{Pos, Rule, RuleError};
 use src_ast::{Function, ItemForm, Nodes, item_form, name_of};
-use src_tree::Node;
+use src_tree::SyntaxNode;
 use type_rows::Checker;
 
 /// Whether a method is called `drop`.
@@ -65,7 +65,7 @@ fn closed(
     checker: &Checker,
     names: NameTable,
     at: Pos,
-    name: &Node,
+    name: &SyntaxNode,
     params: Nodes,
 ) -> Result<NameTable, RuleError>
     ensures { GivesValue reverse (closed_head at (named (syn_of name.now)) (nodes_of params.entry) (reverse names) (state checker.now)) result checker.now }
@@ -87,7 +87,7 @@ fn method(
 }
 
 /// One method, with its name behind those so far.
-fn head(checker: &mut Checker, names: NameTable, node: &Node) -> Result<NameTable, RuleError>
+fn head(checker: &mut Checker, names: NameTable, node: &SyntaxNode) -> Result<NameTable, RuleError>
     ensures gives { GivesValue reverse (trait_head_by (env checker.old) (reverse names) node.now.at (item_part (shape_of (syn_of node.now))) (state checker.old)) result checker.new }
     ensures same { OnOk result (Same checker.old checker.new) }
 {

@@ -13,7 +13,7 @@ use crate::names::{is_new, with_name};
 use item_heads::{NameTable, broken, obeys};
 use mir_base::{Pos, Rule, RuleError};
 use src_ast::{Nodes, variant_form};
-use src_tree::Node;
+use src_tree::SyntaxNode;
 use type_rows::Checker;
 
 fn with_few_fields(
@@ -58,7 +58,11 @@ fn with_fields(
 }
 
 /// One variant, with its name behind those so far.
-fn variant(checker: &mut Checker, names: NameTable, node: &Node) -> Result<NameTable, RuleError>
+fn variant(
+    checker: &mut Checker,
+    names: NameTable,
+    node: &SyntaxNode,
+) -> Result<NameTable, RuleError>
     ensures gives { GivesValue reverse (variant_by (env checker.old) (reverse names) node.now.at (variant_part (shape_of (syn_of node.now))) (state checker.old)) result checker.new }
     ensures same { OnOk result (Same checker.old checker.new) }
 {

@@ -3,7 +3,7 @@ use Rattle.std.proofs.Common.{◌≡◌, Option, None, refl, ap, ◌∙◌}
 use Rattle.std.specs.Borrow.{Bor}
 use Rattle.mir_base.specs.declared.place_in_text.Pos.{Pos}
 use Rattle.mir_base.specs.declared.rule.Rule.{Rule}
-use Rattle.src_tree.specs.declared.node.Node.{Node}
+use Rattle.src_tree.specs.declared.node.SyntaxNode.{SyntaxNode}
 use Rattle.src_ast.specs.declared.expression.ExpressionForm.{ExpressionForm}
 use Rattle.src_ast.specs.declared.nodes.Nodes.{Nodes}
 use Rattle.src_ast.specs.Expressions.{expression_of}
@@ -11,12 +11,12 @@ use Rattle.src_ast.specs.Seen.{syn_of}
 use Rattle.src_ast.specs.Sorts.{item_part, expression_part}
 use Rattle.src_ast.specs.Syntax.{Word, Syn, syn, Shape, at_of, shape_of, Ident, LabelOf, Literal, TruthLiteral, Path, Minus, Bang, Star, Ampersand, Calculate, Compare, Both, Either, Store, CallOf, MethodOf, FieldOf, PartOf, ElementOf, StructOf, FieldInit, Parens, TupleOf, ArrayOf, Braces, IfElse, IfLetElse, MatchOn, ArmOf, LoopOf, WhileOf, WhileLetOf, BreakOf, ContinueOf, ReturnOf, MoveOf, PanicOf, LetOf, Empty, Semi, AnyPattern, BindPattern, LiteralPattern, TruthPattern, PathPattern, PartsPattern, FieldsPattern, FieldPattern, ParensPattern, TuplePattern, ArrayPattern, Alternatives, NamedType, GenericType, DynType, SelfType, ParensType, TupleType, ArrayType, NeverType, RefType, StructItem, EnumItem, FieldDecl, VariantDecl, TraitItem, ImplItem, FnItem, ParamOf, SelfParam, Odd}
 use Rattle.src_ast.proofs.Named.{seen_as}
-use Rattle.typing_rules.specs.Check.{State, breaks}
+use Rattle.typing_rules.specs.Check.{TypingState, breaks}
 use Rattle.typing_rules.specs.Collected as walk
 use Rattle.typing_rules.specs.Collected.{body_sig}
 use Rattle.item_heads.specs.Forms.{body_by}
 
-body_form : (w : walk.Known) (o : Option Word) (k : walk.Count) (at : Pos) (form : Shape) (s : State) →
+body_form : (w : walk.Known) (o : Option Word) (k : walk.Count) (at : Pos) (form : Shape) (s : TypingState) →
     body_sig w o k (syn at form) s ≡ body_by w o k at (item_part form) (expression_part form) s
 body_form w o k at (Ident a) s = refl
 body_form w o k at (LabelOf a) s = refl
@@ -90,19 +90,19 @@ body_form w o k at (ParamOf a b) s = refl
 body_form w o k at (SelfParam a) s = refl
 body_form w o k at Odd s = refl
 
-body_as : (w : walk.Known) (o : Option Word) (k : walk.Count) (x : Syn) (s : State) →
+body_as : (w : walk.Known) (o : Option Word) (k : walk.Count) (x : Syn) (s : TypingState) →
     body_sig w o k x s ≡ body_by w o k (at_of x) (item_part (shape_of x)) (expression_part (shape_of x)) s
 body_as w o k (syn at form) s = body_form w o k at form s
 
-pub body_seen : (w : walk.Known) (o : Option Word) (k : walk.Count) (n : Node) (s : State) →
+pub body_seen : (w : walk.Known) (o : Option Word) (k : walk.Count) (n : SyntaxNode) (s : TypingState) →
     body_sig w o k (syn_of n) s
     ≡ body_by w o k n.at (item_part (shape_of (syn_of n))) (expression_part (shape_of (syn_of n))) s
 body_seen w o k n s =
     body_as w o k (syn_of n) s
     ∙ ap (λ (x : Syn). body_by w o k (at_of x) (item_part (shape_of (syn_of n))) (expression_part (shape_of (syn_of n))) s) (seen_as n)
 
-pub not_closure : (w : walk.Known) (o : Option Word) (k : walk.Count) (at : Pos) (f : ExpressionForm) (s : State) →
-    ((a : Nodes) (b : Nodes) (c : Option (Bor Node)) (d : Bor Node) → f ≡ ExpressionForm.Closure a b c d → ⊥) →
+pub not_closure : (w : walk.Known) (o : Option Word) (k : walk.Count) (at : Pos) (f : ExpressionForm) (s : TypingState) →
+    ((a : Nodes) (b : Nodes) (c : Option (Bor SyntaxNode)) (d : Bor SyntaxNode) → f ≡ ExpressionForm.Closure a b c d → ⊥) →
     body_by w o k at None (expression_of f) s ≡ breaks Rule.T20 at s
 not_closure w o k at (ExpressionForm.Number a b) s h = refl
 not_closure w o k at (ExpressionForm.Truth a) s h = refl

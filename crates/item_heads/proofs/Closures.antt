@@ -1,16 +1,16 @@
 -- The heads of closures, by the forms that are borrowed from their nodes.
 use Rattle.std.proofs.Common.{◌≡◌, refl}
 use Rattle.mir_base.specs.declared.place_in_text.Pos.{Pos}
-use Rattle.src_tree.specs.declared.node.Node.{Node}
+use Rattle.src_tree.specs.declared.node.SyntaxNode.{SyntaxNode}
 use Rattle.src_ast.specs.Seen.{syn_of}
 use Rattle.src_ast.specs.Sorts.{param_part}
 use Rattle.src_ast.specs.Syntax.{Syn, syn, Shape, shape_of, Ident, LabelOf, Literal, TruthLiteral, Path, Minus, Bang, Star, Ampersand, Calculate, Compare, Both, Either, Store, CallOf, MethodOf, FieldOf, PartOf, ElementOf, StructOf, FieldInit, Parens, TupleOf, ArrayOf, Braces, IfElse, IfLetElse, MatchOn, ArmOf, LoopOf, WhileOf, WhileLetOf, BreakOf, ContinueOf, ReturnOf, MoveOf, PanicOf, LetOf, Empty, Semi, AnyPattern, BindPattern, LiteralPattern, TruthPattern, PathPattern, PartsPattern, FieldsPattern, FieldPattern, ParensPattern, TuplePattern, ArrayPattern, Alternatives, NamedType, GenericType, DynType, SelfType, ParensType, TupleType, ArrayType, NeverType, RefType, StructItem, EnumItem, FieldDecl, VariantDecl, TraitItem, ImplItem, FnItem, ParamOf, SelfParam, Odd}
-use Rattle.typing_rules.specs.Check.{State}
+use Rattle.typing_rules.specs.Check.{TypingState}
 use Rattle.typing_rules.specs.Collected.{closure_param}
-use Rattle.typing_rules.specs.Written.{Around}
+use Rattle.typing_rules.specs.Written.{WrittenScope}
 use Rattle.item_heads.specs.Forms.{closure_param_by}
 
-closure_param_form : (w : Around) (at : Pos) (form : Shape) (s : State) →
+closure_param_form : (w : WrittenScope) (at : Pos) (form : Shape) (s : TypingState) →
     closure_param w (syn at form) s ≡ closure_param_by w (param_part form) s
 closure_param_form w at (Ident a) s = refl
 closure_param_form w at (LabelOf a) s = refl
@@ -84,9 +84,9 @@ closure_param_form w at (ParamOf a b) s = refl
 closure_param_form w at (SelfParam a) s = refl
 closure_param_form w at Odd s = refl
 
-closure_param_as : (w : Around) (x : Syn) (s : State) → closure_param w x s ≡ closure_param_by w (param_part (shape_of x)) s
+closure_param_as : (w : WrittenScope) (x : Syn) (s : TypingState) → closure_param w x s ≡ closure_param_by w (param_part (shape_of x)) s
 closure_param_as w (syn at form) s = closure_param_form w at form s
 
-pub closure_param_seen : (w : Around) (n : Node) (s : State) →
+pub closure_param_seen : (w : WrittenScope) (n : SyntaxNode) (s : TypingState) →
     closure_param w (syn_of n) s ≡ closure_param_by w (param_part (shape_of (syn_of n))) s
 closure_param_seen w n s = closure_param_as w (syn_of n) s

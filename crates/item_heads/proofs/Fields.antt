@@ -1,11 +1,11 @@
 -- Fields by the forms that are borrowed from them.
 use Rattle.std.proofs.Common.{◌≡◌, ℕ, suc, List, [], ◌∷◌, ◌++◌, length, append_assoc, Result, Ok, Err, refl, ap, sym, ◌∙◌, add-one, length-append}
 use Rattle.mir_base.specs.declared.place_in_text.Pos.{Pos}
-use Rattle.src_tree.specs.declared.node.Node.{Node}
+use Rattle.src_tree.specs.declared.node.SyntaxNode.{SyntaxNode}
 use Rattle.src_ast.specs.Seen.{syn_of}
 use Rattle.src_ast.specs.Sorts.{field_part}
 use Rattle.src_ast.specs.Syntax.{Word, Syn, syn, Syns, a_syn, Shape, shape_of, list_of, Ident, LabelOf, Literal, TruthLiteral, Path, Minus, Bang, Star, Ampersand, Calculate, Compare, Both, Either, Store, CallOf, MethodOf, FieldOf, PartOf, ElementOf, StructOf, FieldInit, Parens, TupleOf, ArrayOf, Braces, IfElse, IfLetElse, MatchOn, ArmOf, LoopOf, WhileOf, WhileLetOf, BreakOf, ContinueOf, ReturnOf, MoveOf, PanicOf, LetOf, Empty, Semi, AnyPattern, BindPattern, LiteralPattern, TruthPattern, PathPattern, PartsPattern, FieldsPattern, FieldPattern, ParensPattern, TuplePattern, ArrayPattern, Alternatives, NamedType, GenericType, DynType, SelfType, ParensType, TupleType, ArrayType, NeverType, RefType, StructItem, EnumItem, FieldDecl, VariantDecl, TraitItem, ImplItem, FnItem, ParamOf, SelfParam, Odd}
-use Rattle.typing_rules.specs.Check.{Check, State, Broken, and_then, pure, each_checked}
+use Rattle.typing_rules.specs.Check.{Check, TypingState, Broken, and_then, pure, each_checked}
 use Rattle.typing_rules.specs.Collected.{field_type, field_name, names_from}
 use Rattle.item_heads.proofs.Kept.{state_in}
 use Rattle.item_heads.specs.Forms.{field_type_by, field_name_by}
@@ -86,7 +86,7 @@ field_form_type at Odd = refl
 field_type_as : (x : Syn) → field_type x ≡ field_type_by x (field_part (shape_of x))
 field_type_as (syn at form) = field_form_type at form
 
-pub field_type_seen : (n : Node) → field_type (syn_of n) ≡ field_type_by (syn_of n) (field_part (shape_of (syn_of n)))
+pub field_type_seen : (n : SyntaxNode) → field_type (syn_of n) ≡ field_type_by (syn_of n) (field_part (shape_of (syn_of n)))
 field_type_seen n = field_type_as (syn_of n)
 
 field_form_name : (k : ℕ) (at : Pos) (form : Shape) → field_name k (syn at form) ≡ field_name_by k (field_part form)
@@ -165,7 +165,7 @@ field_form_name k at Odd = refl
 field_name_as : (k : ℕ) (x : Syn) → field_name k x ≡ field_name_by k (field_part (shape_of x))
 field_name_as k (syn at form) = field_form_name k at form
 
-pub field_name_seen : (k : ℕ) (n : Node) → field_name k (syn_of n) ≡ field_name_by k (field_part (shape_of (syn_of n)))
+pub field_name_seen : (k : ℕ) (n : SyntaxNode) → field_name k (syn_of n) ≡ field_name_by k (field_part (shape_of (syn_of n)))
 field_name_seen k n = field_name_as k (syn_of n)
 
 -- names one behind another
@@ -184,27 +184,27 @@ names_length : (k : ℕ) (fs : List Syn) → length (names_from k fs) ≡ length
 names_length k [] = refl
 names_length k (f ∷ fs) = ap suc (names_length (suc k) fs)
 
-abbrev given_in : {A : Type 0} → Result (List A × State) Broken → List A
+abbrev given_in : {A : Type 0} → Result (List A × TypingState) Broken → List A
 given_in (Ok a) = a.0
 given_in (Err e) = []
 
-each_length : {A : Type 0} (f : Syn → Check A) (xs : List Syn) (s t : State) (ys : List A) → each_checked f xs s ≡ Ok (ys, t) →
+each_length : {A : Type 0} (f : Syn → Check A) (xs : List Syn) (s t : TypingState) (ys : List A) → each_checked f xs s ≡ Ok (ys, t) →
     length ys ≡ length xs
 each_length f [] s t ys h = ap (λ o. length (given_in o)) (sym h)
 each_length {A} f (x ∷ xs) s t ys h = by (f x s) (λ u zs i. each_length f xs u t zs i) h
   where
-    on : (y : A) (o : Result (List A × State) Broken) → ((zs : List A) → o ≡ Ok (zs, t) → length zs ≡ length xs) →
+    on : (y : A) (o : Result (List A × TypingState) Broken) → ((zs : List A) → o ≡ Ok (zs, t) → length zs ≡ length xs) →
         and_then o (λ zs. pure (y ∷ zs)) ≡ Ok (ys, t) → length ys ≡ suc (length xs)
     on y (Ok p) rest h =
         let state : p.1 ≡ t = ap (state_in t) h in
         ap (λ o. length (given_in o)) (sym h) ∙ ap suc (rest p.0 (ap (λ z. Ok (p.0, z)) state))
     on y (Err e) rest h = absurd (cc)
 
-    by : (o : Result (A × State) Broken) → ((u : State) (zs : List A) → each_checked f xs u ≡ Ok (zs, t) → length zs ≡ length xs) →
+    by : (o : Result (A × TypingState) Broken) → ((u : TypingState) (zs : List A) → each_checked f xs u ≡ Ok (zs, t) → length zs ≡ length xs) →
         and_then o (λ y. λ u. and_then (each_checked f xs u) (λ zs. pure (y ∷ zs))) ≡ Ok (ys, t) → length ys ≡ suc (length xs)
     by (Ok p) rest h = on p.0 (each_checked f xs p.1) (rest p.1) h
     by (Err e) rest h = absurd (cc)
 
-pub as_many_names : {A : Type 0} (f : Syn → Check A) (fs : List Syn) (s t : State) (ys : List A) (names : List Word) →
+pub as_many_names : {A : Type 0} (f : Syn → Check A) (fs : List Syn) (s t : TypingState) (ys : List A) (names : List Word) →
     each_checked f fs s ≡ Ok (ys, t) → names ≡ names_from 0 fs → length names ≡ length ys
 as_many_names f fs s t ys names h is = ap length is ∙ names_length 0 fs ∙ sym (each_length f fs s t ys h)

@@ -8,32 +8,32 @@ use Rattle.mir_ty.specs.declared.ty.TyId.{TyId}
 use Rattle.mir_ty.proofs.ListLemmas.{slice_get-append_left}
 use Rattle.well_typed.specs.Items.{is_equal}
 use Rattle.src_ast.specs.Syntax.{Syn, syn, Shape, NamedType, GenericType, DynType, SelfType, ParensType, TupleType, ArrayType, NeverType, RefType, Syns, no_syn, a_syn, Receiver, ByValue, ByShared, ByUnique, ParamOf, SelfParam}
-use Rattle.typing_rules.specs.Check.{Check, State, Broken, and_then, ◌>>=◌, pure, breaks, obeys, known, interned, interned_at, each_checked}
+use Rattle.typing_rules.specs.Check.{Check, TypingState, Broken, and_then, ◌>>=◌, pure, breaks, obeys, known, interned, interned_at, each_checked}
 use Rattle.typing_rules.specs.Collected.{receiver_ty, param_ty}
 use Rattle.typing_rules.specs.Places.{unit, never}
-use Rattle.typing_rules.specs.Written.{Around, written, written_form, all_written, named_by, number_of, scalar_named, tuple_by, is_box, is_usize, length_shown, reference_to, written_param, written_param_form}
+use Rattle.typing_rules.specs.Written.{WrittenScope, written, written_form, all_written, named_by, number_of, scalar_named, tuple_by, is_box, is_usize, length_shown, reference_to, written_param, written_param_form}
 
-pub record Keeps (s t : State) : Type 0 where
+pub record Keeps (s t : TypingState) : Type 0 where
   pub types : (k : ℕ) (ty : Ty) → slice_get s.items.types k ≡ Some ty → slice_get t.items.types k ≡ Some ty
   pub traits : t.items.traits ≡ s.items.traits
 
-pub keeps_self : (s : State) → Keeps s s
+pub keeps_self : (s : TypingState) → Keeps s s
 keeps_self s = record { types = λ k ty h. h; traits = refl }
 
-pub keeps_on : (s t u : State) → Keeps s t → Keeps t u → Keeps s u
+pub keeps_on : (s t u : TypingState) → Keeps s t → Keeps t u → Keeps s u
 keeps_on s t u h i = record { types = λ k ty is. i.types k ty (h.types k ty is); traits = i.traits ∙ h.traits }
 
 abbrev pub Kept : {A : Type 0} → Check A → Type 0
-Kept {A} p = (s t : State) (a : A) → p s ≡ Ok (a, t) → Keeps s t
+Kept {A} p = (s t : TypingState) (a : A) → p s ≡ Ok (a, t) → Keeps s t
 
 pub kept_bind : {A B : Type 0} (p : Check A) (f : A → Check B) → Kept p → ((a : A) → Kept (f a)) → Kept (p >>= f)
 kept_bind {A} {B} p f first behind = λ s t b h. by s t b (p s) refl h
   where
-    by : (s t : State) (b : B) (o : Result (A × State) Broken) → p s ≡ o → and_then o f ≡ Ok (b, t) → Keeps s t
+    by : (s t : TypingState) (b : B) (o : Result (A × TypingState) Broken) → p s ≡ o → and_then o f ≡ Ok (b, t) → Keeps s t
     by s t b (Ok a) is h = keeps_on s a.1 t (first s a.1 a.0 is) (behind a.0 a.1 t b h)
     by s t b (Err e) is h = absurd (cc)
 
-abbrev pub state_in : {A : Type 0} → State → Result (A × State) Broken → State
+abbrev pub state_in : {A : Type 0} → TypingState → Result (A × TypingState) Broken → TypingState
 state_in s (Ok a) = a.1
 state_in s (Err e) = s
 
@@ -54,7 +54,7 @@ kept_known rule at (Some a) = kept_pure a
 pub kept_interned : (ty : Ty) → Kept (interned ty)
 kept_interned ty = λ s t id h. by s t id (position_of (is_equal ty) s.items.types) h
   where
-    by : (s t : State) (id : TyId) (o : Option ℕ) → interned_at ty o s ≡ Ok (id, t) → Keeps s t
+    by : (s t : TypingState) (id : TyId) (o : Option ℕ) → interned_at ty o s ≡ Ok (id, t) → Keeps s t
     by s t id (Some n) h = let same : s ≡ t = ap (state_in s) h in subst (λ z. Keeps s z) same (keeps_self s)
     by s t id None h =
         let same : record s { items = record (s.items) { types = s.items.types ++ ty ∷ [] } } ≡ t = ap (state_in s) h in
@@ -79,7 +79,7 @@ kept_tuple : (tys : List TyId) → Kept (tuple_by tys)
 kept_tuple [] = kept_pure unit
 kept_tuple (ty ∷ tys) = kept_interned (Ty.Tuple (ty ∷ tys))
 
-module _ (w : Around) where
+module _ (w : WrittenScope) where
   mutual
     pub kept_written : (x : Syn) → Kept (written w x)
     kept_written (syn at form) = kept_form at form
@@ -124,7 +124,7 @@ kept_receiver own ByValue = kept_pure own
 kept_receiver own ByShared = kept_interned (Ty.Shared own)
 kept_receiver own ByUnique = kept_interned (Ty.Unique own)
 
-module _ (w : Around) (self : Check TyId) (kept_self : Kept self) where
+module _ (w : WrittenScope) (self : Check TyId) (kept_self : Kept self) where
   pub kept_head_param : (x : Syn) → Kept (param_ty w self x)
   kept_head_param (syn at (ParamOf p ty)) = kept_param w ty
   kept_head_param (syn at (SelfParam receiver)) = kept_bind self _ kept_self (λ own. kept_receiver own receiver)

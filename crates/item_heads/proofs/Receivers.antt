@@ -6,14 +6,14 @@ use Rattle.mir_ty.specs.declared.def.Sig.{Sig}
 use Rattle.mir_ty.specs.declared.ty.Ty.{Ty}
 use Rattle.mir_ty.specs.declared.ty.TyId.{TyId}
 use Rattle.mir_ty.specs.AreItems.{IsSig}
-use Rattle.src_tree.specs.declared.node.Node.{Node}
+use Rattle.src_tree.specs.declared.node.SyntaxNode.{SyntaxNode}
 use Rattle.src_ast.specs.Seen.{syn_of}
 use Rattle.src_ast.specs.Sorts.{param_part, item_part}
 use Rattle.src_ast.specs.Syntax.{ByValue, ByShared, ByUnique, Syn, syn, Syns, a_syn, Shape, at_of, shape_of, Ident, LabelOf, Literal, TruthLiteral, Path, Minus, Bang, Star, Ampersand, Calculate, Compare, Both, Either, Store, CallOf, MethodOf, FieldOf, PartOf, ElementOf, StructOf, FieldInit, Parens, TupleOf, ArrayOf, Braces, IfElse, IfLetElse, MatchOn, ArmOf, LoopOf, WhileOf, WhileLetOf, BreakOf, ContinueOf, ReturnOf, MoveOf, PanicOf, LetOf, Empty, Semi, AnyPattern, BindPattern, LiteralPattern, TruthPattern, PathPattern, PartsPattern, FieldsPattern, FieldPattern, ParensPattern, TuplePattern, ArrayPattern, Alternatives, NamedType, GenericType, DynType, SelfType, ParensType, TupleType, ArrayType, NeverType, RefType, StructItem, EnumItem, FieldDecl, VariantDecl, TraitItem, ImplItem, FnItem, ParamOf, SelfParam, Odd}
 use Rattle.src_ast.proofs.Named.{seen_as}
-use Rattle.typing_rules.specs.Check.{State}
+use Rattle.typing_rules.specs.Check.{TypingState}
 use Rattle.typing_rules.specs.Collected.{is_by_reference, behind_self, trait_head}
-use Rattle.typing_rules.specs.Written.{Around}
+use Rattle.typing_rules.specs.Written.{WrittenScope}
 use Rattle.item_heads.specs.Forms.{is_self_by, reference_by, trait_head_by}
 use Rattle.item_heads.proofs.Types.{ids_later}
 
@@ -95,7 +95,7 @@ reference_form at Odd = refl
 reference_as : (x : Syn) → is_by_reference x ≡ reference_by (param_part (shape_of x))
 reference_as (syn at form) = reference_form at form
 
-pub reference_seen : (n : Node) → is_by_reference (syn_of n) ≡ reference_by (param_part (shape_of (syn_of n)))
+pub reference_seen : (n : SyntaxNode) → is_by_reference (syn_of n) ≡ reference_by (param_part (shape_of (syn_of n)))
 reference_seen n = reference_as (syn_of n)
 
 behind_form : (at : Pos) (form : Shape) (rest : Syns) → behind_self (a_syn (syn at form) rest)
@@ -176,11 +176,11 @@ behind_as : (x : Syn) (rest : Syns) → behind_self (a_syn x rest)
     ≡ if is_self_by (param_part (shape_of x)) then rest else a_syn x rest
 behind_as (syn at form) rest = behind_form at form rest
 
-pub behind_seen : (n : Node) (rest : Syns) → behind_self (a_syn (syn_of n) rest)
+pub behind_seen : (n : SyntaxNode) (rest : Syns) → behind_self (a_syn (syn_of n) rest)
     ≡ if is_self_by (param_part (shape_of (syn_of n))) then rest else a_syn (syn_of n) rest
 behind_seen n rest = behind_as (syn_of n) rest
 
-trait_form : (w : Around) (own : TyId) (at : Pos) (form : Shape) (s : State) →
+trait_form : (w : WrittenScope) (own : TyId) (at : Pos) (form : Shape) (s : TypingState) →
     trait_head w own (syn at form) s ≡ trait_head_by w own at (item_part form) s
 trait_form w own at (Ident a) s = refl
 trait_form w own at (LabelOf a) s = refl
@@ -254,11 +254,11 @@ trait_form w own at (ParamOf a b) s = refl
 trait_form w own at (SelfParam a) s = refl
 trait_form w own at Odd s = refl
 
-trait_as : (w : Around) (own : TyId) (x : Syn) (s : State) →
+trait_as : (w : WrittenScope) (own : TyId) (x : Syn) (s : TypingState) →
     trait_head w own x s ≡ trait_head_by w own (at_of x) (item_part (shape_of x)) s
 trait_as w own (syn at form) s = trait_form w own at form s
 
-pub trait_head_seen : (w : Around) (own : TyId) (n : Node) (s : State) →
+pub trait_head_seen : (w : WrittenScope) (own : TyId) (n : SyntaxNode) (s : TypingState) →
     trait_head w own (syn_of n) s ≡ trait_head_by w own n.at (item_part (shape_of (syn_of n))) s
 trait_head_seen w own n s =
     trait_as w own (syn_of n) s

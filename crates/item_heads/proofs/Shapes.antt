@@ -2,21 +2,21 @@
 use Rattle.std.proofs.Common.{◌≡◌, suc, ◌<◌, Bool, true, false, refl, ap, ◌∙◌, arith}
 use Rattle.std.specs.Prelude.{◌==◌}
 use Rattle.mir_base.specs.declared.place_in_text.Pos.{Pos}
-use Rattle.src_tree.specs.declared.node.Node.{Node}
+use Rattle.src_tree.specs.declared.node.SyntaxNode.{SyntaxNode}
 use Rattle.src_ast.specs.Seen.{syn_of}
 use Rattle.src_ast.specs.Sorts.{sort_of, some_if, type_part, param_part}
 use Rattle.src_ast.specs.Syntax.{Syn, syn, Shape, at_of, shape_of, Ident, LabelOf, Literal, TruthLiteral, Path, Minus, Bang, Star, Ampersand, Calculate, Compare, Both, Either, Store, CallOf, MethodOf, FieldOf, PartOf, ElementOf, StructOf, FieldInit, Parens, TupleOf, ArrayOf, Braces, IfElse, IfLetElse, MatchOn, ArmOf, LoopOf, WhileOf, WhileLetOf, BreakOf, ContinueOf, ReturnOf, MoveOf, PanicOf, LetOf, Empty, Semi, AnyPattern, BindPattern, LiteralPattern, TruthPattern, PathPattern, PartsPattern, FieldsPattern, FieldPattern, ParensPattern, TuplePattern, ArrayPattern, Alternatives, NamedType, GenericType, DynType, SelfType, ParensType, TupleType, ArrayType, NeverType, RefType, StructItem, EnumItem, FieldDecl, VariantDecl, TraitItem, ImplItem, FnItem, ParamOf, SelfParam, Odd}
 use Rattle.src_ast.proofs.Named.{seen_as}
-use Rattle.typing_rules.specs.Check.{Check, State}
+use Rattle.typing_rules.specs.Check.{Check, TypingState}
 use Rattle.mir_ty.specs.declared.ty.TyId.{TyId}
 use Rattle.typing_rules.specs.Collected.{param_ty}
-use Rattle.typing_rules.specs.Written.{Around, written, written_form, written_param, written_param_form}
+use Rattle.typing_rules.specs.Written.{WrittenScope, written, written_form, written_param, written_param_form}
 use Rattle.item_heads.specs.Forms.{written_as, param_as, head_param}
 use Rattle.item_heads.specs.Sizes.{size, form_size, seen_size}
 
 -- ---- types
 
-type_form_seen : (a : Around) (at : Pos) (form : Shape) (s : State) →
+type_form_seen : (a : WrittenScope) (at : Pos) (form : Shape) (s : TypingState) →
     written_form a at form s ≡ written_as a at (type_part form) s
 type_form_seen w at (Ident a) s = refl
 type_form_seen w at (LabelOf a) s = refl
@@ -90,10 +90,10 @@ type_form_seen w at (ParamOf a b) s = refl
 type_form_seen w at (SelfParam a) s = refl
 type_form_seen w at Odd s = refl
 
-type_as : (a : Around) (x : Syn) (s : State) → written a x s ≡ written_as a (at_of x) (type_part (shape_of x)) s
+type_as : (a : WrittenScope) (x : Syn) (s : TypingState) → written a x s ≡ written_as a (at_of x) (type_part (shape_of x)) s
 type_as w (syn at form) s = type_form_seen w at form s
 
-pub type_seen : (a : Around) (n : Node) (s : State) →
+pub type_seen : (a : WrittenScope) (n : SyntaxNode) (s : TypingState) →
     written a (syn_of n) s ≡ written_as a n.at (type_part (shape_of (syn_of n))) s
 type_seen a n s =
     type_as a (syn_of n) s ∙ ap (λ (x : Syn). written_as a (at_of x) (type_part (shape_of (syn_of n))) s) (seen_as n)
@@ -105,10 +105,10 @@ part_size false form = omega arith
 syn_size : (x : Syn) → seen_size (type_part (shape_of x)) < size x
 syn_size (syn at form) = part_size (sort_of form == 4) form
 
-pub type_size : (n : Node) → seen_size (type_part (shape_of (syn_of n))) < size (syn_of n)
+pub type_size : (n : SyntaxNode) → seen_size (type_part (shape_of (syn_of n))) < size (syn_of n)
 type_size n = syn_size (syn_of n)
 
-param_form_seen : (a : Around) (at : Pos) (form : Shape) (s : State) →
+param_form_seen : (a : WrittenScope) (at : Pos) (form : Shape) (s : TypingState) →
     written_param_form a at form s ≡ param_as a at (type_part form) s
 param_form_seen w at (Ident a) s = refl
 param_form_seen w at (LabelOf a) s = refl
@@ -182,17 +182,17 @@ param_form_seen w at (ParamOf a b) s = refl
 param_form_seen w at (SelfParam a) s = refl
 param_form_seen w at Odd s = refl
 
-param_plain : (a : Around) (x : Syn) (s : State) → written_param a x s ≡ param_as a (at_of x) (type_part (shape_of x)) s
+param_plain : (a : WrittenScope) (x : Syn) (s : TypingState) → written_param a x s ≡ param_as a (at_of x) (type_part (shape_of x)) s
 param_plain w (syn at form) s = param_form_seen w at form s
 
-pub param_seen : (a : Around) (n : Node) (s : State) →
+pub param_seen : (a : WrittenScope) (n : SyntaxNode) (s : TypingState) →
     written_param a (syn_of n) s ≡ param_as a n.at (type_part (shape_of (syn_of n))) s
 param_seen a n s =
     param_plain a (syn_of n) s ∙ ap (λ (x : Syn). param_as a (at_of x) (type_part (shape_of (syn_of n))) s) (seen_as n)
 
 -- ---- parameters
 
-head_form_seen : (w : Around) (self : Check TyId) (at : Pos) (form : Shape) (s : State) →
+head_form_seen : (w : WrittenScope) (self : Check TyId) (at : Pos) (form : Shape) (s : TypingState) →
     param_ty w self (syn at form) s ≡ head_param w self at (param_part form) s
 head_form_seen w self at (Ident a) s = refl
 head_form_seen w self at (LabelOf a) s = refl
@@ -266,11 +266,11 @@ head_form_seen w self at (ParamOf a b) s = refl
 head_form_seen w self at (SelfParam a) s = refl
 head_form_seen w self at Odd s = refl
 
-head_param_as : (w : Around) (self : Check TyId) (x : Syn) (s : State) →
+head_param_as : (w : WrittenScope) (self : Check TyId) (x : Syn) (s : TypingState) →
     param_ty w self x s ≡ head_param w self (at_of x) (param_part (shape_of x)) s
 head_param_as w self (syn at form) s = head_form_seen w self at form s
 
-pub head_param_seen : (w : Around) (self : Check TyId) (n : Node) (s : State) →
+pub head_param_seen : (w : WrittenScope) (self : Check TyId) (n : SyntaxNode) (s : TypingState) →
     param_ty w self (syn_of n) s ≡ head_param w self n.at (param_part (shape_of (syn_of n))) s
 head_param_seen w self n s =
     head_param_as w self (syn_of n) s

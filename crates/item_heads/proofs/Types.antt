@@ -13,21 +13,21 @@ use Rattle.src_ast.specs.declared.ty.TypeForm.{TypeForm}
 use Rattle.src_ast.specs.Types.{type_of}
 use Rattle.src_ast.specs.Seen.{syn_of}
 use Rattle.src_ast.specs.Sorts.{type_part}
-use Rattle.src_tree.specs.declared.node.Node.{Node}
-use Rattle.typing_rules.specs.Check.{State, Broken, interned, and_then, pure, obeys}
-use Rattle.typing_rules.specs.Written.{Around, written, written_param, all_written, tuple_by, length_shown}
+use Rattle.src_tree.specs.declared.node.SyntaxNode.{SyntaxNode}
+use Rattle.typing_rules.specs.Check.{TypingState, Broken, interned, and_then, pure, obeys}
+use Rattle.typing_rules.specs.Written.{WrittenScope, written, written_param, all_written, tuple_by, length_shown}
 use Rattle.std.proofs.lemmas.List.Elements.{All-push}
 use Rattle.item_heads.specs.Answers.{Answers, behind}
 use Rattle.item_heads.specs.Forms.{array_short, written_as, param_as}
 use Rattle.item_heads.proofs.Shapes.{type_seen, param_seen}
 use Rattle.item_heads.proofs.Sequences.{one_more}
 
-pub of_many : (ids : List TyId) (s : State) → 0 < length ids → tuple_by ids s ≡ interned (Ty.Tuple ids) s
+pub of_many : (ids : List TyId) (s : TypingState) → 0 < length ids → tuple_by ids s ≡ interned (Ty.Tuple ids) s
 of_many [] s h = absurd (omega (arith, h))
 of_many (id ∷ ids) s h = refl
 
-pub all_behind : (w : Around) (whole : Result (List TyId × State) Broken) (ids more : List TyId) (ss : Syns)
-    (first : Syn) (rest : Syns) (s t : State) (id : TyId) → whole ≡ behind ids (all_written w ss s) →
+pub all_behind : (w : WrittenScope) (whole : Result (List TyId × TypingState) Broken) (ids more : List TyId) (ss : Syns)
+    (first : Syn) (rest : Syns) (s t : TypingState) (id : TyId) → whole ≡ behind ids (all_written w ss s) →
     a_syn first rest ≡ ss → written w first s ≡ Ok (id, t) → more ≡ ids ++ id ∷ [] →
     whole ≡ behind more (all_written w rest t)
 all_behind w whole ids more ss first rest s t id h split here pushed =
@@ -44,7 +44,7 @@ pub ids_behind : (types later : List Ty) (ids more : List TyId) (id : TyId) → 
 ids_behind types later ids more id h grows here pushed =
     subst (AreTypes later) (sym pushed) (All-push (λ id. id.0 < length later) ids id (ids_later types later ids h grows) here)
 
-pub array_answers : (w : Around) (at : Pos) (count : ℕ) (ty : TyId) (s : State) (b : Bool) (n : ℕ)
+pub array_answers : (w : WrittenScope) (at : Pos) (count : ℕ) (ty : TyId) (s : TypingState) (b : Bool) (n : ℕ)
     (r : Result TyId RuleError) (after : ItemTable) → b ≡ true → b ≡ (not w.has_limits || nat_le count 32) →
     n ≡ length_shown count → Answers (interned (Ty.Array ty n) s) r after → Answers (array_short w at count ty s) r after
 array_answers w at count ty s b n r after holds is short h =
@@ -53,7 +53,7 @@ array_answers w at count ty s b n r after holds is short h =
     (subst (λ z. Answers (interned (Ty.Array ty z) s) r after) short h)
 
 -- what is written is what its form says
-pub written_answers : (w : Around) (n : Node) (s : State) (r : Result TyId RuleError) (after : ItemTable) (seen form : TypeForm) →
+pub written_answers : (w : WrittenScope) (n : SyntaxNode) (s : TypingState) (r : Result TyId RuleError) (after : ItemTable) (seen form : TypeForm) →
     seen ≡ form → type_of seen ≡ type_part (shape_of (syn_of n)) → Answers (written_as w n.at (type_of form) s) r after →
     Answers (written w (syn_of n) s) r after
 written_answers w n s r after seen form is is_seen h =
@@ -61,13 +61,13 @@ written_answers w n s r after seen form is is_seen h =
     ap (λ f. written_as w n.at (type_of f) s) (sym is) ∙ ap (λ f. written_as w n.at f s) is_seen ∙ sym (type_seen w n s) in
     subst (λ o. Answers o r after) equal h
 
-pub refused_answers : (w : Around) (n : Node) (s : State) (e : RuleError) (after : ItemTable) (seen : TypeForm) →
+pub refused_answers : (w : WrittenScope) (n : SyntaxNode) (s : TypingState) (e : RuleError) (after : ItemTable) (seen : TypeForm) →
     seen ≡ TypeForm.Other → type_of seen ≡ type_part (shape_of (syn_of n)) → e ≡ RuleError.Broken Rule.T20 n.at →
     Answers (written w (syn_of n) s) (Err e) after
 refused_answers w n s e after seen is is_seen is_e =
     written_answers w n s (Err e) after seen TypeForm.Other is is_seen (rw is_e refl)
 
-pub plain_answers : (w : Around) (n : Node) (s : State) (r : Result TyId RuleError) (after : ItemTable) (form : Option Shape) →
+pub plain_answers : (w : WrittenScope) (n : SyntaxNode) (s : TypingState) (r : Result TyId RuleError) (after : ItemTable) (form : Option Shape) →
     form ≡ type_part (shape_of (syn_of n)) → param_as w n.at form s ≡ written_as w n.at form s →
     Answers (written w (syn_of n) s) r after → Answers (written_param w (syn_of n) s) r after
 plain_answers w n s r after form is same h =
@@ -75,8 +75,8 @@ plain_answers w n s r after form is same h =
     type_seen w n s ∙ ap (λ f. written_as w n.at f s) (sym is) ∙ sym same ∙ ap (λ f. param_as w n.at f s) is ∙ sym (param_seen w n s) in
     subst (λ o. Answers o r after) equal h
 
-pub plain_form : (w : Around) (at : Pos) (s : State) (f : TypeForm) → ((x : Bor Node) → f ≡ TypeForm.Parens x → ⊥) →
-    ((u : Bool) (x : Bor Node) → f ≡ TypeForm.Reference u x → ⊥) → param_as w at (type_of f) s ≡ written_as w at (type_of f) s
+pub plain_form : (w : WrittenScope) (at : Pos) (s : TypingState) (f : TypeForm) → ((x : Bor SyntaxNode) → f ≡ TypeForm.Parens x → ⊥) →
+    ((u : Bool) (x : Bor SyntaxNode) → f ≡ TypeForm.Reference u x → ⊥) → param_as w at (type_of f) s ≡ written_as w at (type_of f) s
 plain_form w at s (TypeForm.Name a) h i = refl
 plain_form w at s (TypeForm.Generic a b) h i = refl
 plain_form w at s (TypeForm.Dyn a b c) h i = refl

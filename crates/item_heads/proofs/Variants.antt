@@ -5,18 +5,18 @@ use Rattle.mir_base.specs.declared.place_in_text.Pos.{Pos}
 use Rattle.mir_ty.specs.declared.adt.Variant.{Variant}
 use Rattle.mir_ty.specs.declared.ty.Ty.{Ty}
 use Rattle.mir_ty.specs.AreItems.{IsVariant}
-use Rattle.src_tree.specs.declared.node.Node.{Node}
+use Rattle.src_tree.specs.declared.node.SyntaxNode.{SyntaxNode}
 use Rattle.src_ast.specs.Seen.{syn_of}
 use Rattle.src_ast.specs.Sorts.{variant_part}
 use Rattle.src_ast.specs.Syntax.{Syn, syn, Shape, at_of, shape_of, Ident, LabelOf, Literal, TruthLiteral, Path, Minus, Bang, Star, Ampersand, Calculate, Compare, Both, Either, Store, CallOf, MethodOf, FieldOf, PartOf, ElementOf, StructOf, FieldInit, Parens, TupleOf, ArrayOf, Braces, IfElse, IfLetElse, MatchOn, ArmOf, LoopOf, WhileOf, WhileLetOf, BreakOf, ContinueOf, ReturnOf, MoveOf, PanicOf, LetOf, Empty, Semi, AnyPattern, BindPattern, LiteralPattern, TruthPattern, PathPattern, PartsPattern, FieldsPattern, FieldPattern, ParensPattern, TuplePattern, ArrayPattern, Alternatives, NamedType, GenericType, DynType, SelfType, ParensType, TupleType, ArrayType, NeverType, RefType, StructItem, EnumItem, FieldDecl, VariantDecl, TraitItem, ImplItem, FnItem, ParamOf, SelfParam, Odd}
 use Rattle.src_ast.proofs.Named.{seen_as}
-use Rattle.typing_rules.specs.Check.{State}
+use Rattle.typing_rules.specs.Check.{TypingState}
 use Rattle.typing_rules.specs.Collected.{declared_variant}
-use Rattle.typing_rules.specs.Written.{Around}
+use Rattle.typing_rules.specs.Written.{WrittenScope}
 use Rattle.item_heads.specs.Forms.{variant_by}
 use Rattle.item_heads.proofs.Types.{ids_later}
 
-variant_form_seen : (w : Around) (at : Pos) (form : Shape) (s : State) →
+variant_form_seen : (w : WrittenScope) (at : Pos) (form : Shape) (s : TypingState) →
     declared_variant w (syn at form) s ≡ variant_by w at (variant_part form) s
 variant_form_seen w at (Ident a) s = refl
 variant_form_seen w at (LabelOf a) s = refl
@@ -90,10 +90,10 @@ variant_form_seen w at (ParamOf a b) s = refl
 variant_form_seen w at (SelfParam a) s = refl
 variant_form_seen w at Odd s = refl
 
-variant_as : (w : Around) (x : Syn) (s : State) → declared_variant w x s ≡ variant_by w (at_of x) (variant_part (shape_of x)) s
+variant_as : (w : WrittenScope) (x : Syn) (s : TypingState) → declared_variant w x s ≡ variant_by w (at_of x) (variant_part (shape_of x)) s
 variant_as w (syn at form) s = variant_form_seen w at form s
 
-pub variant_seen : (w : Around) (n : Node) (s : State) →
+pub variant_seen : (w : WrittenScope) (n : SyntaxNode) (s : TypingState) →
     declared_variant w (syn_of n) s ≡ variant_by w n.at (variant_part (shape_of (syn_of n))) s
 variant_seen w n s =
     variant_as w (syn_of n) s ∙ ap (λ (x : Syn). variant_by w (at_of x) (variant_part (shape_of (syn_of n))) s) (seen_as n)

@@ -1,8 +1,8 @@
 -- Bodies of nodes, one behind another.
 use Rattle.std.proofs.Common.{◌≡◌, ℕ, Bool, true, false, if◌then◌else◌, List, [], ◌∷◌, ◌++◌, drop, map, length, get_or, suc, ◌+◌, ◌<◌, add-one, drop-cons, subst, Option, Result, Ok, Err, refl, ap, sym, ◌∙◌}
-use Rattle.src_tree.specs.declared.node.Node.{Node}
-use Rattle.src_tree.specs.declared.node.Piece
-use Rattle.src_tree.specs.declared.node.Piece.{Piece}
+use Rattle.src_tree.specs.declared.node.SyntaxNode.{SyntaxNode}
+use Rattle.src_tree.specs.declared.node.NodePiece
+use Rattle.src_tree.specs.declared.node.NodePiece.{NodePiece}
 use Rattle.src_tree.specs.Layout.{node}
 use Rattle.src_tree.specs.View.{layout_of, parts_in, parts_from, piece_of, Single, a_token, a_node}
 use Rattle.src_tree.proofs.Pieces.{node_laid, node_seen, token_seen}
@@ -10,7 +10,7 @@ use Rattle.src_token.specs.declared.token.Token.{Token}
 use Rattle.src_ast.specs.Seen.{syn_of}
 use Rattle.src_ast.specs.Syntax.{Word, Syn}
 use Rattle.src_ast.specs.View.{view}
-use Rattle.typing_rules.specs.Check.{State, Broken, and_then}
+use Rattle.typing_rules.specs.Check.{TypingState, Broken, and_then}
 use Rattle.typing_rules.specs.Collected as walk
 use Rattle.typing_rules.specs.Collected.{body_sig, body_sigs}
 use Rattle.typing_rules.specs.Items.{bodies_in, bodies_among, is_body_row, with_body}
@@ -20,27 +20,27 @@ use Rattle.item_heads.specs.Answers.{Refuses}
 use Rattle.item_heads.proofs.Sequences.{stopped}
 
 module _ (k : walk.Known) (owner : Option Word) where
-  joined : (o : Result (walk.Count × State) Broken) (xs ys : List Syn) →
-      ((c : walk.Count) (s : State) → body_sigs k owner c (xs ++ ys) s ≡ and_then (body_sigs k owner c xs s) (λ d. body_sigs k owner d ys)) →
+  joined : (o : Result (walk.Count × TypingState) Broken) (xs ys : List Syn) →
+      ((c : walk.Count) (s : TypingState) → body_sigs k owner c (xs ++ ys) s ≡ and_then (body_sigs k owner c xs s) (λ d. body_sigs k owner d ys)) →
       and_then o (λ d. body_sigs k owner d (xs ++ ys))
       ≡ and_then (and_then o (λ d. body_sigs k owner d xs)) (λ d. body_sigs k owner d ys)
   joined (Ok p) xs ys on = on p.0 p.1
   joined (Err e) xs ys on = refl
 
   -- the bodies of two lists, one behind the other
-  pub both_lists : (c : walk.Count) (xs ys : List Syn) (s : State) →
+  pub both_lists : (c : walk.Count) (xs ys : List Syn) (s : TypingState) →
       body_sigs k owner c (xs ++ ys) s ≡ and_then (body_sigs k owner c xs s) (λ d. body_sigs k owner d ys)
   both_lists c [] ys s = refl
   both_lists c (x ∷ xs) ys s = joined (body_sig k owner c x s) xs ys (λ d t. both_lists d xs ys t)
 
-  own_first : (b : Bool) (c : walk.Count) (x : Syn) (xs : List Syn) (s : State) →
+  own_first : (b : Bool) (c : walk.Count) (x : Syn) (xs : List Syn) (s : TypingState) →
       body_sigs k owner c (with_body b x xs) s
       ≡ and_then ((if b then body_sig k owner c x else (λ t. Ok (c, t))) s) (λ d. body_sigs k owner d xs)
   own_first true c x xs s = refl
   own_first false c x xs s = refl
 
   -- a node: its own head, and then those of the bodies in it
-  pub node_bodies : (c : walk.Count) (n : Node) (s : State) →
+  pub node_bodies : (c : walk.Count) (n : SyntaxNode) (s : TypingState) →
       body_sigs k owner c (bodies_in (layout_of n)) s
       ≡ and_then (own_sig k owner c n.row (syn_of n) s) (λ d. body_sigs k owner d (bodies_among (parts_in n.parts)))
   node_bodies c n s =
@@ -48,10 +48,10 @@ module _ (k : walk.Known) (owner : Option Word) where
       ∙ own_first (is_body_row n.row) c (view (node n.at n.row (parts_in n.parts))) (bodies_among (parts_in n.parts)) s
       ∙ ap (λ (x : Syn). and_then (own_sig k owner c n.row x s) (λ d. body_sigs k owner d (bodies_among (parts_in n.parts)))) (sym (ap view (node_laid n)))
 
-pub at_token : (t : Token) → bodies_in_piece (piece_of (Piece.Token t)) ≡ []
+pub at_token : (t : Token) → bodies_in_piece (piece_of (NodePiece.Token t)) ≡ []
 at_token t = ap bodies_in_piece (token_seen t)
 
-pub at_node : (n : Node) → bodies_in_piece (piece_of (Piece.Node n)) ≡ bodies_in (layout_of n)
+pub at_node : (n : SyntaxNode) → bodies_in_piece (piece_of (NodePiece.Node n)) ≡ bodies_in (layout_of n)
 at_node n = ap bodies_in_piece (node_seen n)
 
 first_piece : (o : Single) (ys : List Single) → bodies_among (parts_from (o ∷ ys)) ≡ bodies_in_piece o ++ bodies_among (parts_from ys)
@@ -59,7 +59,7 @@ first_piece (a_token t) ys = refl
 first_piece (a_node g) ys = refl
 
 -- the bodies of some pieces: those of the first, and then those of the rest
-pub among_at : (ps : List Piece) (i : ℕ) (p : Piece) → i < length ps → p ≡ get_or ps i p →
+pub among_at : (ps : List NodePiece) (i : ℕ) (p : NodePiece) → i < length ps → p ≡ get_or ps i p →
     bodies_among (parts_in (drop i ps)) ≡ bodies_in_piece (piece_of p) ++ bodies_among (parts_in (drop (i + 1) ps))
 among_at ps i p h is =
     ap (λ z. bodies_among (parts_in z)) (drop-cons ps i p h)
@@ -68,14 +68,14 @@ among_at ps i p h is =
     ∙ ap (λ z. bodies_in_piece (piece_of p) ++ bodies_among (parts_in (drop z ps))) (sym (add-one i))
 
 module _ (k : walk.Known) (owner : Option Word) where
-  pub pieces_at : (c : walk.Count) (ps : List Piece) (i : ℕ) (p : Piece) (s : State) → i < length ps → p ≡ get_or ps i p →
+  pub pieces_at : (c : walk.Count) (ps : List NodePiece) (i : ℕ) (p : NodePiece) (s : TypingState) → i < length ps → p ≡ get_or ps i p →
       body_sigs k owner c (bodies_among (parts_in (drop i ps))) s
       ≡ and_then (body_sigs k owner c (bodies_in_piece (piece_of p)) s) (λ d. body_sigs k owner d (bodies_among (parts_in (drop (i + 1) ps))))
   pieces_at c ps i p s h is =
       ap (λ z. body_sigs k owner c z s) (among_at ps i p h is)
       ∙ both_lists k owner c (bodies_in_piece (piece_of p)) (bodies_among (parts_in (drop (i + 1) ps))) s
 
-  pub on_pieces : (whole : Result (walk.Count × State) Broken) (c d : walk.Count) (ps : List Piece) (i : ℕ) (p : Piece) (s t : State) →
+  pub on_pieces : (whole : Result (walk.Count × TypingState) Broken) (c d : walk.Count) (ps : List NodePiece) (i : ℕ) (p : NodePiece) (s t : TypingState) →
       i < length ps → p ≡ get_or ps i p → whole ≡ body_sigs k owner c (bodies_among (parts_in (drop i ps))) s →
       body_sigs k owner c (bodies_in_piece (piece_of p)) s ≡ Ok (d, t) →
       whole ≡ body_sigs k owner d (bodies_among (parts_in (drop (i + 1) ps))) t
@@ -83,7 +83,7 @@ module _ (k : walk.Known) (owner : Option Word) where
       so ∙ pieces_at c ps i p s h is
       ∙ ap (λ o. and_then o (λ d. body_sigs k owner d (bodies_among (parts_in (drop (i + 1) ps))))) here
 
-  pub stopped_at : (whole : Result (walk.Count × State) Broken) (c : walk.Count) (ps : List Piece) (i : ℕ) (p : Piece) (s : State) (e : RuleError) →
+  pub stopped_at : (whole : Result (walk.Count × TypingState) Broken) (c : walk.Count) (ps : List NodePiece) (i : ℕ) (p : NodePiece) (s : TypingState) (e : RuleError) →
       i < length ps → p ≡ get_or ps i p → whole ≡ body_sigs k owner c (bodies_among (parts_in (drop i ps))) s →
       Refuses (body_sigs k owner c (bodies_in_piece (piece_of p)) s) e → Refuses whole e
   stopped_at whole c ps i p s e h is so here =

@@ -8,7 +8,7 @@ use Rattle.mir_ty.specs.declared.adt.Variant.{Variant}
 use Rattle.mir_ty.specs.ItemTable.{with_adt}
 use Rattle.mir_ty.specs.declared.def.Sig.{Sig}
 use Rattle.mir_ty.specs.declared.ty.TyId.{TyId}
-use Rattle.item_heads.specs.declared.written_types.Scope.{Scope}
+use Rattle.item_heads.specs.declared.written_types.WrittenScope as in_rust
 use Rattle.item_heads.specs.declared.known.Known.{Known}
 use Rattle.item_heads.specs.declared.heads.Own.{Own}
 use Rattle.typing_rules.specs.Collected as walk
@@ -17,14 +17,14 @@ use Rattle.src_ast.specs.View.{view}
 use Rattle.well_typed.specs.Names.{is_among, built_in}
 use Rattle.typing_rules.specs.Items.{full_name, closure_name, is_body_row, bodies_in}
 use Rattle.src_tree.specs.View.{Single, a_token, a_node}
-use Rattle.src_tree.specs.declared.row.Row.{Row}
+use Rattle.src_tree.specs.declared.row.GrammarRow.{GrammarRow}
 use Rattle.mir_base.specs.declared.rule.RuleError.{RuleError}
 use Rattle.src_ast.specs.Syntax.{StructItem, EnumItem, TraitItem, FnItem, ParamOf, MaybeSyn, SelfParam, ByShared, ByUnique, Word, Named, Syns, list_of, number_word, Receiver, Syn, syn, FieldDecl, Shape}
 use Rattle.typing_rules.specs.Check.{Check, each_checked, pure, breaks, obeys, interned, ◌>>=◌, ◌>>◌}
 use Rattle.typing_rules.specs.Places.{unit}
-use Rattle.typing_rules.specs.Written.{Around, or_unit, written, written_form, written_param_form, is_usize, length_shown, number_of}
+use Rattle.typing_rules.specs.Written.{WrittenScope, or_unit, written, written_form, written_param_form, is_usize, length_shown, number_of}
 
-abbrev pub around_of : Scope → Around
+abbrev pub around_of : in_rust.WrittenScope → WrittenScope
 around_of scope =
     record {
       has_limits = scope.has_limits;
@@ -33,21 +33,21 @@ around_of scope =
       traits = scope.traits.now;
     }
 
-abbrev pub written_as : Around → Pos → Option Shape → Check TyId
+abbrev pub written_as : WrittenScope → Pos → Option Shape → Check TyId
 written_as around at None = breaks Rule.T20 at
 written_as around at (Some form) = written_form around at form
 
-abbrev pub param_as : Around → Pos → Option Shape → Check TyId
+abbrev pub param_as : WrittenScope → Pos → Option Shape → Check TyId
 param_as around at None = breaks Rule.T20 at
 param_as around at (Some form) = written_param_form around at form
 
 -- an array, once its elements have a type
-abbrev pub array_short : Around → Pos → ℕ → TyId → Check TyId
+abbrev pub array_short : WrittenScope → Pos → ℕ → TyId → Check TyId
 array_short around at count ty = do
   obeys Rule.T19 at (not around.has_limits || nat_le count 32)
   interned (Ty.Array ty (length_shown count))
 
-abbrev pub array_by : Around → Pos → ℕ → Option IntKind → TyId → Check TyId
+abbrev pub array_by : WrittenScope → Pos → ℕ → Option IntKind → TyId → Check TyId
 array_by around at count suffix ty = do
   obeys Rule.T03 at (not around.has_limits || is_usize suffix)
   array_short around at count ty
@@ -58,7 +58,7 @@ abbrev pub known_of : Known → walk.Known
 known_of k = record { adts = k.adts; traits = k.traits; paths = k.paths }
 
 -- the type of `self`
-abbrev pub own_by : Around → Own → Check TyId
+abbrev pub own_by : WrittenScope → Own → Check TyId
 own_by around (Own.Around at) = own_ty at around.self_adt
 own_by around (Own.Given ty) = pure ty
 
@@ -66,10 +66,10 @@ abbrev pub IsOwn : List Ty → Own → Type 0
 IsOwn types (Own.Around at) = ⊤
 IsOwn types (Own.Given ty) = ty.0 < length types
 
-abbrev pub own_receiver : Around → Own → Receiver → Check TyId
+abbrev pub own_receiver : WrittenScope → Own → Receiver → Check TyId
 own_receiver around own receiver = own_by around own >>= (λ ty. receiver_ty ty receiver)
 
-abbrev pub head_param : Around → Check TyId → Pos → Option Shape → Check TyId
+abbrev pub head_param : WrittenScope → Check TyId → Pos → Option Shape → Check TyId
 head_param around self at None = breaks Rule.T20 at
 head_param around self at (Some form) = param_ty around self (syn at form)
 
@@ -85,7 +85,7 @@ field_name_by k _ = number_word k
 
 -- ---- structs and enums
 
-abbrev pub variant_by : Around → Pos → Option Shape → Check Variant
+abbrev pub variant_by : WrittenScope → Pos → Option Shape → Check Variant
 variant_by around at None = breaks Rule.T20 at
 variant_by around at (Some form) = declared_variant around (syn at form)
 
@@ -121,23 +121,23 @@ reference_by (Some (SelfParam ByUnique)) = true
 reference_by _ = false
 
 -- a method without `&self` or `&mut self` gets `&dyn`
-abbrev pub other_method : Around → TyId → Word → Syns → MaybeSyn → Check Sig
+abbrev pub other_method : WrittenScope → TyId → Word → Syns → MaybeSyn → Check Sig
 other_method around own name params answer =
     interned (Ty.Shared own) >>= (λ self. sig_of around (pure own) name (behind_self params) answer >>= (λ sig. pure (
     with_receiver self sig)))
 
-abbrev pub own_method : Around → TyId → Word → Syns → MaybeSyn → Check Sig
+abbrev pub own_method : WrittenScope → TyId → Word → Syns → MaybeSyn → Check Sig
 own_method around own name params answer =
     if has_receiver params then sig_of around (pure own) name params answer
     else other_method around own name params answer
 
-abbrev pub trait_head_by : Around → TyId → Pos → Option Shape → Check Sig
+abbrev pub trait_head_by : WrittenScope → TyId → Pos → Option Shape → Check Sig
 trait_head_by around own at None = breaks Rule.T20 at
 trait_head_by around own at (Some form) = trait_head around own (syn at form)
 
 -- ---- closures
 
-abbrev pub closure_param_by : Around → Option Shape → Check TyId
+abbrev pub closure_param_by : WrittenScope → Option Shape → Check TyId
 closure_param_by around (Some (ParamOf p ty)) = or_unit (written around ty)
 closure_param_by around _ = pure unit
 
@@ -167,7 +167,7 @@ closure_by k owner c params answer = do
   pure (record c { in_outer = c.in_outer + 1; closures = c.closures + 1 })
 
 -- a node with its own head, where it is a body
-abbrev pub own_sig : walk.Known → Option Word → walk.Count → Row → Syn → Check walk.Count
+abbrev pub own_sig : walk.Known → Option Word → walk.Count → GrammarRow → Syn → Check walk.Count
 own_sig k owner c row x = if is_body_row row then body_sig k owner c x else pure c
 
 abbrev pub bodies_in_piece : Single → List Syn

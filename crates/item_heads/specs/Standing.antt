@@ -1,9 +1,9 @@
 -- Whether all names in a type are known, where no limit is asked of it.
 use Rattle.std.specs.Prelude.{Bool, true, false, ◌&&◌, ◌||◌, Option, Some, None, is_some}
 use Rattle.src_ast.specs.Syntax.{Word, Syn, syn, Shape, NamedType, GenericType, DynType, SelfType, ParensType, TupleType, ArrayType, NeverType, RefType, Syns, no_syn, a_syn}
-use Rattle.typing_rules.specs.Written.{Around, number_of, scalar_named, is_box}
+use Rattle.typing_rules.specs.Written.{WrittenScope, number_of, scalar_named, is_box}
 
-module _ (around : Around) where
+module _ (around : WrittenScope) where
   abbrev pub name_stands : Word → Bool
   name_stands name = is_some (scalar_named name) || is_some (number_of around.adts name)
 

@@ -14,11 +14,11 @@ ghost use Rattle.typing_rules.specs.Collected.{starting_with};
 use crate::declared::{name_from, variant};
 use crate::known::Known;
 use crate::steps::{broken, pushed};
-use crate::written_types::Scope;
+use crate::written_types::WrittenScope;
 use mir_base::{List, NoMemory, Rule, RuleError};
 use mir_ty::{Adt, Items, Variant};
 use src_ast::{Nodes, is_name, name_of, variant_form};
-use src_tree::Node;
+use src_tree::SyntaxNode;
 
 /// Whether a name may be derived.
 fn is_derivable(name: &str) -> bool
@@ -63,7 +63,11 @@ pub fn derives(word: &str, names: Nodes) -> bool
 
 /// A variant of an enum.
 #[tactic(auto, using(crate::proofs::Variants::variant_seen))]
-fn declared(items: &mut Items, scope: &Scope, node: &Node) -> Result<Variant, RuleError>
+fn declared(
+    items: &mut Items,
+    scope: &WrittenScope,
+    node: &SyntaxNode,
+) -> Result<Variant, RuleError>
     requires { 8 ≤ length items.old.types }
     ensures answers { Answers (walk.declared_variant (around_of scope.now) (syn_of node.now) (starting_with items.old)) result items.new }
     ensures grows { length items.old.types ≤ length items.new.types }
@@ -78,7 +82,7 @@ fn declared(items: &mut Items, scope: &Scope, node: &Node) -> Result<Variant, Ru
 /// The variants of an enum, in their order.
 fn all_declared(
     items: &mut Items,
-    scope: &Scope,
+    scope: &WrittenScope,
     variants: Nodes,
 ) -> Result<List<Variant>, RuleError>
     requires { 8 ≤ length items.old.types }

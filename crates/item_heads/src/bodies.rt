@@ -20,11 +20,11 @@ use crate::heads::{Own, head};
 use crate::known::Known;
 use crate::standing::written_or_unit;
 use crate::steps::{interned, pushed};
-use crate::written_types::Scope;
+use crate::written_types::WrittenScope;
 use mir_base::{List, Name, NoMemory, Pos, RuleError};
 use mir_ty::{Items, Sig, Ty, TyId};
 use src_ast::{Function, Nodes, ParamForm, name_of, param_form};
-use src_tree::Node;
+use src_tree::SyntaxNode;
 use std::alloc::{AllocError, Global};
 
 /// The name of a body: a function's own, `S::m` of a method.
@@ -67,7 +67,11 @@ fn add(items: &mut Items, sig: Sig) -> Result<(), RuleError>
 
 /// The type of a parameter of a closure.
 #[tactic(auto, using(crate::proofs::Closures::closure_param_seen))]
-fn closure_param(items: &mut Items, scope: &Scope, node: &Node) -> Result<TyId, RuleError>
+fn closure_param(
+    items: &mut Items,
+    scope: &WrittenScope,
+    node: &SyntaxNode,
+) -> Result<TyId, RuleError>
     requires ready { 8 ≤ length items.old.types }
     requires free { scope.now.has_limits ≡ false }
     ensures answers { Answers (walk.closure_param (around_of scope.now) (syn_of node.now) (starting_with items.old)) result items.new }
@@ -82,7 +86,11 @@ fn closure_param(items: &mut Items, scope: &Scope, node: &Node) -> Result<TyId, 
 }
 
 /// The types of the parameters of a closure, in their order.
-fn closure_params(items: &mut Items, scope: &Scope, params: Nodes) -> Result<List<TyId>, RuleError>
+fn closure_params(
+    items: &mut Items,
+    scope: &WrittenScope,
+    params: Nodes,
+) -> Result<List<TyId>, RuleError>
     requires ready { 8 ≤ length items.old.types }
     requires free { scope.now.has_limits ≡ false }
     ensures answers { Answers (each_checked (walk.closure_param (around_of scope.now)) (list_of (nodes_of params.entry)) (starting_with items.old)) result items.new }
@@ -102,8 +110,8 @@ fn closure_params(items: &mut Items, scope: &Scope, params: Nodes) -> Result<Lis
 /// The type of what a closure answers.
 fn closure_answer(
     items: &mut Items,
-    scope: &Scope,
-    answer: Option<&Node>,
+    scope: &WrittenScope,
+    answer: Option<&SyntaxNode>,
 ) -> Result<TyId, RuleError>
     requires ready { 8 ≤ length items.old.types }
     requires free { scope.now.has_limits ≡ false }
@@ -184,7 +192,7 @@ fn before(first: TyId, others: List<TyId>) -> Result<List<TyId>, RuleError>
 /// The parameters of a closure, behind the closure itself.
 fn all_params(
     items: &mut Items,
-    scope: &Scope,
+    scope: &WrittenScope,
     closures: u32,
     params: Nodes,
 ) -> Result<List<TyId>, RuleError>
@@ -202,11 +210,11 @@ fn all_params(
 /// The head of a closure, added.
 pub fn closure_head(
     items: &mut Items,
-    scope: &Scope,
+    scope: &WrittenScope,
     closures: u32,
     name: Name,
     params: Nodes,
-    answer: Option<&Node>,
+    answer: Option<&SyntaxNode>,
 ) -> Result<(), RuleError>
     requires ready { 8 ≤ length items.old.types }
     requires free { scope.now.has_limits ≡ false }

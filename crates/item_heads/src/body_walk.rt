@@ -17,7 +17,7 @@ use crate::steps::broken;
 use mir_base::{Rule, RuleError};
 use mir_ty::Items;
 use src_ast::{ExpressionForm, ItemForm, Nodes, expression_form, item_form};
-use src_tree::{Node, Piece, Row};
+use src_tree::{GrammarRow, NodePiece, SyntaxNode};
 
 fn closure_body(
     items: &mut Items,
@@ -25,7 +25,7 @@ fn closure_body(
     owner: Option<&str>,
     count: Count,
     params: Nodes,
-    answer: Option<&Node>,
+    answer: Option<&SyntaxNode>,
 ) -> Result<Count, RuleError>
     requires { 8 ≤ length items.old.types }
     ensures answers { Answers (closure_by (known_of known.now) (word_of owner.entry) (count_of count) (nodes_of params.entry) (maybe_of answer.entry) (starting_with items.old)) (answered count_of result) items.new }
@@ -56,7 +56,7 @@ fn closure_if(
     known: &Known,
     owner: Option<&str>,
     count: Count,
-    node: &Node,
+    node: &SyntaxNode,
 ) -> Result<Count, RuleError>
     requires { 8 ≤ length items.old.types }
     ensures answers { Answers (body_by (known_of known.now) (word_of owner.entry) (count_of count) node.now.at None (expression_part (shape_of (syn_of node.now))) (starting_with items.old)) (answered count_of result) items.new }
@@ -80,7 +80,7 @@ fn body(
     known: &Known,
     owner: Option<&str>,
     count: Count,
-    node: &Node,
+    node: &SyntaxNode,
 ) -> Result<Count, RuleError>
     requires { 8 ≤ length items.old.types }
     ensures answers { Answers (walk.body_sig (known_of known.now) (word_of owner.entry) (count_of count) (syn_of node.now) (starting_with items.old)) (answered count_of result) items.new }
@@ -98,11 +98,11 @@ fn body(
     }
 }
 
-fn is_body(row: Row) -> bool
+fn is_body(row: GrammarRow) -> bool
     ensures { result ≡ is_body_row row }
 {
     match row {
-        Row::Fn | Row::Method | Row::Closure => true,
+        GrammarRow::Fn | GrammarRow::Method | GrammarRow::Closure => true,
         _ => false,
     }
 }
@@ -113,7 +113,7 @@ fn own_body(
     known: &Known,
     owner: Option<&str>,
     count: Count,
-    node: &Node,
+    node: &SyntaxNode,
 ) -> Result<Count, RuleError>
     requires { 8 ≤ length items.old.types }
     ensures answers { Answers (own_sig (known_of known.now) (word_of owner.entry) (count_of count) node.now.row (syn_of node.now) (starting_with items.old)) (answered count_of result) items.new }
@@ -133,7 +133,7 @@ pub fn bodies_of(
     known: &Known,
     owner: Option<&str>,
     count: Count,
-    pieces: &[Piece],
+    pieces: &[NodePiece],
 ) -> Result<Count, RuleError>
     requires { 8 ≤ length items.old.types }
     ensures answers { Answers (walk.body_sigs (known_of known.now) (word_of owner.entry) (count_of count) (bodies_among (parts_in pieces.now)) (starting_with items.old)) (answered count_of result) items.new }
@@ -153,15 +153,15 @@ fn bodies_at(
     known: &Known,
     owner: Option<&str>,
     count: Count,
-    piece: &Piece,
+    piece: &NodePiece,
 ) -> Result<Count, RuleError>
     requires { 8 ≤ length items.old.types }
     ensures answers { Answers (walk.body_sigs (known_of known.now) (word_of owner.entry) (count_of count) (bodies_in_piece (piece_of piece.now)) (starting_with items.old)) (answered count_of result) items.new }
     ensures grows { length items.old.types ≤ length items.new.types }
 {
     match piece {
-        Piece::Node(node) => node_bodies(items, known, owner, count, node),
-        Piece::Token(_) => Ok(count),
+        NodePiece::Node(node) => node_bodies(items, known, owner, count, node),
+        NodePiece::Token(_) => Ok(count),
     }
 }
 
@@ -173,7 +173,7 @@ pub fn node_bodies(
     known: &Known,
     owner: Option<&str>,
     count: Count,
-    node: &Node,
+    node: &SyntaxNode,
 ) -> Result<Count, RuleError>
     requires { 8 ≤ length items.old.types }
     ensures answers { Answers (walk.body_sigs (known_of known.now) (word_of owner.entry) (count_of count) (bodies_in (layout_of node.now)) (starting_with items.old)) (answered count_of result) items.new }

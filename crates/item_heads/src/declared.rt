@@ -14,17 +14,17 @@ ghost use Rattle.typing_rules.specs.Collected.{starting_with};
 ghost use Rattle.typing_rules.specs.Written as types;
 
 use crate::steps::pushed;
-use crate::written_types::{Scope, written};
+use crate::written_types::{WrittenScope, written};
 use mir_base::{List, Name, NoMemory, RuleError};
 use mir_ty::{Items, TyId, Variant};
 use src_ast::{Nodes, field_form};
-use src_tree::Node;
+use src_tree::SyntaxNode;
 use std::alloc::{AllocError, Global};
 use std::fmt::Write;
 
 /// The type of a field, which is a node of its own.
 #[tactic(auto, using(crate::proofs::Fields::field_type_seen))]
-fn field_type(node: &Node) -> &Node
+fn field_type(node: &SyntaxNode) -> &SyntaxNode
     ensures { syn_of result.now ≡ walk.field_type (syn_of node.now) }
 {
     match field_form(node) {
@@ -34,7 +34,11 @@ fn field_type(node: &Node) -> &Node
 }
 
 /// The types of fields, in their order.
-fn field_types(items: &mut Items, scope: &Scope, fields: Nodes) -> Result<List<TyId>, RuleError>
+fn field_types(
+    items: &mut Items,
+    scope: &WrittenScope,
+    fields: Nodes,
+) -> Result<List<TyId>, RuleError>
     requires { 8 ≤ length items.old.types }
     ensures answers { Answers (each_checked (λ f. types.written (around_of scope.now) (walk.field_type f)) (list_of (nodes_of fields.entry)) (starting_with items.old)) result items.new }
     ensures grows { length items.old.types ≤ length items.new.types }
@@ -73,7 +77,7 @@ pub fn name_from(alloc: Global, name: &str) -> Result<Name, RuleError>
 
 /// The name of a field, or its number where it has none.
 #[tactic(auto, using(crate::proofs::Fields::field_name_seen))]
-fn field_name(alloc: Global, number: u64, node: &Node) -> Result<Name, RuleError>
+fn field_name(alloc: Global, number: u64, node: &SyntaxNode) -> Result<Name, RuleError>
     ensures name { IfOk result (λ name. name ≡ walk.field_name number (syn_of node.now)) }
     ensures short { IfErr result (λ e. e ≡ RuleError.Memory) }
 {
@@ -105,7 +109,7 @@ fn field_names(alloc: Global, fields: Nodes) -> Result<List<Name>, RuleError>
 #[tactic(auto, using(crate::proofs::Fields::as_many_names))]
 pub fn variant(
     items: &mut Items,
-    scope: &Scope,
+    scope: &WrittenScope,
     name: &str,
     fields: Nodes,
 ) -> Result<Variant, RuleError>

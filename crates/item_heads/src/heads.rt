@@ -10,11 +10,11 @@ ghost use Rattle.typing_rules.specs.Check.{each_checked};
 ghost use Rattle.typing_rules.specs.Collected.{starting_with, receiver_ty, param_ty, answer_ty, sig_of};
 
 use crate::steps::{broken, interned, pushed};
-use crate::written_types::{Scope, written, written_param};
+use crate::written_types::{WrittenScope, written, written_param};
 use mir_base::{List, Name, Pos, Rule, RuleError};
 use mir_ty::{Items, Sig, Ty, TyId};
 use src_ast::{Nodes, ParamForm, Receiver, param_form};
-use src_tree::Node;
+use src_tree::SyntaxNode;
 
 /// Whose `self` a parameter is.
 #[derive(Clone, Copy)]
@@ -25,7 +25,7 @@ pub enum Own {
     Given(TyId),
 }
 
-fn own_type(items: &mut Items, scope: &Scope, own: Own) -> Result<TyId, RuleError>
+fn own_type(items: &mut Items, scope: &WrittenScope, own: Own) -> Result<TyId, RuleError>
     requires { IsOwn items.old.types own }
     ensures answers { Answers (own_by (around_of scope.now) own (starting_with items.old)) result items.new }
     ensures grows { length items.old.types ≤ length items.new.types }
@@ -56,7 +56,7 @@ pub fn receiver_type(items: &mut Items, own: TyId, receiver: Receiver) -> Result
 
 fn self_param(
     items: &mut Items,
-    scope: &Scope,
+    scope: &WrittenScope,
     own: Own,
     receiver: Receiver,
 ) -> Result<TyId, RuleError>
@@ -70,7 +70,12 @@ fn self_param(
 }
 
 #[tactic(auto, using(crate::proofs::Shapes::head_param_seen))]
-fn param(items: &mut Items, scope: &Scope, own: Own, node: &Node) -> Result<TyId, RuleError>
+fn param(
+    items: &mut Items,
+    scope: &WrittenScope,
+    own: Own,
+    node: &SyntaxNode,
+) -> Result<TyId, RuleError>
     requires ready { 8 ≤ length items.old.types }
     requires own { IsOwn items.old.types own }
     ensures answers { Answers (param_ty (around_of scope.now) (own_by (around_of scope.now) own) (syn_of node.now) (starting_with items.old)) result items.new }
@@ -87,7 +92,7 @@ fn param(items: &mut Items, scope: &Scope, own: Own, node: &Node) -> Result<TyId
 /// The types of the parameters of a head, in their order.
 pub fn param_types(
     items: &mut Items,
-    scope: &Scope,
+    scope: &WrittenScope,
     own: Own,
     params: Nodes,
 ) -> Result<List<TyId>, RuleError>
@@ -110,8 +115,8 @@ pub fn param_types(
 /// The type of what a head answers.
 pub fn answer_type(
     items: &mut Items,
-    scope: &Scope,
-    answer: Option<&Node>,
+    scope: &WrittenScope,
+    answer: Option<&SyntaxNode>,
 ) -> Result<TyId, RuleError>
     requires { 8 ≤ length items.old.types }
     ensures answers { Answers (answer_ty (around_of scope.now) (maybe_of answer.entry) (starting_with items.old)) result items.new }
@@ -127,11 +132,11 @@ pub fn answer_type(
 /// The head of a function or a method.
 pub fn head(
     items: &mut Items,
-    scope: &Scope,
+    scope: &WrittenScope,
     own: Own,
     name: Name,
     params: Nodes,
-    answer: Option<&Node>,
+    answer: Option<&SyntaxNode>,
 ) -> Result<Sig, RuleError>
     requires ready { 8 ≤ length items.old.types }
     requires own { IsOwn items.old.types own }

@@ -15,7 +15,7 @@ use crate::steps::{broken, pushed};
 use mir_base::{List, NoMemory, Rule, RuleError};
 use mir_ty::{ImplDef, Items, Sig};
 use src_ast::name_of;
-use src_tree::Node;
+use src_tree::SyntaxNode;
 
 fn is_drop(name: &str) -> bool
     ensures { result ≡ walk.is_drop name.now }
@@ -94,7 +94,7 @@ fn may_have_impl(known: &Known, name: &str) -> bool
     is_drop(name) || known.traits.find(name).is_some()
 }
 
-fn trait_is_known(items: &Items, known: &Known, name: &Node) -> Result<(), RuleError>
+fn trait_is_known(items: &Items, known: &Known, name: &SyntaxNode) -> Result<(), RuleError>
     ensures { Answers (trait_known (known_of known.now) (named (syn_of name.now)) (starting_with items.now)) result items.now }
 {
     if may_have_impl(known, name_of(name)) {
@@ -104,7 +104,7 @@ fn trait_is_known(items: &Items, known: &Known, name: &Node) -> Result<(), RuleE
     }
 }
 
-fn adt_is_known(items: &Items, known: &Known, name: &Node) -> Result<(), RuleError>
+fn adt_is_known(items: &Items, known: &Known, name: &SyntaxNode) -> Result<(), RuleError>
     ensures { Answers (walk.impl_head (known_of known.now) None (named (syn_of name.now)) (starting_with items.now)) result items.now }
 {
     if known.adts.find(name_of(name)).is_none() {
@@ -117,8 +117,8 @@ fn adt_is_known(items: &Items, known: &Known, name: &Node) -> Result<(), RuleErr
 pub fn impl_head(
     items: &Items,
     known: &Known,
-    trait_: Option<&Node>,
-    name: &Node,
+    trait_: Option<&SyntaxNode>,
+    name: &SyntaxNode,
 ) -> Result<(), RuleError>
     ensures { Answers (walk.impl_head (known_of known.now) (name_seen trait_.entry) (named (syn_of name.now)) (starting_with items.now)) result items.now }
 {

@@ -7,7 +7,7 @@ ghost use Rattle.typing_rules.specs.Collected.{names_alone};
 ghost use Rattle.typing_rules.specs.Items.{method_path, method_body};
 
 use crate::names::NameTable;
-use crate::written_types::Scope;
+use crate::written_types::WrittenScope;
 use mir_base::{NoMemory, RuleError};
 use std::alloc::{AllocError, Global};
 
@@ -40,10 +40,10 @@ pub fn path_of_method(
 
 impl Known {
     /// The scope of types in a head, where only names are looked at.
-    pub fn scope(&self, self_adt: Option<u32>) -> Scope<'_>
+    pub fn scope(&self, self_adt: Option<u32>) -> WrittenScope<'_>
         ensures { around_of result ≡ names_alone (known_of self.now) self_adt }
     {
-        Scope {
+        WrittenScope {
             alloc: self.alloc,
             has_limits: false,
             self_adt,

@@ -24,4 +24,4 @@ pub use known::{Known, path_of_method};
 pub use names::NameTable;
 pub use steps::{broken, interned, obeys, pushed};
 pub use traits::trait_heads;
-pub use written_types::{Scope, scalar, written, written_param};
+pub use written_types::{WrittenScope, scalar, written, written_param};

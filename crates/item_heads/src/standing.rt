@@ -7,33 +7,33 @@ ghost use Rattle.src_ast.specs.Seen.{nodes_of, syn_of};
 ghost use Rattle.typing_rules.specs.Collected.{starting_with};
 ghost use Rattle.typing_rules.specs.Written as types;
 
-use crate::written_types::{Scope, scalar, written};
+use crate::written_types::{WrittenScope, scalar, written};
 use mir_base::RuleError;
 use mir_ty::{Items, TyId};
 use src_ast::{Nodes, TypeForm, type_form};
-use src_tree::Node;
+use src_tree::SyntaxNode;
 
-fn name_stands(scope: &Scope, name: &str) -> bool
+fn name_stands(scope: &WrittenScope, name: &str) -> bool
     ensures { result ≡ standing.name_stands (around_of scope.now) name.now }
 {
     scalar(name).is_some() || scope.adts.find(name).is_some()
 }
 
-fn object_stands(scope: &Scope, name: &str, trait_name: &str) -> bool
+fn object_stands(scope: &WrittenScope, name: &str, trait_name: &str) -> bool
     ensures { result ≡ standing.object_stands (around_of scope.now) name.now trait_name.now }
 {
     name == "Box" && scope.traits.find(trait_name).is_some()
 }
 
 #[cycle(standing)]
-fn generic_stands(scope: &Scope, name: &str, content: &Node) -> bool
+fn generic_stands(scope: &WrittenScope, name: &str, content: &SyntaxNode) -> bool
     ensures { result ≡ standing.generic_stands (around_of scope.now) name.now (syn_of content.now) }
 {
     name == "Box" && stands(scope, content)
 }
 
 #[cycle(standing)]
-fn all_stand(scope: &Scope, parts: Nodes) -> bool
+fn all_stand(scope: &WrittenScope, parts: Nodes) -> bool
     ensures { result ≡ standing.all_stand (around_of scope.now) (nodes_of parts.entry) }
 {
     let mut rest = parts;
@@ -49,7 +49,7 @@ fn all_stand(scope: &Scope, parts: Nodes) -> bool
 /// Whether all names in a type are known.
 #[cycle(standing)]
 #[tactic(auto, using(crate::proofs::Told::stands_seen))]
-fn stands(scope: &Scope, node: &Node) -> bool
+fn stands(scope: &WrittenScope, node: &SyntaxNode) -> bool
     ensures { result ≡ standing.stands (around_of scope.now) (syn_of node.now) }
 {
     match type_form(node) {
@@ -76,7 +76,11 @@ fn stands(scope: &Scope, node: &Node) -> bool
 
 /// A type, or `()` where a name in it is not known.
 
-pub fn written_or_unit(items: &mut Items, scope: &Scope, node: &Node) -> Result<TyId, RuleError>
+pub fn written_or_unit(
+    items: &mut Items,
+    scope: &WrittenScope,
+    node: &SyntaxNode,
+) -> Result<TyId, RuleError>
     requires ready { 8 ≤ length items.old.types }
     requires free { scope.now.has_limits ≡ false }
     ensures answers { Answers (types.or_unit (types.written (around_of scope.now) (syn_of node.now)) (starting_with items.old)) result items.new }

@@ -15,15 +15,15 @@ ghost use Rattle.typing_rules.specs.Collected.{starting_with};
 use crate::declared::name_from;
 use crate::heads::{Own, head};
 use crate::steps::{broken, interned, pushed};
-use crate::written_types::Scope;
+use crate::written_types::WrittenScope;
 use mir_base::{List, Rule, RuleError};
 use mir_ty::{Items, Sig, Ty, TyId};
 use src_ast::{Function, ItemForm, Nodes, ParamForm, Receiver, item_form, name_of, param_form};
-use src_tree::Node;
+use src_tree::SyntaxNode;
 
 /// Whether a parameter is `&self` or `&mut self`.
 #[tactic(auto, using(crate::proofs::Receivers::reference_seen))]
-fn is_by_reference(node: &Node) -> bool
+fn is_by_reference(node: &SyntaxNode) -> bool
     ensures { result ≡ walk.is_by_reference (syn_of node.now) }
 {
     match param_form(node) {
@@ -48,7 +48,7 @@ fn has_receiver(params: Nodes) -> bool
 }
 
 /// Whether a parameter is `self`, however it is taken.
-fn is_self(node: &Node) -> bool
+fn is_self(node: &SyntaxNode) -> bool
     ensures { result ≡ is_self_by (param_part (shape_of (syn_of node.now))) }
 {
     match param_form(node) {
@@ -99,7 +99,7 @@ fn with_receiver(first: TyId, sig: Sig) -> Result<Sig, RuleError>
 /// The head of a method that has no `&self` or `&mut self`, with `&dyn` of the trait in its place.
 fn other_head(
     items: &mut Items,
-    scope: &Scope,
+    scope: &WrittenScope,
     own: TyId,
     function: Function,
 ) -> Result<Sig, RuleError>
@@ -119,7 +119,7 @@ fn other_head(
 /// The head of a trait's method.
 fn own_head(
     items: &mut Items,
-    scope: &Scope,
+    scope: &WrittenScope,
     own: TyId,
     function: Function,
 ) -> Result<Sig, RuleError>
@@ -145,7 +145,12 @@ fn own_head(
 }
 
 #[tactic(auto, using(crate::proofs::Receivers::trait_head_seen))]
-fn trait_head(items: &mut Items, scope: &Scope, own: TyId, node: &Node) -> Result<Sig, RuleError>
+fn trait_head(
+    items: &mut Items,
+    scope: &WrittenScope,
+    own: TyId,
+    node: &SyntaxNode,
+) -> Result<Sig, RuleError>
     requires ready { 8 ≤ length items.old.types }
     requires own { own.0 < length items.old.types }
     ensures answers { Answers (walk.trait_head (around_of scope.now) own (syn_of node.now) (starting_with items.old)) result items.new }
@@ -165,7 +170,7 @@ fn trait_head(items: &mut Items, scope: &Scope, own: TyId, node: &Node) -> Resul
 /// The heads of a trait's methods, in their order.
 pub fn trait_heads(
     items: &mut Items,
-    scope: &Scope,
+    scope: &WrittenScope,
     own: TyId,
     heads: Nodes,
 ) -> Result<List<Sig>, RuleError>

@@ -15,12 +15,12 @@ use crate::steps::{broken, interned, obeys, pushed};
 use mir_base::{IntKind, List, Pos, Rule, RuleError};
 use mir_ty::{Items, Ty, TyId};
 use src_ast::{First, Nodes, TypeForm, type_form};
-use src_tree::Node;
+use src_tree::SyntaxNode;
 use std::alloc::Global;
 
 /// Which names a written type may have, and which rules are asked of it.
 #[derive(Drop)]
-pub struct Scope<'a> {
+pub struct WrittenScope<'a> {
     pub alloc: Global,
     /// All rules, or those on names alone.
     pub has_limits: bool,
@@ -48,7 +48,12 @@ pub fn scalar(name: &str) -> Option<TyId>
     }
 }
 
-fn adt_named(items: &mut Items, scope: &Scope, at: Pos, name: &str) -> Result<TyId, RuleError>
+fn adt_named(
+    items: &mut Items,
+    scope: &WrittenScope,
+    at: Pos,
+    name: &str,
+) -> Result<TyId, RuleError>
     ensures answers { Answers (named_by at (number_of scope.now.adts.now name.now) None (starting_with items.old)) result items.new }
     ensures grows { length items.old.types ≤ length items.new.types }
     ensures known { IfOk result (λ id. id.0 < length items.new.types) }
@@ -59,7 +64,7 @@ fn adt_named(items: &mut Items, scope: &Scope, at: Pos, name: &str) -> Result<Ty
     interned(items, Ty::Adt(number))
 }
 
-fn named(items: &mut Items, scope: &Scope, at: Pos, name: &str) -> Result<TyId, RuleError>
+fn named(items: &mut Items, scope: &WrittenScope, at: Pos, name: &str) -> Result<TyId, RuleError>
     requires { 8 ≤ length items.old.types }
     ensures answers { Answers (written_form (around_of scope.now) at (NamedType name.now) (starting_with items.old)) result items.new }
     ensures grows { length items.old.types ≤ length items.new.types }
@@ -74,10 +79,10 @@ fn named(items: &mut Items, scope: &Scope, at: Pos, name: &str) -> Result<TyId, 
 #[cycle(types)]
 fn generic(
     items: &mut Items,
-    scope: &Scope,
+    scope: &WrittenScope,
     at: Pos,
     name: &str,
-    content: &Node,
+    content: &SyntaxNode,
 ) -> Result<TyId, RuleError>
     requires { 8 ≤ length items.old.types }
     ensures answers { Answers (written_form (around_of scope.now) at (GenericType name.now (syn_of content.now)) (starting_with items.old)) result items.new }
@@ -91,7 +96,7 @@ fn generic(
 
 fn object(
     items: &mut Items,
-    scope: &Scope,
+    scope: &WrittenScope,
     at: Pos,
     name: &str,
     trait_at: Pos,
@@ -110,7 +115,7 @@ fn object(
     interned(items, Ty::Boxed(inside))
 }
 
-fn self_type(items: &mut Items, scope: &Scope, at: Pos) -> Result<TyId, RuleError>
+fn self_type(items: &mut Items, scope: &WrittenScope, at: Pos) -> Result<TyId, RuleError>
     requires { 8 ≤ length items.old.types }
     ensures answers { Answers (written_form (around_of scope.now) at SelfType (starting_with items.old)) result items.new }
     ensures grows { length items.old.types ≤ length items.new.types }
@@ -124,7 +129,11 @@ fn self_type(items: &mut Items, scope: &Scope, at: Pos) -> Result<TyId, RuleErro
 
 /// The types of some parts, in their order.
 #[cycle(types)]
-fn all_written(items: &mut Items, scope: &Scope, parts: Nodes) -> Result<List<TyId>, RuleError>
+fn all_written(
+    items: &mut Items,
+    scope: &WrittenScope,
+    parts: Nodes,
+) -> Result<List<TyId>, RuleError>
     requires { 8 ≤ length items.old.types }
     ensures answers { Answers (types.all_written (around_of scope.now) (nodes_of parts.entry) (starting_with items.old)) result items.new }
     ensures grows { length items.old.types ≤ length items.new.types }
@@ -162,7 +171,7 @@ fn tuple_of(items: &mut Items, ids: List<TyId>) -> Result<TyId, RuleError>
 }
 
 #[cycle(types)]
-fn tuple(items: &mut Items, scope: &Scope, at: Pos, parts: Nodes) -> Result<TyId, RuleError>
+fn tuple(items: &mut Items, scope: &WrittenScope, at: Pos, parts: Nodes) -> Result<TyId, RuleError>
     requires { 8 ≤ length items.old.types }
     ensures answers { Answers (written_form (around_of scope.now) at (TupleType (nodes_of parts.entry)) (starting_with items.old)) result items.new }
     ensures grows { length items.old.types ≤ length items.new.types }
@@ -200,7 +209,7 @@ fn shown(count: u64) -> u32
 
 fn array_shown(
     items: &mut Items,
-    scope: &Scope,
+    scope: &WrittenScope,
     at: Pos,
     element: TyId,
     count: u64,
@@ -216,7 +225,7 @@ fn array_shown(
 
 fn array_of(
     items: &mut Items,
-    scope: &Scope,
+    scope: &WrittenScope,
     at: Pos,
     element: TyId,
     count: u64,
@@ -234,9 +243,9 @@ fn array_of(
 #[cycle(types)]
 fn array(
     items: &mut Items,
-    scope: &Scope,
+    scope: &WrittenScope,
     at: Pos,
-    element: &Node,
+    element: &SyntaxNode,
     count: u64,
     suffix: Option<IntKind>,
 ) -> Result<TyId, RuleError>
@@ -265,10 +274,10 @@ fn reference_of(items: &mut Items, unique: bool, to: TyId) -> Result<TyId, RuleE
 #[cycle(types)]
 fn reference(
     items: &mut Items,
-    scope: &Scope,
+    scope: &WrittenScope,
     at: Pos,
     unique: bool,
-    to: &Node,
+    to: &SyntaxNode,
 ) -> Result<TyId, RuleError>
     requires { 8 ≤ length items.old.types }
     ensures answers { Answers (written_form (around_of scope.now) at (RefType unique (syn_of to.now)) (starting_with items.old)) result items.new }
@@ -283,7 +292,11 @@ fn reference(
 /// A type as it is written: its number, or the first broken rule.
 #[cycle(types)]
 #[tactic(auto, using(crate::proofs::Shapes::type_seen))]
-pub fn written(items: &mut Items, scope: &Scope, node: &Node) -> Result<TyId, RuleError>
+pub fn written(
+    items: &mut Items,
+    scope: &WrittenScope,
+    node: &SyntaxNode,
+) -> Result<TyId, RuleError>
     requires { 8 ≤ length items.old.types }
     ensures answers { Answers (types.written (around_of scope.now) (syn_of node.now) (starting_with items.old)) result items.new }
     ensures grows { length items.old.types ≤ length items.new.types }
@@ -314,7 +327,11 @@ pub fn written(items: &mut Items, scope: &Scope, node: &Node) -> Result<TyId, Ru
 
 /// The type of a parameter as it is written, which may be a reference.
 #[tactic(auto, using(crate::proofs::Shapes::type_seen, crate::proofs::Shapes::param_seen))]
-pub fn written_param(items: &mut Items, scope: &Scope, node: &Node) -> Result<TyId, RuleError>
+pub fn written_param(
+    items: &mut Items,
+    scope: &WrittenScope,
+    node: &SyntaxNode,
+) -> Result<TyId, RuleError>
     requires { 8 ≤ length items.old.types }
     ensures answers { Answers (types.written_param (around_of scope.now) (syn_of node.now) (starting_with items.old)) result items.new }
     ensures grows { length items.old.types ≤ length items.new.types }

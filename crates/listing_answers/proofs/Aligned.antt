@@ -10,7 +10,7 @@ use Rattle.mir_ty.specs.declared.ty.TyId.{TyId}
 use Rattle.mir_ty.specs.ItemTable.{ItemTable, no_items, type_at, with_adt, with_trait}
 use Rattle.mir_ty.specs.Named.{adt_name, name_of_adt}
 use Rattle.mir_text.specs.Items.{counted}
-use Rattle.mir_text.specs.Reading.Words.{Found, or_else, strip}
+use Rattle.mir_text.specs.Reading.Words.{FoundInText, or_else, strip}
 use Rattle.mir_text.specs.Types.{form_text, found_text, type_within, type_text, deepest, trait_name, name_of_trait}
 use Rattle.mir_text.proofs.Reading.Basics.{Every}
 use Rattle.listing_answers.proofs.Free.{feedless, AllFree, both_free, name_free, decimal_free, tuple_free, kind_free, array_free, box_free}
@@ -38,15 +38,15 @@ line_name t name r h =
     let (is, named, utf) = name_sound t q.0 q.1 called in
     subst (λ (w : List ℕ). feedless w ≡ true) (one ∙ two) (name_free q.0 (name_all q.0 named))
   where
-    same_pair : (a b : List ℕ × List ℕ) → ◌≡◌ {A = Found (List ℕ)} (Some a) (Some b) → a ≡ b
+    same_pair : (a b : List ℕ × List ℕ) → ◌≡◌ {A = FoundInText (List ℕ)} (Some a) (Some b) → a ≡ b
     same_pair a b e = same_Some a b e
 
-steps_free : (step : ItemTable → List ℕ → Found ItemTable) (names : ItemTable → List (List ℕ)) → ((s u : ItemTable) (t r : List ℕ) → step s t ≡ Some (u, r) → AllFree (names s) → AllFree (names u)) → (k : ℕ) (s : ItemTable) (t : List ℕ)
+steps_free : (step : ItemTable → List ℕ → FoundInText ItemTable) (names : ItemTable → List (List ℕ)) → ((s u : ItemTable) (t r : List ℕ) → step s t ≡ Some (u, r) → AllFree (names s) → AllFree (names u)) → (k : ℕ) (s : ItemTable) (t : List ℕ)
     → AllFree (names s) → AllFree (names (on_within k step s t).0)
 steps_free step names each zero s t h = h
 steps_free step names each (suc k) s t h = by (step s t) refl (steps_free step names each k)
   where
-    by : (o : Found ItemTable) → step s t ≡ o → ((u : ItemTable) (r : List ℕ) → AllFree (names u) → AllFree (names (on_within k step u r).0)) → AllFree (names (onward o (on_within k step) s t).0)
+    by : (o : FoundInText ItemTable) → step s t ≡ o → ((u : ItemTable) (r : List ℕ) → AllFree (names u) → AllFree (names (on_within k step u r).0)) → AllFree (names (onward o (on_within k step) s t).0)
     by None e deeper = h
     by (Some f) e deeper = deeper f.0 f.1 (each s f.0 t f.1 e h)
 
@@ -129,7 +129,7 @@ module _ (heads items : ItemTable) (h : HaveFree heads) where
   words_free (id ∷ ids) = (word_free id, words_free ids)
 
 -- heads that are found in lines that were read
-module _ {X : Type 0} (step : ItemTable → List ℕ → Found ItemTable) (names : ItemTable → List (List ℕ)) (text : X → List ℕ) (name : X → List ℕ) (V : X → Type 0)
+module _ {X : Type 0} (step : ItemTable → List ℕ → FoundInText ItemTable) (names : ItemTable → List (List ℕ)) (text : X → List ℕ) (name : X → List ℕ) (V : X → Type 0)
     (found : (s : ItemTable) (x : X) (r : List ℕ) → V x → (u : ItemTable) × (step s (text x ++ r) ≡ Some (u, r)) × (names u ≡ names s ++ name x ∷ []))
     (each : (s u : ItemTable) (t r : List ℕ) → step s t ≡ Some (u, r) → length (names u) ≡ length (names s) + 1) where
   abbrev all_text : List X → List ℕ
@@ -178,7 +178,7 @@ module _ {X : Type 0} (step : ItemTable → List ℕ → Found ItemTable) (names
   no_less zero s t = omega arith
   no_less (suc k) s t = by (step s t) refl (no_less k)
     where
-      by : (o : Found ItemTable) → step s t ≡ o → ((u : ItemTable) (r : List ℕ) → length (names u) ≤ length (names (on_within k step u r).0)) → length (names s) ≤ length (names (onward o (on_within k step) s t).0)
+      by : (o : FoundInText ItemTable) → step s t ≡ o → ((u : ItemTable) (r : List ℕ) → length (names u) ≤ length (names (on_within k step u r).0)) → length (names s) ≤ length (names (onward o (on_within k step) s t).0)
       by None e deeper = omega arith
       by (Some f) e deeper = let one = each s f.0 t f.1 e in let more = deeper f.0 f.1 in omega (arith, one, more)
 
@@ -186,7 +186,7 @@ module _ {X : Type 0} (step : ItemTable → List ℕ → Found ItemTable) (names
   stays zero s t h = refl
   stays (suc k) s t h = by (step s t) refl h
     where
-      by : (o : Found ItemTable) → step s t ≡ o → length (names (onward o (on_within k step) s t).0) ≤ length (names s) → Path (ItemTable × List ℕ) (onward o (on_within k step) s t) (s, t)
+      by : (o : FoundInText ItemTable) → step s t ≡ o → length (names (onward o (on_within k step) s t).0) ≤ length (names s) → Path (ItemTable × List ℕ) (onward o (on_within k step) s t) (s, t)
       by None e h = refl
       by (Some f) e h = let one = each s f.0 t f.1 e in let more = no_less k f.0 f.1 in absurd (omega (arith, one, more, h))
 

@@ -13,7 +13,7 @@ use Rattle.mir_text.specs.Compared.{Written, numbered}
 use Rattle.mir_text.specs.Lines.{Line, HeadLine, StructLine, EnumLine, TraitLine, ImplLine, ClosureLine, BodyLine, LocalLine, BlockLine, MakeLine, UnsizeLine, StmtLine, VirtualLine, TermLine, EndLine, line_text, tree_of, tree_text, lines_each, line_of_stmt, line_of_term, line_of_local, lines_of_block, lines_of_body}
 use Rattle.mir_text.specs.Lists.{line}
 use Rattle.mir_text.specs.Reading.Rows.{many}
-use Rattle.mir_text.specs.Reading.Words.{Found, bind}
+use Rattle.mir_text.specs.Reading.Words.{FoundInText, bind}
 use Rattle.mir_text.proofs.Reading.Basics.{Every}
 use Rattle.listing_answers.specs.Beginning.{LineStands, texts}
 use Rattle.listing_answers.proofs.Named.{Extends, length_map, tree_up, stmt_up, term_up}
@@ -70,7 +70,7 @@ module _ (items heads : ItemTable) (x : Extends items heads) where
       ∙ ap (λ (xs : List Line). line (line_text (BlockLine n block.kind block.rank)) ++ (texts (take c xs) ++ behind)) same in
       let head : lines.block_read n t ≡ Some ((block.kind, block.rank), u) = ap (lines.block_read n) at ∙ blocks_read_ n block.kind block.rank u stand.0.0 stand.0.1 in
       let m : List Stmt × List ℕ = many (statement_read heads) u in
-      let found : code_read heads n t ≡ Some (closed (block.kind, block.rank) m.0 m.1 (terminator_read heads m.1)) = ap (λ (f : Found (Kind × ℕ)). bind f (λ head. Some (code_behind heads head.0 (many (statement_read heads) head.1)))) head in
+      let found : code_read heads n t ≡ Some (closed (block.kind, block.rank) m.0 m.1 (terminator_read heads m.1)) = ap (λ (f : FoundInText (Kind × ℕ)). bind f (λ head. Some (code_behind heads head.0 (many (statement_read heads) head.1)))) head in
       by m found
       (rows_through (statement_read heads) (LineStands items) ls rest (length u) c u behind (founds block.stmts) (λ s r. no_statements heads term r (term_up items heads x block.term s)) stands refl (omega arith))
       (ends_stand ls rest c stands)
@@ -94,7 +94,7 @@ module _ (items heads : ItemTable) (x : Extends items heads) where
           ⊎ Wholly (code_read heads) (lines_of_block items) block_full (LineStands items) (λ l. ⊤) EndsBody (length (lines_of_block items n block)) (suc c) after behind (code_read heads n t)
       by m found (inl h) term_stands = inl (at (terminator_read heads m.1) found)
         where
-          at : (o : Found Term) → code_read heads n t ≡ Some (closed (block.kind, block.rank) m.0 m.1 o)
+          at : (o : FoundInText Term) → code_read heads n t ≡ Some (closed (block.kind, block.rank) m.0 m.1 o)
               → Partly (code_read heads) (lines_of_block items) block_full (LineStands items) (λ l. ⊤) EndsBody (length (lines_of_block items n block)) (suc c) (code_read heads n t)
           at None found =
               let few = h.0 in
@@ -114,7 +114,7 @@ module _ (items heads : ItemTable) (x : Extends items heads) where
           let split : m.1 ≡ line (line_text term) ++ u = h.3 ∙ append_assoc (line (line_text term)) (texts (take h.0 after)) behind in
           let read : terminator_read heads m.1 ≡ Some (term_in heads term, u) = ap (terminator_read heads) split ∙ terminators_read heads term u (term_up items heads x block.term (term_stands h.0 h.1).0) in
           let whole : code_read heads n t ≡ Some ((record { kind = block.kind; rank = block.rank; stmts = m.0; term = term_in heads term }, true), u) =
-          found ∙ ap (λ (f : Found Term). Some (closed (block.kind, block.rank) m.0 m.1 f)) read in
+          found ∙ ap (λ (f : FoundInText Term). Some (closed (block.kind, block.rank) m.0 m.1 f)) read in
           let stmts = length_map (line_of_stmt items) block.stmts in
           let own = size in
           let count = h.2 in
@@ -159,7 +159,7 @@ module _ (items heads : ItemTable) (x : Extends items heads) where
         deeper.0,
         (
           next,
-          λ stands r. ap (λ (f : Found (List ℕ)). bind f (λ f. Some (s ++ f.0 ∷ [], f.1)))
+          λ stands r. ap (λ (f : FoundInText (List ℕ)). bind f (λ f. Some (s ++ f.0 ∷ [], f.1)))
               (ap (λ (k : ℕ). lines.local_read heads k (line (line_text (line_of_local items n id)) ++ r)) (sym due) ∙ locals_read_ heads n (tree_of items id) r stands.0 (tree_up items heads x (tree_of items id) stands.1)),
           count,
           deeper.1,
@@ -218,10 +218,10 @@ module _ (items heads : ItemTable) (x : Extends items heads) where
       let same = full_is (blocks_read heads t).0.0 in
       omega (arith, least, same)
 
-  abbrev BodyPartly : ℕ → ℕ → Found (BodyTold × Bool) → Type 0
+  abbrev BodyPartly : ℕ → ℕ → FoundInText (BodyTold × Bool) → Type 0
   BodyPartly = Partly (body_read heads) (lines_of_body items) told_full (LineStands items) EndsBody EndsAll
 
-  abbrev BodyWholly : ℕ → ℕ → List Line → List ℕ → Found (BodyTold × Bool) → Type 0
+  abbrev BodyWholly : ℕ → ℕ → List Line → List ℕ → FoundInText (BodyTold × Bool) → Type 0
   BodyWholly = Wholly (body_read heads) (lines_of_body items) told_full (LineStands items) EndsBody EndsAll
 
   pub one_body : (n : ℕ) (body : Body) (after : List Line) (c : ℕ) (t behind : List ℕ) → Begin EndsBody after → Every (LineStands items) (take (suc c) (lines_of_body items n body ++ after))
@@ -239,7 +239,7 @@ module _ (items heads : ItemTable) (x : Extends items heads) where
       is ∙ append_assoc (line (line_text own)) (texts (take c ((ls ++ ks) ++ after))) behind ∙ ap (λ (xs : List Line). line (line_text own) ++ (texts (take c xs) ++ behind)) same in
       let head : lines.body_read n t ≡ Some ((body_name items n, body.params), u) = ap (lines.body_read n) at ∙ bodies_read_ n (body_name items n) body.params u stand.0.0 stand.0.1 stand.0.2 stand.0.3 in
       let found : body_read heads n t ≡ Some (with_locals heads (body_name items n, body.params) (locals_read heads u)) =
-      ap (λ (f : Found (List ℕ × ℕ)). bind f (λ head. Some (with_locals heads head.0 (locals_read heads head.1)))) head in
+      ap (λ (f : FoundInText (List ℕ × ℕ)). bind f (λ head. Some (with_locals heads head.0 (locals_read heads head.1)))) head in
       let passes = locals_pass body.locals 0 [] refl in
       by (locals_read heads u) passes.0 found (counted_so (one_local heads) (λ (xs : List Written). length xs) (LineStands items) ls [] passes.0 passes.1)
       (section (one_local heads) (λ (xs : List Written). length xs) (LineStands items) ls rest [] passes.0 c u behind locals_grow passes.1 (locals_end body.blocks after e) stands refl)

@@ -26,7 +26,7 @@ use Rattle.mir_text.specs.Items.{counted, copy_text, drop_text}
 use Rattle.mir_text.specs.Lines.{Line, ImplLine, BodyLine, BlockLine, MakeLine, UnsizeLine, VirtualLine, TermLine, line_text, tree_text, trees, variant_of, variant_words, method_of, method_words, adt_in_line, line_of_adt, line_of_trait, line_of_impl, line_of_closure, line_of_stmt, line_of_term, line_of_local, lines_of_block, lines_of_body, lines_each}
 use Rattle.mir_text.specs.Lists.{line, in_braces, in_parentheses}
 use Rattle.mir_text.specs.Reading.Rows.{after, many, many_within}
-use Rattle.mir_text.specs.Reading.Words.{Found}
+use Rattle.mir_text.specs.Reading.Words.{FoundInText}
 use Rattle.mir_text.specs.Types.{trait_name, name_of_trait}
 use Rattle.mir_text.proofs.Reading.Basics.{Every}
 use Rattle.listing_answers.specs.Beginning.{LineStands}
@@ -256,7 +256,7 @@ module _ (heads items : ItemTable) (read : AreRead heads items.types) (x : Exten
   stmts_front zero t = none_in_front items t
   stmts_front (suc k) t = by (statement_read heads t) refl (stmts_front k)
     where
-      by : (o : Found Stmt) → statement_read heads t ≡ o
+      by : (o : FoundInText Stmt) → statement_read heads t ≡ o
           → ((u : List ℕ) → Fronts items (map (line_of_stmt items) (many_within k (statement_read heads) u).0) true u (many_within k (statement_read heads) u).1)
           → Fronts items (map (line_of_stmt items) (after o (many_within k (statement_read heads)) t).0) true t (after o (many_within k (statement_read heads)) t).1
       by None e deeper = none_in_front items t
@@ -277,8 +277,8 @@ module _ (heads items : ItemTable) (read : AreRead heads items.types) (x : Exten
       (one_in_front items own t head.1 (blocks_sound n t head.0.0 head.0.1 head.1 found) (block_fits n t head.0.0 head.0.1 head.1 found)) (stmts_front (length head.1) head.1) in
       by head.0 m opened (terminator_read heads m.1) refl more
     where
-      by : (head : Kind × ℕ) (m : List Stmt × List ℕ) → Fronts items (BlockLine n head.0 head.1 ∷ map (line_of_stmt items) m.0) true t m.1 → (o : Found Term) → terminator_read heads m.1 ≡ o
-          → ◌≡◌ {A = Found (Block × Bool)} (Some (closed head m.0 m.1 o)) (Some ((block, whole), r)) → Fronts items (lines_of_block items n block) whole t r
+      by : (head : Kind × ℕ) (m : List Stmt × List ℕ) → Fronts items (BlockLine n head.0 head.1 ∷ map (line_of_stmt items) m.0) true t m.1 → (o : FoundInText Term) → terminator_read heads m.1 ≡ o
+          → ◌≡◌ {A = FoundInText (Block × Bool)} (Some (closed head m.0 m.1 o)) (Some ((block, whole), r)) → Fronts items (lines_of_block items n block) whole t r
       by head m opened None e more =
           let made : Block = record { kind = head.0; rank = head.1; stmts = m.0; term = Term.Return } in
           let (own, behind) = same_found (made, false) m.1 (block, whole) r more in
@@ -300,7 +300,7 @@ module _ (heads items : ItemTable) (read : AreRead heads items.types) (x : Exten
   blocks_front zero n t = none_in_front items t
   blocks_front (suc k) n t = by (code_read heads n t) refl (blocks_front k (suc n))
     where
-      by : (o : Found (Block × Bool)) → code_read heads n t ≡ o
+      by : (o : FoundInText (Block × Bool)) → code_read heads n t ≡ o
           → ((u : List ℕ) → Fronts items (lines_each (lines_of_block items) (suc n) (until_within k (code_read heads) (suc n) u).0.0) (until_within k (code_read heads) (suc n) u).0.1 u (until_within k (code_read heads) (suc n) u).1)
           → Fronts items (lines_each (lines_of_block items) n (goes_on o (until_within k (code_read heads) (suc n)) t).0.0) (goes_on o (until_within k (code_read heads) (suc n)) t).0.1 t (goes_on o (until_within k (code_read heads) (suc n)) t).1
       by None e deeper = none_in_front items t
@@ -355,7 +355,7 @@ module _ (heads items : ItemTable) (read : AreRead heads items.types) (x : Exten
   bodies_front k n t (sig ∷ sigs) [] told signed called all = absurd signed
   bodies_front (suc k) n t [] [] told signed called all = by (body_read heads n t) told
     where
-      by : (o : Found (BodyTold × Bool)) → ◌≡◌ {A = List BodyTold} [] (goes_on o (until_within k (body_read heads) (suc n)) t).0.0
+      by : (o : FoundInText (BodyTold × Bool)) → ◌≡◌ {A = List BodyTold} [] (goes_on o (until_within k (body_read heads) (suc n)) t).0.0
           → Fronts items [] (goes_on o (until_within k (body_read heads) (suc n)) t).0.1 t (goes_on o (until_within k (body_read heads) (suc n)) t).1
       by None e = none_in_front items t
       by (Some ((y, false), r)) e = absurd (some_told e)
@@ -372,7 +372,7 @@ module _ (heads items : ItemTable) (read : AreRead heads items.types) (x : Exten
       own : BodyTold
       own = body_told heads items sig.name body
 
-      by : (o : Found (BodyTold × Bool)) → body_read heads n t ≡ o → own ∷ bodies_told heads items sigs bodies ≡ (goes_on o (until_within k (body_read heads) (suc n)) t).0.0
+      by : (o : FoundInText (BodyTold × Bool)) → body_read heads n t ≡ o → own ∷ bodies_told heads items sigs bodies ≡ (goes_on o (until_within k (body_read heads) (suc n)) t).0.0
           → ((u : List ℕ) → bodies_told heads items sigs bodies ≡ (until_within k (body_read heads) (suc n) u).0.0
           → Fronts items (lines_each (lines_of_body items) (suc n) bodies) (until_within k (body_read heads) (suc n) u).0.1 u (until_within k (body_read heads) (suc n) u).1)
           → Fronts items (lines_of_body items n body ++ lines_each (lines_of_body items) (suc n) bodies) (goes_on o (until_within k (body_read heads) (suc n)) t).0.1 t (goes_on o (until_within k (body_read heads) (suc n)) t).1

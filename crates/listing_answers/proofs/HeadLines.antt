@@ -7,7 +7,7 @@ use Rattle.mir_ty.specs.ItemTable.{ItemTable}
 use Rattle.mir_text.specs.Items.{copy_text, drop_text}
 use Rattle.mir_text.specs.Lines.{Tree, Line, HeadLine, StructLine, EnumLine, TraitLine, ImplLine, ClosureLine, BodyLine, LocalLine, BlockLine, MakeLine, UnsizeLine, StmtLine, VirtualLine, TermLine, EndLine, line_text, tree_text, trees_in_row, variant_words, method_words}
 use Rattle.mir_text.specs.Lists.{line, in_braces}
-use Rattle.mir_text.specs.Reading.Words.{Found, bind, or_else, strip}
+use Rattle.mir_text.specs.Reading.Words.{FoundInText, bind, or_else, strip}
 use Rattle.mir_text.proofs.Reading.Basics.{behind3, behind5, behind7}
 use Rattle.listing_answers.specs.Beginning.{LineStands}
 use Rattle.listing_answers.proofs.Free.{feedless, both_free, behind, row_free, braces_free, each_free, variants_free, methods_free, copy_free, drop_free, name_free}
@@ -19,7 +19,7 @@ use Rattle.listing_types.proofs.Depth.{is_a_name}
 
 named : (name tail r : List ℕ) → is_name name ≡ true → is_utf8 name ≡ true → feedless tail ≡ true → named_line (name ++ (codes " " ++ (tail ++ (10 ∷ r)))) ≡ Some (name, r)
 named name tail r is utf free =
-    ap (λ (f : Found (List ℕ)). bind (bind f blank_behind) (λ f. Some (f.0, behind_feed f.1))) (name_reads name (tail ++ (10 ∷ r)) is utf)
+    ap (λ (f : FoundInText (List ℕ)). bind (bind f blank_behind) (λ f. Some (f.0, behind_feed f.1))) (name_reads name (tail ++ (10 ∷ r)) is utf)
     ∙ ap (λ (x : List ℕ). Some (name, x)) (behind tail r free)
 
 -- the line of a struct or enum, behind its word

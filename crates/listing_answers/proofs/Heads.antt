@@ -8,7 +8,7 @@ use Rattle.mir_ty.specs.ItemTable.{ItemTable, no_items, with_adt, with_trait}
 use Rattle.mir_text.specs.Compared.{AdtSeen, SigSeen, Written}
 use Rattle.mir_text.specs.Lines.{line_text, adt_in_line, line_of_adt, line_of_trait}
 use Rattle.mir_text.specs.Lists.{line}
-use Rattle.mir_text.specs.Reading.Words.{Found, bind}
+use Rattle.mir_text.specs.Reading.Words.{FoundInText, bind}
 use Rattle.mir_text.proofs.Reading.Basics.{Every}
 use Rattle.listing_answers.specs.Beginning.{LineStands, texts}
 use Rattle.listing_answers.proofs.HeadLines.{adt_in, IsAdtLine, adt_head_of, trait_head_of}
@@ -37,12 +37,12 @@ spare (suc a) zero h = absurd (omega arith)
 spare (suc a) (suc b) h = let deeper = spare a b (omega arith) in let same = deeper.1 in (deeper.0, omega (arith, same))
 
 -- steps add names behind those that are there
-appends : {S : Type 0} (step : S → List ℕ → Found S) (names : S → List (List ℕ)) → ((s u : S) (t r : List ℕ) → step s t ≡ Some (u, r) → (more : List (List ℕ)) × (names u ≡ names s ++ more)) → (k : ℕ) (s : S) (t : List ℕ)
+appends : {S : Type 0} (step : S → List ℕ → FoundInText S) (names : S → List (List ℕ)) → ((s u : S) (t r : List ℕ) → step s t ≡ Some (u, r) → (more : List (List ℕ)) × (names u ≡ names s ++ more)) → (k : ℕ) (s : S) (t : List ℕ)
     → (more : List (List ℕ)) × (names (on_within k step s t).0 ≡ names s ++ more)
 appends step names each zero s t = ([], sym (append-nil (names s)))
 appends step names each (suc k) s t = by (step s t) refl (appends step names each k)
   where
-    by : (o : Found _) → step s t ≡ o → ((u : _) (r : List ℕ) → (more : List (List ℕ)) × (names (on_within k step u r).0 ≡ names u ++ more)) → (more : List (List ℕ)) × (names (onward o (on_within k step) s t).0 ≡ names s ++ more)
+    by : (o : FoundInText _) → step s t ≡ o → ((u : _) (r : List ℕ) → (more : List (List ℕ)) × (names (on_within k step u r).0 ≡ names u ++ more)) → (more : List (List ℕ)) × (names (onward o (on_within k step) s t).0 ≡ names s ++ more)
     by None e deeper = ([], sym (append-nil (names s)))
     by (Some f) e deeper =
         let (some, one) = each s f.0 t f.1 e in
@@ -80,7 +80,7 @@ module _ (items : ItemTable) where
         deeper.0,
         (
           next,
-          λ stands r. ap (λ (f : Found (List ℕ)). bind f (λ f. Some (with_adt s (adt_of f.0), f.1)))
+          λ stands r. ap (λ (f : FoundInText (List ℕ)). bind f (λ f. Some (with_adt s (adt_of f.0), f.1)))
               (adt_head_of items (line_of_adt items adt) r (is_own adt.is_enum adt) stands ∙ ap (λ (name : List ℕ). Some (name, r)) (own_name adt.is_enum adt)),
           (let one : length next.adts ≡ suc (length s.adts) = omega (arith, sum) in one),
           deeper.1,
@@ -100,7 +100,7 @@ module _ (items : ItemTable) where
         deeper.0,
         (
           next,
-          λ stands r. ap (λ (f : Found (List ℕ)). bind f (λ f. Some (with_trait s (trait_of f.0), f.1))) (trait_head_of items def.name _ r stands),
+          λ stands r. ap (λ (f : FoundInText (List ℕ)). bind f (λ f. Some (with_trait s (trait_of f.0), f.1))) (trait_head_of items def.name _ r stands),
           (let one : length next.traits ≡ suc (length s.traits) = omega (arith, sum) in one),
           deeper.1,
         ),
@@ -140,7 +140,7 @@ module _ (items : ItemTable) where
           ap (λ (ds : List TraitDef). texts (map (line_of_trait items) ds) ++ front.rest) same
           ∙ append_assoc (line (line_text (line_of_trait items def))) (texts (map (line_of_trait items) traits)) front.rest in
           let stop : one_adt_head u behind ≡ None =
-          ap (λ (f : Found (List ℕ)). bind f (λ f. Some (with_adt u (adt_of f.0), f.1))) (ap adt_head at ∙ no_adt_head_at (line_of_trait items def) tt (texts (map (line_of_trait items) traits) ++ front.rest)) in
+          ap (λ (f : FoundInText (List ℕ)). bind f (λ f. Some (with_adt u (adt_of f.0), f.1))) (ap adt_head at ∙ no_adt_head_at (line_of_trait items def) tt (texts (map (line_of_trait items) traits) ++ front.rest)) in
           let ended : on_within a one_adt_head no_items t ≡ (u, behind) = first ∙ no_more one_adt_head k u behind stop in
           let passes = trait_heads_pass items.traits u in
           let count = length_map (line_of_trait items) items.traits in

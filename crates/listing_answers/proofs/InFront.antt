@@ -2,7 +2,7 @@
 use Rattle.std.proofs.Common.{◌≡◌, ℕ, zero, suc, List, [], ◌∷◌, ◌++◌, length, Some, None, refl, ap, sym, subst, ◌∙◌, arith, append_assoc, append-nil, length-append}
 use Rattle.std.specs.Prelude.{⊤}
 use Rattle.mir_text.specs.Items.{counted}
-use Rattle.mir_text.specs.Reading.Words.{Found}
+use Rattle.mir_text.specs.Reading.Words.{FoundInText}
 use Rattle.listing_reader.specs.SectionReading.{onward, on_within}
 
 -- of things that are counted from a number on
@@ -10,7 +10,7 @@ abbrev pub EachFrom : {X : Type 0} → (ℕ → X → Type 0) → ℕ → List X
 EachFrom P n [] = ⊤
 EachFrom P n (x ∷ xs) = P n x × EachFrom P (suc n) xs
 
-module _ {S X : Type 0} (step : S → List ℕ → Found S) (part : S → List X) (text : ℕ → X → List ℕ) (V : ℕ → X → Type 0) where
+module _ {S X : Type 0} (step : S → List ℕ → FoundInText S) (part : S → List X) (text : ℕ → X → List ℕ) (V : ℕ → X → Type 0) where
   -- one thing more, which stands in front
   pub record IsOne (s u : S) (t r : List ℕ) : Type 0 where
     pub thing : X
@@ -29,7 +29,7 @@ module _ {S X : Type 0} (step : S → List ℕ → Found S) (part : S → List X
   in_front one zero s t = record { things = []; more = sym (append-nil (part s)); is = refl; valid = tt }
   in_front one (suc k) s t = by (step s t) refl (in_front one k)
     where
-      by : (o : Found S) → step s t ≡ o → ((u : S) (r : List ℕ) → StandInFront u r (on_within k step u r)) → StandInFront s t (onward o (on_within k step) s t)
+      by : (o : FoundInText S) → step s t ≡ o → ((u : S) (r : List ℕ) → StandInFront u r (on_within k step u r)) → StandInFront s t (onward o (on_within k step) s t)
       by None e deeper = record { things = []; more = sym (append-nil (part s)); is = refl; valid = tt }
       by (Some f) e deeper =
           let first = one s f.0 t f.1 e in

@@ -13,7 +13,7 @@ use Rattle.cfg_graph.specs.declared.graph.Body.{Body}
 use Rattle.mir_text.specs.Compared.{AdtSeen, SigSeen, Written, numbered}
 use Rattle.mir_text.specs.Lines.{Tree, Line, HeadLine, StructLine, EnumLine, TraitLine, ImplLine, ClosureLine, BodyLine, LocalLine, BlockLine, MakeLine, UnsizeLine, StmtLine, VirtualLine, TermLine, EndLine, line_text, tree_text, trees, variant_of, method_of, adt_in_line, line_of_adt, line_of_trait, line_of_impl, line_of_closure, lines_each, lines_of_body}
 use Rattle.mir_text.specs.Lists.{line}
-use Rattle.mir_text.specs.Reading.Words.{Found, bind}
+use Rattle.mir_text.specs.Reading.Words.{FoundInText, bind}
 use Rattle.mir_text.specs.Types.{trait_name, name_of_trait}
 use Rattle.listing_answers.specs.Beginning.{LineStands}
 use Rattle.listing_answers.proofs.Named.{Extends, no_fewer_traits, each_up, variants_up, methods_up, adt_name_up, trait_name_up, trait_same}
@@ -86,7 +86,7 @@ module _ (items heads : ItemTable) (x : Extends items heads) where
           deeper.0,
           (
             next,
-            λ stands r. ap (λ (f : Found AdtSeen). bind f (λ f. Some (record s { adts = s.adts ++ f.0 ∷ [] }, f.1))) (adt_found adt.is_enum adt r stands),
+            λ stands r. ap (λ (f : FoundInText AdtSeen). bind f (λ f. Some (record s { adts = s.adts ++ f.0 ∷ [] }, f.1))) (adt_found adt.is_enum adt r stands),
             adds s seen,
             deeper.1,
           ),
@@ -134,7 +134,7 @@ module _ (items heads : ItemTable) (x : Extends items heads) where
           deeper.0,
           (
             next,
-            λ stands r. ap (λ (f : Found (List ℕ × List SigSeen)). bind f (λ f. Some (record s { traits = s.traits ++ f.0 ∷ [] }, f.1)))
+            λ stands r. ap (λ (f : FoundInText (List ℕ × List SigSeen)). bind f (λ f. Some (record s { traits = s.traits ++ f.0 ∷ [] }, f.1)))
                 (ap (λ (k : ℕ). trait_read heads k (line (line_text (line_of_trait items def)) ++ r)) (sym due) ∙ trait_found (length front) def r within called stands),
             adds s seen,
             deeper.1,
@@ -162,7 +162,7 @@ module _ (items heads : ItemTable) (x : Extends items heads) where
           deeper.0,
           (
             next,
-            λ stands r. ap (λ (f : Found ImplDef). bind f (λ f. Some (record s { impls = s.impls ++ f.0 ∷ [] }, f.1)))
+            λ stands r. ap (λ (f : FoundInText ImplDef). bind f (λ f. Some (record s { impls = s.impls ++ f.0 ∷ [] }, f.1)))
                 (impls_read_ heads trait adt def.bodies r stands.0.0 stands.1.0 (trait_name_up items heads x trait stands.0).1 (adt_name_up items heads x adt stands.1).1 stands.2),
             adds s seen,
             deeper.1,
@@ -190,7 +190,7 @@ module _ (items heads : ItemTable) (x : Extends items heads) where
           deeper.0,
           (
             next,
-            λ stands r. ap (λ (f : Found (List Written × ℕ)). bind f (λ f. Some (record s { closures = s.closures ++ f.0 ∷ [] }, f.1)))
+            λ stands r. ap (λ (f : FoundInText (List Written × ℕ)). bind f (λ f. Some (record s { closures = s.closures ++ f.0 ∷ [] }, f.1)))
                 (ap (λ (k : ℕ). closure_read heads k (line (line_text (line_of_closure items n def)) ++ r)) (sym due) ∙ closures_read_ heads n captures def.body r stands.0 (each_up items heads x captures stands.1) stands.2),
             adds s seen,
             deeper.1,

@@ -7,7 +7,7 @@ use Rattle.std.proofs.lemmas.List.Concat.{flat_map-append}
 use Rattle.std.proofs.Math.Seq.{take-append-add}
 use Rattle.mir_text.specs.Lines.{Line, line_text}
 use Rattle.mir_text.specs.Lists.{line}
-use Rattle.mir_text.specs.Reading.Words.{Found}
+use Rattle.mir_text.specs.Reading.Words.{FoundInText}
 use Rattle.mir_text.proofs.Reading.Basics.{Every}
 use Rattle.listing_reader.specs.SectionReading.{onward, on_within}
 use Rattle.listing_reader.proofs.Onward.{one_more, no_more}
@@ -64,7 +64,7 @@ ends_where A B c = by (cases_lt (length A) c)
         at q = inr (record { more = q.0; many = q.1; are = ap (λ (n : ℕ). take n (A ++ B)) q.1 ∙ take-append-add A B (suc q.0) })
     by (inr h) = inl (record { few = h; are = take-append-le c A B h })
 
-module _ {S : Type 0} (step : S → List ℕ → Found S) (count : S → ℕ) (P : Line → Type 0) where
+module _ {S : Type 0} (step : S → List ℕ → FoundInText S) (count : S → ℕ) (P : Line → Type 0) where
   -- each line that stands is found, and counts
   abbrev pub Passes : S → List Line → S → Type 0
   Passes s [] u = s ≡ u
@@ -101,7 +101,7 @@ module _ {S : Type 0} (step : S → List ℕ → Found S) (count : S → ℕ) (P
   never_less each zero s t = omega arith
   never_less each (suc k) s t = by (step s t) refl (never_less each k)
     where
-      by : (o : Found S) → step s t ≡ o → ((u : S) (r : List ℕ) → count u ≤ count (on_within k step u r).0) → count s ≤ count (onward o (on_within k step) s t).0
+      by : (o : FoundInText S) → step s t ≡ o → ((u : S) (r : List ℕ) → count u ≤ count (on_within k step u r).0) → count s ≤ count (onward o (on_within k step) s t).0
       by None e deeper = omega arith
       by (Some f) e deeper = let one = each s f.0 t f.1 e in let more = deeper f.0 f.1 in omega (arith, one, more)
 

@@ -17,7 +17,7 @@ use Rattle.mir_text.specs.Fields.{Fits}
 use Rattle.mir_text.specs.Items.{counted, copy_text, drop_text}
 use Rattle.mir_text.specs.Lines.{line_text, ImplLine}
 use Rattle.mir_text.specs.Lists.{line, in_braces, in_parentheses}
-use Rattle.mir_text.specs.Reading.Words.{Found, bind}
+use Rattle.mir_text.specs.Reading.Words.{FoundInText, bind}
 use Rattle.mir_text.specs.Types.{trait_name}
 use Rattle.mir_text.proofs.Reading.Basics.{Every}
 use Rattle.listing_answers.proofs.Aligned.{HaveFree, heads_free, word_free, words_free, first_of_all}
@@ -147,7 +147,7 @@ pub record ItemsFront (heads items : ItemTable) (t : List ℕ) : Type 0 where
   pub closures : (after_impls heads t).1 ≡ counted closure_text 0 (map (closure_seen (under heads items)) items.closures) ++ (items_under heads t).1
   pub closures_valid : EachFrom ClosureValid 0 (map (closure_seen (under heads items)) items.closures)
 
-section_front : {S X : Type 0} (step : S → List ℕ → Found S) (part : S → List X) (text : ℕ → X → List ℕ) (V : ℕ → X → Type 0) (s : S) (t : List ℕ) (q : S × List ℕ) (xs : List X) → part s ≡ [] → part q.0 ≡ xs → StandInFront step part text V s t q
+section_front : {S X : Type 0} (step : S → List ℕ → FoundInText S) (part : S → List X) (text : ℕ → X → List ℕ) (V : ℕ → X → Type 0) (s : S) (t : List ℕ) (q : S × List ℕ) (xs : List X) → part s ≡ [] → part q.0 ≡ xs → StandInFront step part text V s t q
     → (t ≡ counted text 0 xs ++ q.1) × EachFrom V 0 xs
 section_front step part text V s t q xs none are f =
     let things : f.things ≡ xs = ap (λ (ys : List _). ys ++ f.things) (sym none) ∙ sym f.more ∙ are in
@@ -234,11 +234,11 @@ module _ (heads items : ItemTable) (t : List ℕ) (front : ItemsFront heads item
     adt_head_in : (is_enum : Bool) (adt : Adt) → is_name adt.name ≡ true → is_utf8 adt.name ≡ true → (is_enum ≡ true → Every (λ v. IsNamed v.0) (map (variant_seen (under heads items)) adt.variants)) → (s : ItemTable) (r : List ℕ)
         → one_adt_head s (line (written_shape is_enum adt.name (map (variant_seen (under heads items)) adt.variants) ++ copy_text adt.copy ++ drop_text adt.drop_body) ++ r) ≡ Some (with_adt s (adt_of adt.name), r)
     adt_head_in true adt is utf named s r =
-        ap (λ (f : Found (List ℕ)). bind f (λ f. Some (with_adt s (adt_of f.0), f.1)))
+        ap (λ (f : FoundInText (List ℕ)). bind f (λ f. Some (with_adt s (adt_of f.0), f.1)))
         (adt_line_named (codes "enum ") adt.name (in_braces (map written_variant (map (variant_seen (under heads items)) adt.variants))) adt.copy adt.drop_body r refl is utf
         (braces_free (map written_variant (map (variant_seen (under heads items)) adt.variants)) (variants_free adt.variants (named refl))))
     adt_head_in false adt is utf named s r =
-        ap (λ (f : Found (List ℕ)). bind f (λ f. Some (with_adt s (adt_of f.0), f.1)))
+        ap (λ (f : FoundInText (List ℕ)). bind f (λ f. Some (with_adt s (adt_of f.0), f.1)))
         (adt_line_named (codes "struct ") adt.name (in_parentheses (own_fields (map (variant_seen (under heads items)) adt.variants))) adt.copy adt.drop_body r refl is utf
         (row_free (own_fields (map (variant_seen (under heads items)) adt.variants)) (fields_free adt.variants)))
 
@@ -252,7 +252,7 @@ module _ (heads items : ItemTable) (t : List ℕ) (front : ItemsFront heads item
     trait_heads : (n : ℕ) (traits : List TraitDef) → EachFrom (TraitValid heads) n (map (trait_seen (under heads items)) traits) → Every TraitHead (map (trait_seen (under heads items)) traits)
     trait_heads n [] h = tt
     trait_heads n (def ∷ traits) h = (
-      λ s r. ap (λ (f : Found (List ℕ)). bind f (λ f. Some (with_trait s (trait_of f.0), f.1)))
+      λ s r. ap (λ (f : FoundInText (List ℕ)). bind f (λ f. Some (with_trait s (trait_of f.0), f.1)))
           (trait_line_named def.name (in_braces (map written_method (map (sig_seen (under heads items)) def.methods))) r h.0.1.0.0 h.0.1.0.1
           (braces_free (map written_method (map (sig_seen (under heads items)) def.methods))
           (methods_free def.methods (every_more (λ (m : SigSeen). MethodNamed def.name m) (λ (m : SigSeen). IsNamed m.0) (λ m k. k.0) (map (sig_seen (under heads items)) def.methods)

@@ -5,7 +5,7 @@ use Rattle.std.proofs.Math.Seq.{take-append-add}
 use Rattle.mir_text.specs.Lines.{Line, line_text, lines_each}
 use Rattle.mir_text.specs.Lists.{line}
 use Rattle.mir_text.specs.Reading.Rows.{after, many_within}
-use Rattle.mir_text.specs.Reading.Words.{Found}
+use Rattle.mir_text.specs.Reading.Words.{FoundInText}
 use Rattle.mir_text.proofs.Reading.Basics.{Every}
 use Rattle.listing_lines.specs.CodeReading.{goes_on, until_within}
 use Rattle.listing_answers.specs.Beginning.{texts}
@@ -32,7 +32,7 @@ some_bytes P (l ∷ ls) c behind h =
     omega (arith, long, sum)
 
 -- rows of things of one line each
-module _ {Y : Type 0} (read : List ℕ → Found Y) (P : Line → Type 0) where
+module _ {Y : Type 0} (read : List ℕ → FoundInText Y) (P : Line → Type 0) where
   abbrev pub Founds : List Line → Type 0
   Founds ls = Every (λ l. (y : Y) × (P l → (r : List ℕ) → read (line (line_text l) ++ r) ≡ Some (y, r))) ls
 
@@ -53,7 +53,7 @@ module _ {Y : Type 0} (read : List ℕ → Found Y) (P : Line → Type 0) where
       by : (fuel : ℕ) → Rows [] (b ∷ rest) (suc c) behind (many_within fuel read t)
       by zero = inr (c, omega arith, refl, is)
       by (suc fuel) =
-          let result : many_within (suc fuel) read t ≡ ([], t) = ap (λ (f : Found Y). after f (many_within fuel read) t) none in
+          let result : many_within (suc fuel) read t ≡ ([], t) = ap (λ (f : FoundInText Y). after f (many_within fuel read) t) none in
           inr (c, omega arith, ap (λ (q : List Y × List ℕ). length q.0) result, ap (λ (q : List Y × List ℕ). q.1) result ∙ is)
   rows_through (l ∷ ls) rest zero (suc c) t behind founds ends stand is room =
       let some = some_bytes (λ l. Unit {0}) (l ∷ (ls ++ rest)) c behind tt in
@@ -63,7 +63,7 @@ module _ {Y : Type 0} (read : List ℕ → Found Y) (P : Line → Type 0) where
       let u : List ℕ = texts (take c (ls ++ rest)) ++ behind in
       let split : t ≡ line (line_text l) ++ u = is ∙ append_assoc (line (line_text l)) (texts (take c (ls ++ rest))) behind in
       let found : read t ≡ Some (founds.0.0, u) = ap read split ∙ founds.0.1 stand.0 u in
-      let result : many_within (suc fuel) read t ≡ (founds.0.0 ∷ (many_within fuel read u).0, (many_within fuel read u).1) = ap (λ (f : Found Y). after f (many_within fuel read) t) found in
+      let result : many_within (suc fuel) read t ≡ (founds.0.0 ∷ (many_within fuel read u).0, (many_within fuel read u).1) = ap (λ (f : FoundInText Y). after f (many_within fuel read) t) found in
       let one = length-append (line_text l) (10 ∷ []) in
       let sum = ap length split ∙ length-append (line (line_text l)) u in
       by (many_within (suc fuel) read t) result (rows_through ls rest fuel c u behind founds.1 ends stand.1 refl (omega (arith, one, sum, room)))
@@ -82,13 +82,13 @@ abbrev pub missing : Bool → ℕ
 missing true = 0
 missing false = 1
 
-module _ {X Y : Type 0} (read : ℕ → List ℕ → Found (Y × Bool)) (lines : ℕ → X → List Line) (full : Y → ℕ) (P Q E : Line → Type 0) where
+module _ {X Y : Type 0} (read : ℕ → List ℕ → FoundInText (Y × Bool)) (lines : ℕ → X → List Line) (full : Y → ℕ) (P Q E : Line → Type 0) where
   abbrev pub total : List Y → ℕ
   total [] = 0
   total (y ∷ ys) = full y + total ys
 
   -- what is read of a thing whose lines a text has in part, or all of them and some behind them
-  pub record Partly (size c : ℕ) (found : Found (Y × Bool)) : Type 0 where
+  pub record Partly (size c : ℕ) (found : FoundInText (Y × Bool)) : Type 0 where
     pub few : c ≤ size
     pub thing : Y
     pub whole : Bool
@@ -96,7 +96,7 @@ module _ {X Y : Type 0} (read : ℕ → List ℕ → Found (Y × Bool)) (lines :
     pub is : found ≡ Some ((thing, whole), rest)
     pub some : c + missing whole ≤ full thing
 
-  pub record Wholly (size c : ℕ) (after : List Line) (behind : List ℕ) (found : Found (Y × Bool)) : Type 0 where
+  pub record Wholly (size c : ℕ) (after : List Line) (behind : List ℕ) (found : FoundInText (Y × Bool)) : Type 0 where
     pub more : ℕ
     pub many : c ≡ size + suc more
     pub thing : Y
@@ -125,7 +125,7 @@ module _ {X Y : Type 0} (read : ℕ → List ℕ → Found (Y × Bool)) (lines :
     broken_some zero n t = omega arith
     broken_some (suc k) n t = by (read n t) (broken_some k (suc n))
       where
-        by : (o : Found (Y × Bool)) → ((u : List ℕ) → missing (until_within k read (suc n) u).0.1 ≤ total (until_within k read (suc n) u).0.0)
+        by : (o : FoundInText (Y × Bool)) → ((u : List ℕ) → missing (until_within k read (suc n) u).0.1 ≤ total (until_within k read (suc n) u).0.0)
             → missing (goes_on o (until_within k read (suc n)) t).0.1 ≤ total (goes_on o (until_within k read (suc n)) t).0.0
         by None deeper = omega arith
         by (Some ((y, false), r)) deeper = let one = some y in omega (arith, one)
@@ -149,7 +149,7 @@ module _ {X Y : Type 0} (read : ℕ → List ℕ → Found (Y × Bool)) (lines :
       until [] n (suc fuel) (suc c) t behind [] e stand is room = absurd e
       until [] n (suc fuel) (suc c) t behind (l ∷ ls) e stand is room =
           let none : read n t ≡ None = ap (read n) (is ∙ append_assoc (line (line_text l)) (texts (take c ls)) behind) ∙ ends n l (texts (take c ls) ++ behind) e in
-          let result : until_within (suc fuel) read n t ≡ (([], true), t) = ap (λ (f : Found (Y × Bool)). goes_on f (until_within fuel read (suc n)) t) none in
+          let result : until_within (suc fuel) read n t ≡ (([], true), t) = ap (λ (f : FoundInText (Y × Bool)). goes_on f (until_within fuel read (suc n)) t) none in
           inr (record {
             more = c;
             many = omega arith;
@@ -176,13 +176,13 @@ module _ {X Y : Type 0} (read : ℕ → List ℕ → Found (Y × Bool)) (lines :
               at : (w : Bool) → read n t ≡ Some ((p.thing, w), p.rest) → suc c + missing w ≤ full p.thing → suc c + missing (until_within (suc fuel) read n t).0.1 ≤ total (until_within (suc fuel) read n t).0.0
               at true found some =
                   let q : (List Y × Bool) × List ℕ = until_within fuel read (suc n) p.rest in
-                  let result : until_within (suc fuel) read n t ≡ ((p.thing ∷ q.0.0, q.0.1), q.1) = ap (λ (f : Found (Y × Bool)). goes_on f (until_within fuel read (suc n)) t) found in
+                  let result : until_within (suc fuel) read n t ≡ ((p.thing ∷ q.0.0, q.0.1), q.1) = ap (λ (f : FoundInText (Y × Bool)). goes_on f (until_within fuel read (suc n)) t) found in
                   let least = broken_some fuel (suc n) p.rest in
                   let flag = ap (λ (q : (List Y × Bool) × List ℕ). missing q.0.1) result in
                   let count = ap (λ (q : (List Y × Bool) × List ℕ). total q.0.0) result in
                   omega (arith, some, least, flag, count)
               at false found some =
-                  let result : until_within (suc fuel) read n t ≡ ((p.thing ∷ [], false), p.rest) = ap (λ (f : Found (Y × Bool)). goes_on f (until_within fuel read (suc n)) t) found in
+                  let result : until_within (suc fuel) read n t ≡ ((p.thing ∷ [], false), p.rest) = ap (λ (f : FoundInText (Y × Bool)). goes_on f (until_within fuel read (suc n)) t) found in
                   let flag = ap (λ (q : (List Y × Bool) × List ℕ). missing q.0.1) result in
                   let count = ap (λ (q : (List Y × Bool) × List ℕ). total q.0.0) result in
                   omega (arith, some, flag, count)
@@ -197,7 +197,7 @@ module _ {X Y : Type 0} (read : ℕ → List ℕ → Found (Y × Bool)) (lines :
               let sum = ap length split ∙ length-append (texts own) u in
               let stands_behind : Every P (take (suc w.more) rest) = (every_append P own (take (suc w.more) rest) (subst (Every P) taken stands)).1 in
               let q : (List Y × Bool) × List ℕ = until_within fuel read (suc n) u in
-              let result : until_within (suc fuel) read n t ≡ ((w.thing ∷ q.0.0, q.0.1), q.1) = ap (λ (f : Found (Y × Bool)). goes_on f (until_within fuel read (suc n)) t) w.is in
+              let result : until_within (suc fuel) read n t ≡ ((w.thing ∷ q.0.0, q.0.1), q.1) = ap (λ (f : FoundInText (Y × Bool)). goes_on f (until_within fuel read (suc n)) t) w.is in
               at (until_within (suc fuel) read n t) q result (deeper w.more u stands_behind refl (omega (arith, bytes, some_lines, sum, room)))
             where
               at : (p q : (List Y × Bool) × List ℕ) → p ≡ ((w.thing ∷ q.0.0, q.0.1), q.1) → Until xs (suc n) after (suc w.more) behind q → Until (x ∷ xs) n after (suc c) behind p

@@ -12,7 +12,7 @@ use Rattle.mir_text.specs.Compared.{AdtSeen, VariantSeen, SigSeen}
 use Rattle.mir_text.specs.Fields.{Fits}
 use Rattle.mir_text.specs.Reading.Lines.{ended}
 use Rattle.mir_text.specs.Reading.Rows.{many, comma}
-use Rattle.mir_text.specs.Reading.Words.{Found, bind, as_, strip, span}
+use Rattle.mir_text.specs.Reading.Words.{FoundInText, bind, as_, strip, span}
 use Rattle.listing_lines.proofs.Fitting.{Gives, binds, chooses, somes, ases, manies, commas}
 use Rattle.listing_lines.specs.ItemReading.{blank_name, blank_behind, variant_from, variant_read, with_more, some_variants, closed_braces, variants_behind, variants_read, marked, struct_from, struct_read, enum_from, enum_read, adt_name_read, marks_read, adt_read}
 use Rattle.listing_lines.specs.LineReading as lines
@@ -36,14 +36,14 @@ gives_blank : (t : List ℕ) → Gives IsNamed (blank_name t)
 gives_blank t =
     binds IsNamed (name_read t) blank_behind (λ q e. binds IsNamed (strip (codes " ") q.1) (λ r. Some (q.0, r)) (λ r f. somes IsNamed q.0 r (gives_named t q.0 q.1 e)))
 
-ifs : {X : Type 0} (P : X → Type 0) (v : Bool) (a b : Found X) → Gives P a → Gives P b → Gives P (if v then a else b)
+ifs : {X : Type 0} (P : X → Type 0) (v : Bool) (a b : FoundInText X) → Gives P a → Gives P b → Gives P (if v then a else b)
 ifs P true a b h k = h
 ifs P false a b h k = k
 
 nones : {X : Type 0} (P : X → Type 0) → Gives P None
 nones P x r e = absurd (none-some (x, r) e)
 
-endeds : {X : Type 0} (P : X → Type 0) (f : Found X) → Gives P f → Gives P (ended f)
+endeds : {X : Type 0} (P : X → Type 0) (f : FoundInText X) → Gives P f → Gives P (ended f)
 endeds P f h = binds P f (λ f. bind (strip (10 ∷ []) f.1) (λ r. Some (f.0, r))) (λ q e. binds P (strip (10 ∷ []) q.1) (λ r. Some (q.0, r)) (λ r g. somes P q.0 r (h q.0 q.1 e)))
 
 -- variants

@@ -41,8 +41,8 @@ abbrev pub line_in : Option Body → GraphFault → ℕ
 line_in None fault = 0
 line_in (Some body) fault = line_in_body body fault
 
--- the line of a fault, counted from 1: behind the first line stand the items, then the bodies; a `main` that is missing is
--- at the last
+-- the line of a fault, counted from 1: behind the first line stand the items, then the bodies; a `main` that is missing
+-- is at the last
 abbrev pub line_of_fault : Graph → GraphFault → ℕ
 line_of_fault graph fault =
     if fault.body == nowhere then (if fault.line == nowhere then lines_count graph else 2 + fault.line)

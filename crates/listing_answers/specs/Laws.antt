@@ -41,11 +41,13 @@ OneGraphIsRead =
     (seen graph ≡ seen read) × IsWellFormed read
 
 -- no two structs or enums have one name, and no two traits
-pub record AreApart (items : ItemTable) : Type 0 where
+pub record NamesAreApart (items : ItemTable) : Type 0 where
   pub adts : (n m : ℕ) → n < length items.adts → m < length items.adts → adt_name items n ≡ adt_name items m → n ≡ m
-  pub traits : (n m : ℕ) → n < length items.traits → m < length items.traits → trait_name items n ≡ trait_name items m → n ≡ m
+  pub traits : (n m : ℕ) → n < length items.traits → m < length items.traits → trait_name items n ≡ trait_name items m →
+      n ≡ m
 
 -- where names are apart, one graph is read of a text, as compared
 abbrev pub OneGraphWasRead : Type 0
 OneGraphWasRead =
-    (text : List ℕ) (one other : Graph) → WasRead text one → WasRead text other → AreApart one.items → seen one ≡ seen other
+    (text : List ℕ) (one other : Graph) → WasRead text one → WasRead text other → NamesAreApart one.items →
+    seen one ≡ seen other

@@ -19,7 +19,7 @@ use Rattle.mir_text.specs.Parts.{place_text, operand_text, operands_text, stmt_t
 use Rattle.mir_text.specs.Reading.Lines.{numbered_operands, operands_from, make_from, unsize_from, virtual_from, sent_of, assigned, assigned_to, returned, returned_to, stmt_read, term_read}
 use Rattle.mir_text.specs.Reading.Words.{as_}
 use Rattle.mir_text.specs.Types.{trait_name, name_of_trait}
-use Rattle.mir_text.proofs.Reading.Basics.{Found, bind, span_run, behind5, behind7, behind8}
+use Rattle.mir_text.proofs.Reading.Basics.{FoundInText, bind, span_run, behind5, behind7, behind8}
 use Rattle.mir_text.proofs.Reading.Lines.{Named, TermNamed, stmt_reads, term_reads, no_stmt}
 use Rattle.mir_text.proofs.Reading.Parts.{number_of, IsPlaceEnd, place_reads, operand_reads, operands_reads, ways_reads}
 use Rattle.listing_parts.specs.LinesFound.{behind_line}
@@ -56,7 +56,7 @@ module _ (heads : ItemTable) where
       → statement_read heads (line words ++ behind) ≡ Some (x, behind)
   stmt_back words x behind read named same =
       let t : List ℕ = line words ++ behind in
-      ap (λ (f : Found Stmt). bind f (stmt_from heads t)) (ap (stmt_read (adt_no heads) (trait_no heads)) (append_assoc words (10 ∷ []) behind) ∙ read)
+      ap (λ (f : FoundInText Stmt). bind f (stmt_from heads t)) (ap (stmt_read (adt_no heads) (trait_no heads)) (append_assoc words (10 ∷ []) behind) ∙ read)
       ∙ ap (λ (v : Bool). bind (if v then behind_line (stmt_text heads x) t else None) (λ r. Some (x, r))) named
       ∙ ap (λ (w : List ℕ). bind (behind_line w t) (λ r. Some (x, r))) same
       ∙ ap (λ (o : Option (List ℕ)). bind o (λ r. Some (x, r))) (line_whole words behind)
@@ -65,7 +65,7 @@ module _ (heads : ItemTable) where
       → terminator_read heads (line words ++ behind) ≡ Some (x, behind)
   term_back words x behind read named same =
       let t : List ℕ = line words ++ behind in
-      ap (λ (f : Found Term). bind f (term_from heads t)) (ap (term_read (adt_no heads) (trait_no heads)) (append_assoc words (10 ∷ []) behind) ∙ read)
+      ap (λ (f : FoundInText Term). bind f (term_from heads t)) (ap (term_read (adt_no heads) (trait_no heads)) (append_assoc words (10 ∷ []) behind) ∙ read)
       ∙ ap (λ (v : Bool). bind (if v then behind_line (term_text heads x) t else None) (λ r. Some (x, r))) named
       ∙ ap (λ (w : List ℕ). bind (behind_line w t) (λ r. Some (x, r))) same
       ∙ ap (λ (o : Option (List ℕ)). bind o (λ r. Some (x, r))) (line_whole words behind)
@@ -95,18 +95,18 @@ module _ (heads : ItemTable) where
   none_sent (Term.Virtual to trait_no method args next unwind) h = absurd h
   none_sent _ h = (refl, refl)
 
-  stored : (to : Place) (t : List ℕ) (f : Found Stmt) → PlaceFits to → assigned (adt_no heads) (trait_no heads) to t ≡ f → stmt_read (adt_no heads) (trait_no heads) (place_text to ++ (codes " = " ++ t)) ≡ f
+  stored : (to : Place) (t : List ℕ) (f : FoundInText Stmt) → PlaceFits to → assigned (adt_no heads) (trait_no heads) to t ≡ f → stmt_read (adt_no heads) (trait_no heads) (place_text to ++ (codes " = " ++ t)) ≡ f
   stored to t f fits h =
-      ap (λ (p : Found Place). bind p (assigned_to (adt_no heads) (trait_no heads))) (place_reads to fits (codes " = " ++ t) (space (codes "= " ++ t))) ∙ h
+      ap (λ (p : FoundInText Place). bind p (assigned_to (adt_no heads) (trait_no heads))) (place_reads to fits (codes " = " ++ t) (space (codes "= " ++ t))) ∙ h
 
-  given : (to : Place) (t : List ℕ) (f : Found Term) → PlaceFits to → returned (adt_no heads) (trait_no heads) to t ≡ f → term_read (adt_no heads) (trait_no heads) (place_text to ++ (codes " = " ++ t)) ≡ f
+  given : (to : Place) (t : List ℕ) (f : FoundInText Term) → PlaceFits to → returned (adt_no heads) (trait_no heads) to t ≡ f → term_read (adt_no heads) (trait_no heads) (place_text to ++ (codes " = " ++ t)) ≡ f
   given to t f fits h =
-      ap (λ (p : Found Place). bind p (returned_to (adt_no heads) (trait_no heads))) (place_reads to fits (codes " = " ++ t) (space (codes "= " ++ t))) ∙ h
+      ap (λ (p : FoundInText Place). bind p (returned_to (adt_no heads) (trait_no heads))) (place_reads to fits (codes " = " ++ t) (space (codes "= " ++ t))) ∙ h
 
   numbered_read : (n : ℕ) (parts : List Operand) → Fits n → All OperandFits parts → (r : List ℕ)
       → numbered_operands (decimal n ++ (codes " " ++ (operands_text parts ++ r))) ≡ Some ((n, parts), r)
   numbered_read n parts fits all r =
-      ap (λ (f : Found ℕ). bind f operands_from) (number_of n (codes " " ++ (operands_text parts ++ r)) fits refl)
+      ap (λ (f : FoundInText ℕ). bind f operands_from) (number_of n (codes " " ++ (operands_text parts ++ r)) fits refl)
       ∙ ap (as_ (λ (ps : List Operand). (n, ps))) (operands_reads parts all r)
 
   make_line : (to : Place) (name : List ℕ) (variant : ℕ) (parts : List Operand) (r : List ℕ) → PlaceFits to → is_name name ≡ true → Fits variant → All OperandFits parts
@@ -135,7 +135,7 @@ module _ (heads : ItemTable) where
       ap (term_read (adt_no heads) (trait_no heads)) (behind8 (place_text to) (codes " = virtual ") name (codes " ") (decimal method) (codes " ") (operands_text args) (ways_text next unwind) (10 ∷ r))
       ∙ given to (codes "virtual " ++ (name ++ at_method)) (Some (Term.Virtual to (trait_no heads name) method args next unwind, 10 ∷ r)) fits
       (ap (virtual_from (adt_no heads) (trait_no heads) to) (span_run stands_in_names name at_method (name_all name is) refl)
-      ∙ ap (λ (f : Found (ℕ × List Operand)). bind f (sent_of (adt_no heads) (trait_no heads) to name)) (numbered_read method args count all at_ways)
+      ∙ ap (λ (f : FoundInText (ℕ × List Operand)). bind f (sent_of (adt_no heads) (trait_no heads) to name)) (numbered_read method args count all at_ways)
       ∙ ap (as_ (λ (w : ℕ × Unwind). Term.Virtual to (trait_no heads name) method args w.0 w.1)) (ways_reads next unwind ways (10 ∷ r) refl))
 
   no_virtual : (to : Place) (name : List ℕ) (method : ℕ) (args : List Operand) (next : ℕ) (unwind : Unwind) (r : List ℕ) → PlaceFits to
@@ -196,7 +196,7 @@ terminators_read heads EndLine behind stands = absurd stands
 
 nothing_read : (heads : ItemTable) (words behind : List ℕ) → stmt_read (adt_no heads) (trait_no heads) (words ++ 10 ∷ behind) ≡ None → statement_read heads (line words ++ behind) ≡ None
 nothing_read heads words behind none =
-    ap (λ (f : Found Stmt). bind f (stmt_from heads (line words ++ behind))) (ap (stmt_read (adt_no heads) (trait_no heads)) (append_assoc words (10 ∷ []) behind) ∙ none)
+    ap (λ (f : FoundInText Stmt). bind f (stmt_from heads (line words ++ behind))) (ap (stmt_read (adt_no heads) (trait_no heads)) (append_assoc words (10 ∷ []) behind) ∙ none)
 
 pub no_statements : TerminatorsAreNoStatements
 no_statements heads (VirtualLine to name method args next unwind) behind stands =

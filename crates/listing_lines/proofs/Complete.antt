@@ -12,7 +12,7 @@ use Rattle.mir_text.specs.Lines.{tree_text, trees_in_row}
 use Rattle.mir_text.specs.Listing.{kind_word}
 use Rattle.mir_text.specs.Reading.Lines.{ended}
 use Rattle.mir_text.specs.Reading.Rows.{many}
-use Rattle.mir_text.specs.Reading.Words.{Found, bind, as_, strip}
+use Rattle.mir_text.specs.Reading.Words.{FoundInText, bind, as_, strip}
 use Rattle.mir_text.proofs.Reading.Basics.{Every, behind7, span_run, stops}
 use Rattle.mir_text.proofs.Reading.Parts.{every_from_all}
 use Rattle.mir_text.proofs.Reading.Rows.{many_reads, flat_counted}
@@ -27,7 +27,7 @@ use Rattle.listing_lines.specs.LinesFound.{BodiesAreRead, LocalsAreRead, BlocksA
 
 due_reads : (n : ℕ) (r : List ℕ) → Fits n → due_number n (decimal n ++ (codes " " ++ r)) ≡ Some (codes " " ++ r)
 due_reads n r fits =
-    ap (λ (f : Found ℕ). bind f (λ k. if nat_eq k.0 n then Some k.1 else None)) (plain_read n (codes " " ++ r) fits refl)
+    ap (λ (f : FoundInText ℕ). bind f (λ k. if nat_eq k.0 n then Some k.1 else None)) (plain_read n (codes " " ++ r) fits refl)
     ∙ ap (λ (t : Bool). if t then Some (codes " " ++ r) else None) (eq-eqb n n refl)
 
 -- behind a word, the number that is due and a blank
@@ -48,8 +48,8 @@ bodies_read_ n name params r fits is utf count =
     let split : ((codes "body " ++ decimal n ++ codes " " ++ name ++ codes " " ++ decimal params) ++ 10 ∷ []) ++ r ≡ codes "body " ++ (decimal n ++ (codes " " ++ at_name)) = simp append_assoc refl in
     ap (body_read n) split
     ∙ ap (λ (o : Option (List ℕ)). bind o (λ t. bind (strip (codes " ") t) (λ t. bind (name_read t) (λ name. ended (params_from name))))) (due_reads n at_name fits)
-    ∙ ap (λ (f : Found (List ℕ)). bind f (λ name. ended (params_from name))) (name_reads name at_params is utf)
-    ∙ ap (λ (f : Found ℕ). ended (as_ (λ params. (name, params)) f)) (plain_read params (10 ∷ r) count refl)
+    ∙ ap (λ (f : FoundInText (List ℕ)). bind f (λ name. ended (params_from name))) (name_reads name at_params is utf)
+    ∙ ap (λ (f : FoundInText ℕ). ended (as_ (λ params. (name, params)) f)) (plain_read params (10 ∷ r) count refl)
 
 pub locals_read_ : LocalsAreRead
 locals_read_ heads n type r fits stands =
@@ -72,8 +72,8 @@ blocks_read_ n kind rank r fits count =
     let split : ((codes "block " ++ decimal n ++ codes " " ++ kind_word kind ++ codes " rank " ++ decimal rank) ++ 10 ∷ []) ++ r ≡ codes "block " ++ (decimal n ++ (codes " " ++ at_kind)) = simp append_assoc refl in
     ap (block_read n) split
     ∙ ap (λ (o : Option (List ℕ)). bind o (λ t. bind (strip (codes " ") t) (λ t. bind (kind_read t) (λ kind. ended (rank_from kind))))) (due_reads n at_kind fits)
-    ∙ ap (λ (f : Found Kind). bind f (λ kind. ended (rank_from kind))) (kind_reads_ kind (codes " rank " ++ at_rank))
-    ∙ ap (λ (f : Found ℕ). ended (as_ (λ rank. (kind, rank)) f)) (plain_read rank (10 ∷ r) count refl)
+    ∙ ap (λ (f : FoundInText Kind). bind f (λ kind. ended (rank_from kind))) (kind_reads_ kind (codes " rank " ++ at_rank))
+    ∙ ap (λ (f : FoundInText ℕ). ended (as_ (λ rank. (kind, rank)) f)) (plain_read rank (10 ∷ r) count refl)
 
 pub closures_read_ : ClosuresAreRead
 closures_read_ heads n captures body r fits stand count =
@@ -82,8 +82,8 @@ closures_read_ heads n captures body r fits stand count =
     let at_row : List ℕ = row ++ (codes " " ++ at_body) in
     ap (closure_read heads n) (behind7 (codes "closure ") (decimal n) (codes " ") row (codes " ") (decimal body) (10 ∷ []) r)
     ∙ ap (λ (o : Option (List ℕ)). bind o (λ t. bind (types_read heads t) captures_from)) (headed (codes "closure ") n at_row fits)
-    ∙ ap (λ (f : Found (List (List ℕ))). bind f captures_from) (rows_read heads captures stand (codes " " ++ at_body))
-    ∙ ap (λ (f : Found ℕ). as_ (λ body. (map tree_text captures, body)) (ended f)) (plain_read body (10 ∷ r) count refl)
+    ∙ ap (λ (f : FoundInText (List (List ℕ))). bind f captures_from) (rows_read heads captures stand (codes " " ++ at_body))
+    ∙ ap (λ (f : FoundInText ℕ). as_ (λ body. (map tree_text captures, body)) (ended f)) (plain_read body (10 ∷ r) count refl)
 
 adt_reads : (heads : ItemTable) (name r : List ℕ) → is_name name ≡ true → adt_no heads name < length heads.adts → stops stands_in_names r ≡ true → known_adt_read heads (name ++ r) ≡ Some (adt_no heads name, r)
 adt_reads heads name r is there s =
@@ -112,6 +112,6 @@ impls_read_ heads trait adt bodies r is_trait is_adt there_trait there_adt fits 
     let at_adt : List ℕ = adt ++ at_numbers in
     let split : ((codes "impl " ++ trait ++ codes " for " ++ adt ++ numbers) ++ 10 ∷ []) ++ r ≡ codes "impl " ++ (trait ++ (codes " for " ++ at_adt)) = simp append_assoc refl in
     ap (impl_read heads) split
-    ∙ ap (λ (f : Found ℕ). bind (bind f (for_adt heads)) (λ q. bodies_read q.0.0 q.0.1 q.1)) (trait_reads heads trait (codes " for " ++ at_adt) is_trait there_trait refl)
-    ∙ ap (λ (f : Found ℕ). bind (as_ {Y = ℕ × ℕ} (λ adt. (trait_no heads trait, adt)) f) (λ q. bodies_read q.0.0 q.0.1 q.1)) (adt_reads heads adt at_numbers is_adt there_adt (bodies_stop bodies r))
+    ∙ ap (λ (f : FoundInText ℕ). bind (bind f (for_adt heads)) (λ q. bodies_read q.0.0 q.0.1 q.1)) (trait_reads heads trait (codes " for " ++ at_adt) is_trait there_trait refl)
+    ∙ ap (λ (f : FoundInText ℕ). bind (as_ {Y = ℕ × ℕ} (λ adt. (trait_no heads trait, adt)) f) (λ q. bodies_read q.0.0 q.0.1 q.1)) (adt_reads heads adt at_numbers is_adt there_adt (bodies_stop bodies r))
     ∙ ap (λ (q : List ℕ × List ℕ). ended (Some (record { trait_no = trait_no heads trait; adt = adt_no heads adt; bodies = q.0 }, q.1))) (numbers_read bodies (every_from_all Fits bodies fits) r)

@@ -17,22 +17,22 @@ use Rattle.mir_text.specs.Reading.Lines.{comparison_read, math_read, stmt_read, 
 use Rattle.mir_text.specs.Reading.Parts as parts
 use Rattle.mir_text.specs.Reading.Parts.{step_read, place_from, place_read, operand_read, operands_read, unwind_read, ways_read}
 use Rattle.mir_text.specs.Reading.Rows.{many, many_within, comma, row, row_from, closed_row}
-use Rattle.mir_text.specs.Reading.Words.{Found, bind, or_else, chosen, as_, strip, said, span, is_digit, limited, valued, number, negative, signed}
+use Rattle.mir_text.specs.Reading.Words.{FoundInText, bind, or_else, chosen, as_, strip, said, span, is_digit, limited, valued, number, negative, signed}
 
 -- all that a reader can find there is such
-abbrev pub Gives : {X : Type 0} → (X → Type 0) → Found X → Type 0
+abbrev pub Gives : {X : Type 0} → (X → Type 0) → FoundInText X → Type 0
 Gives {X} P found = (x : X) (r : List ℕ) → found ≡ Some (x, r) → P x
 
 module _ {X : Type 0} (P : X → Type 0) where
-  pub binds : {A : Type 0} (o : Option A) (go : A → Found X) → ((a : A) → o ≡ Some a → Gives P (go a)) → Gives P (bind o go)
+  pub binds : {A : Type 0} (o : Option A) (go : A → FoundInText X) → ((a : A) → o ≡ Some a → Gives P (go a)) → Gives P (bind o go)
   binds None go h x r e = absurd (none-some (x, r) e)
   binds (Some a) go h x r e = h a refl x r e
 
-  pub chooses : {A : Type 0} (o : Option A) (go : A → Found X) (other : Found X) → ((a : A) → o ≡ Some a → Gives P (go a)) → Gives P other → Gives P (chosen o go other)
+  pub chooses : {A : Type 0} (o : Option A) (go : A → FoundInText X) (other : FoundInText X) → ((a : A) → o ≡ Some a → Gives P (go a)) → Gives P other → Gives P (chosen o go other)
   chooses None go other h k x r e = k x r e
   chooses (Some a) go other h k x r e = h a refl x r e
 
-  pub ors : (a b : Found X) → Gives P a → Gives P b → Gives P (or_else a b)
+  pub ors : (a b : FoundInText X) → Gives P a → Gives P b → Gives P (or_else a b)
   ors None b h k x r e = k x r e
   ors (Some a) b h k x r e = h x r e
 
@@ -42,24 +42,24 @@ module _ {X : Type 0} (P : X → Type 0) where
   pub saids : (w : List ℕ) (y : X) (t : List ℕ) → P y → Gives P (said w y t)
   saids w y t p = binds (strip w t) (λ r. Some (y, r)) (λ r e. somes y r p)
 
-  pub ases : {A : Type 0} (make : A → X) (f : Found A) → Gives (λ a. P (make a)) f → Gives P (as_ make f)
+  pub ases : {A : Type 0} (make : A → X) (f : FoundInText A) → Gives (λ a. P (make a)) f → Gives P (as_ make f)
   ases make f h = binds f (λ f. Some (make f.0, f.1)) (λ q e. somes (make q.0) q.1 (h q.0 q.1 e))
 
-  pub manies : (read : List ℕ → Found X) → ((t : List ℕ) → Gives P (read t)) → (k : ℕ) (t : List ℕ) → All P (many_within k read t).0
+  pub manies : (read : List ℕ → FoundInText X) → ((t : List ℕ) → Gives P (read t)) → (k : ℕ) (t : List ℕ) → All P (many_within k read t).0
   manies read each zero t = All-nil P
   manies read each (suc k) t = by (read t) refl (manies read each k)
     where
-      by : (o : Found X) → read t ≡ o → ((u : List ℕ) → All P (many_within k read u).0) → All P (many_within (suc k) read t).0
+      by : (o : FoundInText X) → read t ≡ o → ((u : List ℕ) → All P (many_within k read u).0) → All P (many_within (suc k) read t).0
       by None e deeper = rw e (All-nil P)
       by (Some f) e deeper = rw e (All-cons P f.0 (many_within k read f.1).0 (each t f.0 f.1 e) (deeper f.1))
 
-  pub commas : (read : List ℕ → Found X) → ((t : List ℕ) → Gives P (read t)) → (t : List ℕ) → Gives P (comma read t)
+  pub commas : (read : List ℕ → FoundInText X) → ((t : List ℕ) → Gives P (read t)) → (t : List ℕ) → Gives P (comma read t)
   commas read each t = binds (strip (codes ", ") t) read (λ r e. each r)
 
-  pub rows : (read : List ℕ → Found X) → ((t : List ℕ) → Gives P (read t)) → (t : List ℕ) → All P (row read t).0
+  pub rows : (read : List ℕ → FoundInText X) → ((t : List ℕ) → Gives P (read t)) → (t : List ℕ) → All P (row read t).0
   rows read each t = by (read t) refl
     where
-      by : (o : Found X) → read t ≡ o → All P (row_from read o t).0
+      by : (o : FoundInText X) → read t ≡ o → All P (row_from read o t).0
       by None e = All-nil P
       by (Some f) e = All-cons P f.0 (many (comma read) f.1).0 (each t f.0 f.1 e) (manies (comma read) (commas read each) (length f.1) f.1)
 

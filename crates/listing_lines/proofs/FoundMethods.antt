@@ -17,7 +17,7 @@ use Rattle.mir_ty.specs.AreItems.{AreTypes, IsMethod, IsSelfTy}
 use Rattle.mir_ty.specs.ItemTable.{ItemTable, type_at}
 use Rattle.mir_text.specs.Compared.{SigSeen, sig_seen}
 use Rattle.mir_text.specs.Reading.Rows.{many, many_within, comma}
-use Rattle.mir_text.specs.Reading.Words.{Found}
+use Rattle.mir_text.specs.Reading.Words.{FoundInText}
 use Rattle.mir_text.proofs.Reading.Basics.{Every}
 use Rattle.listing_types.specs.Table.{AreRead, Grow, WithTypes, under, text_under}
 use Rattle.listing_types.proofs.FoundRows.{map-append, then_grow, still_types}
@@ -44,15 +44,15 @@ pub begin_stays : (old new : ItemTable) → WithTypes old new → (n : ℕ) (par
 begin_stays old new others n [] h = absurd h
 begin_stays old new others n (id ∷ ids) h = self_stays old new others n id h
 
-pub method_found : (heads old new : ItemTable) (n : ℕ) (sig : Sig) (rest : Bor (List ℕ)) (name : List ℕ) (params : List TyId) (answer : TyId) (found : Found SigSeen) → AreRead heads old.types
+pub method_found : (heads old new : ItemTable) (n : ℕ) (sig : Sig) (rest : Bor (List ℕ)) (name : List ℕ) (params : List TyId) (answer : TyId) (found : FoundInText SigSeen) → AreRead heads old.types
     → AreTypes old.types params → BeginWithSelf old n params → Grow heads old new → answer.0 < length new.types → sig ≡ sig_of name params answer
     → found ≡ Some ((name, map (text_under heads old) params, text_under heads new answer), rest.now) → FindsMethod heads old new n (Ok (sig, rest)) found
 method_found heads old new n sig rest name params answer found read within own grow there made is =
     let types = texts_grown heads old new read grow.others params (every_from_all (λ (id : TyId). id.0 < length old.types) params within) in
     record {
       there =
-          is ∙ (λ i. let one : Found SigSeen = Some ((name, sym types i, text_under heads new answer), rest.now) in one)
-          ∙ ap (λ (s : Sig). let one : Found SigSeen = Some (sig_seen (under heads new) s, rest.now) in one) (sym made);
+          is ∙ (λ i. let one : FoundInText SigSeen = Some ((name, sym types i, text_under heads new answer), rest.now) in one)
+          ∙ ap (λ (s : Sig). let one : FoundInText SigSeen = Some (sig_seen (under heads new) s, rest.now) in one) (sym made);
       within =
           subst (IsMethod new.types n) (sym made)
           (record { head = record { params = still_types heads old new params grow within; answer = there }; receiver = begin_stays old new grow.others n params own });
@@ -78,15 +78,15 @@ self_given heads old mid new n true to (Ok id) grow inner text given = record {
 }
 
 -- parameters behind that of `self`
-pub params_found : (heads old new : ItemTable) (n : ℕ) (first : TyId) (others params : List TyId) (words : List (List ℕ)) (rest : Bor (List ℕ)) (found : Found (List (List ℕ))) → AreRead heads old.types
+pub params_found : (heads old new : ItemTable) (n : ℕ) (first : TyId) (others params : List TyId) (words : List (List ℕ)) (rest : Bor (List ℕ)) (found : FoundInText (List (List ℕ))) → AreRead heads old.types
     → first.0 < length old.types → IsSelfTy old.types n (slice_get old.types first.0) → Grow heads old new → AreTypes new.types others → map (text_under heads new) others ≡ words
     → params ≡ first ∷ others → found ≡ Some (text_under heads old first ∷ words, rest.now) → FindsParams heads old new n (Ok (params, rest)) found
 params_found heads old new n first others params words rest found read within own grow all same made is =
     let text = text_grown heads old new read grow.others first within in
     record {
       there =
-          is ∙ (λ i. let one : Found (List (List ℕ)) = Some (sym text i ∷ sym same i, rest.now) in one)
-          ∙ ap (λ (ids : List TyId). let one : Found (List (List ℕ)) = Some (map (text_under heads new) ids, rest.now) in one) (sym made);
+          is ∙ (λ i. let one : FoundInText (List (List ℕ)) = Some (sym text i ∷ sym same i, rest.now) in one)
+          ∙ ap (λ (ids : List TyId). let one : FoundInText (List (List ℕ)) = Some (map (text_under heads new) ids, rest.now) in one) (sym made);
       within =
           subst (AreTypes new.types) (sym made)
           (All-cons (λ (id : TyId). id.0 < length new.types) first others (let less = no_less old new grow.others in omega arith) all);
@@ -119,7 +119,7 @@ seen_grown heads old new n read grow (v ∷ vs) all =
 pub one_more_method : (types : List Ty) (n : ℕ) (methods : List Sig) (sig : Sig) → All (IsMethod types n) methods → IsMethod types n sig → All (IsMethod types n) (methods ++ sig ∷ [])
 one_more_method types n methods sig all one = All-append (IsMethod types n) methods (sig ∷ []) all (All-cons (IsMethod types n) sig [] one (All-nil (IsMethod types n)))
 
-module _ (heads : ItemTable) (n : ℕ) (read : List ℕ → Found SigSeen) where
+module _ (heads : ItemTable) (n : ℕ) (read : List ℕ → FoundInText SigSeen) where
   abbrev pub so_far : ItemTable → List Sig → List SigSeen × List ℕ → List SigSeen × List ℕ
   so_far items methods q = (map (sig_seen (under heads items)) methods ++ q.0, q.1)
 
@@ -154,7 +154,7 @@ module _ (heads : ItemTable) (n : ℕ) (read : List ℕ → Found SigSeen) where
   row_goes_on initial cur new fuel k before methods after sig rest behind found e left within grow more is pushed =
       let q : List SigSeen × List ℕ = many_within k read behind in
       let step : many_within fuel read rest ≡ (sig_seen (under heads new) sig ∷ q.0, q.1) =
-      ap (λ (n : ℕ). many_within n read rest) e ∙ ap (λ (f : Found SigSeen). Rattle.mir_text.specs.Reading.Rows.after f (many_within k read) rest) is in
+      ap (λ (n : ℕ). many_within n read rest) e ∙ ap (λ (f : FoundInText SigSeen). Rattle.mir_text.specs.Reading.Rows.after f (many_within k read) rest) is in
       ap (λ (vs : List Sig). so_far new vs q) pushed
       ∙ ap (λ (ws : List SigSeen). (ws ++ q.0, q.1)) (map-append (sig_seen (under heads new)) methods (sig ∷ []))
       ∙ ap (λ (ws : List SigSeen). (ws, q.1)) (append_assoc (map (sig_seen (under heads new)) methods) (sig_seen (under heads new) sig ∷ []) q.0)

@@ -11,7 +11,7 @@ use Rattle.mir_ty.specs.AreItems.{AreTypes, IsAdt, IsVariant}
 use Rattle.mir_ty.specs.ItemTable.{ItemTable}
 use Rattle.mir_text.specs.Compared.{VariantSeen, AdtSeen, variant_seen, adt_seen}
 use Rattle.mir_text.specs.Reading.Rows.{many, many_within, comma}
-use Rattle.mir_text.specs.Reading.Words.{Found}
+use Rattle.mir_text.specs.Reading.Words.{FoundInText}
 use Rattle.listing_types.specs.Table.{AreRead, Grow, under, text_under}
 use Rattle.listing_types.proofs.FoundRows.{map-append, then_grow, still_types}
 use Rattle.listing_types.proofs.Texts.{every_from_all, texts_grown}
@@ -26,21 +26,21 @@ length-first_names (suc k) = let less = length-first_names k in omega (arith, le
 pub is_variant : (types : List Ty) (name : List ℕ) (fields : List TyId) → AreTypes types fields → IsVariant types (variant_of name fields)
 is_variant types name fields within = record { fields = within; names = length-first_names (length fields) }
 
-pub variant_found : (heads old new : ItemTable) (variant : Variant) (rest : Bor (List ℕ)) (name : List ℕ) (fields : List TyId) (found : Found VariantSeen) → variant ≡ variant_of name fields
+pub variant_found : (heads old new : ItemTable) (variant : Variant) (rest : Bor (List ℕ)) (name : List ℕ) (fields : List TyId) (found : FoundInText VariantSeen) → variant ≡ variant_of name fields
     → found ≡ Some ((name, map (text_under heads new) fields), rest.now) → AreTypes new.types fields → Grow heads old new → FindsVariant heads old new (Ok (variant, rest)) found
 variant_found heads old new variant rest name fields found made is within grow = record {
-  there = is ∙ ap (λ (v : Variant). let one : Found VariantSeen = Some (variant_seen (under heads new) v, rest.now) in one) (sym made);
+  there = is ∙ ap (λ (v : Variant). let one : FoundInText VariantSeen = Some (variant_seen (under heads new) v, rest.now) in one) (sym made);
   within = subst (IsVariant new.types) (sym made) (is_variant new.types name fields within);
   missing = λ e. absurd (cc e);
   grow = grow;
 }
 
-pub struct_found : (heads old new : ItemTable) (adt : Adt) (rest : Bor (List ℕ)) (name : List ℕ) (fields : List TyId) (copy : Bool) (drop_body : Option ℕ) (found : Found AdtSeen)
+pub struct_found : (heads old new : ItemTable) (adt : Adt) (rest : Bor (List ℕ)) (name : List ℕ) (fields : List TyId) (copy : Bool) (drop_body : Option ℕ) (found : FoundInText AdtSeen)
     → adt ≡ struct_of name fields copy drop_body
     → found ≡ Some (record { is_enum = false; name = name; variants = (name, map (text_under heads new) fields) ∷ []; copy = copy; drop_body = drop_body }, rest.now)
     → AreTypes new.types fields → Grow heads old new → FindsAdt heads old new (Ok (adt, rest)) found
 struct_found heads old new adt rest name fields copy drop_body found made is within grow = record {
-  there = is ∙ ap (λ (a : Adt). let one : Found AdtSeen = Some (adt_seen (under heads new) a, rest.now) in one) (sym made);
+  there = is ∙ ap (λ (a : Adt). let one : FoundInText AdtSeen = Some (adt_seen (under heads new) a, rest.now) in one) (sym made);
   within =
       subst (IsAdt new.types) (sym made)
       (record {
@@ -68,7 +68,7 @@ seen_grown heads old new read grow (v ∷ vs) all =
 pub one_more_variant : (types : List Ty) (variants : List Variant) (variant : Variant) → All (IsVariant types) variants → IsVariant types variant → All (IsVariant types) (variants ++ variant ∷ [])
 one_more_variant types variants variant all one = All-append (IsVariant types) variants (variant ∷ []) all (All-cons (IsVariant types) variant [] one (All-nil (IsVariant types)))
 
-module _ (heads : ItemTable) (read : List ℕ → Found VariantSeen) where
+module _ (heads : ItemTable) (read : List ℕ → FoundInText VariantSeen) where
   abbrev pub so_far : ItemTable → List Variant → List VariantSeen × List ℕ → List VariantSeen × List ℕ
   so_far items variants q = (map (variant_seen (under heads items)) variants ++ q.0, q.1)
 
@@ -103,7 +103,7 @@ module _ (heads : ItemTable) (read : List ℕ → Found VariantSeen) where
   row_goes_on initial cur new fuel k before variants after variant rest behind found e left within grow more is pushed =
       let q : List VariantSeen × List ℕ = many_within k read behind in
       let step : many_within fuel read rest ≡ (variant_seen (under heads new) variant ∷ q.0, q.1) =
-      ap (λ (n : ℕ). many_within n read rest) e ∙ ap (λ (f : Found VariantSeen). Rattle.mir_text.specs.Reading.Rows.after f (many_within k read) rest) is in
+      ap (λ (n : ℕ). many_within n read rest) e ∙ ap (λ (f : FoundInText VariantSeen). Rattle.mir_text.specs.Reading.Rows.after f (many_within k read) rest) is in
       ap (λ (vs : List Variant). so_far new vs q) pushed
       ∙ ap (λ (ws : List VariantSeen). (ws ++ q.0, q.1)) (map-append (variant_seen (under heads new)) variants (variant ∷ []))
       ∙ ap (λ (ws : List VariantSeen). (ws, q.1)) (append_assoc (map (variant_seen (under heads new)) variants) (variant_seen (under heads new) variant ∷ []) q.0)

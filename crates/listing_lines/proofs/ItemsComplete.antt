@@ -12,7 +12,7 @@ use Rattle.mir_text.specs.Lines.{Tree, tree_text, trees_in_row, variant_words}
 use Rattle.mir_text.specs.Lists.{behind_commas, in_braces}
 use Rattle.mir_text.specs.Reading.Lines.{ended}
 use Rattle.mir_text.specs.Reading.Rows.{many_within, after, comma}
-use Rattle.mir_text.specs.Reading.Words.{Found, bind, chosen, as_, strip}
+use Rattle.mir_text.specs.Reading.Words.{FoundInText, bind, chosen, as_, strip}
 use Rattle.mir_text.proofs.Reading.Basics.{behind3, behind7}
 use Rattle.listing_types.specs.TypesFound.{EachStands}
 use Rattle.listing_types.proofs.Complete.{rows_read, not_true, name_all}
@@ -30,12 +30,12 @@ copy_reads false (Some body) r = refl
 
 drop_reads : (drop_body : Option ℕ) → IfSome drop_body Fits → (r : List ℕ) → drop_read (drop_text drop_body ++ (10 ∷ r)) ≡ Some (drop_body, 10 ∷ r)
 drop_reads None fits r = refl
-drop_reads (Some body) fits r = ap (λ (f : Found ℕ). as_ (λ (b : ℕ). Some b) f) (plain_read body (10 ∷ r) fits refl)
+drop_reads (Some body) fits r = ap (λ (f : FoundInText ℕ). as_ (λ (b : ℕ). Some b) f) (plain_read body (10 ∷ r) fits refl)
 
 marks_reads : (copy : Bool) (drop_body : Option ℕ) → IfSome drop_body Fits → (r : List ℕ) → marks_read (copy_text copy ++ (drop_text drop_body ++ (10 ∷ r))) ≡ Some ((copy, drop_body), r)
 marks_reads copy drop_body fits r =
     ap (λ (c : Bool × List ℕ). ended (marks_from c)) (copy_reads copy drop_body r)
-    ∙ ap (λ (f : Found (Option ℕ)). ended (as_ {Y = Bool × Option ℕ} (λ body. (copy, body)) f)) (drop_reads drop_body fits r)
+    ∙ ap (λ (f : FoundInText (Option ℕ)). ended (as_ {Y = Bool × Option ℕ} (λ body. (copy, body)) f)) (drop_reads drop_body fits r)
 
 -- names
 no_closure : (w name : List ℕ) → starts_with nat_eq name w ≡ false → strip w name ≡ None
@@ -52,12 +52,12 @@ adt_name_reads name r named utf =
     let (front, no_start) = and_parts (is_name name && not (is_among type_words name)) _ named in
     let no_word = not_true (is_among type_words name) (and_parts (is_name name) _ front).1 in
     let no_mark = no_closure (codes "closure#") name (not_true (starts_with nat_eq name (codes "closure#")) no_start) in
-    ap (λ (f : Found (List ℕ)). bind f adt_named) (name_reads name r (is_a_name name named) utf)
+    ap (λ (f : FoundInText (List ℕ)). bind f adt_named) (name_reads name r (is_a_name name named) utf)
     ∙ ap (λ (t : Bool). if t then None else chosen (strip (codes "closure#") name) (λ r. None) (blank_behind (name, codes " " ++ r))) no_word
     ∙ ap (λ (o : Option (List ℕ)). chosen o (λ r. None) (blank_behind (name, codes " " ++ r))) no_mark
 
 blank_name_reads : (name r : List ℕ) → is_name name ≡ true → is_utf8 name ≡ true → blank_name (name ++ (codes " " ++ r)) ≡ Some (name, r)
-blank_name_reads name r is utf = ap (λ (f : Found (List ℕ)). bind f blank_behind) (name_reads name r is utf)
+blank_name_reads name r is utf = ap (λ (f : FoundInText (List ℕ)). bind f blank_behind) (name_reads name r is utf)
 
 -- a struct
 struct_reads : (heads : ItemTable) (name : List ℕ) (fields : List Tree) (copy : Bool) (drop_body : Option ℕ) (r : List ℕ) → is_adt_name name ≡ true → is_utf8 name ≡ true → EachStands heads fields → IfSome drop_body Fits
@@ -65,8 +65,8 @@ struct_reads : (heads : ItemTable) (name : List ℕ) (fields : List Tree) (copy 
     ≡ Some (record { is_enum = false; name = name; variants = (name, map tree_text fields) ∷ []; copy = copy; drop_body = drop_body }, r)
 struct_reads heads name fields copy drop_body r named utf stand fits =
     let at_marks : List ℕ = copy_text copy ++ (drop_text drop_body ++ (10 ∷ r)) in
-    ap (λ (f : Found (List ℕ)). bind f (struct_from heads)) (adt_name_reads name (trees_in_row fields ++ at_marks) named utf)
-    ∙ ap (λ (f : Found (List (List ℕ))). bind f (λ fields. marked heads false name ((name, fields.0) ∷ [], fields.1))) (rows_read heads fields stand at_marks)
+    ap (λ (f : FoundInText (List ℕ)). bind f (struct_from heads)) (adt_name_reads name (trees_in_row fields ++ at_marks) named utf)
+    ∙ ap (λ (f : FoundInText (List (List ℕ))). bind f (λ fields. marked heads false name ((name, fields.0) ∷ [], fields.1))) (rows_read heads fields stand at_marks)
     ∙ ap (as_ {Y = AdtSeen} (λ (marks : Bool × Option ℕ). record { is_enum = false; name = name; variants = (name, map tree_text fields) ∷ []; copy = marks.0; drop_body = marks.1 })) (marks_reads copy drop_body fits r)
 
 pub structs_read : StructsAreRead
@@ -84,7 +84,7 @@ module _ (heads : ItemTable) where
   variant_reads : (v : List ℕ × List Tree) → Fine v → (r : List ℕ) → variant_read heads (variant_words v ++ r) ≡ Some (found_variant v, r)
   variant_reads v fine r =
       ap (variant_read heads) (behind3 v.0 (codes " ") (trees_in_row v.1) r)
-      ∙ ap (λ (f : Found (List ℕ)). bind f (variant_from heads)) (blank_name_reads v.0 (trees_in_row v.1 ++ r) fine.0 fine.1)
+      ∙ ap (λ (f : FoundInText (List ℕ)). bind f (variant_from heads)) (blank_name_reads v.0 (trees_in_row v.1 ++ r) fine.0 fine.1)
       ∙ ap (as_ {Y = VariantSeen} (λ (types : List (List ℕ)). (v.0, types))) (rows_read heads v.1 fine.2 r)
 
   more_read : (vs : List (List ℕ × List Tree)) → VariantsStand heads vs → (fuel : ℕ) (r : List ℕ) → length (behind_commas (map variant_words vs) ++ (codes " }" ++ r)) ≤ fuel
@@ -98,7 +98,7 @@ module _ (heads : ItemTable) where
       let rest : List ℕ = more ++ (codes " }" ++ r) in
       let split : ((codes ", " ++ w) ++ more) ++ (codes " }" ++ r) ≡ codes ", " ++ (w ++ rest) = append_assoc (codes ", " ++ w) more (codes " }" ++ r) in
       ap (many_within (suc fuel) (comma (variant_read heads))) split
-      ∙ ap (λ (f : Found VariantSeen). after f (many_within fuel (comma (variant_read heads))) (codes ", " ++ (w ++ rest))) (variant_reads v fine.0 rest)
+      ∙ ap (λ (f : FoundInText VariantSeen). after f (many_within fuel (comma (variant_read heads))) (codes ", " ++ (w ++ rest))) (variant_reads v fine.0 rest)
       ∙ ap (λ (q : List VariantSeen × List ℕ). (found_variant v ∷ q.0, q.1)) (more_read vs fine.1 fuel r (omega (arith, le, ap length split, length-append w rest)))
 
   braces_read : (vs : List (List ℕ × List Tree)) → VariantsStand heads vs → (r : List ℕ) → variants_read heads (in_braces (map variant_words vs) ++ r) ≡ Some (map found_variant vs, r)
@@ -111,10 +111,10 @@ module _ (heads : ItemTable) where
       append_assoc (codes "{ " ++ (w ++ more)) (codes " }") r ∙ ap (λ (x : List ℕ). codes "{ " ++ x) (append_assoc w more (codes " }" ++ r)) in
       ap (variants_read heads) split
       ∙ ap (λ (o : Option (List ℕ)). chosen o (λ r. Some ([], r)) (variants_behind heads (w ++ rest))) (no_brace v.0 v.1 fine.0.0 rest)
-      ∙ ap (λ (f : Found VariantSeen). bind (bind f (with_more heads)) closed_braces_) (variant_reads v fine.0 rest)
+      ∙ ap (λ (f : FoundInText VariantSeen). bind (bind f (with_more heads)) closed_braces_) (variant_reads v fine.0 rest)
       ∙ ap (λ (q : List VariantSeen × List ℕ). closed_braces_ (found_variant v ∷ q.0, q.1)) (more_read vs fine.1 (length rest) r (omega arith))
     where
-      closed_braces_ : List VariantSeen × List ℕ → Found (List VariantSeen)
+      closed_braces_ : List VariantSeen × List ℕ → FoundInText (List VariantSeen)
       closed_braces_ = closed_braces heads
 
       no_brace : (name : List ℕ) (types : List Tree) → is_name name ≡ true → (t : List ℕ) → strip (codes "{ }") (codes "{ " ++ (variant_words (name, types) ++ t)) ≡ None
@@ -130,6 +130,6 @@ enums_read heads name variants copy drop_body r named utf stand fits =
     let row : List ℕ = in_braces (map variant_words variants) in
     let at_marks : List ℕ = copy_text copy ++ (drop_text drop_body ++ (10 ∷ r)) in
     ap (adt_read heads) (behind7 (codes "enum ") name (codes " ") row (copy_text copy) (drop_text drop_body) (10 ∷ []) r)
-    ∙ ap (λ (f : Found (List ℕ)). bind f (enum_from heads)) (adt_name_reads name (row ++ at_marks) named utf)
-    ∙ ap (λ (f : Found (List VariantSeen)). bind f (marked heads true name)) (braces_read heads variants stand at_marks)
+    ∙ ap (λ (f : FoundInText (List ℕ)). bind f (enum_from heads)) (adt_name_reads name (row ++ at_marks) named utf)
+    ∙ ap (λ (f : FoundInText (List VariantSeen)). bind f (marked heads true name)) (braces_read heads variants stand at_marks)
     ∙ ap (as_ {Y = AdtSeen} (λ (marks : Bool × Option ℕ). record { is_enum = true; name = name; variants = map found_variant variants; copy = marks.0; drop_body = marks.1 })) (marks_reads copy drop_body fits r)

@@ -12,7 +12,7 @@ use Rattle.mir_text.specs.Fields.{Fits}
 use Rattle.mir_text.specs.Items.{copy_text, drop_text}
 use Rattle.mir_text.specs.Lists.{behind_commas, in_braces, in_parentheses, line}
 use Rattle.mir_text.specs.Reading.Rows.{many, many_within, comma}
-use Rattle.mir_text.specs.Reading.Words.{Found, bind, chosen, as_, strip}
+use Rattle.mir_text.specs.Reading.Words.{FoundInText, bind, chosen, as_, strip}
 use Rattle.mir_text.proofs.Reading.Basics.{behind3, behind7}
 use Rattle.listing_parts.proofs.LineByLine.{strip_sound}
 use Rattle.listing_types.specs.TypeReading.{plain_number, types_read}
@@ -35,7 +35,7 @@ drop_sound : (t : List ℕ) (body : Option ℕ) (r : List ℕ) → drop_read t �
 drop_sound t body r h = by (either (strip (codes " drop ") t) (λ t. as_ (λ body. Some body) (plain_number t)) (Some (None, t)) (body, r) h)
   where
     by : ((u : List ℕ) × (strip (codes " drop ") t ≡ Some u) × (as_ (λ (body : ℕ). Some body) (plain_number u) ≡ Some (body, r)))
-        ⊎ ((strip (codes " drop ") t ≡ None) × (◌≡◌ {A = Found (Option ℕ)} (Some (None, t)) (Some (body, r)))) → (t ≡ drop_text body ++ r) × IfSome body Fits
+        ⊎ ((strip (codes " drop ") t ≡ None) × (◌≡◌ {A = FoundInText (Option ℕ)} (Some (None, t)) (Some (body, r)))) → (t ≡ drop_text body ++ r) × IfSome body Fits
     by (inl d) =
         let (n, found, own) = as_sound (λ (body : ℕ). Some body) (plain_number d.0) body r d.2 in
         let (is, fits) = plain_sound d.0 n r found in (
@@ -108,10 +108,10 @@ module _ (heads : ItemTable) where
   more_sound zero t = refl
   more_sound (suc k) t = by (comma (variant_read heads) t) refl (more_sound k)
     where
-      read : List ℕ → Found VariantSeen
+      read : List ℕ → FoundInText VariantSeen
       read = comma (variant_read heads)
 
-      by : (o : Found VariantSeen) → read t ≡ o → ((u : List ℕ) → u ≡ behind_commas (map written_variant (many_within k read u).0) ++ (many_within k read u).1)
+      by : (o : FoundInText VariantSeen) → read t ≡ o → ((u : List ℕ) → u ≡ behind_commas (map written_variant (many_within k read u).0) ++ (many_within k read u).1)
           → t ≡ behind_commas (map written_variant (many_within (suc k) read t).0) ++ (many_within (suc k) read t).1
       by None e deeper = rw e refl
       by (Some f) e deeper =
@@ -122,7 +122,7 @@ module _ (heads : ItemTable) where
   braces_sound : (t : List ℕ) (vs : List VariantSeen) (r : List ℕ) → variants_read heads t ≡ Some (vs, r) → t ≡ in_braces (map written_variant vs) ++ r
   braces_sound t vs r h = by (either (strip (codes "{ }") t) (λ r. Some ([], r)) (bind (strip (codes "{ ") t) (variants_behind heads)) (vs, r) h)
     where
-      by : ((u : List ℕ) × (strip (codes "{ }") t ≡ Some u) × (◌≡◌ {A = Found (List VariantSeen)} (Some ([], u)) (Some (vs, r))))
+      by : ((u : List ℕ) × (strip (codes "{ }") t ≡ Some u) × (◌≡◌ {A = FoundInText (List VariantSeen)} (Some ([], u)) (Some (vs, r))))
           ⊎ ((strip (codes "{ }") t ≡ None) × (bind (strip (codes "{ ") t) (variants_behind heads) ≡ Some (vs, r))) → t ≡ in_braces (map written_variant vs) ++ r
       by (inl none) =
           let (own, behind) = same_found [] none.0 vs r none.2 in

@@ -16,7 +16,7 @@ use Rattle.mir_text.specs.Lists.{in_parentheses}
 use Rattle.mir_text.specs.Listing.{kind_word}
 use Rattle.mir_text.specs.Reading.Lines.{ended}
 use Rattle.mir_text.specs.Reading.Rows.{many, many_within}
-use Rattle.mir_text.specs.Reading.Words.{Found, bind, or_else, as_, said, strip, span}
+use Rattle.mir_text.specs.Reading.Words.{FoundInText, bind, or_else, as_, said, strip, span}
 use Rattle.mir_text.specs.Types.{trait_name, name_of_trait}
 use Rattle.mir_text.proofs.Reading.Basics.{behind7}
 use Rattle.listing_parts.specs.Numbers.{adt_no, trait_no}
@@ -41,14 +41,14 @@ due_sound n t r h =
         at true e h = (plain_sound t m s found).0 ∙ (λ i. decimal (eqb-true m n e i) ++ same_Some s r h i)
         at false e h = absurd (none-some r h)
 
-pub ended_sound : {X : Type 0} (f : Found X) (x : X) (r : List ℕ) → ended f ≡ Some (x, r) → (s : List ℕ) × (f ≡ Some (x, s)) × (s ≡ 10 ∷ r)
+pub ended_sound : {X : Type 0} (f : FoundInText X) (x : X) (r : List ℕ) → ended f ≡ Some (x, r) → (s : List ℕ) × (f ≡ Some (x, s)) × (s ≡ 10 ∷ r)
 ended_sound f x r h =
     let (g, found, more) = split f (λ f. bind (strip (10 ∷ []) f.1) (λ r. Some (f.0, r))) (x, r) h in
     let (u, feed, last) = split (strip (10 ∷ []) g.1) (λ r. Some (g.0, r)) (x, r) more in
     let (own, behind) = same_found g.0 u x r last in
     (g.1, found ∙ (λ i. Some (own i, g.1)), strip_sound (10 ∷ []) g.1 u feed ∙ ap (λ (y : List ℕ). 10 ∷ y) behind)
 
-pub as_sound : {X Y : Type 0} (make : X → Y) (f : Found X) (y : Y) (r : List ℕ) → as_ make f ≡ Some (y, r) → (x : X) × (f ≡ Some (x, r)) × (make x ≡ y)
+pub as_sound : {X Y : Type 0} (make : X → Y) (f : FoundInText X) (y : Y) (r : List ℕ) → as_ make f ≡ Some (y, r) → (x : X) × (f ≡ Some (x, r)) × (make x ≡ y)
 as_sound make f y r h =
     let (g, found, last) = split f (λ f. Some (make f.0, f.1)) (y, r) h in
     let (own, behind) = same_found (make g.0) g.1 y r last in
@@ -60,7 +60,7 @@ name_sound t name r h = by (span stands_in_names t) (span_parts stands_in_names 
     by : (q : List ℕ × List ℕ) → t ≡ q.0 ++ q.1 → list_all stands_in_names q.0 ≡ true → named q ≡ Some (name, r) → (t ≡ name ++ r) × (is_name name ≡ true) × (is_utf8 name ≡ true)
     by (w, s) parts all h = at (nat_lt 0 (length w) && is_utf8 w) refl h
       where
-        whole : Found (List ℕ)
+        whole : FoundInText (List ℕ)
         whole = Some (w, s)
 
         at : (v : Bool) → (nat_lt 0 (length w) && is_utf8 w) ≡ v → (if v then whole else None) ≡ Some (name, r) → (t ≡ name ++ r) × (is_name name ≡ true) × (is_utf8 name ≡ true)
@@ -167,7 +167,7 @@ numbers_sound : (k : ℕ) (t : List ℕ) → t ≡ flat_map (λ n. codes " " ++ 
 numbers_sound zero t = refl
 numbers_sound (suc k) t = by (blank_number t) refl (numbers_sound k)
   where
-    by : (o : Found ℕ) → blank_number t ≡ o → ((u : List ℕ) → u ≡ flat_map (λ n. codes " " ++ decimal n) (many_within k blank_number u).0 ++ (many_within k blank_number u).1)
+    by : (o : FoundInText ℕ) → blank_number t ≡ o → ((u : List ℕ) → u ≡ flat_map (λ n. codes " " ++ decimal n) (many_within k blank_number u).0 ++ (many_within k blank_number u).1)
         → t ≡ flat_map (λ n. codes " " ++ decimal n) (many_within (suc k) blank_number t).0 ++ (many_within (suc k) blank_number t).1
     by None e deeper = rw e refl
     by (Some f) e deeper =

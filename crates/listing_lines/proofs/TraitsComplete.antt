@@ -10,7 +10,7 @@ use Rattle.mir_text.specs.Lines.{Tree, tree_text, trees_in_row, method_words}
 use Rattle.mir_text.specs.Lists.{behind_commas, in_braces}
 use Rattle.mir_text.specs.Reading.Lines.{ended}
 use Rattle.mir_text.specs.Reading.Rows.{many_within, after, comma}
-use Rattle.mir_text.specs.Reading.Words.{Found, bind, chosen, as_, strip}
+use Rattle.mir_text.specs.Reading.Words.{FoundInText, bind, chosen, as_, strip}
 use Rattle.mir_text.specs.Types.{trait_name, name_of_trait}
 use Rattle.mir_text.proofs.Reading.Basics.{stops, span_run, behind5}
 use Rattle.mir_text.proofs.Reading.Listed.{same_as_itself}
@@ -24,7 +24,7 @@ use Rattle.listing_lines.specs.TraitReading.{self_text, own_from, own_read, self
 use Rattle.listing_lines.specs.TraitsFound.{ParamsStand, MethodStands, MethodsStand, found_method, TraitsAreRead}
 
 blank_name_reads : (name r : List ℕ) → is_name name ≡ true → is_utf8 name ≡ true → blank_name (name ++ (codes " " ++ r)) ≡ Some (name, r)
-blank_name_reads name r is utf = ap (λ (f : Found (List ℕ)). bind f blank_behind) (name_reads name r is utf)
+blank_name_reads name r is utf = ap (λ (f : FoundInText (List ℕ)). bind f blank_behind) (name_reads name r is utf)
 
 own_reads : (name r : List ℕ) → is_name name ≡ true → stops stands_in_names r ≡ true → own_read name (name ++ r) ≡ Some r
 own_reads name r is s =
@@ -62,9 +62,9 @@ module _ (heads : ItemTable) where
       let split : (codes "(" ++ (tree_text first ++ more) ++ codes ")") ++ r ≡ codes "(" ++ (self ++ rest) =
       append_assoc (codes "(" ++ (tree_text first ++ more)) (codes ")") r ∙ ap (λ (x : List ℕ). codes "(" ++ x) (append_assoc (tree_text first) more (codes ")" ++ r) ∙ ap (λ (x : List ℕ). x ++ rest) stand.0.1) in
       ap (params_read heads name) split
-      ∙ ap (λ (f : Found Bool). bind f (params_from heads name)) (self_reads unique name rest is (stops_behind others r))
+      ∙ ap (λ (f : FoundInText Bool). bind f (params_from heads name)) (self_reads unique name rest is (stops_behind others r))
       ∙ ap (closed_params self) (more_reads others stand.1 r)
-      ∙ ap (λ (w : List ℕ). let one : Found (List (List ℕ)) = Some (w ∷ map tree_text others, r) in one) (sym stand.0.1)
+      ∙ ap (λ (w : List ℕ). let one : FoundInText (List (List ℕ)) = Some (w ∷ map tree_text others, r) in one) (sym stand.0.1)
 
   module _ (name : List ℕ) (is : is_name name ≡ true) where
     method_reads : (m : List ℕ × List Tree × Tree) → MethodStands heads name m → (r : List ℕ) → closes r ≡ true → method_read heads name (method_words m ++ r) ≡ Some (found_method m, r)
@@ -72,8 +72,8 @@ module _ (heads : ItemTable) where
         let row : List ℕ = trees_in_row m.1 in
         let at_result : List ℕ = tree_text m.2 ++ r in
         ap (method_read heads name) (behind5 m.0 (codes " ") row (codes " ") (tree_text m.2) r)
-        ∙ ap (λ (f : Found (List ℕ)). bind f (method_from heads name)) (blank_name_reads m.0 (row ++ (codes " " ++ at_result)) stands.named stands.utf8)
-        ∙ ap (λ (f : Found (List (List ℕ))). bind f (result_from heads m.0)) (params_reads name m.1 (codes " " ++ at_result) is stands.params)
+        ∙ ap (λ (f : FoundInText (List ℕ)). bind f (method_from heads name)) (blank_name_reads m.0 (row ++ (codes " " ++ at_result)) stands.named stands.utf8)
+        ∙ ap (λ (f : FoundInText (List (List ℕ))). bind f (result_from heads m.0)) (params_reads name m.1 (codes " " ++ at_result) is stands.params)
         ∙ ap (as_ {Y = SigSeen} (λ (w : List ℕ). (m.0, map tree_text m.1, w))) (type_reads heads m.2 stands.answer r c)
 
     closes_more : (ms : List (List ℕ × List Tree × Tree)) (r : List ℕ) → closes (behind_commas (map method_words ms) ++ (codes " }" ++ r)) ≡ true
@@ -91,7 +91,7 @@ module _ (heads : ItemTable) where
         let rest : List ℕ = more ++ (codes " }" ++ r) in
         let split : ((codes ", " ++ w) ++ more) ++ (codes " }" ++ r) ≡ codes ", " ++ (w ++ rest) = append_assoc (codes ", " ++ w) more (codes " }" ++ r) in
         ap (many_within (suc fuel) (comma (method_read heads name))) split
-        ∙ ap (λ (f : Found SigSeen). after f (many_within fuel (comma (method_read heads name))) (codes ", " ++ (w ++ rest))) (method_reads m fine.0 rest (closes_more ms r))
+        ∙ ap (λ (f : FoundInText SigSeen). after f (many_within fuel (comma (method_read heads name))) (codes ", " ++ (w ++ rest))) (method_reads m fine.0 rest (closes_more ms r))
         ∙ ap (λ (q : List SigSeen × List ℕ). (found_method m ∷ q.0, q.1)) (more_methods_read ms fine.1 fuel r (omega (arith, le, ap length split, length-append w rest)))
 
     no_brace : (m : List ℕ) (types : List Tree) (answer : Tree) → is_name m ≡ true → (t : List ℕ) → strip (codes "{ }") (codes "{ " ++ (method_words (m, types, answer) ++ t)) ≡ None
@@ -112,7 +112,7 @@ module _ (heads : ItemTable) where
         append_assoc (codes "{ " ++ (w ++ more)) (codes " }") r ∙ ap (λ (x : List ℕ). codes "{ " ++ x) (append_assoc w more (codes " }" ++ r)) in
         ap (methods_read heads name) split
         ∙ ap (λ (o : Option (List ℕ)). chosen o (λ r. Some ([], r)) (methods_behind heads name (w ++ rest))) (no_brace m.0 m.1 m.2 fine.0.named rest)
-        ∙ ap (λ (f : Found SigSeen). bind (bind f (with_more heads name)) (closed_braces heads name)) (method_reads m fine.0 rest (closes_more ms r))
+        ∙ ap (λ (f : FoundInText SigSeen). bind (bind f (with_more heads name)) (closed_braces heads name)) (method_reads m fine.0 rest (closes_more ms r))
         ∙ ap (λ (q : List SigSeen × List ℕ). closed_braces heads name (found_method m ∷ q.0, q.1)) (more_methods_read ms fine.1 (length rest) r (omega arith))
 
 pub traits_read : TraitsAreRead
@@ -125,6 +125,6 @@ traits_read heads n methods r there is utf stand =
     let head : own_head_from heads n (name, at_row) ≡ Some (name, at_row) =
     ap (λ (o : Option TraitDef). bind o (λ def. if same_name name def.name then Some (name, at_row) else None)) at ∙ ap (λ (t : Bool). if t then Some (name, at_row) else None) same in
     ap (trait_read heads n) (behind5 (codes "trait ") name (codes " ") row (10 ∷ []) r)
-    ∙ ap (λ (f : Found (List ℕ)). bind (bind f (own_head_from heads n)) (λ name. trait_from heads name.0 name.1)) (blank_name_reads name at_row is utf)
-    ∙ ap (λ (f : Found (List ℕ)). bind f (λ name. trait_from heads name.0 name.1)) head
-    ∙ ap (λ (f : Found (List SigSeen)). as_ {Y = List ℕ × List SigSeen} (λ methods. (name, methods)) (ended f)) (braces_read heads name is methods stand (10 ∷ r))
+    ∙ ap (λ (f : FoundInText (List ℕ)). bind (bind f (own_head_from heads n)) (λ name. trait_from heads name.0 name.1)) (blank_name_reads name at_row is utf)
+    ∙ ap (λ (f : FoundInText (List ℕ)). bind f (λ name. trait_from heads name.0 name.1)) head
+    ∙ ap (λ (f : FoundInText (List SigSeen)). as_ {Y = List ℕ × List SigSeen} (λ methods. (name, methods)) (ended f)) (braces_read heads name is methods stand (10 ∷ r))

@@ -9,7 +9,7 @@ use Rattle.mir_text.specs.Compared.{SigSeen}
 use Rattle.mir_text.specs.Lists.{behind_commas, in_braces, in_parentheses}
 use Rattle.mir_text.specs.Reading.Lines.{ended}
 use Rattle.mir_text.specs.Reading.Rows.{many, many_within, comma}
-use Rattle.mir_text.specs.Reading.Words.{Found, bind, as_, said, strip, span}
+use Rattle.mir_text.specs.Reading.Words.{FoundInText, bind, as_, said, strip, span}
 use Rattle.mir_text.specs.Types.{trait_name, name_of_trait}
 use Rattle.mir_text.proofs.Reading.Basics.{behind5}
 use Rattle.listing_parts.proofs.LineByLine.{strip_sound}
@@ -97,10 +97,10 @@ module _ (heads : ItemTable) (name : List ℕ) where
   more_sound zero t = refl
   more_sound (suc k) t = by (comma (method_read heads name) t) refl (more_sound k)
     where
-      read : List ℕ → Found SigSeen
+      read : List ℕ → FoundInText SigSeen
       read = comma (method_read heads name)
 
-      by : (o : Found SigSeen) → read t ≡ o → ((u : List ℕ) → u ≡ behind_commas (map written_method (many_within k read u).0) ++ (many_within k read u).1)
+      by : (o : FoundInText SigSeen) → read t ≡ o → ((u : List ℕ) → u ≡ behind_commas (map written_method (many_within k read u).0) ++ (many_within k read u).1)
           → t ≡ behind_commas (map written_method (many_within (suc k) read t).0) ++ (many_within (suc k) read t).1
       by None e deeper = rw e refl
       by (Some f) e deeper =
@@ -111,7 +111,7 @@ module _ (heads : ItemTable) (name : List ℕ) where
   braces_sound : (t : List ℕ) (ms : List SigSeen) (r : List ℕ) → methods_read heads name t ≡ Some (ms, r) → t ≡ in_braces (map written_method ms) ++ r
   braces_sound t ms r h = by (either (strip (codes "{ }") t) (λ r. Some ([], r)) (bind (strip (codes "{ ") t) (methods_behind heads name)) (ms, r) h)
     where
-      by : ((u : List ℕ) × (strip (codes "{ }") t ≡ Some u) × (◌≡◌ {A = Found (List SigSeen)} (Some ([], u)) (Some (ms, r))))
+      by : ((u : List ℕ) × (strip (codes "{ }") t ≡ Some u) × (◌≡◌ {A = FoundInText (List SigSeen)} (Some ([], u)) (Some (ms, r))))
           ⊎ ((strip (codes "{ }") t ≡ None) × (bind (strip (codes "{ ") t) (methods_behind heads name) ≡ Some (ms, r))) → t ≡ in_braces (map written_method ms) ++ r
       by (inl none) =
           let (own, behind) = same_found [] none.0 ms r none.2 in

@@ -8,7 +8,7 @@ use Rattle.cfg_graph.specs.declared.terminator.Term.{Term}
 use Rattle.mir_text.specs.Parts.{stmt_text, term_text}
 use Rattle.mir_text.specs.Reading.Lines.{stmt_read, term_read}
 use Rattle.mir_text.specs.Reading.Rows.{many}
-use Rattle.mir_text.specs.Reading.Words.{Found, bind}
+use Rattle.mir_text.specs.Reading.Words.{FoundInText, bind}
 use Rattle.listing_lines.specs.LineReading.{block_read}
 use Rattle.listing_parts.specs.LinesFound.{behind_line}
 use Rattle.listing_parts.specs.Numbers.{adt_no, trait_no}
@@ -32,20 +32,20 @@ module _ (heads : ItemTable) where
   behind_term t term = if names_term heads term then behind_line (term_text heads term) t else None
 
   -- a statement, and a terminator, that is read and writes the line in front
-  abbrev pub stmt_from : List ℕ → Stmt × List ℕ → Found Stmt
+  abbrev pub stmt_from : List ℕ → Stmt × List ℕ → FoundInText Stmt
   stmt_from t f = bind (behind_stmt t f.0) (λ r. Some (f.0, r))
 
-  abbrev pub term_from : List ℕ → Term × List ℕ → Found Term
+  abbrev pub term_from : List ℕ → Term × List ℕ → FoundInText Term
   term_from t f = bind (behind_term t f.0) (λ r. Some (f.0, r))
 
-  abbrev pub statement_read : List ℕ → Found Stmt
+  abbrev pub statement_read : List ℕ → FoundInText Stmt
   statement_read t = bind (stmt_read (adt_no heads) (trait_no heads) t) (stmt_from t)
 
-  abbrev pub terminator_read : List ℕ → Found Term
+  abbrev pub terminator_read : List ℕ → FoundInText Term
   terminator_read t = bind (term_read (adt_no heads) (trait_no heads) t) (term_from t)
 
 -- a block, and whether its terminator was found; where it was not, it is closed by a `return`
-abbrev pub closed : Kind × ℕ → List Stmt → List ℕ → Found Term → (Block × Bool) × List ℕ
+abbrev pub closed : Kind × ℕ → List Stmt → List ℕ → FoundInText Term → (Block × Bool) × List ℕ
 closed head stmts t None =
     ((record { kind = head.0; rank = head.1; stmts = stmts; term = Term.Return }, false), t)
 closed head stmts t (Some term) =
@@ -56,22 +56,23 @@ module _ (heads : ItemTable) where
   code_behind head stmts = closed head stmts.0 stmts.1 (terminator_read heads stmts.1)
 
   -- the line of the block with a number, its statements and its terminator
-  abbrev pub code_read : ℕ → List ℕ → Found (Block × Bool)
+  abbrev pub code_read : ℕ → List ℕ → FoundInText (Block × Bool)
   code_read n t = bind (block_read n t) (λ head. Some (code_behind head.0 (many (statement_read heads) head.1)))
 
 -- things with the numbers that are due, one behind the other, until one is broken off; and whether none was
-abbrev pub goes_on : {X : Type 0} → Found (X × Bool) → (List ℕ → (List X × Bool) × List ℕ) → List ℕ →
+abbrev pub goes_on : {X : Type 0} → FoundInText (X × Bool) → (List ℕ → (List X × Bool) × List ℕ) → List ℕ →
     (List X × Bool) × List ℕ
 goes_on None more t = (([], true), t)
 goes_on (Some ((x, false), r)) more t = ((x ∷ [], false), r)
 goes_on (Some ((x, true), r)) more t = ((x ∷ (more r).0.0, (more r).0.1), (more r).1)
 
-abbrev pub until_within : {X : Type 0} → ℕ → (ℕ → List ℕ → Found (X × Bool)) → ℕ → List ℕ → (List X × Bool) × List ℕ
+abbrev pub until_within : {X : Type 0} → ℕ → (ℕ → List ℕ → FoundInText (X × Bool)) → ℕ → List ℕ →
+    (List X × Bool) × List ℕ
 until_within zero read n t = (([], true), t)
 until_within (suc k) read n t = goes_on (read n t) (until_within k read (suc n)) t
 
 -- each has a byte, so there are no more than bytes
-abbrev pub until_broken : {X : Type 0} → (ℕ → List ℕ → Found (X × Bool)) → List ℕ → (List X × Bool) × List ℕ
+abbrev pub until_broken : {X : Type 0} → (ℕ → List ℕ → FoundInText (X × Bool)) → List ℕ → (List X × Bool) × List ℕ
 until_broken read t = until_within (length t) read 0 t
 
 -- the blocks of a body

@@ -8,13 +8,13 @@ use Rattle.mir_ty.specs.declared.ty.TyId.{TyId}
 use Rattle.mir_ty.specs.AreItems.{IsAdt, IsVariant}
 use Rattle.mir_ty.specs.ItemTable.{ItemTable}
 use Rattle.mir_text.specs.Compared.{AdtSeen, VariantSeen, adt_seen, variant_seen}
-use Rattle.mir_text.specs.Reading.Words.{Found}
+use Rattle.mir_text.specs.Reading.Words.{FoundInText}
 use Rattle.listing_parts.specs.declared.error.ReadError.{ReadError}
 use Rattle.listing_types.specs.Table.{Grow, under}
 use Rattle.listing_lines.specs.ItemReading.{first_names}
 
 -- a name, and the text behind it
-abbrev pub seen_name : Option (Bor (List ℕ) × Bor (List ℕ)) → Found (List ℕ)
+abbrev pub seen_name : Option (Bor (List ℕ) × Bor (List ℕ)) → FoundInText (List ℕ)
 seen_name found = option_map (λ f. (f.0.now, f.1.now)) found
 
 -- a variant whose fields have the names 0, 1 and so on
@@ -31,7 +31,7 @@ enum_of name variants copy drop_body =
 
 -- the variant that was found has its types in the new items, where they are written so
 pub record FindsVariant (heads old new : ItemTable) (result : Result (Variant × Bor (List ℕ)) ReadError)
-    (found : Found VariantSeen) : Type 0 where
+    (found : FoundInText VariantSeen) : Type 0 where
   pub there : IfOk result (λ f. found ≡ Some (variant_seen (under heads new) f.0, f.1.now))
   pub within : IfOk result (λ f. IsVariant new.types f.0)
   pub missing : result ≡ Err ReadError.Unreadable → found ≡ None
@@ -47,7 +47,7 @@ pub record FindsMore (heads old new : ItemTable) (before after : List Variant) (
   pub grow : Grow heads old new
 
 pub record FindsVariants (heads old new : ItemTable) (result : Result (List Variant × Bor (List ℕ)) ReadError)
-    (found : Found (List VariantSeen)) : Type 0 where
+    (found : FoundInText (List VariantSeen)) : Type 0 where
   pub there : IfOk result (λ f. found ≡ Some (map (variant_seen (under heads new)) f.0, f.1.now))
   pub within : IfOk result (λ f. All (IsVariant new.types) f.0)
   pub missing : result ≡ Err ReadError.Unreadable → found ≡ None
@@ -55,7 +55,7 @@ pub record FindsVariants (heads old new : ItemTable) (result : Result (List Vari
 
 -- and the struct or enum
 pub record FindsAdt (heads old new : ItemTable) (result : Result (Adt × Bor (List ℕ)) ReadError)
-    (found : Found AdtSeen) : Type 0 where
+    (found : FoundInText AdtSeen) : Type 0 where
   pub there : IfOk result (λ f. found ≡ Some (adt_seen (under heads new) f.0, f.1.now))
   pub within : IfOk result (λ f. IsAdt new.types f.0)
   pub missing : result ≡ Err ReadError.Unreadable → found ≡ None

@@ -4,17 +4,17 @@ use Rattle.std.specs.Borrow.{Bor}
 use Rattle.mir_ty.specs.declared.def.ClosureDef.{ClosureDef}
 use Rattle.mir_ty.specs.AreItems.{AreTypes}
 use Rattle.mir_ty.specs.ItemTable.{ItemTable}
-use Rattle.mir_text.specs.Reading.Words.{Found}
+use Rattle.mir_text.specs.Reading.Words.{FoundInText}
 use Rattle.listing_parts.specs.declared.error.ReadError.{ReadError}
 use Rattle.listing_types.specs.Table.{Grow, text_under}
 
 -- a name and a number, and the text behind them
-abbrev pub seen_named : Option ((Bor (List ℕ) × ℕ) × Bor (List ℕ)) → Found (List ℕ × ℕ)
+abbrev pub seen_named : Option ((Bor (List ℕ) × ℕ) × Bor (List ℕ)) → FoundInText (List ℕ × ℕ)
 seen_named found = option_map (λ f. ((f.0.0.now, f.0.1), f.1.now)) found
 
 -- the closure that was found, with captures that stand in the new items and are written so
 pub record FindsClosure (heads old new : ItemTable) (result : Result (ClosureDef × Bor (List ℕ)) ReadError)
-    (found : Found (List (List ℕ) × ℕ)) : Type 0 where
+    (found : FoundInText (List (List ℕ) × ℕ)) : Type 0 where
   pub there : IfOk result (λ f. found ≡ Some ((map (text_under heads new) f.0.captures, f.0.body), f.1.now))
   pub within : IfOk result (λ f. AreTypes new.types f.0.captures)
   pub missing : result ≡ Err ReadError.Unreadable → found ≡ None

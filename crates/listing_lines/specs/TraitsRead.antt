@@ -8,7 +8,7 @@ use Rattle.mir_ty.specs.declared.ty.TyId.{TyId}
 use Rattle.mir_ty.specs.AreItems.{AreTypes, IsMethod, IsSelfTy}
 use Rattle.mir_ty.specs.ItemTable.{ItemTable}
 use Rattle.mir_text.specs.Compared.{SigSeen, sig_seen, trait_seen}
-use Rattle.mir_text.specs.Reading.Words.{Found}
+use Rattle.mir_text.specs.Reading.Words.{FoundInText}
 use Rattle.mir_text.specs.Types.{trait_name}
 use Rattle.listing_parts.specs.declared.error.ReadError.{ReadError}
 use Rattle.listing_types.specs.Table.{Grow, text_under, under}
@@ -27,7 +27,7 @@ BeginWithSelf items n params =
     IsSelfTy items.types n (option_and_then (λ id. slice_get items.types id.0) (slice_get params 0))
 
 pub record FindsParams (heads old new : ItemTable) (n : ℕ) (result : Result (List TyId × Bor (List ℕ)) ReadError)
-    (found : Found (List (List ℕ))) : Type 0 where
+    (found : FoundInText (List (List ℕ))) : Type 0 where
   pub there : IfOk result (λ f. found ≡ Some (map (text_under heads new) f.0, f.1.now))
   pub within : IfOk result (λ f. AreTypes new.types f.0)
   pub own : IfOk result (λ f. BeginWithSelf new n f.0)
@@ -35,7 +35,7 @@ pub record FindsParams (heads old new : ItemTable) (n : ℕ) (result : Result (L
   pub grow : Grow heads old new
 
 pub record FindsMethod (heads old new : ItemTable) (n : ℕ) (result : Result (Sig × Bor (List ℕ)) ReadError)
-    (found : Found SigSeen) : Type 0 where
+    (found : FoundInText SigSeen) : Type 0 where
   pub there : IfOk result (λ f. found ≡ Some (sig_seen (under heads new) f.0, f.1.now))
   pub within : IfOk result (λ f. IsMethod new.types n f.0)
   pub missing : result ≡ Err ReadError.Unreadable → found ≡ None
@@ -51,14 +51,14 @@ pub record FindsMore (heads old new : ItemTable) (n : ℕ) (before after : List 
   pub grow : Grow heads old new
 
 pub record FindsMethods (heads old new : ItemTable) (n : ℕ) (result : Result (List Sig × Bor (List ℕ)) ReadError)
-    (found : Found (List SigSeen)) : Type 0 where
+    (found : FoundInText (List SigSeen)) : Type 0 where
   pub there : IfOk result (λ f. found ≡ Some (map (sig_seen (under heads new)) f.0, f.1.now))
   pub within : IfOk result (λ f. All (IsMethod new.types n) f.0)
   pub missing : result ≡ Err ReadError.Unreadable → found ≡ None
   pub grow : Grow heads old new
 
 pub record FindsTrait (heads old new : ItemTable) (n : ℕ) (result : Result (TraitDef × Bor (List ℕ)) ReadError)
-    (found : Found (List ℕ × List SigSeen)) : Type 0 where
+    (found : FoundInText (List ℕ × List SigSeen)) : Type 0 where
   pub there : IfOk result (λ f. found ≡ Some (trait_seen (under heads new) f.0, f.1.now))
   pub within : IfOk result (λ f. All (IsMethod new.types n) f.0.methods)
   pub missing : result ≡ Err ReadError.Unreadable → found ≡ None

@@ -10,7 +10,7 @@ use Rattle.mir_ty.specs.declared.ty.TyId.{TyId}
 use Rattle.mir_ty.specs.AreItems.{AreTypes}
 use Rattle.mir_ty.specs.ItemTable.{ItemTable, with_body}
 use Rattle.cfg_graph.specs.declared.graph.Body.{Body}
-use Rattle.mir_text.specs.Reading.Words.{Found}
+use Rattle.mir_text.specs.Reading.Words.{FoundInText}
 use Rattle.mir_text.proofs.Reading.Basics.{Every}
 use Rattle.listing_lines.proofs.Until.{so_far, one_more, last_one, no_more, all_gone}
 use Rattle.listing_parts.specs.declared.error.ReadError.{ReadError}
@@ -124,7 +124,7 @@ module _ (heads old new : ItemTable) (before : List Body) (d : BodiesDrafted hea
       told_signed sigs bodies h = same_items (sigs ++ sig ∷ []) (bodies ++ body ∷ []) (signed_more new sigs bodies sig body h signed)
 
 -- a body that was read, and given a signature
-pub body_added : (heads old mid mid2 new : ItemTable) (before after : List Body) (name : Bor (List ℕ)) (body : Body) (whole : Bool) (rest : Bor (List ℕ)) (sig : Sig) (found : Found (BodyTold × Bool)) → BodiesDrafted heads old before
+pub body_added : (heads old mid mid2 new : ItemTable) (before after : List Body) (name : Bor (List ℕ)) (body : Body) (whole : Bool) (rest : Bor (List ℕ)) (sig : Sig) (found : FoundInText (BodyTold × Bool)) → BodiesDrafted heads old before
     → FindsBody heads old mid (Ok (((name, body), whole), rest)) found → FindsSig heads mid mid2 name.now body (Ok sig) → new ≡ with_body mid2 sig → after ≡ before ++ body ∷ []
     → AddsBody heads old new before after (Ok (whole, rest)) found
 body_added heads old mid mid2 new before after name body whole rest sig found d read signed added pushed = record {
@@ -137,7 +137,7 @@ body_added heads old mid mid2 new before after name body whole rest sig found d 
   missing = λ h. absurd (cc h);
 }
 
-pub body_missing : (heads old mid : ItemTable) (before : List Body) (result : Result (((Bor (List ℕ) × Body) × Bool) × Bor (List ℕ)) ReadError) (e : ReadError) (found : Found (BodyTold × Bool)) → BodiesDrafted heads old before
+pub body_missing : (heads old mid : ItemTable) (before : List Body) (result : Result (((Bor (List ℕ) × Body) × Bool) × Bor (List ℕ)) ReadError) (e : ReadError) (found : FoundInText (BodyTold × Bool)) → BodiesDrafted heads old before
     → FindsBody heads old mid result found → result ≡ Err e → AddsBody heads old mid before before (Err e) found
 body_missing heads old mid before result e found d read is = record {
   there = tt;

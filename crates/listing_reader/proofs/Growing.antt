@@ -14,7 +14,7 @@ use Rattle.mir_ty.specs.declared.ty.TyId.{TyId}
 use Rattle.mir_ty.specs.AreItems.{AreTypes, IsAdt, IsVariant, IsSig, IsMethod}
 use Rattle.mir_ty.specs.ItemTable.{ItemTable, with_adt, with_trait, with_impl, with_closure}
 use Rattle.mir_text.specs.Compared.{AdtSeen, SigSeen, Written, adt_seen, variant_seen, sig_seen, trait_seen, closure_seen}
-use Rattle.mir_text.specs.Reading.Words.{Found, bind}
+use Rattle.mir_text.specs.Reading.Words.{FoundInText, bind}
 use Rattle.mir_text.proofs.Reading.Basics.{Every}
 use Rattle.listing_lines.specs.ItemReading.{adt_read}
 use Rattle.listing_lines.proofs.FoundVariants.{still_variants}
@@ -116,7 +116,7 @@ module _ (heads old new : ItemTable) (d : Drafted heads old) (grow : Grow heads 
     closures = subst (λ (xs : List ClosureDef). All (λ def. AreTypes new.types def.captures) xs) (sym same_closures) (λ k x lt. still_types heads old new _ grow (d.closures k x lt));
   }
 
-  pub err_item : (last : ItemTable) (e : ReadError) (found : Found ItemsSeen) → last ≡ new → (◌≡◌ {A = Result (Bor (List ℕ)) ReadError} (Err e) (Err ReadError.Unreadable) → found ≡ None) → FindsItem heads old last (Err e) found
+  pub err_item : (last : ItemTable) (e : ReadError) (found : FoundInText ItemsSeen) → last ≡ new → (◌≡◌ {A = Result (Bor (List ℕ)) ReadError} (Err e) (Err ReadError.Unreadable) → found ≡ None) → FindsItem heads old last (Err e) found
   err_item last e found same none = record {
     there = tt;
     missing = λ h. (none h, ap (items_seen heads) same ∙ seen_grown);
@@ -128,7 +128,7 @@ module _ (heads old new : ItemTable) (d : Drafted heads old) (grow : Grow heads 
       → FindsItem heads old last (Ok rest) (one_adt heads (items_seen heads old) t)
   adt_added last adt rest t is found added = record {
     there =
-        ap (λ (f : Found AdtSeen). bind f (λ f. Some (record (items_seen heads old) { adts = (items_seen heads old).adts ++ f.0 ∷ [] }, f.1))) found
+        ap (λ (f : FoundInText AdtSeen). bind f (λ f. Some (record (items_seen heads old) { adts = (items_seen heads old).adts ++ f.0 ∷ [] }, f.1))) found
         ∙ (λ i. Some (record (sym seen_grown i) { adts = (sym seen_grown i).adts ++ adt_seen (under heads new) adt ∷ [] }, rest.now))
         ∙ (λ i. Some (record (items_seen heads new) { adts = sym (map-append (adt_seen (under heads new)) new.adts (adt ∷ [])) i }, rest.now))
         ∙ ap (λ (x : ItemTable). Some (items_seen heads x, rest.now)) (sym added);
@@ -146,7 +146,7 @@ module _ (heads old new : ItemTable) (d : Drafted heads old) (grow : Grow heads 
     there =
         ap (λ (k : ℕ). bind (trait_read heads k t) (λ f. Some (record (items_seen heads old) { traits = (items_seen heads old).traits ++ f.0 ∷ [] }, f.1)))
         (length_map (trait_seen (under heads old)) old.traits ∙ sym due)
-        ∙ ap (λ (f : Found (List ℕ × List SigSeen)). bind f (λ f. Some (record (items_seen heads old) { traits = (items_seen heads old).traits ++ f.0 ∷ [] }, f.1))) found
+        ∙ ap (λ (f : FoundInText (List ℕ × List SigSeen)). bind f (λ f. Some (record (items_seen heads old) { traits = (items_seen heads old).traits ++ f.0 ∷ [] }, f.1))) found
         ∙ (λ i. Some (record (sym seen_grown i) { traits = (sym seen_grown i).traits ++ trait_seen (under heads new) def ∷ [] }, rest.now))
         ∙ (λ i. Some (record (items_seen heads new) { traits = sym (map-append (trait_seen (under heads new)) new.traits (def ∷ [])) i }, rest.now))
         ∙ ap (λ (x : ItemTable). Some (items_seen heads x, rest.now)) (sym added);
@@ -169,7 +169,7 @@ module _ (heads old new : ItemTable) (d : Drafted heads old) (grow : Grow heads 
     there =
         ap (λ (k : ℕ). bind (closure_read heads k t) (λ f. Some (record (items_seen heads old) { closures = (items_seen heads old).closures ++ f.0 ∷ [] }, f.1)))
         (length_map (closure_seen (under heads old)) old.closures ∙ sym due)
-        ∙ ap (λ (f : Found (List Written × ℕ)). bind f (λ f. Some (record (items_seen heads old) { closures = (items_seen heads old).closures ++ f.0 ∷ [] }, f.1))) found
+        ∙ ap (λ (f : FoundInText (List Written × ℕ)). bind f (λ f. Some (record (items_seen heads old) { closures = (items_seen heads old).closures ++ f.0 ∷ [] }, f.1))) found
         ∙ (λ i. Some (record (sym seen_grown i) { closures = (sym seen_grown i).closures ++ closure_seen (under heads new) def ∷ [] }, rest.now))
         ∙ (λ i. Some (record (items_seen heads new) { closures = sym (map-append (closure_seen (under heads new)) new.closures (def ∷ [])) i }, rest.now))
         ∙ ap (λ (x : ItemTable). Some (items_seen heads x, rest.now)) (sym added);
@@ -190,14 +190,14 @@ pub impl_added : (heads old last : ItemTable) (def : ImplDef) (rest : Bor (List 
     → FindsItem heads old last (Ok rest) (one_impl heads (items_seen heads old) t)
 impl_added heads old last def rest t d found added = record {
   there =
-      ap (λ (f : Found ImplDef). bind f (λ f. Some (record (items_seen heads old) { impls = old.impls ++ f.0 ∷ [] }, f.1))) found
+      ap (λ (f : FoundInText ImplDef). bind f (λ f. Some (record (items_seen heads old) { impls = old.impls ++ f.0 ∷ [] }, f.1))) found
       ∙ ap (λ (x : ItemTable). Some (items_seen heads x, rest.now)) (sym added);
   missing = λ h. absurd (cc h);
   drafted = subst (Drafted heads) (sym added) (record { types = d.types; adts = d.adts; traits = d.traits; closures = d.closures });
   bodies = ap (λ (x : ItemTable). x.bodies) added;
 }
 
-pub no_impl : (heads old last : ItemTable) (e : ReadError) (found : Found ItemsSeen) → Drafted heads old → last ≡ old → (◌≡◌ {A = Result (Bor (List ℕ)) ReadError} (Err e) (Err ReadError.Unreadable) → found ≡ None)
+pub no_impl : (heads old last : ItemTable) (e : ReadError) (found : FoundInText ItemsSeen) → Drafted heads old → last ≡ old → (◌≡◌ {A = Result (Bor (List ℕ)) ReadError} (Err e) (Err ReadError.Unreadable) → found ≡ None)
     → FindsItem heads old last (Err e) found
 no_impl heads old last e found d same none = record {
   there = tt;
@@ -207,7 +207,7 @@ no_impl heads old last e found d same none = record {
 }
 
 -- what stands before, and what is still read
-module _ (heads : ItemTable) (step : ItemsSeen → List ℕ → Found ItemsSeen) where
+module _ (heads : ItemTable) (step : ItemsSeen → List ℕ → FoundInText ItemsSeen) where
   pub record SoFar (initial cur : ItemTable) (fuel : ℕ) (text rest : List ℕ) : Type 0 where
     pub left : as_long_as step (items_seen heads initial) text ≡ on_within fuel step (items_seen heads cur) rest
     pub drafted : Drafted heads cur
@@ -281,17 +281,17 @@ pub missed : {A B : Type 0} (r : Result A ReadError) (e : ReadError) → r ≡ E
 missed r e is h = is ∙ ap (λ (x : ReadError). Err x) (ap (err_of e) h)
 
 pub no_adt : (heads : ItemTable) (s : ItemsSeen) (t : List ℕ) → adt_read heads t ≡ None → one_adt heads s t ≡ None
-no_adt heads s t h = ap (λ (f : Found AdtSeen). bind f (λ f. Some (record s { adts = s.adts ++ f.0 ∷ [] }, f.1))) h
+no_adt heads s t h = ap (λ (f : FoundInText AdtSeen). bind f (λ f. Some (record s { adts = s.adts ++ f.0 ∷ [] }, f.1))) h
 
 pub no_trait : (heads old : ItemTable) (n : ℕ) (t : List ℕ) → n ≡ length old.traits → trait_read heads n t ≡ None → one_trait heads (items_seen heads old) t ≡ None
 no_trait heads old n t due h =
-    ap (λ (f : Found (List ℕ × List SigSeen)). bind f (λ f. Some (record (items_seen heads old) { traits = (items_seen heads old).traits ++ f.0 ∷ [] }, f.1)))
+    ap (λ (f : FoundInText (List ℕ × List SigSeen)). bind f (λ f. Some (record (items_seen heads old) { traits = (items_seen heads old).traits ++ f.0 ∷ [] }, f.1)))
     (ap (λ (k : ℕ). trait_read heads k t) (length_map (trait_seen (under heads old)) old.traits ∙ sym due) ∙ h)
 
 pub no_impl_read : (heads : ItemTable) (s : ItemsSeen) (t : List ℕ) → impl_read heads t ≡ None → one_impl heads s t ≡ None
-no_impl_read heads s t h = ap (λ (f : Found ImplDef). bind f (λ f. Some (record s { impls = s.impls ++ f.0 ∷ [] }, f.1))) h
+no_impl_read heads s t h = ap (λ (f : FoundInText ImplDef). bind f (λ f. Some (record s { impls = s.impls ++ f.0 ∷ [] }, f.1))) h
 
 pub no_closure : (heads old : ItemTable) (n : ℕ) (t : List ℕ) → n ≡ length old.closures → closure_read heads n t ≡ None → one_closure heads (items_seen heads old) t ≡ None
 no_closure heads old n t due h =
-    ap (λ (f : Found (List Written × ℕ)). bind f (λ f. Some (record (items_seen heads old) { closures = (items_seen heads old).closures ++ f.0 ∷ [] }, f.1)))
+    ap (λ (f : FoundInText (List Written × ℕ)). bind f (λ f. Some (record (items_seen heads old) { closures = (items_seen heads old).closures ++ f.0 ∷ [] }, f.1)))
     (ap (λ (k : ℕ). closure_read heads k t) (length_map (closure_seen (under heads old)) old.closures ∙ sym due) ∙ h)

@@ -7,7 +7,7 @@ use Rattle.mir_ty.specs.declared.ty.TyId.{TyId}
 use Rattle.mir_ty.specs.AreItems.{AreTypes}
 use Rattle.mir_ty.specs.ItemTable.{ItemTable}
 use Rattle.mir_text.specs.Compared.{Written}
-use Rattle.mir_text.specs.Reading.Words.{Found, bind}
+use Rattle.mir_text.specs.Reading.Words.{FoundInText, bind}
 use Rattle.listing_lines.specs.LineReading.{local_read}
 use Rattle.listing_types.specs.Table.{AreRead, Grow, text_under}
 use Rattle.listing_types.proofs.FoundRows.{map-append, still_types, then_grow, one_more_type}
@@ -42,11 +42,11 @@ module _ (heads : ItemTable) where
 
   one_found : (s : List Written) (n : ℕ) (t : List ℕ) (w r : List ℕ) → n ≡ length s → local_read heads n t ≡ Some (w, r) → one_local heads s t ≡ Some (s ++ w ∷ [], r)
   one_found s n t w r due h =
-      ap (λ (f : Found (List ℕ)). bind f (λ f. Some (s ++ f.0 ∷ [], f.1))) (ap (λ (k : ℕ). local_read heads k t) (sym due) ∙ h)
+      ap (λ (f : FoundInText (List ℕ)). bind f (λ f. Some (s ++ f.0 ∷ [], f.1))) (ap (λ (k : ℕ). local_read heads k t) (sym due) ∙ h)
 
   none_found : (s : List Written) (n : ℕ) (t : List ℕ) → n ≡ length s → local_read heads n t ≡ None → one_local heads s t ≡ None
   none_found s n t due h =
-      ap (λ (f : Found (List ℕ)). bind f (λ f. Some (s ++ f.0 ∷ [], f.1))) (ap (λ (k : ℕ). local_read heads k t) (sym due) ∙ h)
+      ap (λ (f : FoundInText (List ℕ)). bind f (λ f. Some (s ++ f.0 ∷ [], f.1))) (ap (λ (k : ℕ). local_read heads k t) (sym due) ∙ h)
 
   pub goes_on : (initial cur new : ItemTable) (n m fuel k : ℕ) (locals more : List TyId) (id : TyId) (text rest behind : List ℕ) → fuel ≡ suc k → m ≡ suc n → SoFar initial cur n fuel locals text rest
       → Grow heads cur new → id.0 < length new.types → local_read heads n rest ≡ Some (text_under heads new id, behind) → more ≡ locals ++ id ∷ []

@@ -3,7 +3,7 @@ use Rattle.std.proofs.Common.{◌≡◌, ℕ, zero, suc, ◌+◌, ◌≤◌, ◌
 use Rattle.std.specs.Prelude.{◌⊎◌}
 use Rattle.std.proofs.lemmas.Option.{same_Some, none-some}
 use Rattle.mir_ty.specs.ItemTable.{ItemTable, no_items, with_adt, with_trait}
-use Rattle.mir_text.specs.Reading.Words.{Found}
+use Rattle.mir_text.specs.Reading.Words.{FoundInText}
 use Rattle.listing_types.proofs.Splits.{split, same_found}
 use Rattle.listing_reader.specs.SectionReading.{onward, on_within}
 use Rattle.listing_reader.proofs.Onward.{keeps}
@@ -11,12 +11,12 @@ use Rattle.listing_reader.specs.GraphReading.{items_under, fewer, fewer_of, agai
 use Rattle.listing_reader.specs.HeadReading.{adt_head, trait_head, adt_of, trait_of, one_adt_head, one_trait_head, heads_within}
 
 -- no more than one with each step
-at_most : {S : Type 0} (step : S → List ℕ → Found S) (count : S → ℕ) → ((s u : S) (t r : List ℕ) → step s t ≡ Some (u, r) → count u ≤ count s + 1) → (k : ℕ) (s : S) (t : List ℕ)
+at_most : {S : Type 0} (step : S → List ℕ → FoundInText S) (count : S → ℕ) → ((s u : S) (t r : List ℕ) → step s t ≡ Some (u, r) → count u ≤ count s + 1) → (k : ℕ) (s : S) (t : List ℕ)
     → count (on_within k step s t).0 ≤ count s + k
 at_most step count each zero s t = omega arith
 at_most step count each (suc k) s t = by (step s t) refl (at_most step count each k)
   where
-    by : (o : Found _) → step s t ≡ o → ((u : _) (r : List ℕ) → count (on_within k step u r).0 ≤ count u + k) → count (onward o (on_within k step) s t).0 ≤ count s + suc k
+    by : (o : FoundInText _) → step s t ≡ o → ((u : _) (r : List ℕ) → count (on_within k step u r).0 ≤ count u + k) → count (onward o (on_within k step) s t).0 ≤ count s + suc k
     by None e deeper = omega arith
     by (Some f) e deeper = let one = each s f.0 t f.1 e in let more = deeper f.0 f.1 in omega (arith, one, more)
 

@@ -9,7 +9,7 @@ use Rattle.mir_ty.specs.AreItems.{AreTypes, IsSig}
 use Rattle.mir_ty.specs.ItemTable.{ItemTable, type_at}
 use Rattle.cfg_graph.specs.declared.graph.Body.{Body}
 use Rattle.mir_text.specs.Compared.{Written}
-use Rattle.mir_text.specs.Reading.Words.{Found}
+use Rattle.mir_text.specs.Reading.Words.{FoundInText}
 use Rattle.listing_parts.specs.declared.error.ReadError.{ReadError}
 use Rattle.listing_types.specs.Table.{Grow, text_under}
 use Rattle.listing_reader.specs.BodyReading.{BodyTold}
@@ -34,7 +34,7 @@ body_told heads items name body =
 
 -- the body that was found, with its name
 pub record FindsBody (heads old new : ItemTable)
-    (result : Result (((Bor (List ℕ) × Body) × Bool) × Bor (List ℕ)) ReadError) (found : Found (BodyTold × Bool))
+    (result : Result (((Bor (List ℕ) × Body) × Bool) × Bor (List ℕ)) ReadError) (found : FoundInText (BodyTold × Bool))
     : Type 0 where
   pub there : IfOk result (λ f. found ≡ Some ((body_told heads new f.0.0.0.now f.0.0.1, f.0.1), f.1.now))
   pub within : IfOk result (λ f. AreTypes new.types f.0.0.1.locals)
@@ -93,7 +93,7 @@ pub record OneBodyMore (heads old new : ItemTable) (before after : List Body) (t
 
 -- a body that was found, or no such body
 pub record AddsBody (heads old new : ItemTable) (before after : List Body)
-    (result : Result (Bool × Bor (List ℕ)) ReadError) (found : Found (BodyTold × Bool)) : Type 0 where
+    (result : Result (Bool × Bor (List ℕ)) ReadError) (found : FoundInText (BodyTold × Bool)) : Type 0 where
   pub there : IfOk result (λ f.
       (told : BodyTold) × (found ≡ Some ((told, f.0), f.1.now)) × OneBodyMore heads old new before after told)
   pub missing : result ≡ Err ReadError.Unreadable → (found ≡ None) × NoBodyMore heads old new before after

@@ -3,7 +3,7 @@ use Rattle.std.specs.Prelude.{ℕ, Bool, List, [], ◌∷◌, ◌++◌, length, 
 use Rattle.cfg_graph.specs.declared.graph.Block.{Block}
 use Rattle.mir_ty.specs.ItemTable.{ItemTable}
 use Rattle.mir_text.specs.Compared.{Written}
-use Rattle.mir_text.specs.Reading.Words.{Found, bind}
+use Rattle.mir_text.specs.Reading.Words.{FoundInText, bind}
 use Rattle.listing_lines.specs.CodeReading.{blocks_read, until_broken}
 use Rattle.listing_lines.specs.LineReading as lines
 use Rattle.listing_reader.specs.SectionReading.{as_long_as}
@@ -17,7 +17,7 @@ pub record BodyTold : Type 0 where
 
 module _ (heads : ItemTable) where
   -- one local more, with the number that is due
-  abbrev pub one_local : List Written → List ℕ → Found (List Written)
+  abbrev pub one_local : List Written → List ℕ → FoundInText (List Written)
   one_local s t = bind (lines.local_read heads (length s) t) (λ f. Some (s ++ f.0 ∷ [], f.1))
 
   abbrev pub locals_read : List ℕ → List Written × List ℕ
@@ -32,7 +32,7 @@ module _ (heads : ItemTable) where
   with_locals head locals = told head locals.0 (blocks_read heads locals.1)
 
   -- the line of the body with a number, its locals and its blocks
-  abbrev pub body_read : ℕ → List ℕ → Found (BodyTold × Bool)
+  abbrev pub body_read : ℕ → List ℕ → FoundInText (BodyTold × Bool)
   body_read n t = bind (lines.body_read n t) (λ head. Some (with_locals head.0 (locals_read head.1)))
 
   -- the bodies of a graph, up to one whose last block is broken off

@@ -5,7 +5,7 @@ use Rattle.mir_base.specs.declared.memory.NoMemory.{NoMemory}
 use Rattle.mir_ty.specs.AreItems.{AreTypes, IsAdt, IsSig}
 use Rattle.mir_ty.specs.ItemTable.{ItemTable}
 use Rattle.mir_text.specs.Compared.{adt_seen, trait_seen, closure_seen}
-use Rattle.mir_text.specs.Reading.Words.{Found}
+use Rattle.mir_text.specs.Reading.Words.{FoundInText}
 use Rattle.listing_parts.specs.declared.error.ReadError.{ReadError}
 use Rattle.listing_types.specs.Table.{AreRead, under}
 use Rattle.listing_reader.specs.SectionReading.{ItemsSeen}
@@ -28,7 +28,7 @@ pub record Drafted (heads items : ItemTable) : Type 0 where
 
 -- one item more that was found, or no such item
 pub record FindsItem (heads old new : ItemTable) (result : Result (Bor (List ℕ)) ReadError)
-    (found : Found ItemsSeen) : Type 0 where
+    (found : FoundInText ItemsSeen) : Type 0 where
   pub there : IfOk result (λ rest. found ≡ Some (items_seen heads new, rest.now))
   pub missing : result ≡ Err ReadError.Unreadable → (found ≡ None) × (items_seen heads new ≡ items_seen heads old)
   pub drafted : Drafted heads new

@@ -14,11 +14,11 @@ use Rattle.mir_text.specs.Fields.{Fits}
 use Rattle.mir_text.specs.Lists.{behind_commas, joined}
 use Rattle.mir_text.specs.Lines.{Tree, Trees, Number, Truth, Nothing, Never, Named, Tuple, Array, Boxed, Object, Shared, Unique, Closed, Missing, no_more, and_more, tree_text, trees_text}
 use Rattle.mir_text.specs.Reading.Rows.{many, many_within, row, row_from, closed_row, after, comma}
-use Rattle.mir_text.specs.Reading.Words.{Found, bind, chosen, as_, said, strip, is_digit}
+use Rattle.mir_text.specs.Reading.Words.{FoundInText, bind, chosen, as_, said, strip, is_digit}
 use Rattle.mir_text.specs.Types.{tuple_text, kind_text, trait_name, name_of_trait}
 use Rattle.mir_ty.specs.Named.{adt_name, name_of_adt}
 use Rattle.mir_text.proofs.Reading.Basics.{stops, span_run, one_of, any_decimal}
-use Rattle.listing_types.specs.declared.begin.Around.{Around}
+use Rattle.listing_types.specs.declared.begin.TypeAround.{TypeAround}
 use Rattle.listing_types.specs.declared.begin.Begin.{Begin}
 use Rattle.listing_types.specs.TypeReading.{word_type, unique_mark, reference_from, object_from, worded_begin, begin_from, begin_read, array_end, around_end, around_text, tuple_from, rest_read, type_within, type_read, types_read}
 use Rattle.listing_types.specs.TypesFound.{Stands, AllStand, EachStands, RowsAreRead, begins_brace, closes}
@@ -115,12 +115,12 @@ found_at [] n h = absurd (omega arith)
 found_at (x ∷ xs) zero h = (x, refl)
 found_at (x ∷ xs) (suc n) h = found_at xs n (omega arith)
 
-module _ (heads : ItemTable) (inner : List ℕ → Found (List ℕ)) where
-  abbrev found : List ℕ → Found (List ℕ)
+module _ (heads : ItemTable) (inner : List ℕ → FoundInText (List ℕ)) where
+  abbrev found : List ℕ → FoundInText (List ℕ)
   found t = bind (begin_read heads t) (rest_read inner heads)
 
   -- a type that begins with a word
-  at_word : (w r : List ℕ) → 0 < length w → list_all stands_in_names w ≡ true → stops stands_in_names r ≡ true → (f : Found (List ℕ)) → bind (worded_begin heads w r) (rest_read inner heads) ≡ f
+  at_word : (w r : List ℕ) → 0 < length w → list_all stands_in_names w ≡ true → stops stands_in_names r ≡ true → (f : FoundInText (List ℕ)) → bind (worded_begin heads w r) (rest_read inner heads) ≡ f
       → found (w ++ r) ≡ f
   at_word [] r some all s f h = absurd (omega arith)
   at_word (c ∷ cs) r some all s f h = ap (λ (q : List ℕ × List ℕ). bind (begin_from heads q ((c ∷ cs) ++ r)) (rest_read inner heads)) (span_run stands_in_names (c ∷ cs) r all s) ∙ h
@@ -148,7 +148,7 @@ module _ (heads : ItemTable) (inner : List ℕ → Found (List ℕ)) where
       let begun : worded_begin heads name r ≡ Some (Begin.Whole (Ty.Adt (adt_no heads name)), r) = rw (no_box, no_dyn, no_word_type, no_mark, is) refl in
       let written : adt_name heads (adt_no heads name) ≡ name = ap name_of_adt is ∙ sym (placed_name (λ (adt : Adt). adt.name) heads.adts name adt is) in
       at_word name r (some_name name own) (name_all name own) (closes_stops r c) (Some (name, r))
-      (ap (λ (f : Found Begin). bind f (rest_read inner heads)) begun ∙ ap (λ (w : List ℕ). Some (w, r)) written)
+      (ap (λ (f : FoundInText Begin). bind f (rest_read inner heads)) begun ∙ ap (λ (w : List ℕ). Some (w, r)) written)
 
   object_reads : (name r : List ℕ) → is_name name ≡ true → trait_no heads name < length heads.traits → closes r ≡ true → found ((codes "dyn " ++ name) ++ r) ≡ Some (codes "dyn " ++ name, r)
   object_reads name r named there c =
@@ -214,7 +214,7 @@ type_no_mut heads (Closed n) s r c = refl
 type_no_mut heads Missing s r c = absurd s
 
 -- what stands behind the parts of a tuple
-none_many : {Z : Type 0} (read : List ℕ → Found Z) (k : ℕ) (r : List ℕ) → read r ≡ None → many_within k read r ≡ ([], r)
+none_many : {Z : Type 0} (read : List ℕ → FoundInText Z) (k : ℕ) (r : List ℕ) → read r ≡ None → many_within k read r ≡ ([], r)
 none_many read zero r h = refl
 none_many read (suc k) r h = rw h refl
 
@@ -228,7 +228,7 @@ no_type_at heads zero r = refl
 no_type_at heads (suc k) r = refl
 
 module _ (heads : ItemTable) (k : ℕ) where
-  abbrev reader : List ℕ → Found (List ℕ)
+  abbrev reader : List ℕ → FoundInText (List ℕ)
   reader = type_within heads k
 
   abbrev Reads : Tree → Type 0
@@ -237,7 +237,7 @@ module _ (heads : ItemTable) (k : ℕ) where
   boxed_reads : (t : Tree) → Reads t → (r : List ℕ) → type_within heads (suc k) ((codes "Box<" ++ tree_text t ++ codes ">") ++ r) ≡ Some (codes "Box<" ++ tree_text t ++ codes ">", r)
   boxed_reads t one r =
       ap (type_within heads (suc k)) (append_assoc (codes "Box<" ++ tree_text t) (codes ">") r)
-      ∙ ap (λ (f : Found (List ℕ)). bind f (λ f. as_ (around_text Around.Box f.0) (around_end Around.Box f.1))) (one (codes ">" ++ r) refl)
+      ∙ ap (λ (f : FoundInText (List ℕ)). bind f (λ f. as_ (around_text TypeAround.Box f.0) (around_end TypeAround.Box f.1))) (one (codes ">" ++ r) refl)
 
   array_reads : (t : Tree) (count : ℕ) → Reads t → Fits count → (r : List ℕ)
       → type_within heads (suc k) ((codes "[" ++ tree_text t ++ codes "; " ++ decimal count ++ codes "]") ++ r) ≡ Some (codes "[" ++ tree_text t ++ codes "; " ++ decimal count ++ codes "]", r)
@@ -248,26 +248,26 @@ module _ (heads : ItemTable) (k : ℕ) where
       append_assoc (codes "[" ++ w ++ codes "; " ++ decimal count) (codes "]") r ∙ append_assoc (codes "[" ++ w ++ codes "; ") (decimal count) (codes "]" ++ r)
       ∙ append_assoc (codes "[" ++ w) (codes "; ") behind in
       ap (type_within heads (suc k)) split
-      ∙ ap (λ (f : Found (List ℕ)). bind f (λ f. as_ (around_text Around.Array f.0) (array_end f.1))) (one (codes "; " ++ behind) refl)
-      ∙ ap (λ (f : Found ℕ). as_ (around_text Around.Array w) (bind f (λ n. said (codes "]") n.0 n.1))) (plain_reads count (codes "]" ++ r) fits refl)
+      ∙ ap (λ (f : FoundInText (List ℕ)). bind f (λ f. as_ (around_text TypeAround.Array f.0) (array_end f.1))) (one (codes "; " ++ behind) refl)
+      ∙ ap (λ (f : FoundInText ℕ). as_ (around_text TypeAround.Array w) (bind f (λ n. said (codes "]") n.0 n.1))) (plain_reads count (codes "]" ++ r) fits refl)
 
   shared_reads : (t : Tree) → Reads t → Stands heads t → (r : List ℕ) → closes r ≡ true → type_within heads (suc k) ((codes "&" ++ tree_text t) ++ r) ≡ Some (codes "&" ++ tree_text t, r)
   shared_reads t one s r c =
       ap (λ (o : Option (List ℕ)). rest_read reader heads (reference_from (tree_text t ++ r) o)) (type_no_mut heads t s r c)
-      ∙ ap (λ (f : Found (List ℕ)). bind f (λ f. as_ (around_text Around.Shared f.0) (around_end Around.Shared f.1))) (one r c)
+      ∙ ap (λ (f : FoundInText (List ℕ)). bind f (λ f. as_ (around_text TypeAround.Shared f.0) (around_end TypeAround.Shared f.1))) (one r c)
 
   unique_reads : (t : Tree) → Reads t → Stands heads t → (r : List ℕ) → closes r ≡ true → type_within heads (suc k) ((codes "&mut " ++ tree_text t) ++ r) ≡ Some (codes "&mut " ++ tree_text t, r)
   unique_reads t one s r c =
       let w : List ℕ = tree_text t ++ r in
       ap (λ (o : Option (List ℕ)). rest_read reader heads (reference_from (codes "mut " ++ w) (chosen o (λ s. None) (Some w)))) (type_no_brace heads t s r)
-      ∙ ap (λ (f : Found (List ℕ)). bind f (λ f. as_ (around_text Around.Unique f.0) (around_end Around.Unique f.1))) (one r c)
+      ∙ ap (λ (f : FoundInText (List ℕ)). bind f (λ f. as_ (around_text TypeAround.Unique f.0) (around_end TypeAround.Unique f.1))) (one r c)
 
   one_part : (t : Tree) → Reads t → (r : List ℕ) → type_within heads (suc k) ((codes "(" ++ tree_text t ++ codes ",)") ++ r) ≡ Some (codes "(" ++ tree_text t ++ codes ",)", r)
   one_part t one r =
       let w : List ℕ = tree_text t in
       let behind : List ℕ = codes ",)" ++ r in
       ap (type_within heads (suc k)) (append_assoc (codes "(" ++ w) (codes ",)") r)
-      ∙ ap (λ (f : Found (List ℕ)). tuple_from reader (row_from reader f (w ++ behind))) (one behind refl)
+      ∙ ap (λ (f : FoundInText (List ℕ)). tuple_from reader (row_from reader f (w ++ behind))) (one behind refl)
 
   more_parts : (t u : Tree) (others : Trees) → Reads t
       → ((r : List ℕ) → closes r ≡ true → strip (codes ", ") r ≡ None → many (comma reader) (behind_commas (trees_text (and_more u others)) ++ r) ≡ (trees_text (and_more u others), r)) → (r : List ℕ)
@@ -279,7 +279,7 @@ module _ (heads : ItemTable) (k : ℕ) where
       let split : (codes "(" ++ (w ++ more) ++ codes ")") ++ r ≡ codes "(" ++ (w ++ (more ++ behind)) =
       append_assoc (codes "(" ++ (w ++ more)) (codes ")") r ∙ ap (λ (x : List ℕ). codes "(" ++ x) (append_assoc w more behind) in
       ap (type_within heads (suc k)) split
-      ∙ ap (λ (f : Found (List ℕ)). tuple_from reader (row_from reader f (w ++ (more ++ behind)))) (one (more ++ behind) (behind_closes (and_more u others) behind refl))
+      ∙ ap (λ (f : FoundInText (List ℕ)). tuple_from reader (row_from reader f (w ++ (more ++ behind)))) (one (more ++ behind) (behind_closes (and_more u others) behind refl))
       ∙ ap (λ (q : List (List ℕ) × List ℕ). tuple_from reader (w ∷ q.0, q.1)) (rest behind refl refl)
 
 never_deep : (t : Tree) → Deep t zero → ⊥
@@ -294,7 +294,7 @@ mutual
   pub tree_reads : (heads : ItemTable) (t : Tree) → Stands heads t → (k : ℕ) → Deep t k → (r : List ℕ) → closes r ≡ true → type_within heads k (tree_text t ++ r) ≡ Some (tree_text t, r)
   tree_reads heads (Number kind) s (suc k) deep r c = kind_reads heads (type_within heads k) kind r c
   tree_reads heads Truth s (suc k) deep r c = at_word heads (type_within heads k) (codes "bool") r (omega arith) refl (closes_stops r c) (Some (codes "bool", r)) refl
-  tree_reads heads Nothing s (suc k) deep r c = ap (λ (f : Found (List ℕ)). tuple_from (type_within heads k) (row_from (type_within heads k) f (codes ")" ++ r))) (no_type_at heads k r)
+  tree_reads heads Nothing s (suc k) deep r c = ap (λ (f : FoundInText (List ℕ)). tuple_from (type_within heads k) (row_from (type_within heads k) f (codes ")" ++ r))) (no_type_at heads k r)
   tree_reads heads Never s (suc k) deep r c = refl
   tree_reads heads (Named name) s (suc k) deep r c = adt_reads heads (type_within heads k) name r s.0 s.1 c
   tree_reads heads (Tuple no_more) s (suc k) deep r c = absurd s.0
@@ -320,7 +320,7 @@ mutual
       let more : List ℕ = behind_commas (trees_text others) in
       let split : ((codes ", " ++ w) ++ more) ++ r ≡ codes ", " ++ (w ++ (more ++ r)) = append_assoc (codes ", " ++ w) more r in
       ap (many_within (suc fuel) (comma (type_within heads k))) split
-      ∙ ap (λ (f : Found (List ℕ)). after f (many_within fuel (comma (type_within heads k))) (codes ", " ++ (w ++ (more ++ r)))) (tree_reads heads first s.0 k deep.0 (more ++ r) (behind_closes others r c))
+      ∙ ap (λ (f : FoundInText (List ℕ)). after f (many_within fuel (comma (type_within heads k))) (codes ", " ++ (w ++ (more ++ r)))) (tree_reads heads first s.0 k deep.0 (more ++ r) (behind_closes others r c))
       ∙ ap (λ (q : List (List ℕ) × List ℕ). (w ∷ q.0, q.1)) (parts_read heads others s.1 k deep.1 fuel r c n (omega (arith, le, ap length split, length-append w (more ++ r))))
 
 -- a type that stands is read
@@ -343,13 +343,13 @@ all_stand heads (t ∷ ts) s = (s.0, all_stand heads ts s.1)
 
 closed_reads : (heads : ItemTable) (ts : Trees) → AllStand heads ts → (k : ℕ) → length (joined (trees_text ts)) ≤ k → (r : List ℕ)
     → closed_row (row (type_within heads k) (joined (trees_text ts) ++ (codes ")" ++ r))) ≡ Some (trees_text ts, r)
-closed_reads heads no_more s k le r = ap (λ (f : Found (List ℕ)). closed_row (row_from (type_within heads k) f (codes ")" ++ r))) (no_type_at heads k r)
+closed_reads heads no_more s k le r = ap (λ (f : FoundInText (List ℕ)). closed_row (row_from (type_within heads k) f (codes ")" ++ r))) (no_type_at heads k r)
 closed_reads heads (and_more first others) s k le r =
     let w : List ℕ = tree_text first in
     let more : List ℕ = behind_commas (trees_text others) in
     let behind : List ℕ = codes ")" ++ r in
     ap (λ (t : List ℕ). closed_row (row (type_within heads k) t)) (append_assoc w more behind)
-    ∙ ap (λ (f : Found (List ℕ)). closed_row (row_from (type_within heads k) f (w ++ (more ++ behind))))
+    ∙ ap (λ (f : FoundInText (List ℕ)). closed_row (row_from (type_within heads k) f (w ++ (more ++ behind))))
     (tree_reads heads first s.0 k (deep_enough heads first s.0 k (omega (arith, length-append w more))) (more ++ behind) (behind_closes others behind refl))
     ∙ ap (λ (q : List (List ℕ) × List ℕ). closed_row (w ∷ q.0, q.1))
     (parts_read heads others s.1 k (parts_deep heads others s.1 k (omega (arith, length-append w more))) (length (more ++ behind)) behind refl refl (omega arith))

@@ -9,7 +9,7 @@ use Rattle.mir_ty.specs.declared.ty.TyId.{TyId}
 use Rattle.mir_ty.specs.AreItems.{AreTypes}
 use Rattle.mir_ty.specs.ItemTable.{ItemTable}
 use Rattle.mir_text.specs.Reading.Rows.{many, many_within, after, comma, row, row_from}
-use Rattle.mir_text.specs.Reading.Words.{Found, bind}
+use Rattle.mir_text.specs.Reading.Words.{FoundInText, bind}
 use Rattle.listing_types.specs.Table.{AreRead, Grow, text_under}
 use Rattle.listing_types.specs.TypesRead.{FindsRow}
 use Rattle.listing_types.specs.TypeReading.{begin_read, rest_read, type_within}
@@ -29,7 +29,7 @@ still_types heads old new ids grow within n d lt = let less = no_less old new gr
 pub one_more_type : (types : List Ty) (ids : List TyId) (id : TyId) → AreTypes types ids → id.0 < length types → AreTypes types (ids ++ id ∷ [])
 one_more_type types ids id within one = All-append (λ (id : TyId). id.0 < length types) ids (id ∷ []) within (All-cons (λ (id : TyId). id.0 < length types) id [] one (All-nil (λ (id : TyId). id.0 < length types)))
 
-module _ (heads : ItemTable) (read : List ℕ → Found (List ℕ)) where
+module _ (heads : ItemTable) (read : List ℕ → FoundInText (List ℕ)) where
   abbrev pub so_far : ItemTable → List TyId → List (List ℕ) × List ℕ → List (List ℕ) × List ℕ
   so_far items parts q = (map (text_under heads items) parts ++ q.0, q.1)
 
@@ -63,7 +63,7 @@ module _ (heads : ItemTable) (read : List ℕ → Found (List ℕ)) where
   row_goes_on initial cur new fuel k before parts after id rest behind found e left within grow more is pushed =
       let q : List (List ℕ) × List ℕ = many_within k read behind in
       let step : many_within fuel read rest ≡ (text_under heads new id ∷ q.0, q.1) =
-      ap (λ (n : ℕ). many_within n read rest) e ∙ ap (λ (f : Found (List ℕ)). after_ f) is in
+      ap (λ (n : ℕ). many_within n read rest) e ∙ ap (λ (f : FoundInText (List ℕ)). after_ f) is in
       ap (λ (ids : List TyId). so_far new ids q) pushed
       ∙ ap (λ (ws : List (List ℕ)). (ws ++ q.0, q.1)) (map-append (text_under heads new) parts (id ∷ []))
       ∙ ap (λ (ws : List (List ℕ)). (ws, q.1)) (append_assoc (map (text_under heads new) parts) (text_under heads new id ∷ []) q.0)
@@ -71,14 +71,14 @@ module _ (heads : ItemTable) (read : List ℕ → Found (List ℕ)) where
       ∙ ap (so_far cur parts) (sym step)
       ∙ left
     where
-      after_ : Found (List ℕ) → List (List ℕ) × List ℕ
+      after_ : FoundInText (List ℕ) → List (List ℕ) × List ℕ
       after_ f = Rattle.mir_text.specs.Reading.Rows.after f (many_within k read) rest
 
 -- a row of no types
-pub row_of_none : (heads old new : ItemTable) (read : List ℕ → Found (List ℕ)) (parts : List TyId) (text : Bor (List ℕ)) → AreTypes old.types parts → AreRead heads old.types → Grow heads old new → read text.now ≡ None
+pub row_of_none : (heads old new : ItemTable) (read : List ℕ → FoundInText (List ℕ)) (parts : List TyId) (text : Bor (List ℕ)) → AreTypes old.types parts → AreRead heads old.types → Grow heads old new → read text.now ≡ None
     → FindsRow heads old new parts parts (Ok text) (row read text.now)
 row_of_none heads old new read parts text within types grow none =
-    subst (FindsRow heads old new parts parts (Ok text)) (sym (ap (λ (f : Found (List ℕ)). row_from read f text.now) none))
+    subst (FindsRow heads old new parts parts (Ok text)) (sym (ap (λ (f : FoundInText (List ℕ)). row_from read f text.now) none))
     (record {
       there = (texts_grown heads old new types grow.others parts (every_from_all (λ (id : TyId). id.0 < length old.types) parts within) ∙ sym (append-nil (map (text_under heads old) parts)), refl);
       within = still_types heads old new parts grow within;
@@ -86,11 +86,11 @@ row_of_none heads old new read parts text within types grow none =
     })
 
 -- a row of a type and more
-pub row_of_more : (heads old mid new : ItemTable) (read : List ℕ → Found (List ℕ)) (before parts last : List TyId) (id : TyId) (text rest : List ℕ) (result : Result (Bor (List ℕ)) NoMemory)
+pub row_of_more : (heads old mid new : ItemTable) (read : List ℕ → FoundInText (List ℕ)) (before parts last : List TyId) (id : TyId) (text rest : List ℕ) (result : Result (Bor (List ℕ)) NoMemory)
     → AreTypes old.types before → AreRead heads old.types → Grow heads old mid → read text ≡ Some (text_under heads mid id, rest) → parts ≡ before ++ id ∷ [] → FindsRow heads mid new parts last result (many (comma read) rest)
     → FindsRow heads old new before last result (row read text)
 row_of_more heads old mid new read before parts last id text rest result within types grow is pushed more =
-    subst (FindsRow heads old new before last result) (sym (ap (λ (f : Found (List ℕ)). row_from read f text) is))
+    subst (FindsRow heads old new before last result) (sym (ap (λ (f : FoundInText (List ℕ)). row_from read f text) is))
     (record { there = by result more.there; within = more.within; grow = then_grow heads old mid new grow more.grow })
   where
     q : List (List ℕ) × List ℕ
@@ -110,4 +110,4 @@ row_of_more heads old mid new read before parts last id text rest result within 
 
 -- a type behind its beginning
 pub begun : (heads : ItemTable) (depth k : ℕ) (text : List ℕ) (b : Begin × List ℕ) → depth ≡ suc k → begin_read heads text ≡ Some b → type_within heads depth text ≡ rest_read (type_within heads k) heads b
-begun heads depth k text b e is = ap (λ (n : ℕ). type_within heads n text) e ∙ ap (λ (o : Found Begin). bind o (rest_read (type_within heads k) heads)) is
+begun heads depth k text b e is = ap (λ (n : ℕ). type_within heads n text) e ∙ ap (λ (o : FoundInText Begin). bind o (rest_read (type_within heads k) heads)) is

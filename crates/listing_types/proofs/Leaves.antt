@@ -10,8 +10,8 @@ use Rattle.mir_ty.specs.ItemTable.{ItemTable}
 use Rattle.cfg_graph.specs.WellFormed.NameFaults.{same_name, stands_in_names}
 use Rattle.listing_parts.specs.Numbers.{adt_no, trait_no}
 use Rattle.mir_text.specs.Fields.{Fits}
-use Rattle.mir_text.specs.Reading.Words.{Found, bind, or_else, said, strip, span}
-use Rattle.listing_types.specs.declared.begin.Around.{Around}
+use Rattle.mir_text.specs.Reading.Words.{FoundInText, bind, or_else, said, strip, span}
+use Rattle.listing_types.specs.declared.begin.TypeAround.{TypeAround}
 use Rattle.listing_types.specs.declared.begin.Begin.{Begin}
 use Rattle.listing_types.specs.Leaves.{IsLeaf, BeginsLeaf}
 use Rattle.listing_types.specs.TypeReading.{whole_number, word_type, closure_type, adt_type, named_type, type_of_word, unique_mark, reference_from, reference_begin, marked_begin, object_from, object_begin, worded_begin, begin_from, begin_read}
@@ -75,7 +75,7 @@ module _ (heads : ItemTable) where
       by (inr b) = named_leaf w ty b
 
   -- a beginning that was found
-  abbrev Leafy : Found Begin → Type 0
+  abbrev Leafy : FoundInText Begin → Type 0
   Leafy o = (b : Begin × List ℕ) → o ≡ Some b → BeginsLeaf heads b.0
 
   some_leafy : (b : Begin) (r : List ℕ) → BeginsLeaf heads b → Leafy (Some (b, r))
@@ -84,7 +84,7 @@ module _ (heads : ItemTable) where
   said_leafy : (word t : List ℕ) (b : Begin) → BeginsLeaf heads b → Leafy (said word b t)
   said_leafy word t b leaf c h = let (u, mark, last) = split (strip word t) (λ r. Some (b, r)) c h in some_leafy b u leaf c last
 
-  or_leafy : (one other : Found Begin) → Leafy one → Leafy other → Leafy (or_else one other)
+  or_leafy : (one other : FoundInText Begin) → Leafy one → Leafy other → Leafy (or_else one other)
   or_leafy None other a b = b
   or_leafy (Some x) other a b = a
 
@@ -94,7 +94,7 @@ module _ (heads : ItemTable) where
 
   marked_leafy : (t : List ℕ) → Leafy (marked_begin t)
   marked_leafy t =
-      or_leafy _ _ (said_leafy (codes "(") t Begin.Row tt) (or_leafy _ _ (said_leafy (codes "[") t (Begin.Around Around.Array) tt)
+      or_leafy _ _ (said_leafy (codes "(") t Begin.Row tt) (or_leafy _ _ (said_leafy (codes "[") t (Begin.Around TypeAround.Array) tt)
       (or_leafy _ _ (said_leafy (codes "!") t (Begin.Whole Ty.Never) never_leaf) last))
     where
       last : Leafy (bind (strip (codes "&") t) (λ r. Some (reference_begin r)))
@@ -109,13 +109,13 @@ module _ (heads : ItemTable) where
       let (def, is, last) = split (slice_get heads.traits (trait_no heads n.0)) (λ def. Some (Begin.Whole (Ty.Dyn (trait_no heads n.0)), n.1)) c named in
       some_leafy (Begin.Whole (Ty.Dyn (trait_no heads n.0))) n.1 (object_leaf (trait_no heads n.0) (slice_get_within heads.traits (trait_no heads n.0) def is)) c last
 
-  if_leafy : (t : Bool) (a b : Found Begin) → Leafy a → Leafy b → Leafy (if t then a else b)
+  if_leafy : (t : Bool) (a b : FoundInText Begin) → Leafy a → Leafy b → Leafy (if t then a else b)
   if_leafy true a b left right = left
   if_leafy false a b left right = right
 
   worded_leafy : (w r : List ℕ) → Leafy (worded_begin heads w r)
   worded_leafy w r =
-      if_leafy (same_name w (codes "Box")) _ _ (said_leafy (codes "<") r (Begin.Around Around.Box) tt)
+      if_leafy (same_name w (codes "Box")) _ _ (said_leafy (codes "<") r (Begin.Around TypeAround.Box) tt)
       (if_leafy (same_name w (codes "dyn")) _ _ (object_leafy r) last)
     where
       last : Leafy (bind (type_of_word heads w) (λ ty. Some (Begin.Whole ty, r)))

@@ -8,7 +8,7 @@ use Rattle.std.proofs.lemmas.Fmt.{decimal-digits_value, decimal_digit, first_dec
 use Rattle.std.proofs.lemmas.Option.{same_Some, none-some}
 use Rattle.std.proofs.lemmas.Str.Parse.{IsDigitsTest, numerals_by_value}
 use Rattle.mir_text.specs.Fields.{Fits}
-use Rattle.mir_text.specs.Reading.Words.{Found, bind, chosen, strip, span, is_digit, valued, limited, number}
+use Rattle.mir_text.specs.Reading.Words.{FoundInText, bind, chosen, strip, span, is_digit, valued, limited, number}
 use Rattle.mir_text.proofs.Reading.Basics.{stops, number_reads}
 use Rattle.listing_parts.proofs.LineByLine.{strip_sound}
 use Rattle.listing_parts.proofs.Spans.{span_all}
@@ -50,7 +50,7 @@ valued_sound (d ∷ ds, s) n r all first h =
 pub plain_sound : (t : List ℕ) (n : ℕ) (r : List ℕ) → plain_number t ≡ Some (n, r) → (t ≡ decimal n ++ r) × Fits n
 plain_sound t n r h = by (either (strip (codes "0") t) (λ r. Some (0, r)) (number t) (n, r) h)
   where
-    by : ((s : List ℕ) × (strip (codes "0") t ≡ Some s) × (◌≡◌ {A = Found ℕ} (Some (0, s)) (Some (n, r)))) ⊎ ((strip (codes "0") t ≡ None) × (number t ≡ Some (n, r)))
+    by : ((s : List ℕ) × (strip (codes "0") t ≡ Some s) × (◌≡◌ {A = FoundInText ℕ} (Some (0, s)) (Some (n, r)))) ⊎ ((strip (codes "0") t ≡ None) × (number t ≡ Some (n, r)))
         → (t ≡ decimal n ++ r) × Fits n
     by (inl z) =
         let (own, behind) = same_found 0 z.0 n r z.2 in (
@@ -80,7 +80,7 @@ plain_reads (suc n) r fits s =
     ap (λ (o : Option (List ℕ)). chosen o (λ r. Some (0, r)) (number (decimal (suc n) ++ r))) (no_zero (suc n) r (omega arith) fits) ∙ number_reads (suc n) r fits s
 
 pub whole_reads : (n : ℕ) → Fits n → whole_number (decimal n) ≡ Some n
-whole_reads n fits = ap whole_number (sym (append-nil (decimal n))) ∙ ap (λ (f : Found ℕ). bind f nothing_behind) (plain_reads n [] fits refl)
+whole_reads n fits = ap whole_number (sym (append-nil (decimal n))) ∙ ap (λ (f : FoundInText ℕ). bind f nothing_behind) (plain_reads n [] fits refl)
 
 pub whole_sound : (t : List ℕ) (n : ℕ) → whole_number t ≡ Some n → (t ≡ decimal n) × Fits n
 whole_sound t n h =

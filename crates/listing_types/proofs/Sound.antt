@@ -13,9 +13,9 @@ use Rattle.listing_parts.specs.Numbers.{adt_no, trait_no}
 use Rattle.listing_parts.proofs.LineByLine.{strip_sound}
 use Rattle.mir_text.specs.Lists.{behind_commas, joined, in_parentheses}
 use Rattle.mir_text.specs.Reading.Rows.{many, many_within, row, comma}
-use Rattle.mir_text.specs.Reading.Words.{Found, bind, or_else, chosen, as_, said, strip, span, place_in}
+use Rattle.mir_text.specs.Reading.Words.{FoundInText, bind, or_else, chosen, as_, said, strip, span, place_in}
 use Rattle.mir_text.specs.Types.{form_text, tuple_text, trait_name, name_of_trait}
-use Rattle.listing_types.specs.declared.begin.Around.{Around}
+use Rattle.listing_types.specs.declared.begin.TypeAround.{TypeAround}
 use Rattle.listing_types.specs.declared.begin.Begin.{Begin}
 use Rattle.listing_types.specs.TypeReading.{plain_number, whole_number, word_type, closure_type, adt_type, named_type, type_of_word, unique_mark, reference_from, reference_begin, marked_begin, object_from, object_begin, worded_begin, begin_from, array_end, around_end, around_text, around_read, row_end, tuple_from, rest_read, type_within, types_behind}
 use Rattle.listing_types.specs.TypesFound.{TypesAreSound, RowsAreSound}
@@ -23,7 +23,7 @@ use Rattle.listing_types.proofs.PlainNumbers.{plain_sound, whole_sound}
 use Rattle.listing_types.proofs.Splits.{split, either, one_of_two, tested, same_found, same_is, span_parts}
 
 -- what a reader finds is the text in front
-abbrev pub IsSound : (List ℕ → Found (List ℕ)) → Type 0
+abbrev pub IsSound : (List ℕ → FoundInText (List ℕ)) → Type 0
 IsSound read = (t w r : List ℕ) → read t ≡ Some (w, r) → t ≡ w ++ r
 
 said_sound : {X : Type 0} (word : List ℕ) (x : X) (t : List ℕ) (y : X) (r : List ℕ) → said word x t ≡ Some (y, r) → (x ≡ y) × (t ≡ word ++ r)
@@ -43,12 +43,12 @@ placed_name name_of (y ∷ ys) name x h = by (same_name name (name_of y)) refl h
     by false e h deeper = deeper h
 
 -- a row behind commas
-module _ (inner : List ℕ → Found (List ℕ)) (sound : IsSound inner) where
+module _ (inner : List ℕ → FoundInText (List ℕ)) (sound : IsSound inner) where
   pub many_sound : (k : ℕ) (t : List ℕ) → t ≡ behind_commas (many_within k (comma inner) t).0 ++ (many_within k (comma inner) t).1
   many_sound zero t = refl
   many_sound (suc k) t = by (comma inner t) refl (many_sound k)
     where
-      by : (o : Found (List ℕ)) → comma inner t ≡ o → ((u : List ℕ) → u ≡ behind_commas (many_within k (comma inner) u).0 ++ (many_within k (comma inner) u).1)
+      by : (o : FoundInText (List ℕ)) → comma inner t ≡ o → ((u : List ℕ) → u ≡ behind_commas (many_within k (comma inner) u).0 ++ (many_within k (comma inner) u).1)
           → t ≡ behind_commas (many_within (suc k) (comma inner) t).0 ++ (many_within (suc k) (comma inner) t).1
       by None e deeper = rw e refl
       by (Some f) e deeper =
@@ -59,7 +59,7 @@ module _ (inner : List ℕ → Found (List ℕ)) (sound : IsSound inner) where
   pub row_sound : (t : List ℕ) → t ≡ joined (row inner t).0 ++ (row inner t).1
   row_sound t = by (inner t) refl
     where
-      by : (o : Found (List ℕ)) → inner t ≡ o → t ≡ joined (row inner t).0 ++ (row inner t).1
+      by : (o : FoundInText (List ℕ)) → inner t ≡ o → t ≡ joined (row inner t).0 ++ (row inner t).1
       by None e = rw e refl
       by (Some f) e =
           rw e (sound t f.0 f.1 e ∙ ap (λ (x : List ℕ). f.0 ++ x) (many_sound (length f.1) f.1)
@@ -78,7 +78,7 @@ module _ (inner : List ℕ → Found (List ℕ)) (sound : IsSound inner) where
       by (v ∷ x ∷ ws) s u closed =
           ap (λ (y : List ℕ). codes "(" ++ (joined (v ∷ x ∷ ws) ++ y)) (strip_sound (codes ")") s u closed) ∙ sym (append_assoc (codes "(" ++ joined (v ∷ x ∷ ws)) (codes ")") u)
 
-  around_sound : (around : Around) (word t w r : List ℕ) → ((v : List ℕ) (n : ℕ) (s u : List ℕ) → around_end around s ≡ Some (n, u) → word ++ (v ++ s) ≡ around_text around v n ++ u)
+  around_sound : (around : TypeAround) (word t w r : List ℕ) → ((v : List ℕ) (n : ℕ) (s u : List ℕ) → around_end around s ≡ Some (n, u) → word ++ (v ++ s) ≡ around_text around v n ++ u)
       → around_read inner around t ≡ Some (w, r) → word ++ t ≡ w ++ r
   around_sound around word t w r closes h =
       let (f, found, more) = split (inner t) (λ f. as_ (around_text around f.0) (around_end around f.1)) (w, r) h in
@@ -86,13 +86,13 @@ module _ (inner : List ℕ → Found (List ℕ)) (sound : IsSound inner) where
       let (own, behind) = same_found (around_text around f.0 n.0) n.1 w r last in
       ap (λ (x : List ℕ). word ++ x) (sound t f.0 f.1 found) ∙ closes f.0 n.0 f.1 n.1 ended ∙ (λ i. own i ++ behind i)
 
-  box_sound : (t w r : List ℕ) → around_read inner Around.Box t ≡ Some (w, r) → codes "Box<" ++ t ≡ w ++ r
+  box_sound : (t w r : List ℕ) → around_read inner TypeAround.Box t ≡ Some (w, r) → codes "Box<" ++ t ≡ w ++ r
   box_sound t w r h =
-      around_sound Around.Box (codes "Box<") t w r
+      around_sound TypeAround.Box (codes "Box<") t w r
       (λ v n s u e. ap (λ (x : List ℕ). codes "Box<" ++ (v ++ x)) (said_sound (codes ">") 0 s n u e).1 ∙ sym (append_assoc (codes "Box<" ++ v) (codes ">") u)) h
 
-  array_sound : (t w r : List ℕ) → around_read inner Around.Array t ≡ Some (w, r) → codes "[" ++ t ≡ w ++ r
-  array_sound t w r h = around_sound Around.Array (codes "[") t w r closes h
+  array_sound : (t w r : List ℕ) → around_read inner TypeAround.Array t ≡ Some (w, r) → codes "[" ++ t ≡ w ++ r
+  array_sound t w r h = around_sound TypeAround.Array (codes "[") t w r closes h
     where
       closes : (v : List ℕ) (n : ℕ) (s u : List ℕ) → array_end s ≡ Some (n, u) → codes "[" ++ (v ++ s) ≡ (codes "[" ++ v ++ codes "; " ++ decimal n ++ codes "]") ++ u
       closes v n s u e =
@@ -103,18 +103,18 @@ module _ (inner : List ℕ → Found (List ℕ)) (sound : IsSound inner) where
           ∙ ap (λ (y : List ℕ). codes "; " ++ y) ((plain_sound x m.0 m.1 number).0 ∙ (λ i. decimal (own i) ++ behind i)))
           ∙ simp append_assoc refl
 
-  shared_sound : (t w r : List ℕ) → around_read inner Around.Shared t ≡ Some (w, r) → codes "&" ++ t ≡ w ++ r
+  shared_sound : (t w r : List ℕ) → around_read inner TypeAround.Shared t ≡ Some (w, r) → codes "&" ++ t ≡ w ++ r
   shared_sound t w r h =
-      around_sound Around.Shared (codes "&") t w r
+      around_sound TypeAround.Shared (codes "&") t w r
       (λ v n s u e. ap (λ (x : List ℕ). codes "&" ++ (v ++ x)) (same_found 0 s n u e).1 ∙ sym (append_assoc (codes "&") v u)) h
 
-  unique_sound : (t w r : List ℕ) → around_read inner Around.Unique t ≡ Some (w, r) → codes "&mut " ++ t ≡ w ++ r
+  unique_sound : (t w r : List ℕ) → around_read inner TypeAround.Unique t ≡ Some (w, r) → codes "&mut " ++ t ≡ w ++ r
   unique_sound t w r h =
-      around_sound Around.Unique (codes "&mut ") t w r
+      around_sound TypeAround.Unique (codes "&mut ") t w r
       (λ v n s u e. ap (λ (x : List ℕ). codes "&mut " ++ (v ++ x)) (same_found 0 s n u e).1 ∙ sym (append_assoc (codes "&mut ") v u)) h
 
   module _ (heads : ItemTable) where
-    abbrev behind : Begin × List ℕ → Found (List ℕ)
+    abbrev behind : Begin × List ℕ → FoundInText (List ℕ)
     behind = rest_read inner heads
 
     reference_sound : (t w r : List ℕ) → behind (reference_begin t) ≡ Some (w, r) → codes "&" ++ t ≡ w ++ r
@@ -134,10 +134,10 @@ module _ (inner : List ℕ → Found (List ℕ)) (sound : IsSound inner) where
                 ap (λ (x : List ℕ). codes "&" ++ x) (strip_sound (codes "mut ") t v mut ∙ ap (λ (x : List ℕ). codes "mut " ++ x) (same_Some v u other.1)) ∙ unique_sound u w r h
 
     -- what follows a beginning
-    abbrev Follows : List ℕ → Found Begin → Type 0
+    abbrev Follows : List ℕ → FoundInText Begin → Type 0
     Follows t o = (w r : List ℕ) → bind o behind ≡ Some (w, r) → t ≡ w ++ r
 
-    said_follows : (word t : List ℕ) (b : Begin) (other : Found Begin) → ((u w r : List ℕ) → behind (b, u) ≡ Some (w, r) → word ++ u ≡ w ++ r) → Follows t other → Follows t (or_else (said word b t) other)
+    said_follows : (word t : List ℕ) (b : Begin) (other : FoundInText Begin) → ((u w r : List ℕ) → behind (b, u) ≡ Some (w, r) → word ++ u ≡ w ++ r) → Follows t other → Follows t (or_else (said word b t) other)
     said_follows word t b other one rest w r h = by (strip word t) refl h
       where
         by : (o : Option (List ℕ)) → strip word t ≡ o → bind (or_else (bind o (λ r. Some (b, r))) other) behind ≡ Some (w, r) → t ≡ w ++ r
@@ -147,7 +147,7 @@ module _ (inner : List ℕ → Found (List ℕ)) (sound : IsSound inner) where
     marked_follows : (t : List ℕ) → Follows t (marked_begin t)
     marked_follows t =
         said_follows (codes "(") t Begin.Row _ (λ u w r h. tuple_sound (row inner u) u w r (row_sound u) h)
-        (said_follows (codes "[") t (Begin.Around Around.Array) _ (λ u w r h. array_sound u w r h)
+        (said_follows (codes "[") t (Begin.Around TypeAround.Array) _ (λ u w r h. array_sound u w r h)
         (said_follows (codes "!") t (Begin.Whole Ty.Never) _ (λ u w r h. let (own, rest) = same_found (codes "!") u w r h in λ i. own i ++ rest i) last))
       where
         last : Follows t (bind (strip (codes "&") t) (λ r. Some (reference_begin r)))
@@ -208,7 +208,7 @@ module _ (inner : List ℕ → Found (List ℕ)) (sound : IsSound inner) where
     worded_follows : (word rest w r : List ℕ) → bind (worded_begin heads word rest) behind ≡ Some (w, r) → word ++ rest ≡ w ++ r
     worded_follows word rest w r h = by (same_name word (codes "Box")) refl h
       where
-        others : Found Begin
+        others : FoundInText Begin
         others = if same_name word (codes "dyn") then object_begin heads rest else bind (type_of_word heads word) (λ ty. Some (Begin.Whole ty, rest))
 
         last : (v : Bool) → same_name word (codes "dyn") ≡ v → bind (if v then object_begin heads rest else bind (type_of_word heads word) (λ ty. Some (Begin.Whole ty, rest))) behind ≡ Some (w, r) → word ++ rest ≡ w ++ r
@@ -221,11 +221,11 @@ module _ (inner : List ℕ → Found (List ℕ)) (sound : IsSound inner) where
                 let (own, back) = same_found (alone ty) rest w r h in
                 ap (λ (x : List ℕ). x ++ rest) (word_sound word ty e) ∙ (λ i. own i ++ back i)
 
-        boxed : (o : Option (List ℕ)) → strip (codes "<") rest ≡ o → bind (bind o (λ r. Some (Begin.Around Around.Box, r))) behind ≡ Some (w, r) → codes "Box" ++ rest ≡ w ++ r
+        boxed : (o : Option (List ℕ)) → strip (codes "<") rest ≡ o → bind (bind o (λ r. Some (Begin.Around TypeAround.Box, r))) behind ≡ Some (w, r) → codes "Box" ++ rest ≡ w ++ r
         boxed None e h = absurd (none-some (w, r) h)
         boxed (Some u) e h = ap (λ (x : List ℕ). codes "Box" ++ x) (strip_sound (codes "<") rest u e) ∙ box_sound u w r h
 
-        by : (v : Bool) → same_name word (codes "Box") ≡ v → bind (if v then said (codes "<") (Begin.Around Around.Box) rest else others) behind ≡ Some (w, r) → word ++ rest ≡ w ++ r
+        by : (v : Bool) → same_name word (codes "Box") ≡ v → bind (if v then said (codes "<") (Begin.Around TypeAround.Box) rest else others) behind ≡ Some (w, r) → word ++ rest ≡ w ++ r
         by true e h = ap (λ (x : List ℕ). x ++ rest) (same_is word (codes "Box") e) ∙ boxed (strip (codes "<") rest) refl h
         by false e h = last (same_name word (codes "dyn")) refl h
 
@@ -243,7 +243,7 @@ type_sound heads t w r h = within_sound heads (length t) t w r h
 pub rows_sound : RowsAreSound
 rows_sound heads t words r h =
     let (u, opened, more) = split (strip (codes "(") t) (types_behind heads) (words, r) h in
-    let read : List ℕ → Found (List ℕ) = type_within heads (length u) in
+    let read : List ℕ → FoundInText (List ℕ) = type_within heads (length u) in
     let q : List (List ℕ) × List ℕ = row read u in
     let (v, closed, last) = split (strip (codes ")") q.1) (λ r. Some (q.0, r)) (words, r) more in
     let same : ◌≡◌ {A = List (List ℕ) × List ℕ} (q.0, v) (words, r) = same_Some (q.0, v) (words, r) last in

@@ -4,7 +4,7 @@ use Rattle.std.specs.Prelude.{◌⊎◌}
 use Rattle.std.proofs.lemmas.Option.{same_Some, none-some}
 use Rattle.std.proofs.lemmas.Bool.{and_parts, false≢true}
 use Rattle.cfg_graph.specs.WellFormed.NameFaults.{same_name}
-use Rattle.mir_text.specs.Reading.Words.{Found, bind, chosen, or_else, span}
+use Rattle.mir_text.specs.Reading.Words.{FoundInText, bind, chosen, or_else, span}
 
 pub split : {X Y : Type 0} (o : Option X) (go : X → Option Y) (y : Y) → bind o go ≡ Some y → (x : X) × (o ≡ Some x) × (go x ≡ Some y)
 split None go y h = absurd (none-some y h)
@@ -24,7 +24,7 @@ tested true a b x h = inl (refl, h)
 tested false a b x h = inr (refl, h)
 
 -- what was found is one thing, with one text behind it
-pub same_found : {X : Type 0} (a : X) (r : List ℕ) (b : X) (s : List ℕ) → ◌≡◌ {A = Found X} (Some (a, r)) (Some (b, s)) → (a ≡ b) × (r ≡ s)
+pub same_found : {X : Type 0} (a : X) (r : List ℕ) (b : X) (s : List ℕ) → ◌≡◌ {A = FoundInText X} (Some (a, r)) (Some (b, s)) → (a ≡ b) × (r ≡ s)
 same_found {X} a r b s h =
     let same : ◌≡◌ {A = X × List ℕ} (a, r) (b, s) = same_Some (a, r) (b, s) h in
     (ap (λ (q : X × List ℕ). q.0) same, ap (λ (q : X × List ℕ). q.1) same)

@@ -8,13 +8,13 @@ use Rattle.cfg_graph.specs.WellFormed.NameFaults.{same_name, stands_in_names}
 use Rattle.listing_parts.specs.Numbers.{adt_no, trait_no}
 use Rattle.mir_ty.specs.declared.ty.TyId.{TyId}
 use Rattle.mir_text.specs.Reading.Rows.{many, comma, row, closed_row}
-use Rattle.mir_text.specs.Reading.Words.{Found, bind, or_else, chosen, as_, said, strip, span, number}
+use Rattle.mir_text.specs.Reading.Words.{FoundInText, bind, or_else, chosen, as_, said, strip, span, number}
 use Rattle.mir_text.specs.Types.{form_text, tuple_text}
-use Rattle.listing_types.specs.declared.begin.Around.{Around}
+use Rattle.listing_types.specs.declared.begin.TypeAround.{TypeAround}
 use Rattle.listing_types.specs.declared.begin.Begin.{Begin}
 
 -- a number as it is written: a zero stands alone
-abbrev pub plain_number : List ℕ → Found ℕ
+abbrev pub plain_number : List ℕ → FoundInText ℕ
 plain_number t = chosen (strip (codes "0") t) (λ r. Some (0, r)) (number t)
 
 abbrev pub nothing_behind : {X : Type 0} → X × List ℕ → Option X
@@ -56,64 +56,64 @@ abbrev pub unique_mark : List ℕ → Option (List ℕ)
 unique_mark t = bind (strip (codes "mut ") t) (λ r. chosen (strip (codes "}") r) (λ s. None) (Some r))
 
 abbrev pub reference_from : List ℕ → Option (List ℕ) → Begin × List ℕ
-reference_from t None = (Begin.Around Around.Shared, t)
-reference_from t (Some r) = (Begin.Around Around.Unique, r)
+reference_from t None = (Begin.Around TypeAround.Shared, t)
+reference_from t (Some r) = (Begin.Around TypeAround.Unique, r)
 
 abbrev pub reference_begin : List ℕ → Begin × List ℕ
 reference_begin t = reference_from t (unique_mark t)
 
 -- a type that begins with a mark
-abbrev pub marked_begin : List ℕ → Found Begin
+abbrev pub marked_begin : List ℕ → FoundInText Begin
 marked_begin t =
     or_else (said (codes "(") Begin.Row t)
-    (or_else (said (codes "[") (Begin.Around Around.Array) t)
+    (or_else (said (codes "[") (Begin.Around TypeAround.Array) t)
     (or_else (said (codes "!") (Begin.Whole Ty.Never) t) (bind (strip (codes "&") t) (λ r. Some (reference_begin r)))))
 
 module _ (heads : ItemTable) where
   -- behind `dyn`
-  abbrev pub object_from : List ℕ × List ℕ → Found Begin
+  abbrev pub object_from : List ℕ × List ℕ → FoundInText Begin
   object_from n =
       bind (slice_get heads.traits (trait_no heads n.0)) (λ def. Some (Begin.Whole (Ty.Dyn (trait_no heads n.0)), n.1))
 
-  abbrev pub object_begin : List ℕ → Found Begin
+  abbrev pub object_begin : List ℕ → FoundInText Begin
   object_begin t = bind (strip (codes " ") t) (λ t. object_from (span stands_in_names t))
 
   -- a type that begins with a word
-  abbrev pub worded_begin : List ℕ → List ℕ → Found Begin
+  abbrev pub worded_begin : List ℕ → List ℕ → FoundInText Begin
   worded_begin w r =
-      if same_name w (codes "Box") then said (codes "<") (Begin.Around Around.Box) r
+      if same_name w (codes "Box") then said (codes "<") (Begin.Around TypeAround.Box) r
       else (if same_name w (codes "dyn") then object_begin r
       else bind (type_of_word heads w) (λ ty. Some (Begin.Whole ty, r)))
 
-  abbrev pub begin_from : List ℕ × List ℕ → List ℕ → Found Begin
+  abbrev pub begin_from : List ℕ × List ℕ → List ℕ → FoundInText Begin
   begin_from ([], r) t = marked_begin t
   begin_from (b ∷ bs, r) t = worded_begin (b ∷ bs) r
 
   -- what a type begins with
-  abbrev pub begin_read : List ℕ → Found Begin
+  abbrev pub begin_read : List ℕ → FoundInText Begin
   begin_read t = begin_from (span stands_in_names t) t
 
-abbrev pub array_end : List ℕ → Found ℕ
+abbrev pub array_end : List ℕ → FoundInText ℕ
 array_end t = bind (strip (codes "; ") t) (λ t. bind (plain_number t) (λ n. said (codes "]") n.0 n.1))
 
 -- behind the type in another: the length of an array, and else 0
-abbrev pub around_end : Around → List ℕ → Found ℕ
-around_end Around.Box t = said (codes ">") 0 t
-around_end Around.Array t = array_end t
-around_end Around.Shared t = Some (0, t)
-around_end Around.Unique t = Some (0, t)
+abbrev pub around_end : TypeAround → List ℕ → FoundInText ℕ
+around_end TypeAround.Box t = said (codes ">") 0 t
+around_end TypeAround.Array t = array_end t
+around_end TypeAround.Shared t = Some (0, t)
+around_end TypeAround.Unique t = Some (0, t)
 
-abbrev pub around_type : Around → TyId → ℕ → Ty
-around_type Around.Box inside n = Ty.Boxed inside
-around_type Around.Array inside n = Ty.Array inside n
-around_type Around.Shared inside n = Ty.Shared inside
-around_type Around.Unique inside n = Ty.Unique inside
+abbrev pub around_type : TypeAround → TyId → ℕ → Ty
+around_type TypeAround.Box inside n = Ty.Boxed inside
+around_type TypeAround.Array inside n = Ty.Array inside n
+around_type TypeAround.Shared inside n = Ty.Shared inside
+around_type TypeAround.Unique inside n = Ty.Unique inside
 
-abbrev pub around_text : Around → List ℕ → ℕ → List ℕ
-around_text Around.Box w n = codes "Box<" ++ w ++ codes ">"
-around_text Around.Array w n = codes "[" ++ w ++ codes "; " ++ decimal n ++ codes "]"
-around_text Around.Shared w n = codes "&" ++ w
-around_text Around.Unique w n = codes "&mut " ++ w
+abbrev pub around_text : TypeAround → List ℕ → ℕ → List ℕ
+around_text TypeAround.Box w n = codes "Box<" ++ w ++ codes ">"
+around_text TypeAround.Array w n = codes "[" ++ w ++ codes "; " ++ decimal n ++ codes "]"
+around_text TypeAround.Shared w n = codes "&" ++ w
+around_text TypeAround.Unique w n = codes "&mut " ++ w
 
 -- behind a row of types: one type has a comma behind it
 abbrev pub row_end : {X : Type 0} → List X → List ℕ → Option (List ℕ)
@@ -126,25 +126,25 @@ tuple_type [] = Ty.Unit
 tuple_type (id ∷ ids) = Ty.Tuple (id ∷ ids)
 
 -- types, where those in them are read so
-module _ (inner : List ℕ → Found (List ℕ)) where
-  abbrev pub around_read : Around → List ℕ → Found (List ℕ)
+module _ (inner : List ℕ → FoundInText (List ℕ)) where
+  abbrev pub around_read : TypeAround → List ℕ → FoundInText (List ℕ)
   around_read around t = bind (inner t) (λ f. as_ (around_text around f.0) (around_end around f.1))
 
-  abbrev pub tuple_from : List (List ℕ) × List ℕ → Found (List ℕ)
+  abbrev pub tuple_from : List (List ℕ) × List ℕ → FoundInText (List ℕ)
   tuple_from q = bind (row_end q.0 q.1) (λ r. Some (tuple_text q.0, r))
 
-  abbrev pub rest_read : ItemTable → Begin × List ℕ → Found (List ℕ)
+  abbrev pub rest_read : ItemTable → Begin × List ℕ → FoundInText (List ℕ)
   rest_read heads (Begin.Whole ty, t) = Some (form_text heads (λ id. []) ty, t)
   rest_read heads (Begin.Around around, t) = around_read around t
   rest_read heads (Begin.Row, t) = tuple_from (row inner t)
 
 -- a type with no more than so many types in one another
-abbrev pub type_within : ItemTable → ℕ → List ℕ → Found (List ℕ)
+abbrev pub type_within : ItemTable → ℕ → List ℕ → FoundInText (List ℕ)
 type_within heads zero t = None
 type_within heads (suc depth) t = bind (begin_read heads t) (rest_read (type_within heads depth) heads)
 
 -- a type: each type that another stands in has a byte
-abbrev pub type_read : ItemTable → List ℕ → Found (List ℕ)
+abbrev pub type_read : ItemTable → List ℕ → FoundInText (List ℕ)
 type_read heads t = type_within heads (length t) t
 
 -- types behind commas
@@ -152,9 +152,9 @@ abbrev pub more_types : ItemTable → List ℕ → List (List ℕ) × List ℕ
 more_types heads t = many (comma (type_within heads (length t))) t
 
 -- types with commas between them, behind the parenthesis that opens
-abbrev pub types_behind : ItemTable → List ℕ → Found (List (List ℕ))
+abbrev pub types_behind : ItemTable → List ℕ → FoundInText (List (List ℕ))
 types_behind heads t = closed_row (row (type_within heads (length t)) t)
 
 -- types in parentheses
-abbrev pub types_read : ItemTable → List ℕ → Found (List (List ℕ))
+abbrev pub types_read : ItemTable → List ℕ → FoundInText (List (List ℕ))
 types_read heads t = bind (strip (codes "(") t) (types_behind heads)

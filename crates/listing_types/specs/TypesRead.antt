@@ -6,14 +6,14 @@ use Rattle.mir_base.specs.declared.memory.NoMemory.{NoMemory}
 use Rattle.mir_ty.specs.AreItems.{AreTypes}
 use Rattle.mir_ty.specs.declared.ty.Ty.{Ty}
 use Rattle.mir_ty.specs.ItemTable.{ItemTable, type_at}
-use Rattle.mir_text.specs.Reading.Words.{Found}
+use Rattle.mir_text.specs.Reading.Words.{FoundInText}
 use Rattle.mir_text.specs.Types.{form_text}
 use Rattle.listing_parts.specs.declared.error.ReadError.{ReadError}
 use Rattle.listing_types.specs.Table.{Grow, text_under, under}
 
 -- the type that was found stands in the new items, where it is written so
 pub record FindsType (heads old new : ItemTable) (result : Result (TyId × Bor (List ℕ)) ReadError)
-    (found : Found (List ℕ)) : Type 0 where
+    (found : FoundInText (List ℕ)) : Type 0 where
   pub there : IfOk result (λ f. found ≡ Some (text_under heads new f.0, f.1.now))
   pub within : IfOk result (λ f. f.0.0 < length new.types)
   pub missing : result ≡ Err ReadError.Unreadable → found ≡ None
@@ -36,7 +36,7 @@ pub record FindsRow (heads old new : ItemTable) (before after : List TyId) (resu
 
 -- the types that were found in parentheses stand in the new items, where they are written so
 pub record FindsTypes (heads old new : ItemTable) (result : Result (List TyId × Bor (List ℕ)) ReadError)
-    (found : Found (List (List ℕ))) : Type 0 where
+    (found : FoundInText (List (List ℕ))) : Type 0 where
   pub there : IfOk result (λ f. found ≡ Some (map (text_under heads new) f.0, f.1.now))
   pub within : IfOk result (λ f. AreTypes new.types f.0)
   pub missing : result ≡ Err ReadError.Unreadable → found ≡ None

@@ -11,7 +11,7 @@ use mir_ty::{Ty, TyId};
 
 /// What stands around another type.
 #[derive(Clone, Copy, Drop)]
-pub enum Around {
+pub enum TypeAround {
     Box,
     Array,
     Shared,
@@ -24,7 +24,7 @@ pub enum Begin {
     /// A type without others in it.
     Whole(Ty),
     /// One other type follows.
-    Around(Around),
+    Around(TypeAround),
     /// A row of others follows.
     Row,
 }
@@ -35,10 +35,10 @@ fn reference(text: &[u8]) -> (Begin, &[u8])
 {
     if let Some(rest) = strip(text, "mut ") {
         if strip(rest, "}").is_none() {
-            return (Begin::Around(Around::Unique), rest);
+            return (Begin::Around(TypeAround::Unique), rest);
         }
     }
-    (Begin::Around(Around::Shared), text)
+    (Begin::Around(TypeAround::Shared), text)
 }
 
 /// A type that begins with a mark.
@@ -48,7 +48,7 @@ fn marked(text: &[u8]) -> Option<(Begin, &[u8])>
     if let Some(rest) = strip(text, "(") {
         Some((Begin::Row, rest))
     } else if let Some(rest) = strip(text, "[") {
-        Some((Begin::Around(Around::Array), rest))
+        Some((Begin::Around(TypeAround::Array), rest))
     } else if let Some(rest) = strip(text, "!") {
         Some((Begin::Whole(Ty::Never), rest))
     } else {
@@ -73,7 +73,7 @@ fn worded<'a>(heads: &Heads, word: &[u8], rest: &'a [u8]) -> Option<(Begin, &'a 
     ensures { seen result ≡ reading.worded_begin heads.now word.now rest.now }
 {
     if is_word(word, "Box") {
-        Some((Begin::Around(Around::Box), strip(rest, "<")?))
+        Some((Begin::Around(TypeAround::Box), strip(rest, "<")?))
     } else if is_word(word, "dyn") {
         object(heads, rest)
     } else {
@@ -102,26 +102,26 @@ fn array_end(text: &[u8]) -> Option<(u32, &[u8])>
 }
 
 /// What ends a type behind the one in it: the length, which is 0 where there is none.
-pub fn around_end(around: Around, text: &[u8]) -> Option<(u32, &[u8])>
+pub fn around_end(around: TypeAround, text: &[u8]) -> Option<(u32, &[u8])>
     ensures { seen result ≡ reading.around_end around text.now }
 {
     match around {
-        Around::Box => Some((0, strip(text, ">")?)),
-        Around::Array => array_end(text),
-        Around::Shared => Some((0, text)),
-        Around::Unique => Some((0, text)),
+        TypeAround::Box => Some((0, strip(text, ">")?)),
+        TypeAround::Array => array_end(text),
+        TypeAround::Shared => Some((0, text)),
+        TypeAround::Unique => Some((0, text)),
     }
 }
 
 /// The type around another one.
-pub fn around_type(around: Around, inside: TyId, length: u32) -> Ty
+pub fn around_type(around: TypeAround, inside: TyId, length: u32) -> Ty
     ensures { result ≡ reading.around_type around inside length }
 {
     match around {
-        Around::Box => Ty::Boxed(inside),
-        Around::Array => Ty::Array(inside, length),
-        Around::Shared => Ty::Shared(inside),
-        Around::Unique => Ty::Unique(inside),
+        TypeAround::Box => Ty::Boxed(inside),
+        TypeAround::Array => Ty::Array(inside, length),
+        TypeAround::Shared => Ty::Shared(inside),
+        TypeAround::Unique => Ty::Unique(inside),
     }
 }
 

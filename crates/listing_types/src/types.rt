@@ -8,7 +8,7 @@ ghost use Rattle.listing_types.specs.Table.{AreRead, MayStand, text_under, under
 ghost use Rattle.listing_types.specs.TypeReading as reading;
 ghost use Rattle.listing_types.specs.TypesRead.{FindsRow, FindsType, FindsTypes};
 
-use crate::begin::{Around, Begin, around_end, around_type, row_end, type_begin};
+use crate::begin::{Begin, TypeAround, around_end, around_type, row_end, type_begin};
 use crate::table::give_number;
 use listing_parts::{Heads, ReadError, strip};
 use mir_base::{List, NoMemory};
@@ -90,7 +90,7 @@ fn read_around<'a>(
     alloc: Global,
     heads: &Heads,
     items: &mut Items,
-    around: Around,
+    around: TypeAround,
     text: &'a [u8],
     depth: usize,
 ) -> Result<(TyId, &'a [u8]), ReadError>

@@ -14,7 +14,7 @@ use Rattle.mir_ty.specs.Facts.{needs_drop}
 use Rattle.mir_ty.specs.ItemTable.{ItemTable, type_at}
 use Rattle.store_model.specs.Concrete.Effects.{impl_of}
 use Rattle.store_model.specs.Effects as effects
-use Rattle.store_model.specs.Effects.{Site, Action}
+use Rattle.store_model.specs.Effects.{EffectSite, Action}
 use Rattle.mir_ty.specs.Parts.{parts_of}
 use Rattle.store_model.specs.Places.Place.{Place, whole_local, content_of, element_of, is_enum}
 use Rattle.store_model.specs.Places.TypeForms as forms
@@ -23,14 +23,14 @@ use Rattle.typed_tree.specs.Tree as tree
 use Rattle.src_meaning.specs.Forms as source
 use Rattle.src_meaning.specs.Forms.{Destination, Into, Coerced, Around, loop_destination, entry_of, site_in, site_of_key, moved}
 use Rattle.src_meaning.specs.Scopes.{Entry, Exit, Breaks, entry_site}
-use Rattle.src_meaning.specs.Shape.{Head, Bound, Aliases, place_of_key}
+use Rattle.src_meaning.specs.Shape.{NodeHead, BoundName, Aliases, place_of_key}
 use Rattle.well_typed.specs.Claim.{Claim, Holds, some}
 use Rattle.well_typed.specs.Nodes.{is_closure_body}
 use Rattle.well_typed.specs.Places.{InScope, LoopAround, Context, entry_with, loop_with}
 use Rattle.well_typed.specs.Types as types
 use Rattle.cfg_build.specs.Build as build
 use Rattle.cfg_graph.specs.declared.terminator.Unwind.{Unwind}
-use Rattle.cfg_build.specs.Build.{Frame, Lowers, act, act_by, is_last, done_by, then_lower, change, from_changed, jumps_if}
+use Rattle.cfg_build.specs.Build.{LoweringFrame, Lowers, act, act_by, is_last, done_by, then_lower, change, from_changed, jumps_if}
 use Rattle.cfg_build.specs.Lower as lower
 use Rattle.cfg_build.proofs.KnownTypes.{same_never}
 use Rattle.cfg_build.proofs.Lines as lines
@@ -92,7 +92,7 @@ pub record Ground : Type 0 where
   pub traits : (id : TyId) (n : ℕ) → type_at items id ≡ Some (Ty.Dyn n) → nat_lt n (length items.traits) ≡ true
 
 module _ (g : Ground) where
-  abbrev pub F : Frame
+  abbrev pub F : LoweringFrame
   F = record { items = g.items; local_of = g.local_of; tys = g.tys }
 
   abbrev pub B : Body
@@ -156,7 +156,7 @@ module _ (g : Ground) where
   cells_second (x ∷ xs) ys h = cells_second xs ys h.1
 
   -- names that are bound have cells
-  abbrev pub KeysOk : List Bound → Type 0
+  abbrev pub KeysOk : List BoundName → Type 0
   KeysOk [] = Unit {0}
   KeysOk (b ∷ bounds) = KeyIs b.key b.ty × KeysOk bounds
 
@@ -199,7 +199,7 @@ module _ (g : Ground) where
   pub scoped : (node : ℕ) (own : Bool) (P : Lowers) → Sound P → Sound (build.in_scope F node own P)
   scoped node own P p = lines.scope_sound F wanted node own P p
 
-  pub owned : (h : Head) (own : Bool) (P : Lowers) → Sound P → Sound (lower.in_own_scope F h own P)
+  pub owned : (h : NodeHead) (own : Bool) (P : Lowers) → Sound P → Sound (lower.in_own_scope F h own P)
   owned h true P p = scoped h.id true P p
   owned h false P p = p
 
@@ -219,7 +219,7 @@ module _ (g : Ground) where
       × StmtOk (Stmt.Unsize (build.place_of F (site_of_key to)) trait_no (graph_operand.Operand.Moved (build.place_of F (site_of_key key))))
       × ((inner : TyId) × (n : ℕ) × (type_at g.items id ≡ Some (Ty.Boxed inner)) × (type_at g.items inner ≡ Some (Ty.Adt n)))
 
-  pub delivered : (n : ℕ) (h : Head) (action : Site → Action) (to : Destination) (id : TyId) → Dest to id →
+  pub delivered : (n : ℕ) (h : NodeHead) (action : EffectSite → Action) (to : Destination) (id : TyId) → Dest to id →
       ((key : ℕ) → KeyIs key id → lines.ActOk F wanted n (action (site_in h.id key))) → Sound (lower.deliver_at F n h action to)
   delivered n h action (Into key) id d ok = acts n (action (site_in h.id key)) (ok key d)
   delivered n h action (Coerced key trait_no to) id d ok =

@@ -37,7 +37,7 @@ use Rattle.well_typed.specs.Program.{WellTyped, are_bodies, is_body, is_inside, 
 use Rattle.well_typed.specs.Types as types
 use Rattle.cfg_code.specs.Laws.{target_of}
 use Rattle.cfg_code.specs.Spots.{body_ways}
-use Rattle.cfg_build.specs.Build.{ending, made, Made}
+use Rattle.cfg_build.specs.Build.{ending, made, MadeBlock}
 use Rattle.cfg_build.specs.Lower as lower
 use Rattle.cfg_build.specs.Lower.{body_of, graph_of, node_of}
 use Rattle.cfg_build.proofs.Forms.{function_lowers}
@@ -277,7 +277,7 @@ module _ (p : ProgramTree) (w : WellTyped p) where
         let code = (lower.entire_function f body).build (body_ways 1) S last begun in
         let grows : length begun.blocks ≤ length code.1.blocks = ((function_lowers t body).grows (body_ways 1) S last begun).longer in
         let set = set_length code.1.blocks 0 (Some (made Kind.Plain (length code.1.blocks) code.0)) in
-        let mapped = length_map (λ (o : Option Made). (unwrap_or o lower.unmade).block) (lower.built f body).blocks in
+        let mapped = length_map (λ (o : Option MadeBlock). (unwrap_or o lower.unmade).block) (lower.built f body).blocks in
         omega (grows, set, mapped, arith)
 
     head_same : has_sig p.items (length p.bodies) (body_of p.items body) (slice_get p.items.bodies n) ≡ true

@@ -6,18 +6,18 @@ use Rattle.mir_base.specs.declared.trace.Why.{Why}
 use Rattle.mir_ty.specs.declared.ty.TyId.{TyId}
 use Rattle.mir_ty.specs.Facts.{needs_drop}
 use Rattle.store_model.specs.Effects as effects
-use Rattle.store_model.specs.Effects.{Site, Action}
+use Rattle.store_model.specs.Effects.{EffectSite, Action}
 use Rattle.store_model.specs.Places.Place.{Place}
 use Rattle.typed_tree.specs.Nodes.{nodes_of}
 use Rattle.typed_tree.specs.Tree as tree
 use Rattle.src_meaning.specs.Forms.{Destination, Into, Around, in_guard, entry_of, bound_entry, site_of_key, moved}
 use Rattle.src_meaning.specs.Locals.OfBody.{cells, reached_cells}
 use Rattle.src_meaning.specs.Scopes.{Exit, Value, Breaks, Continues, Returns, Panics, Entry, Scopes, with_scope, innermost, with_entry, with_pending, without_pending}
-use Rattle.src_meaning.specs.Shape.{Head, Bound, PatternTests}
+use Rattle.src_meaning.specs.Shape.{NodeHead, BoundName, PatternTests}
 use Rattle.well_typed.specs.Places.{LoopAround, Context, loop_with, ty_of}
 use Rattle.cfg_code.specs.Spots.{Ways}
 use Rattle.cfg_build.specs.Build as build
-use Rattle.cfg_build.specs.Build.{Frame, Rest, Building, Lowers, closed, ending, joined, jumps_if, act, breaks_from, is_left_by, names, outside, change, from_changed, back_in, then_lower, branches, looped, leave, if_true, tests}
+use Rattle.cfg_build.specs.Build.{LoweringFrame, BlockRest, Building, Lowers, closed, ending, joined, jumps_if, act, breaks_from, is_left_by, names, outside, change, from_changed, back_in, then_lower, branches, looped, leave, if_true, tests}
 use Rattle.cfg_build.specs.Lower as lower
 use Rattle.cfg_build.specs.Lower.{LowersArm, NodeLower, LowerIfAny, no_lower, a_lower}
 use Rattle.cfg_build.proofs.Lines as lines
@@ -27,7 +27,7 @@ use Rattle.lowered_graphs.proofs.Base.{Ground, untrue, and_first, and_second}
 use Rattle.lowered_graphs.proofs.Rules as rules
 
 module _ (g : Ground) where
-  abbrev F : Frame
+  abbrev F : LoweringFrame
   F = base.F g
 
   abbrev Sound : Lowers → Type 0
@@ -65,7 +65,7 @@ module _ (g : Ground) where
   scrutinee_place x n m k c a f e = k.place c a f (and_first (m.reaches a).has_end _ e)
 
   -- ---- `if let` and `while let`
-  pub if_taken_sound : (x : Context) (h : Head) (a : Around) (p : NodeLower) (n : tree.Node) (m : NodeLower) → Good x n m → Cells (reached_cells g.items n) → base.Fine g x a (nodes_of n) →
+  pub if_taken_sound : (x : Context) (h : NodeHead) (a : Around) (p : NodeLower) (n : tree.Node) (m : NodeLower) → Good x n m → Cells (reached_cells g.items n) → base.Fine g x a (nodes_of n) →
       ((place : Place) → base.Typed g place m.head.ty → TestsOk (p.shape.tests place) × rules.BoundsOk g (p.shape.bindings place)) → (P Q : Lowers) → Sound P → Sound Q → Sound (lower.if_taken F h a p m P Q)
   if_taken_sound x h a p n m k c f shaped P Q sp sq =
       let place = lower.place_in m a in
@@ -75,7 +75,7 @@ module _ (g : Ground) where
       (base.and_then g _ _ (base.and_then g _ P (rules.bind_sound g innermost (rules.inner g) (p.shape.bindings place) s.1) (λ e. sp)) (λ e. lines.leave_sound F (base.wanted g)))
       (base.and_then g _ Q (lines.leave_sound F (base.wanted g)) (λ e. sq))))
 
-  pub if_taken_leaves : (x : Context) (h : Head) (a : Around) (p : NodeLower) (n : tree.Node) (m : NodeLower) → Good x n m → Cells (reached_cells g.items n) → (P Q : Lowers) → Leaves x.loops P → Leaves x.loops Q → Leaves x.loops (lower.if_taken F h a p m P Q)
+  pub if_taken_leaves : (x : Context) (h : NodeHead) (a : Around) (p : NodeLower) (n : tree.Node) (m : NodeLower) → Good x n m → Cells (reached_cells g.items n) → (P Q : Lowers) → Leaves x.loops P → Leaves x.loops Q → Leaves x.loops (lower.if_taken F h a p m P Q)
   if_taken_leaves x h a p n m k c P Q lp lq =
       let place = lower.place_in m a in
       rules.leaves_changed g x.loops (with_scope h.id true) _ (base.leaves_then g x.loops _ _ (scrutinised_leaves x n m k c a)
@@ -83,7 +83,7 @@ module _ (g : Ground) where
       (base.leaves_then g x.loops _ (leave F) (base.leaves_then g x.loops _ P (rules.bind_leaves g x.loops innermost (p.shape.bindings place)) (λ e. lp)) (λ e. record { spares = tt }))
       (base.leaves_then g x.loops (leave F) Q (record { spares = tt }) (λ e. lq))))
 
-  pub if_taken_ended : (h : Head) (a : Around) (p m : NodeLower) (P Q : Lowers) → P.has_end ≡ false → Q.has_end ≡ false → (lower.if_taken F h a p m P Q).has_end ≡ false
+  pub if_taken_ended : (h : NodeHead) (a : Around) (p m : NodeLower) (P Q : Lowers) → P.has_end ≡ false → Q.has_end ≡ false → (lower.if_taken F h a p m P Q).has_end ≡ false
   if_taken_ended h a p m P Q e d =
       let place = lower.place_in m a in
       let one = then_lower (then_lower (lower.bind F innermost (p.shape.bindings place)) P) (leave F) in
@@ -94,14 +94,14 @@ module _ (g : Ground) where
 
   -- ---- arms
   abbrev pub ArmSound : LowersArm → Type 0
-  ArmSound arm = (c : Ways) → c.returns.block ≡ 1 → (S : Scopes) (r : ℕ) (k : Rest) (s : Building) → lines.ScopesOk F (base.wanted g) S → lines.Ok F (base.wanted g) s → lines.RestOk F (base.wanted g) k → lines.Both F (base.wanted g) (arm.build c S r k s)
+  ArmSound arm = (c : Ways) → c.returns.block ≡ 1 → (S : Scopes) (r : ℕ) (k : BlockRest) (s : Building) → lines.ScopesOk F (base.wanted g) S → lines.Ok F (base.wanted g) s → lines.RestOk F (base.wanted g) k → lines.Both F (base.wanted g) (arm.build c S r k s)
 
   -- a guard that may be there, in its own context
   pub data GuardOk (y : Context) (ns : List tree.Node) : LowerIfAny → Type 0 where
     without : GuardOk y ns no_lower
     with_one : (n : tree.Node) (m : NodeLower) → Good y n m → Cells (cells g.items true n) → rules.IsBool g (ty_of n) → ns ≡ nodes_of n → GuardOk y ns (a_lower m)
 
-  guarded_sound : (y : Context) (a : Around) (bounds : List Bound) (ns : List tree.Node) (q : LowerIfAny) → GuardOk y ns q → base.Fine g y (in_guard bounds a) ns → (P : Lowers) → Sound P → ArmSound (lower.guarded F a bounds q P)
+  guarded_sound : (y : Context) (a : Around) (bounds : List BoundName) (ns : List tree.Node) (q : LowerIfAny) → GuardOk y ns q → base.Fine g y (in_guard bounds a) ns → (P : Lowers) → Sound P → ArmSound (lower.guarded F a bounds q P)
   guarded_sound y a bounds ns _ without f P p c w S r k s o h l = p.lines c w S k s o h l
   guarded_sound y a bounds ns _ (with_one n m good cs is same) f P p c w S r k s o h l = by asked.has_end refl
     where
@@ -122,7 +122,7 @@ module _ (g : Ground) where
           asks.lines c w S t.0 t.1 o i.0 i.1
       by false e = asks.lines c w S k s o h l
 
-  pub arm_sound : (x y : Context) (h : Head) (p : NodeLower) (q : LowerIfAny) (ns : List tree.Node) (n : tree.Node) (m : NodeLower) (matched : Place) (a : Around) (to : Destination) →
+  pub arm_sound : (x y : Context) (h : NodeHead) (p : NodeLower) (q : LowerIfAny) (ns : List tree.Node) (n : tree.Node) (m : NodeLower) (matched : Place) (a : Around) (to : Destination) →
       TestsOk (p.shape.tests matched) → rules.BoundsOk g (p.shape.bindings matched) → GuardOk y ns q → base.Fine g y (in_guard (p.shape.bindings matched) a) ns → Good x n m → Cells (cells g.items false n) → base.Fine g x a (nodes_of n) → base.DestIf g to m.head.ty → ArmSound (lower.arm F h p q m matched a to)
   arm_sound x y h p q ns n m matched a to ts bs guard gf good cs f d c w S r k s o hs l =
       let bounds = p.shape.bindings matched in
@@ -132,7 +132,7 @@ module _ (g : Ground) where
       let b = code.build c S r k s in
       lines.tests_ok F (base.wanted g) (p.shape.tests matched) ts (length b.1.blocks) r (closed Kind.Plain b.0 b.1) (lines.closed_ok F (base.wanted g) Kind.Plain b.0 b.1 i.0 i.1)
 
-  guarded_leaves : (y : Context) (a : Around) (bounds : List Bound) (ns : List tree.Node) (q : LowerIfAny) → GuardOk y ns q → (P : Lowers) → Leaves y.loops P → base.Spares g y.loops (lower.guarded F a bounds q P).jumps
+  guarded_leaves : (y : Context) (a : Around) (bounds : List BoundName) (ns : List tree.Node) (q : LowerIfAny) → GuardOk y ns q → (P : Lowers) → Leaves y.loops P → base.Spares g y.loops (lower.guarded F a bounds q P).jumps
   guarded_leaves y a bounds ns _ without P p = p.spares
   guarded_leaves y a bounds ns _ (with_one n m good cs is same) P p = by (back_in (m.evaluates (in_guard bounds a) true (Into m.head.id))).has_end
     where
@@ -140,15 +140,15 @@ module _ (g : Ground) where
       by true = base.spares_append g y.loops _ P.jumps (good.leaves true cs (in_guard bounds a) true (Into m.head.id)).spares p.spares
       by false = base.spares_append g y.loops _ [] (good.leaves true cs (in_guard bounds a) true (Into m.head.id)).spares tt
 
-  taken_leaves : (x : Context) (h : Head) (a : Around) (bounds : List Bound) (n : tree.Node) (m : NodeLower) → Good x n m → Cells (cells g.items false n) → (to : Destination) → Leaves x.loops (lower.taken_arm F h a bounds m to)
+  taken_leaves : (x : Context) (h : NodeHead) (a : Around) (bounds : List BoundName) (n : tree.Node) (m : NodeLower) → Good x n m → Cells (cells g.items false n) → (to : Destination) → Leaves x.loops (lower.taken_arm F h a bounds m to)
   taken_leaves x h a bounds n m good cs to = rules.leaves_scope g x.loops h.id false _ (base.leaves_then g x.loops _ _ (rules.bind_leaves g x.loops innermost bounds) (λ e. rules.leaves_back g x.loops _ (good.leaves false cs a true to)))
 
-  pub arm_leaves : (x y : Context) (h : Head) (p : NodeLower) (q : LowerIfAny) (ns : List tree.Node) (n : tree.Node) (m : NodeLower) (matched : Place) (a : Around) (to : Destination) → GuardOk y ns q → Good x n m → Cells (cells g.items false n) → x.loops ≡ y.loops →
+  pub arm_leaves : (x y : Context) (h : NodeHead) (p : NodeLower) (q : LowerIfAny) (ns : List tree.Node) (n : tree.Node) (m : NodeLower) (matched : Place) (a : Around) (to : Destination) → GuardOk y ns q → Good x n m → Cells (cells g.items false n) → x.loops ≡ y.loops →
       base.Spares g y.loops (lower.arm F h p q m matched a to).jumps
   arm_leaves x y h p q ns n m matched a to guard good cs same =
       guarded_leaves y a (p.shape.bindings matched) ns q guard _ (subst (λ (z : List LoopAround). Leaves z (lower.taken_arm F h a (p.shape.bindings matched) m to)) same (taken_leaves x h a (p.shape.bindings matched) n m good cs to))
 
-  pub arm_ended : (h : Head) (p : NodeLower) (q : LowerIfAny) (m : NodeLower) (matched : Place) (a : Around) (to : Destination) → (m.evaluates a true to).has_end ≡ false → (lower.arm F h p q m matched a to).has_end ≡ false
+  pub arm_ended : (h : NodeHead) (p : NodeLower) (q : LowerIfAny) (m : NodeLower) (matched : Place) (a : Around) (to : Destination) → (m.evaluates a true to).has_end ≡ false → (lower.arm F h p q m matched a to).has_end ≡ false
   arm_ended h p q m matched a to e = by q
     where
       taken : (lower.taken_arm F h a (p.shape.bindings matched) m to).has_end ≡ false
@@ -174,7 +174,7 @@ module _ (g : Ground) where
     | inr never ↦ absurd (base.never_and_made g ty never m)
   ]
 
-  arms_from : (x : Context) (number : ℕ) (scrutinee want : TyId) (ns : List tree.Node) (ms : List NodeLower) → Arms x scrutinee want ns ms → (matched : Place) → base.Typed g matched scrutinee → (a : Around) → base.Fine g x a ns → (to : Destination) → base.DestIf g to want → (c : Ways) → c.returns.block ≡ 1 → (S : Scopes) (k : Rest) (s : Building) →
+  arms_from : (x : Context) (number : ℕ) (scrutinee want : TyId) (ns : List tree.Node) (ms : List NodeLower) → Arms x scrutinee want ns ms → (matched : Place) → base.Typed g matched scrutinee → (a : Around) → base.Fine g x a ns → (to : Destination) → base.DestIf g to want → (c : Ways) → c.returns.block ≡ 1 → (S : Scopes) (k : BlockRest) (s : Building) →
       lines.ScopesOk F (base.wanted g) S → lines.Ok F (base.wanted g) s → lines.RestOk F (base.wanted g) k → lines.Both F (base.wanted g) (lower.arms_from F number ms matched a to c S k s)
   arms_from x number scrutinee want _ _ no_arm matched t a f to d c w S k s o h l = lines.panic_both F (base.wanted g) (Term.Panic Why.Match) number (λ u. (typed_lines.panic_ok g.items g.bodies (base.B g) u).1) S o s h
   arms_from x number scrutinee want _ _ (an_arm n others m ms one fit rest) matched t a f to d c w S k s o h l =
@@ -202,7 +202,7 @@ module _ (g : Ground) where
       base.both_false _ _ (one.ended (elim fit [ inl same ↦ subst (base.Never g) (sym same) v | inr never ↦ never ]) matched a to) (arms_ended x scrutinee want others ms rest v matched a to)
 
   -- ---- names of `let`
-  pub let_name_sound : (h y : Head) (P : Lowers) → base.KeyIs g y.id y.ty → Sound P →
+  pub let_name_sound : (h y : NodeHead) (P : Lowers) → base.KeyIs g y.id y.ty → Sound P →
       Sound (build.in_scope F h.id true (from_changed (lower.pending_if F true innermost y) (then_lower P (change (lower.named F y)))))
   let_name_sound h y P key p =
       base.scoped g h.id true _ (lines.changed_sound F (base.wanted g) (lower.pending_if F true innermost y) _ (λ S o. rules.inner g (with_pending (entry_of y)) (lines.pending_keeps F (base.wanted g) (entry_of y) (λ d. key)) S o)
@@ -210,7 +210,7 @@ module _ (g : Ground) where
       lines.around_ok F (base.wanted g) (with_entry (entry_of y)) (lines.entry_keeps F (base.wanted g) (entry_of y) (λ d. key)) _
       (rules.inner g (without_pending (entry_of y)) (lines.without_keeps F (base.wanted g) (entry_of y)) S o)))))
 
-  pub let_parts_sound : (h : Head) (m : NodeLower) (b : Bool) (P Q : Lowers) → (b ≡ true → base.EntryOk g (entry_of m.head)) → Sound P → (P.has_end ≡ true → Sound Q) →
+  pub let_parts_sound : (h : NodeHead) (m : NodeLower) (b : Bool) (P Q : Lowers) → (b ≡ true → base.EntryOk g (entry_of m.head)) → Sound P → (P.has_end ≡ true → Sound Q) →
       Sound (build.in_scope F h.id true (from_changed (lower.pending_if F b innermost m.head) (then_lower P Q)))
   let_parts_sound h m b P Q entry p q = base.scoped g h.id true _ (lines.changed_sound F (base.wanted g) (lower.pending_if F b innermost m.head) _ (pending b entry) (base.and_then g P Q p q))
     where
@@ -218,7 +218,7 @@ module _ (g : Ground) where
       pending true entry S o = rules.inner g (with_pending (entry_of m.head)) (lines.pending_keeps F (base.wanted g) (entry_of m.head) (entry refl)) S o
       pending false entry S o = o
 
-  pub declared_sound : (bounds : List Bound) → base.KeysOk g bounds → Sound (lower.declared F bounds)
+  pub declared_sound : (bounds : List BoundName) → base.KeysOk g bounds → Sound (lower.declared F bounds)
   declared_sound [] k = base.nothing_done g
   declared_sound (b ∷ bounds) k =
       base.and_then g _ _ (emptied (needs_drop g.items b.ty))
@@ -228,7 +228,7 @@ module _ (g : Ground) where
       emptied true = base.nothing_done g
       emptied false = let t = base.key_typed g b.key b.ty k.0 in lines.drop_sound F (base.wanted g) (site_of_key b.key) (λ n u. typed_lines.drop_ok g.items g.bodies (base.B g) _ b.ty t.0 t.1 n u)
 
-  pub declared_leaves : (loops : List LoopAround) (bounds : List Bound) → Leaves loops (lower.declared F bounds)
+  pub declared_leaves : (loops : List LoopAround) (bounds : List BoundName) → Leaves loops (lower.declared F bounds)
   declared_leaves loops [] = record { spares = tt }
   declared_leaves loops (b ∷ bounds) = base.leaves_then g loops _ _ (emptied (needs_drop g.items b.ty)) (λ e. rules.leaves_changed g loops (innermost (with_entry (bound_entry b))) _ (declared_leaves loops bounds))
     where

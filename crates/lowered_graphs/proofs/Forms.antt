@@ -23,7 +23,7 @@ use Rattle.mir_ty.specs.ItemTable.{type_at}
 use Rattle.mir_ty.specs.Parts.{field_ty, parts_of}
 use Rattle.store_model.specs.Concrete.Effects.{impl_of}
 use Rattle.store_model.specs.Effects as effects
-use Rattle.store_model.specs.Effects.{Site, Action, OfTuple, OfArray, OfVariant, OfClosure}
+use Rattle.store_model.specs.Effects.{EffectSite, Action, OfTuple, OfArray, OfVariant, OfClosure}
 use Rattle.store_model.specs.Places.Place.{Step, ToPart, ToField, ToContent, ToElement, Place, whole_local, step_ty, content_of, element_of}
 use Rattle.store_model.specs.Places.Place as places
 use Rattle.store_model.specs.Places.TypeForms as forms
@@ -36,7 +36,7 @@ use Rattle.src_meaning.specs.Forms as source
 use Rattle.src_meaning.specs.Forms.{Destination, Into, Coerced, coerced, Around, in_loop, loop_destination, in_guard, entry_of, site_in, site_of_key, moved}
 use Rattle.src_meaning.specs.Locals.OfBody.{cells, reached_cells, cells_in, all_cells, cells_of_fields, cells_if_any, initial_cells, is_place_form}
 use Rattle.src_meaning.specs.Scopes.{Entry, Breaks, Continues, Returns, innermost, around_innermost}
-use Rattle.src_meaning.specs.Shape.{Head, head, Shape, Aliases, kind_of, shape, shape_of, extended, place_of_key, site_at}
+use Rattle.src_meaning.specs.Shape.{NodeHead, head, Shape, Aliases, kind_of, shape, shape_of, extended, place_of_key, site_at}
 use Rattle.cfg_code.specs.Code.{field_keys, moved_fields}
 use Rattle.well_typed.specs.Claim.{Claim, Holds, fact, some, ◌&◌}
 use Rattle.well_typed.specs.Names.{are_distinct_numbers}
@@ -47,7 +47,7 @@ use Rattle.well_typed.specs.Places as scopes
 use Rattle.well_typed.specs.Places.{InScope, LoopAround, Context, Standing, Taken, Wanted, Passed, Base, Used, Stored, with_entries, within, entry_with, loop_with, ty_of, form_of}
 use Rattle.well_typed.specs.Types as types
 use Rattle.cfg_build.specs.Build as build
-use Rattle.cfg_build.specs.Build.{Frame, Lowers, act, is_last, then_lower, taken, leave}
+use Rattle.cfg_build.specs.Build.{LoweringFrame, Lowers, act, is_last, then_lower, taken, leave}
 use Rattle.cfg_build.specs.Lower as lower
 use Rattle.cfg_build.specs.Lower.{NodeLower, LowerIfAny}
 use Rattle.cfg_build.proofs.KnownTypes.{bool_known, unit_known, never_known, int_known, adt_known, tuple_known, array_known, boxed_known, dyn_known, closure_known, usize_known, i32_known, signed_known, reference_known, inside_known, fields_known, same_never}
@@ -63,7 +63,7 @@ use Rattle.lowered_graphs.proofs.Names as names
 use Rattle.lowered_graphs.proofs.Fields as taken_fields
 
 module _ (g : Ground) where
-  abbrev F : Frame
+  abbrev F : LoweringFrame
   F = base.F g
 
   abbrev B : Body
@@ -75,7 +75,7 @@ module _ (g : Ground) where
   abbrev L : Node → NodeLower
   L n = lower.lower F n
 
-  abbrev S_of : Form → Head → Shape
+  abbrev S_of : Form → NodeHead → Shape
   S_of form h = shape_of g.items form h
 
   abbrev Cells : List Entry → Type 0
@@ -147,7 +147,7 @@ module _ (g : Ground) where
   made_not id m e = base.never_and_made g id (never_too id e) m
 
   -- ---- what each value's node has, whatever its form
-  pub record Plain (n : Node) (h : Head) (s : Shape) : Type 0 where
+  pub record Plain (n : Node) (h : NodeHead) (s : Shape) : Type 0 where
     pub id_is : h.id ≡ number_of n
     pub ty_is : h.ty ≡ ty_of n
     pub shape_is : s ≡ shape g.items n
@@ -155,7 +155,7 @@ module _ (g : Ground) where
     pub reached_so : Cells (reached_cells g.items n) → Cells (cells g.items true n)
     pub cell : Cells (cells g.items true n) → base.Made g h.ty → base.KeyIs g h.id h.ty
 
-  value : (x : Context) (n : Node) (h : Head) (s : Shape) (e : lower.Evaluates) → Plain n h s → ((o : Bool) → Cells (cells g.items o n) → base.Never g h.ty → (a : Around) (own : Bool) → (e a own (Into h.id)).has_end ≡ false) →
+  value : (x : Context) (n : Node) (h : NodeHead) (s : Shape) (e : lower.Evaluates) → Plain n h s → ((o : Bool) → Cells (cells g.items o n) → base.Never g h.ty → (a : Around) (own : Bool) → (e a own (Into h.id)).has_end ≡ false) →
       ((o : Bool) → Cells (cells g.items o n) → (a : Around) (own : Bool) (to : Destination) → base.Leaves g x.loops (e a own to)) →
       ((o : Bool) → Cells (cells g.items o n) → (a : Around) → base.Fine g x a (nodes_of n) → (own : Bool) (to : Destination) → rules.Arrives g h to → Sound (e a own to)) → Good x n (lower.a_value F h s e)
   value x n h s e p ended leaves sound = rules.value_good g x n h s e (record {
@@ -171,7 +171,7 @@ module _ (g : Ground) where
   })
 
   -- a form that is a scope of its own
-  scoped_value : (x : Context) (n : Node) (h : Head) (s : Shape) (does : lower.MakesInto) → Plain n h s → ((o : Bool) → Cells (cells g.items o n) → base.Never g h.ty → (a : Around) → (does a (Into h.id)).has_end ≡ false) →
+  scoped_value : (x : Context) (n : Node) (h : NodeHead) (s : Shape) (does : lower.MakesInto) → Plain n h s → ((o : Bool) → Cells (cells g.items o n) → base.Never g h.ty → (a : Around) → (does a (Into h.id)).has_end ≡ false) →
       ((o : Bool) → Cells (cells g.items o n) → (a : Around) (to : Destination) → base.Leaves g x.loops (does a to)) →
       ((o : Bool) → Cells (cells g.items o n) → (a : Around) → base.Fine g x a (nodes_of n) → (to : Destination) → rules.Arrives g h to → Sound (does a to)) → Good x n (lower.a_scope F h s does)
   scoped_value x n h s does p ended leaves sound = value x n h s _ p (λ o c v a own. rules.no_end_owned g h own (does a (Into h.id)) (ended o c v a))
@@ -180,7 +180,7 @@ module _ (g : Ground) where
   abbrev ActOk : ℕ → Action → Type 0
   ActOk = lines.ActOk F (base.wanted g)
 
-  effect_value : (x : Context) (n : Node) (h : Head) (s : Shape) (action : Site → Action) → Plain n h s → (base.Never g h.ty → ⊥) → ((key : ℕ) → base.KeyIs g key h.ty → ActOk h.id (action (site_in h.id key))) → Good x n (lower.effect F h s action)
+  effect_value : (x : Context) (n : Node) (h : NodeHead) (s : Shape) (action : EffectSite → Action) → Plain n h s → (base.Never g h.ty → ⊥) → ((key : ℕ) → base.KeyIs g key h.ty → ActOk h.id (action (site_in h.id key))) → Good x n (lower.effect F h s action)
   effect_value x n h s action p made ok = scoped_value x n h s (λ a. lower.deliver F h action) p (λ o c v a. absurd (made v)) (λ o c a to. rules.leaves_deliver g x.loops h.id h action to)
       (λ o c a f to ar. rules.answered g h.id h action to ar (rules.no_own g h made) ok)
 
@@ -188,7 +188,7 @@ module _ (g : Ground) where
   fine_in x a n ns f = base.fine_second g x a (n ∷ []) ns f
 
   -- a form with operands; where it may be of type `!`, its answer has a cell, and its effect no end
-  operands_value : (x : Context) (id : ℕ) (at : Pos) (ty : TyId) (by : Option Use) (form : Form) (s : Shape) (ms : List NodeLower) (wants : List TyId) (action : Site → Action) → Plain (tree.node id at ty by form) (head id ty by) s →
+  operands_value : (x : Context) (id : ℕ) (at : Pos) (ty : TyId) (by : Option Use) (form : Form) (s : Shape) (ms : List NodeLower) (wants : List TyId) (action : EffectSite → Action) → Plain (tree.node id at ty by form) (head id ty by) s →
       ((o : Bool) → Cells (cells g.items o (tree.node id at ty by form)) → rules.Operands g x (nodes_in form) ms wants) →
       ((o : Bool) → Cells (cells g.items o (tree.node id at ty by form)) → base.Never g ty → base.KeyIs g id ty × (is_last F (action (site_in id id)) ≡ true)) →
       (rules.Given g ms wants → (key : ℕ) → base.KeyIs g key ty → ActOk id (action (site_in id key))) → Good x (tree.node id at ty by form) (lower.on_operands F (head id ty by) s ms action)
@@ -212,7 +212,7 @@ module _ (g : Ground) where
       (λ o c a f own to ar. rules.acting_sound g x h a own (nodes_of n ++ []) (L n ∷ []) (ty_of n ∷ []) (one o c) (alone a f) _
       (λ given. base.and_then g _ _ (base.acts g id (action (moved id (L n).head.id)) (ok given.0.0 given.0.1)) (λ e. rules.unit_put g h to ar is)))
     where
-      h : Head
+      h : NodeHead
       h = head id ty by
 
       one : (o : Bool) → Cells (cells g.items o (tree.node id at ty by form)) → rules.Operands g x (nodes_of n ++ []) (L n ∷ []) (ty_of n ∷ [])
@@ -347,10 +347,10 @@ module _ (g : Ground) where
       rules.an_operand (nodes_of n) (nodes_of m) (L n) (L m ∷ []) want (other ∷ []) (rules.operand_of g x n (L n) k (base.cells_first g (cells g.items true n) (cells g.items true m) c) want fit)
       (one_operand x m l (base.cells_second g (cells g.items true n) (cells g.items true m) c) other gives)
 
-  abbrev Last : Node → ℕ → TyId → (Site → Action) → Type 0
+  abbrev Last : Node → ℕ → TyId → (EffectSite → Action) → Type 0
   Last n id ty action = (o : Bool) → Cells (cells g.items o n) → base.Never g ty → base.KeyIs g id ty × (is_last F (action (site_in id id)) ≡ true)
 
-  never_last : (n : Node) (id : ℕ) (ty : TyId) (action : Site → Action) (t : Ty) → type_at g.items ty ≡ Some t → forms.is_never (Some t) ≡ false → Last n id ty action
+  never_last : (n : Node) (id : ℕ) (ty : TyId) (action : EffectSite → Action) (t : Ty) → type_at g.items ty ≡ Some t → forms.is_never (Some t) ≡ false → Last n id ty action
   never_last n id ty action t e d o c v = absurd (made_as ty t e d v)
 
   -- an element: its index is of type `usize`
@@ -483,7 +483,7 @@ module _ (g : Ground) where
     | inr never ↦ absurd (base.never_and_made g (L n).head.ty (subst (base.Never g) (sym k.ty_is) never) m)
   ]
 
-  ends_leaves : (l : LoopAround) (loops : List LoopAround) (h : Head) (to : Destination) → base.Made g l.ty → l.loop ≡ h.id → base.Leaves g (l ∷ loops) (lower.ends_loop F h to)
+  ends_leaves : (l : LoopAround) (loops : List LoopAround) (h : NodeHead) (to : Destination) → base.Made g l.ty → l.loop ≡ h.id → base.Leaves g (l ∷ loops) (lower.ends_loop F h to)
   ends_leaves l loops h to made same = branches.jump_leaves g (l ∷ loops) h.id (Breaks h.id) _ (rules.leaves_deliver g (l ∷ loops) h.id h (λ site. effects.Put site effects.UnitValue) to)
       (λ e. ((λ k is. own k (l.loop == h.id) (names.equal_too l.loop h.id same) is), tt))
     where
@@ -791,7 +791,7 @@ module _ (g : Ground) where
       (λ e. base.and_then g _ _ (p.reaches (place o c) a d1)
       (λ q. base.and_then g _ _ (stored a (rules.operand_given g x (nodes_of value_) (L value_) (ty_of target) (op o c) a e).0 (p.place (place o c) a d1 q)) (λ e. rules.unit_put g h to ar is)))))
     where
-      h : Head
+      h : NodeHead
       h = head id ty by
 
       n : Node
@@ -803,7 +803,7 @@ module _ (g : Ground) where
       op : (o : Bool) → Cells (cells g.items o n) → rules.Operand g x (nodes_of value_) (L value_) (ty_of target)
       op o c = rules.operand_of g x value_ (L value_) k (base.cells_second g (reached_cells g.items target) (cells g.items true value_) (inner o c)) (ty_of target) fit
 
-      replaces_leave : (b : Bool) (site : Site) → base.Leaves g x.loops (build.replaces F b site (L value_).head.id)
+      replaces_leave : (b : Bool) (site : EffectSite) → base.Leaves g x.loops (build.replaces F b site (L value_).head.id)
       replaces_leave true site = record { spares = tt }
       replaces_leave false site = rules.leaves_changed g x.loops (taken F ((L value_).head.id ∷ [])) _ (base.leaves_none g x.loops site.node (effects.Put site (moved site.node (L value_).head.id)))
 
@@ -823,13 +823,13 @@ module _ (g : Ground) where
       (λ o c a f own to ar. let d = fine_in x a n (nodes_of inner) f in
       base.owned g h own _ (base.and_then g _ _ (k.reaches (place o c) a d) (λ e. rules.answered g (L inner).head.id h (action a) to ar (rules.no_own g h (λ v. base.never_and_made g ty v made)) (λ key l. borrowed a key l (k.place (place o c) a d e)))))
     where
-      h : Head
+      h : NodeHead
       h = head id ty by
 
       n : Node
       n = tree.node id at ty by (tree.Borrow unique inner)
 
-      action : Around → Site → Action
+      action : Around → EffectSite → Action
       action a site = effects.Borrow (record site { node = (L inner).head.id }) unique (lower.site_of (L inner) a)
 
       r : (r : Bool × TyId) × (types.reference_of g.items ty ≡ Some r) × Holds (fact (types.is_same (ty_of inner) r.1) & fact (if unique then r.0 else not r.0))
@@ -879,7 +879,7 @@ module _ (g : Ground) where
       (λ o c a own to. k.leaves true (inner o c) a own (coerced (L operand).head.id trait_no to))
       (λ o c a f own to ar. k.evaluates true (inner o c) a (fine_in x a n (nodes_of operand) f) own (coerced (L operand).head.id trait_no to) (dest to (ar.made (of_type ty (Ty.Boxed is.0) is.4 refl)) (k.cell (inner o c))))
     where
-      h : Head
+      h : NodeHead
       h = head id ty by
 
       n : Node
@@ -910,12 +910,12 @@ module _ (g : Ground) where
       with_true true = refl
       with_true false = refl
 
-  record PartsGood (x : Context) (p v : Node) (h : Head) : Type 0 where
+  record PartsGood (x : Context) (p v : Node) (h : NodeHead) : Type 0 where
     pub ended : (types.is_never g.items (ty_of v) && not (typing.is_unused_place v)) ≡ true → (a : Around) → (lower.let_parts F h (L p) (L v) a).has_end ≡ false
     pub leaves : (a : Around) → base.Leaves g x.loops (lower.let_parts F h (L p) (L v) a)
     pub sound : (a : Around) → base.Fine g x a (nodes_of v) → Sound (lower.let_parts F h (L p) (L v) a)
 
-  parts_let : (x : Context) (p v : Node) (h : Head) → Good x v (L v) → Holds (typing.typed (K x) Base v) → (m : Matched) → Holds (patterns.pattern g.items m (ty_of p) p) → types.fits g.items (ty_of p) (ty_of v) ≡ true → (not (scopes.is_place (form_of v)) || types.is_same (ty_of v) (ty_of p)) ≡ true →
+  parts_let : (x : Context) (p v : Node) (h : NodeHead) → Good x v (L v) → Holds (typing.typed (K x) Base v) → (m : Matched) → Holds (patterns.pattern g.items m (ty_of p) p) → types.fits g.items (ty_of p) (ty_of v) ≡ true → (not (scopes.is_place (form_of v)) || types.is_same (ty_of v) (ty_of p)) ≡ true →
       Cells (cells g.items true p) → Cells (reached_cells g.items v) → PartsGood x p v h
   parts_let x p v h k stands m pattern fit same cp cv = record {
     ended = λ e a. rules.no_end_scope g h.id true (build.from_changed (lower.pending_if F (pends (L v)) innermost (L v).head) (then_lower ((L v).reaches a) (binds a)))

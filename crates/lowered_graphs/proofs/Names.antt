@@ -13,7 +13,7 @@ use Rattle.typed_tree.specs.Tree as tree
 use Rattle.typed_tree.specs.Tree.{Node, Form, Nodes, no_node, a_node, Fields, no_field, a_field}
 use Rattle.src_meaning.specs.Forms.{Destination, Around, in_guard, in_loop, loop_destination, aliases_with}
 use Rattle.src_meaning.specs.Locals.OfBody.{cells, all_cells, cells_of_fields}
-use Rattle.src_meaning.specs.Shape.{head, Bound, Aliases, shape, shape_of, in_fields, in_parts, extended, place_of_key}
+use Rattle.src_meaning.specs.Shape.{head, BoundName, Aliases, shape, shape_of, in_fields, in_parts, extended, place_of_key}
 use Rattle.well_typed.specs.Claim.{Holds}
 use Rattle.well_typed.specs.Patterns as patterns
 use Rattle.well_typed.specs.Patterns.{Matched, binding_name, binding_entry, entries_of}
@@ -165,12 +165,12 @@ none_named (tree.node id at ty by (tree.ArrayPattern elements) ∷ ns) h = none_
 none_named (tree.node id at ty by (tree.OrPattern alternatives) ∷ ns) h = none_named ns h
 
 -- each name, with what it takes
-abbrev pub Matches : List Bound → List InScope → Type 0
+abbrev pub Matches : List BoundName → List InScope → Type 0
 Matches [] [] = Unit {0}
 Matches (b ∷ bounds) (e ∷ es) = (b.key ≡ e.key) × (b.ty ≡ e.ty) × Matches bounds es
 Matches _ _ = ⊥
 
-match_append : (xs ys : List Bound) (es ds : List InScope) → Matches xs es → Matches ys ds → Matches (xs ++ ys) (es ++ ds)
+match_append : (xs ys : List BoundName) (es ds : List InScope) → Matches xs es → Matches ys ds → Matches (xs ++ ys) (es ++ ds)
 match_append [] ys [] ds h k = k
 match_append [] ys (e ∷ es) ds h k = absurd h
 match_append (x ∷ xs) ys [] ds h k = absurd h
@@ -335,7 +335,7 @@ module _ (g : Ground) where
         (keyed_append _ _ (keyed first m want h.0 (base.cells_first g (cells g.items true first) (all_cells g.items rest) c)) (parts_keyed rest m tys h.1 (base.cells_second g (cells g.items true first) (all_cells g.items rest) c)))
 
   -- the keys of what is bound
-  pub bound_keys : (bounds : List Bound) (es : List InScope) → Matches bounds es → Keyed es → base.KeysOk g bounds
+  pub bound_keys : (bounds : List BoundName) (es : List InScope) → Matches bounds es → Keyed es → base.KeysOk g bounds
   bound_keys [] [] m k = tt
   bound_keys [] (e ∷ es) m k = absurd m
   bound_keys (b ∷ bounds) [] m k = absurd m
@@ -394,7 +394,7 @@ module _ (g : Ground) where
   }
 
   -- ---- in a guard they stand for what they would take
-  in_guard_so : (key : ℕ) (e : InScope) (aliases : Aliases) (old : List InScope) → (entry_with key old ≡ Some e → base.Typed g (place_of_key key aliases) e.ty) → (bounds : List Bound) (es : List InScope) → Matches bounds es → rules.BoundsOk g bounds →
+  in_guard_so : (key : ℕ) (e : InScope) (aliases : Aliases) (old : List InScope) → (entry_with key old ≡ Some e → base.Typed g (place_of_key key aliases) e.ty) → (bounds : List BoundName) (es : List InScope) → Matches bounds es → rules.BoundsOk g bounds →
       entry_with key (scopes.in_guard es ++ old) ≡ Some e → base.Typed g (place_of_key key (aliases_with bounds aliases)) e.ty
   in_guard_so key e aliases old older [] [] m ok is = older is
   in_guard_so key e aliases old older [] (d ∷ es) m ok is = absurd m
@@ -411,7 +411,7 @@ module _ (g : Ground) where
       by again false q h =
           subst (λ (x : Bool). base.Typed g (if x then b.site.place else place_of_key key (aliases_with bounds aliases)) e.ty) (sym (ap (λ (k : ℕ). key == k) m.0 ∙ differ_too d.key key q)) (again h)
 
-  self_past : (key : ℕ) (aliases : Aliases) (bounds : List Bound) (es : List InScope) → Matches bounds es → OfEntries (λ k. nat_lt key k ≡ true) es → place_of_key key (aliases_with bounds aliases) ≡ place_of_key key aliases
+  self_past : (key : ℕ) (aliases : Aliases) (bounds : List BoundName) (es : List InScope) → Matches bounds es → OfEntries (λ k. nat_lt key k ≡ true) es → place_of_key key (aliases_with bounds aliases) ≡ place_of_key key aliases
   self_past key aliases [] [] m h = refl
   self_past key aliases [] (d ∷ es) m h = absurd m
   self_past key aliases (b ∷ bounds) [] m h = absurd m
@@ -422,7 +422,7 @@ module _ (g : Ground) where
   self_under None e ns h q = absurd (none-some e q)
   self_under (Some d) e ns h q = subst (λ (z : InScope). base.Over g z.key ns) (same_Some d e q) h
 
-  pub around_guard : (x : Context) (a : Around) (p : Node) (bounds : List Bound) → base.AroundOk g x a → Matches bounds (entries_of p) → rules.BoundsOk g bounds → base.SelfOver g x.closure (nodes_of p) → base.AroundOk g (with_entries (scopes.in_guard (entries_of p)) x) (in_guard bounds a)
+  pub around_guard : (x : Context) (a : Around) (p : Node) (bounds : List BoundName) → base.AroundOk g x a → Matches bounds (entries_of p) → rules.BoundsOk g bounds → base.SelfOver g x.closure (nodes_of p) → base.AroundOk g (with_entries (scopes.in_guard (entries_of p)) x) (in_guard bounds a)
   around_guard x a p bounds ok m b over = record {
     names = λ key e is. in_guard_so key e a.aliases x.entries (ok.names key e) bounds (entries_of p) m b is;
     self = λ e is. subst (λ (z : Place). base.Typed g z e.ty)
@@ -433,7 +433,7 @@ module _ (g : Ground) where
     loops = ok.loops;
   }
 
-  guard_fresh : (aliases : Aliases) (ns : List Node) (bounds : List Bound) (es : List InScope) → Matches bounds es → OfEntries (λ k. base.Over g k ns) es → base.AliasesOver g aliases ns → base.AliasesOver g (aliases_with bounds aliases) ns
+  guard_fresh : (aliases : Aliases) (ns : List Node) (bounds : List BoundName) (es : List InScope) → Matches bounds es → OfEntries (λ k. base.Over g k ns) es → base.AliasesOver g aliases ns → base.AliasesOver g (aliases_with bounds aliases) ns
   guard_fresh aliases ns [] [] m h over = over
   guard_fresh aliases ns [] (d ∷ es) m h over = absurd m
   guard_fresh aliases ns (b ∷ bounds) [] m h over = absurd m
@@ -443,7 +443,7 @@ module _ (g : Ground) where
   pub fine_more : (x : Context) (a : Around) (p : Node) (ns : List Node) → base.Fine g x a (nodes_of p) → base.Fine g x a ns → Keyed (entries_of p) → base.Fine g (with_entries (entries_of p) x) a ns
   fine_more x a p ns here behind keyed = record { around = around_more x a p here.around keyed here.fresh; fresh = behind.fresh; apart = behind.apart }
 
-  pub fine_guard : (x : Context) (a : Around) (p : Node) (ns : List Node) (bounds : List Bound) → base.Rise g (nodes_of p ++ ns) → base.Fine g x a (nodes_of p ++ ns) → Matches bounds (entries_of p) → rules.BoundsOk g bounds → base.Fine g (with_entries (scopes.in_guard (entries_of p)) x) (in_guard bounds a) ns
+  pub fine_guard : (x : Context) (a : Around) (p : Node) (ns : List Node) (bounds : List BoundName) → base.Rise g (nodes_of p ++ ns) → base.Fine g x a (nodes_of p ++ ns) → Matches bounds (entries_of p) → rules.BoundsOk g bounds → base.Fine g (with_entries (scopes.in_guard (entries_of p)) x) (in_guard bounds a) ns
   fine_guard x a p ns bounds rise f m b =
       let here = base.fine_first g x a (nodes_of p) ns f in
       let behind = base.fine_second g x a (nodes_of p) ns f in

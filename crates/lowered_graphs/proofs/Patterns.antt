@@ -24,13 +24,13 @@ use Rattle.typed_tree.specs.Tree as tree
 use Rattle.typed_tree.specs.Tree.{Node, Form, Nodes, no_node, a_node, Fields, no_field, a_field}
 use Rattle.src_meaning.specs.Locals.OfBody.{cells, all_cells, cells_of_fields, bool_ty}
 use Rattle.src_meaning.specs.Scopes.{Entry}
-use Rattle.src_meaning.specs.Shape.{head, Bound, IsNumber, IsTruth, PatternTests, no_test, a_test, followed_by, kind_of, shape, shape_of, in_fields, in_parts, alternatives_at, extended}
+use Rattle.src_meaning.specs.Shape.{head, BoundName, IsNumber, IsTruth, PatternTests, no_test, a_test, followed_by, kind_of, shape, shape_of, in_fields, in_parts, alternatives_at, extended}
 use Rattle.well_typed.specs.Claim.{Holds}
 use Rattle.well_typed.specs.Patterns as patterns
 use Rattle.well_typed.specs.Patterns.{Matched, binding_name, binding_entry, entries_of}
 use Rattle.well_typed.specs.Types as types
 use Rattle.cfg_build.specs.Build as build
-use Rattle.cfg_build.specs.Build.{Frame}
+use Rattle.cfg_build.specs.Build.{LoweringFrame}
 use Rattle.cfg_build.proofs.KnownTypes.{never_known, int_known, bool_known, adt_known, tuple_known, array_known}
 use Rattle.cfg_build.proofs.Lines as lines
 use Rattle.cfg_build.proofs.TypedLines as typed_lines
@@ -74,7 +74,7 @@ pub apart_over : (n m : ℕ) → nat_lt n m ≡ true → (m == n) ≡ false
 apart_over n m e = elim (eqb_tells m n) [ inl same ↦ absurd (let l = ltb-true n m e in let s = same.1 in let never : ⊥ = omega (l, s, arith) in never) | inr other ↦ other.0 ]
 
 module _ (g : Ground) where
-  abbrev F : Frame
+  abbrev F : LoweringFrame
   F = base.F g
 
   abbrev Typed : Place → TyId → Type 0
@@ -86,14 +86,14 @@ module _ (g : Ground) where
   abbrev TestsOk : PatternTests → Type 0
   TestsOk = lines.TestsOk F (base.wanted g)
 
-  abbrev BoundsOk : List Bound → Type 0
+  abbrev BoundsOk : List BoundName → Type 0
   BoundsOk = rules.BoundsOk g
 
   followed_ok : (xs ys : PatternTests) → TestsOk xs → TestsOk ys → TestsOk (followed_by xs ys)
   followed_ok no_test ys h k = k
   followed_ok (a_test x xs) ys h k = (h.0, followed_ok xs ys h.1 k)
 
-  bounds_append : (xs ys : List Bound) → BoundsOk xs → BoundsOk ys → BoundsOk (xs ++ ys)
+  bounds_append : (xs ys : List BoundName) → BoundsOk xs → BoundsOk ys → BoundsOk (xs ++ ys)
   bounds_append [] ys h k = k
   bounds_append (b ∷ xs) ys h k = (h.0, bounds_append xs ys h.1 k)
 
@@ -146,7 +146,7 @@ module _ (g : Ground) where
       )
 
   -- ---- tests and what names take
-  abbrev Shaped : (PatternTests) → List Bound → Type 0
+  abbrev Shaped : (PatternTests) → List BoundName → Type 0
   Shaped tests bounds = TestsOk tests × BoundsOk bounds
 
   abbrev Cells : List Entry → Type 0

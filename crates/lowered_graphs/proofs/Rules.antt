@@ -6,7 +6,7 @@ use Rattle.mir_ty.specs.declared.ty.TyId.{TyId}
 use Rattle.mir_ty.specs.Facts.{needs_drop, drop_rule, in_rounds}
 use Rattle.mir_ty.specs.ItemTable.{type_at}
 use Rattle.store_model.specs.Effects as effects
-use Rattle.store_model.specs.Effects.{Site, Action}
+use Rattle.store_model.specs.Effects.{EffectSite, Action}
 use Rattle.store_model.specs.Places.Place.{Place, whole_local}
 use Rattle.store_model.specs.Places.TypeForms as forms
 use Rattle.typed_tree.specs.Nodes.{number_of, nodes_of}
@@ -16,11 +16,11 @@ use Rattle.src_meaning.specs.Forms as source
 use Rattle.src_meaning.specs.Forms.{Destination, Into, Coerced, Around, in_loop, in_guard, entry_of, bound_entry, site_in, site_of_key, moved}
 use Rattle.src_meaning.specs.Locals.OfBody.{cells, reached_cells, is_place_form}
 use Rattle.src_meaning.specs.Scopes.{Entry, Scope, Scopes, innermost, nearest_temporary, with_entry, with_pending, becomes_entry}
-use Rattle.src_meaning.specs.Shape.{Head, Shape, Bound, shape, Aliases, site_at, operand_at, operand_of_bound, moves, copied_or_moved}
+use Rattle.src_meaning.specs.Shape.{NodeHead, Shape, BoundName, shape, Aliases, site_at, operand_at, operand_of_bound, moves, copied_or_moved}
 use Rattle.well_typed.specs.Places.{LoopAround, Context, ty_of, form_of}
 use Rattle.well_typed.specs.Types as types
 use Rattle.cfg_build.specs.Build as build
-use Rattle.cfg_build.specs.Build.{Frame, Rest, Building, Lowers, closed, ending, joined, jumps_if, act, act_by, is_last, done_by, change, from_changed, back_in, then_lower, branches, looped, leave, in_scope, taken, if_true, tests}
+use Rattle.cfg_build.specs.Build.{LoweringFrame, BlockRest, Building, Lowers, closed, ending, joined, jumps_if, act, act_by, is_last, done_by, change, from_changed, back_in, then_lower, branches, looped, leave, in_scope, taken, if_true, tests}
 use Rattle.cfg_build.specs.Lower as lower
 use Rattle.cfg_build.specs.Lower.{Evaluates, Reaches, MakesInto, LowersArm, NodeLower, LowerIfAny, no_lower, a_lower}
 use Rattle.cfg_build.proofs.KnownTypes.{never_known, unit_known, bool_known}
@@ -30,7 +30,7 @@ use Rattle.lowered_graphs.proofs.Base as base
 use Rattle.lowered_graphs.proofs.Base.{Ground, untrue, and_first, and_second, and_false, false_and, both_false}
 
 module _ (g : Ground) where
-  abbrev F : Frame
+  abbrev F : LoweringFrame
   F = base.F g
 
   abbrev Sound : Lowers → Type 0
@@ -81,7 +81,7 @@ module _ (g : Ground) where
   pub no_end_scope : (n : ℕ) (own : Bool) (P : Lowers) → P.has_end ≡ false → (in_scope F n own P).has_end ≡ false
   no_end_scope n own P e = ap (λ b. b && true) e
 
-  pub no_end_owned : (h : Head) (own : Bool) (P : Lowers) → P.has_end ≡ false → (lower.in_own_scope F h own P).has_end ≡ false
+  pub no_end_owned : (h : NodeHead) (own : Bool) (P : Lowers) → P.has_end ≡ false → (lower.in_own_scope F h own P).has_end ≡ false
   no_end_owned h true P e = no_end_scope h.id true P e
   no_end_owned h false P e = e
 
@@ -102,11 +102,11 @@ module _ (g : Ground) where
   pub leaves_scope : (loops : List LoopAround) (n : ℕ) (own : Bool) (P : Lowers) → Leaves loops P → Leaves loops (in_scope F n own P)
   leaves_scope loops n own P p = record { spares = (base.leaves_then g loops P (leave F) p (λ e. record { spares = tt })).spares }
 
-  pub leaves_owned : (loops : List LoopAround) (h : Head) (own : Bool) (P : Lowers) → Leaves loops P → Leaves loops (lower.in_own_scope F h own P)
+  pub leaves_owned : (loops : List LoopAround) (h : NodeHead) (own : Bool) (P : Lowers) → Leaves loops P → Leaves loops (lower.in_own_scope F h own P)
   leaves_owned loops h true P p = leaves_scope loops h.id true P p
   leaves_owned loops h false P p = p
 
-  pub leaves_deliver : (loops : List LoopAround) (n : ℕ) (h : Head) (action : Site → Action) (to : Destination) → Leaves loops (lower.deliver_at F n h action to)
+  pub leaves_deliver : (loops : List LoopAround) (n : ℕ) (h : NodeHead) (action : EffectSite → Action) (to : Destination) → Leaves loops (lower.deliver_at F n h action to)
   leaves_deliver loops n h action (Into key) = base.leaves_none g loops n (action (site_in h.id key))
   leaves_deliver loops n h action (Coerced key trait_no to) =
       base.leaves_then g loops _ _ (base.leaves_none g loops n (action (site_in h.id key))) (λ e. base.leaves_none g loops h.id (effects.Unsize (site_in h.id to) trait_no (moved h.id key)))
@@ -117,32 +117,32 @@ module _ (g : Ground) where
   pub leaves_back : (loops : List LoopAround) (P : Lowers) → Leaves loops P → Leaves loops (back_in P)
   leaves_back loops P p = record { spares = p.spares }
 
-  pub leaves_branches : (loops : List LoopAround) (n : ℕ) (test : ℕ → ℕ → Building → Rest × Building) (P Q : Lowers) → Leaves loops P → Leaves loops Q → Leaves loops (branches n test P Q)
+  pub leaves_branches : (loops : List LoopAround) (n : ℕ) (test : ℕ → ℕ → Building → BlockRest × Building) (P Q : Lowers) → Leaves loops P → Leaves loops Q → Leaves loops (branches n test P Q)
   leaves_branches loops n test P Q p q = record { spares = base.spares_append g loops P.jumps Q.jumps p.spares q.spares }
 
   -- ---- where a value goes: that of type `!` into the cell of its own node
-  pub record Arrives (h : Head) (to : Destination) : Type 0 where
+  pub record Arrives (h : NodeHead) (to : Destination) : Type 0 where
     pub made : DestIf to h.ty
     pub never : Never h.ty → to ≡ Into h.id
 
-  pub arrives : (h : Head) (to : Destination) → DestIf to h.ty → Arrives h (to_own_key (source.is_never g.items h.ty) h.id to)
+  pub arrives : (h : NodeHead) (to : Destination) → DestIf to h.ty → Arrives h (to_own_key (source.is_never g.items h.ty) h.id to)
   arrives h to d = by (source.is_never g.items h.ty) refl
     where
       by : (b : Bool) → source.is_never g.items h.ty ≡ b → Arrives h (to_own_key b h.id to)
       by true e = record { made = λ m. absurd (base.never_and_made g h.ty e m); never = λ v. refl }
       by false e = record { made = d; never = λ v. absurd (base.never_and_made g h.ty v e) }
 
-  pub own_key : (h : Head) (to : Destination) → Never h.ty → to_own_key (source.is_never g.items h.ty) h.id to ≡ Into h.id
+  pub own_key : (h : NodeHead) (to : Destination) → Never h.ty → to_own_key (source.is_never g.items h.ty) h.id to ≡ Into h.id
   own_key h to v = ap (λ b. to_own_key b h.id to) v
 
   -- an answer goes where it is wanted; one of type `!` has a cell of its own
-  pub answered : (n : ℕ) (h : Head) (action : Site → Action) (to : Destination) → Arrives h to → (Never h.ty → KeyIs h.id h.ty) →
+  pub answered : (n : ℕ) (h : NodeHead) (action : EffectSite → Action) (to : Destination) → Arrives h to → (Never h.ty → KeyIs h.id h.ty) →
       ((key : ℕ) → KeyIs key h.ty → lines.ActOk F (base.wanted g) n (action (site_in h.id key))) → Sound (lower.deliver_at F n h action to)
   answered n h action to a own ok = base.by_never g h.ty
       (λ v. subst (λ (z : Destination). Sound (lower.deliver_at F n h action z)) (sym (a.never v)) (base.acts g n (action (site_in h.id h.id)) (ok h.id (own v))))
       (λ m. base.delivered g n h action to h.ty (a.made m) ok)
 
-  pub no_own : (h : Head) → (Never h.ty → ⊥) → Never h.ty → KeyIs h.id h.ty
+  pub no_own : (h : NodeHead) → (Never h.ty → ⊥) → Never h.ty → KeyIs h.id h.ty
   no_own h not_so v = absurd (not_so v)
 
   -- ---- nodes
@@ -169,20 +169,20 @@ module _ (g : Ground) where
   pub nearest : InThat nearest_temporary
   nearest = lines.nearest_ok F (base.wanted g)
 
-  pending_ok : (b : Bool) (in_that : (Scope → Scope) → Scopes → Scopes) (h : Head) → InThat in_that → base.EntryOk g (entry_of h) → (S : Scopes) → lines.ScopesOk F (base.wanted g) S → lines.ScopesOk F (base.wanted g) (lower.pending_if F b in_that h S)
+  pending_ok : (b : Bool) (in_that : (Scope → Scope) → Scopes → Scopes) (h : NodeHead) → InThat in_that → base.EntryOk g (entry_of h) → (S : Scopes) → lines.ScopesOk F (base.wanted g) S → lines.ScopesOk F (base.wanted g) (lower.pending_if F b in_that h S)
   pending_ok true in_that h keeps j S o = keeps (with_pending (entry_of h)) (lines.pending_keeps F (base.wanted g) (entry_of h) j) S o
   pending_ok false in_that h keeps j S o = o
 
-  completed_ok : (in_that : (Scope → Scope) → Scopes → Scopes) (h : Head) → InThat in_that → base.EntryOk g (entry_of h) → (S : Scopes) → lines.ScopesOk F (base.wanted g) S → lines.ScopesOk F (base.wanted g) (lower.completed F in_that h S)
+  completed_ok : (in_that : (Scope → Scope) → Scopes → Scopes) (h : NodeHead) → InThat in_that → base.EntryOk g (entry_of h) → (S : Scopes) → lines.ScopesOk F (base.wanted g) S → lines.ScopesOk F (base.wanted g) (lower.completed F in_that h S)
   completed_ok in_that h keeps j S o = keeps (becomes_entry (entry_of h)) (lines.becomes_keeps F (base.wanted g) (entry_of h) j) S o
 
-  pub pended : (b : Bool) (in_that : (Scope → Scope) → Scopes → Scopes) (h : Head) (P : Lowers) → InThat in_that → base.EntryOk g (entry_of h) → Sound P →
+  pub pended : (b : Bool) (in_that : (Scope → Scope) → Scopes → Scopes) (h : NodeHead) (P : Lowers) → InThat in_that → base.EntryOk g (entry_of h) → Sound P →
       Sound (from_changed (lower.pending_if F b in_that h) (then_lower P (change (lower.completed F in_that h))))
   pended b in_that h P keeps j p =
       lines.changed_sound F (base.wanted g) (lower.pending_if F b in_that h) _ (pending_ok b in_that h keeps j)
       (base.and_then g P _ p (λ e. lines.change_sound F (base.wanted g) (lower.completed F in_that h) (completed_ok in_that h keeps j)))
 
-  pub pended_leaves : (loops : List LoopAround) (b : Bool) (in_that : (Scope → Scope) → Scopes → Scopes) (h : Head) (P : Lowers) → Leaves loops P →
+  pub pended_leaves : (loops : List LoopAround) (b : Bool) (in_that : (Scope → Scope) → Scopes → Scopes) (h : NodeHead) (P : Lowers) → Leaves loops P →
       Leaves loops (from_changed (lower.pending_if F b in_that h) (then_lower P (change (lower.completed F in_that h))))
   pended_leaves loops b in_that h P p = leaves_changed loops (lower.pending_if F b in_that h) _ (base.leaves_then g loops P _ p (λ e. record { spares = tt }))
 
@@ -190,7 +190,7 @@ module _ (g : Ground) where
   entry_ok x n m k c d = k.cell c (made_by_drop m.head.ty d)
 
   -- what a value's node is, from how it is made
-  pub record ValueIs (x : Context) (n : tree.Node) (h : Head) (s : Shape) (e : Evaluates) : Type 0 where
+  pub record ValueIs (x : Context) (n : tree.Node) (h : NodeHead) (s : Shape) (e : Evaluates) : Type 0 where
     pub id_is : h.id ≡ number_of n
     pub ty_is : h.ty ≡ ty_of n
     pub shape_is : s ≡ shape g.items n
@@ -201,7 +201,7 @@ module _ (g : Ground) where
     pub leaves : (o : Bool) → CellsOk (cells g.items o n) → (a : Around) (own : Bool) (to : Destination) → Leaves x.loops (e a own to)
     pub sound : (o : Bool) → CellsOk (cells g.items o n) → (a : Around) → Fine x a (nodes_of n) → (own : Bool) (to : Destination) → Arrives h to → Sound (e a own to)
 
-  pub value_good : (x : Context) (n : tree.Node) (h : Head) (s : Shape) (e : Evaluates) → ValueIs x n h s e → Good x n (lower.a_value F h s e)
+  pub value_good : (x : Context) (n : tree.Node) (h : NodeHead) (s : Shape) (e : Evaluates) → ValueIs x n h s e → Good x n (lower.a_value F h s e)
   value_good x n h s e v = record {
     id_is = v.id_is;
     ty_is = v.ty_is;
@@ -226,7 +226,7 @@ module _ (g : Ground) where
       evaluates o c a f own to d = v.sound o c a f own (to_own_key (source.is_never g.items h.ty) h.id to) (arrives h to d)
 
   -- what a place's node is
-  pub record PlaceIs (x : Context) (n : tree.Node) (h : Head) (s : Shape) (r : Reaches) : Type 0 where
+  pub record PlaceIs (x : Context) (n : tree.Node) (h : NodeHead) (s : Shape) (r : Reaches) : Type 0 where
     pub id_is : h.id ≡ number_of n
     pub ty_is : h.ty ≡ ty_of n
     pub shape_is : s ≡ shape g.items n
@@ -239,7 +239,7 @@ module _ (g : Ground) where
     pub sound : CellsOk (reached_cells g.items n) → (a : Around) → Fine x a (nodes_of n) → Sound (r a)
     pub place : CellsOk (reached_cells g.items n) → (a : Around) → Fine x a (nodes_of n) → (r a).has_end ≡ true → Typed (s.place a.aliases) h.ty
 
-  put_part : (h : Head) (place : Place) (key : ℕ) → Typed place h.ty → KeyIs key h.ty → lines.ActOk F (base.wanted g) h.id (effects.Put (site_in h.id key) (operand_at h place))
+  put_part : (h : NodeHead) (place : Place) (key : ℕ) → Typed place h.ty → KeyIs key h.ty → lines.ActOk F (base.wanted g) h.id (effects.Put (site_in h.id key) (operand_at h place))
   put_part h place key t k = by (moves h.by)
     where
       dest : base.At g (whole_local key) h.ty t.0
@@ -252,7 +252,7 @@ module _ (g : Ground) where
       by true = typed_lines.put_moved g.items g.bodies (base.B g) _ _ h.ty t.0 dest t.1 sized
       by false = typed_lines.put_copied g.items g.bodies (base.B g) _ _ h.ty t.0 dest t.1 sized
 
-  pub place_good : (x : Context) (n : tree.Node) (h : Head) (s : Shape) (r : Reaches) → PlaceIs x n h s r → Good x n (lower.a_place F h s r)
+  pub place_good : (x : Context) (n : tree.Node) (h : NodeHead) (s : Shape) (r : Reaches) → PlaceIs x n h s r → Good x n (lower.a_place F h s r)
   place_good x n h s r v = record {
     id_is = v.id_is;
     ty_is = v.ty_is;
@@ -272,7 +272,7 @@ module _ (g : Ground) where
     reach_entry = λ c p. absurd (untrue (sym p ∙ v.marked));
   }
     where
-      put : Around → Site → Action
+      put : Around → EffectSite → Action
       put a site = effects.Put site (operand_at h (s.place a.aliases))
 
   -- ---- operands
@@ -334,20 +334,20 @@ module _ (g : Ground) where
   operands_given x _ _ _ (an_operand ns others m ms want wants o os) a e =
       (operand_given x ns m want o a (and_first (lower.operand F a m).has_end _ e), operands_given x others ms wants os a (and_second (lower.operand F a m).has_end _ e))
 
-  pub acting_sound : (x : Context) (h : Head) (a : Around) (own : Bool) (ns : List tree.Node) (ms : List NodeLower) (wants : List TyId) → Operands x ns ms wants → Fine x a ns → (P : Lowers) → (Given ms wants → Sound P) → Sound (lower.acting F h a own ms P)
+  pub acting_sound : (x : Context) (h : NodeHead) (a : Around) (own : Bool) (ns : List tree.Node) (ms : List NodeLower) (wants : List TyId) → Operands x ns ms wants → Fine x a ns → (P : Lowers) → (Given ms wants → Sound P) → Sound (lower.acting F h a own ms P)
   acting_sound x h a own ns ms wants os f P p =
       base.scoped g h.id own _ (base.and_then g _ _ (operands_sound x ns ms wants os a f)
       (λ e. lines.changed_sound F (base.wanted g) (taken F (lower.keys_of ms)) P (lines.taken_ok F (base.wanted g) (lower.keys_of ms)) (p (operands_given x ns ms wants os a e))))
 
-  pub acting_leaves : (x : Context) (h : Head) (a : Around) (own : Bool) (ns : List tree.Node) (ms : List NodeLower) (wants : List TyId) → Operands x ns ms wants → (P : Lowers) → Leaves x.loops P → Leaves x.loops (lower.acting F h a own ms P)
+  pub acting_leaves : (x : Context) (h : NodeHead) (a : Around) (own : Bool) (ns : List tree.Node) (ms : List NodeLower) (wants : List TyId) → Operands x ns ms wants → (P : Lowers) → Leaves x.loops P → Leaves x.loops (lower.acting F h a own ms P)
   acting_leaves x h a own ns ms wants os P p = leaves_scope x.loops h.id own _ (base.leaves_then g x.loops _ _ (operands_leave x ns ms wants os a) (λ e. leaves_changed x.loops (taken F (lower.keys_of ms)) P p))
 
-  pub acting_ended : (h : Head) (a : Around) (own : Bool) (ms : List NodeLower) (P : Lowers) → P.has_end ≡ false → (lower.acting F h a own ms P).has_end ≡ false
+  pub acting_ended : (h : NodeHead) (a : Around) (own : Bool) (ms : List NodeLower) (P : Lowers) → P.has_end ≡ false → (lower.acting F h a own ms P).has_end ≡ false
   acting_ended h a own ms P e =
       no_end_scope h.id own (then_lower (lower.operands F a ms) (from_changed (taken F (lower.keys_of ms)) P)) (no_end_second (lower.operands F a ms) (from_changed (taken F (lower.keys_of ms)) P) e)
 
   -- ---- `()` is put
-  pub unit_put : (h : Head) (to : Destination) → Arrives h to → types.is_unit g.items h.ty ≡ true → Sound (lower.put_unit F h to)
+  pub unit_put : (h : NodeHead) (to : Destination) → Arrives h to → types.is_unit g.items h.ty ≡ true → Sound (lower.put_unit F h to)
   unit_put h to arrives is = answered h.id h (λ site. effects.Put site effects.UnitValue) to arrives (no_own h (unit_made h.ty is))
       (λ key k. typed_lines.put_unit g.items g.bodies (base.B g) _ h.ty (base.key_at g key h.ty Ty.Unit k (unit_known g.items h.ty is)))
     where
@@ -380,14 +380,14 @@ module _ (g : Ground) where
       base.leaves_then g x.loops _ _ (leaves_back x.loops _ (k.leaves true c a true (Into m.head.id))) (λ e. leaves_branches x.loops m.head.id (if_true F (moved m.head.id m.head.id) m.head.id) P Q p q)
 
   -- ---- names that are bound, each from its part
-  abbrev pub BoundOk : Bound → Type 0
+  abbrev pub BoundOk : BoundName → Type 0
   BoundOk b = KeyIs b.key b.ty × Typed b.site.place b.ty
 
-  abbrev pub BoundsOk : List Bound → Type 0
+  abbrev pub BoundsOk : List BoundName → Type 0
   BoundsOk [] = Unit {0}
   BoundsOk (b ∷ bounds) = BoundOk b × BoundsOk bounds
 
-  put_bound : (b : Bound) → BoundOk b → lines.ActOk F (base.wanted g) b.key (effects.Put (site_of_key b.key) (operand_of_bound b))
+  put_bound : (b : BoundName) → BoundOk b → lines.ActOk F (base.wanted g) b.key (effects.Put (site_of_key b.key) (operand_of_bound b))
   put_bound b ok = by b.takes
     where
       dest : base.At g (whole_local b.key) b.ty ok.1.0
@@ -400,13 +400,13 @@ module _ (g : Ground) where
       by true = typed_lines.put_moved g.items g.bodies (base.B g) _ _ b.ty ok.1.0 dest ok.1.1 sized
       by false = typed_lines.put_copied g.items g.bodies (base.B g) _ _ b.ty ok.1.0 dest ok.1.1 sized
 
-  pub bind_sound : (in_that : (Scope → Scope) → Scopes → Scopes) → InThat in_that → (bounds : List Bound) → BoundsOk bounds → Sound (lower.bind F in_that bounds)
+  pub bind_sound : (in_that : (Scope → Scope) → Scopes → Scopes) → InThat in_that → (bounds : List BoundName) → BoundsOk bounds → Sound (lower.bind F in_that bounds)
   bind_sound in_that keeps [] ok = base.nothing_done g
   bind_sound in_that keeps (b ∷ bounds) ok =
       base.and_then g _ _ (base.acts g b.key (effects.Put (site_of_key b.key) (operand_of_bound b)) (put_bound b ok.0))
       (λ e. lines.changed_sound F (base.wanted g) (in_that (with_entry (bound_entry b))) _ (keeps (with_entry (bound_entry b)) (lines.entry_keeps F (base.wanted g) (bound_entry b) (λ d. ok.0.0))) (bind_sound in_that keeps bounds ok.1))
 
-  pub bind_leaves : (loops : List LoopAround) (in_that : (Scope → Scope) → Scopes → Scopes) (bounds : List Bound) → Leaves loops (lower.bind F in_that bounds)
+  pub bind_leaves : (loops : List LoopAround) (in_that : (Scope → Scope) → Scopes → Scopes) (bounds : List BoundName) → Leaves loops (lower.bind F in_that bounds)
   bind_leaves loops in_that [] = record { spares = tt }
   bind_leaves loops in_that (b ∷ bounds) =
       base.leaves_then g loops _ _ (base.leaves_none g loops b.key (effects.Put (site_of_key b.key) (operand_of_bound b))) (λ e. leaves_changed loops (in_that (with_entry (bound_entry b))) _ (bind_leaves loops in_that bounds))

@@ -36,7 +36,7 @@ use Rattle.well_typed.specs.Places.{InScope, Context, Wanted, entry_with, form_o
 use Rattle.well_typed.specs.Program.{WellTyped, is_body, is_inside, closure_with}
 use Rattle.well_typed.specs.Types as types
 use Rattle.cfg_code.specs.Spots.{body_ways}
-use Rattle.cfg_build.specs.Build.{Frame, Rest, Made, ending, reserved}
+use Rattle.cfg_build.specs.Build.{LoweringFrame, BlockRest, MadeBlock, ending, reserved}
 use Rattle.cfg_build.specs.Laws.{NamesItsLoops}
 use Rattle.cfg_build.specs.Lower as lower
 use Rattle.cfg_build.specs.Lower.{body_of, frame}
@@ -95,7 +95,7 @@ module _ (p : ProgramTree) (w : WellTyped p) (n : ℕ) (body : BodyTree) (at_n :
     traits = facts.trait_there p w;
   }
 
-  abbrev F : Frame
+  abbrev F : LoweringFrame
   F = base.F g
 
   typed : (sig : Sig) × (slice_get p.items.bodies n ≡ Some sig) × Holds (is_body p.items n sig body)
@@ -401,7 +401,7 @@ module _ (p : ProgramTree) (w : WellTyped p) (n : ℕ) (body : BodyTree) (at_n :
   abbrev W : lines.Wanted F
   W = base.wanted g
 
-  abbrev last : Rest
+  abbrev last : BlockRest
   last = ending (Term.Goto 1) (answer_key body)
 
   begun_ok : lines.Ok F W (lower.start F body)
@@ -439,7 +439,7 @@ module _ (p : ProgramTree) (w : WellTyped p) (n : ℕ) (body : BodyTree) (at_n :
   of_blocks : (k : ℕ) (block : Block) → slice_get (body_of p.items body).blocks k ≡ Some block → Clean block
   of_blocks k block e = let h = from_mapped _ (lower.built F body).blocks k block e in by_made h.0 h.1 h.2
     where
-      by_made : (o : Option Made) → slice_get (lower.built F body).blocks k ≡ Some o → (unwrap_or o lower.unmade).block ≡ block → Clean block
+      by_made : (o : Option MadeBlock) → slice_get (lower.built F body).blocks k ≡ Some o → (unwrap_or o lower.unmade).block ≡ block → Clean block
       by_made None q h = subst Clean h ((λ line stmt d. absurd (none-some stmt d)), typed_lines.return_ok p.items (length p.bodies) (base.B g))
       by_made (Some m) q h = subst Clean h (line_in m.block.stmts m.block.term m.nodes (built_ok.blocks k m q), term_in m.block.stmts m.block.term m.nodes (built_ok.blocks k m q))
 

@@ -13,37 +13,37 @@ use Rattle.cfg_graph.specs.declared.terminator.Term.{Term}
 use Rattle.cfg_graph.specs.declared.terminator.Unwind.{Unwind}
 use Rattle.cfg_graph.specs.Edges.{onward}
 use Rattle.cfg_graph.specs.Moves.Actions.{actions_on}
-use Rattle.cfg_graph.specs.Moves.Gone.{Action}
+use Rattle.cfg_graph.specs.Moves.Gone.{PathAction}
 use Rattle.cfg_graph.specs.Places.{named}
-use Rattle.cfg_graph.specs.Uses.{Use, Copies, Moves, Borrows, Touches, Tests, Stores, Drops, Frees, operand_uses, operands_of_stmt, operands_of_term, other_uses, other_term_uses, stmt_uses, term_uses, stored_by_stmt, stored_by_term, place_used, places_of_stmt, places_of_term}
+use Rattle.cfg_graph.specs.Uses.{PlaceUse, Copies, Moves, Borrows, Touches, Tests, Stores, Drops, Frees, operand_uses, operands_of_stmt, operands_of_term, other_uses, other_term_uses, stmt_uses, term_uses, stored_by_stmt, stored_by_term, place_used, places_of_stmt, places_of_term}
 
 -- the actions of a path, as the definition has them
-abbrev at_line : (block line : ℕ) → List (Use × Place) → List Action
+abbrev at_line : (block line : ℕ) → List (PlaceUse × Place) → List PathAction
 at_line block line uses = map (λ made. record { how = made.0; place = named made.1; block = block; line = line }) uses
 
-abbrev stmt_actions : (block line : ℕ) → List Stmt → List Action
+abbrev stmt_actions : (block line : ℕ) → List Stmt → List PathAction
 stmt_actions block line [] = []
 stmt_actions block line (stmt ∷ stmts) = at_line block line (stmt_uses stmt) ++ stmt_actions block (suc line) stmts
 
-abbrev block_actions : ℕ → Block → List Action
+abbrev block_actions : ℕ → Block → List PathAction
 block_actions n block = stmt_actions n 0 block.stmts ++ at_line n (length block.stmts) (term_uses block.term)
 
-abbrev result_actions : (n next : ℕ) → Block → List Action
+abbrev result_actions : (n next : ℕ) → Block → List PathAction
 result_actions n next block =
     if list_any (nat_eq next) (onward block.term)
     then at_line n (length block.stmts) (map (λ place. (Stores, place)) (stored_by_term block.term))
     else []
 
-abbrev pub is_dropping : Use → Bool
+abbrev pub is_dropping : PlaceUse → Bool
 is_dropping Drops = true
 is_dropping how = false
 
 -- ---- uses that are no drops
-abbrev NoDrops : List (Use × Place) → Type 0
+abbrev NoDrops : List (PlaceUse × Place) → Type 0
 NoDrops [] = Unit {0}
 NoDrops (u ∷ us) = (is_dropping u.0 ≡ false) × NoDrops us
 
-no_drops_append : (us vs : List (Use × Place)) → NoDrops us → NoDrops vs → NoDrops (us ++ vs)
+no_drops_append : (us vs : List (PlaceUse × Place)) → NoDrops us → NoDrops vs → NoDrops (us ++ vs)
 no_drops_append [] vs h k = k
 no_drops_append (u ∷ us) vs h k = (h.0, no_drops_append us vs h.1 k)
 
@@ -89,12 +89,12 @@ not_empty : {A : Type 0} (x : A) (xs : List A) → x ∷ xs ≢ []
 not_empty x xs e = cc
 
 -- a list whose members have places
-has_places : (u : Use × Place) (us vs : List (Use × Place)) → u ∷ us ≡ vs → map place_used vs ≢ []
+has_places : (u : PlaceUse × Place) (us vs : List (PlaceUse × Place)) → u ∷ us ≡ vs → map place_used vs ≢ []
 has_places u us vs e none = not_empty (place_used u) (map place_used us) (ap (map place_used) e ∙ none)
 
 module _ (body : Body) where
   -- what an action is done by in its block
-  pub data ByLine (block : Block) (action : Action) : Type 0 where
+  pub data ByLine (block : Block) (action : PathAction) : Type 0 where
     by_a_stmt : (stmt : Stmt) → slice_get block.stmts action.line ≡ Some stmt → places_of_stmt stmt ≢ [] →
         is_dropping action.how ≡ false → ByLine block action
     by_the_term : action.line ≡ length block.stmts → used_by_term block.term ≢ [] → is_dropping action.how ≡ false →
@@ -102,23 +102,23 @@ module _ (body : Body) where
     by_a_drop : (place : Place) (next : ℕ) (unwind : Unwind) → block.term ≡ Term.DropAt place next unwind →
         action.place ≡ named place → action.how ≡ Drops → ByLine block action
 
-  pub record IsDone (action : Action) : Type 0 where
+  pub record IsDone (action : PathAction) : Type 0 where
     pub block : Block
     pub there : slice_get body.blocks action.block ≡ Some block
     pub by_line : ByLine block action
 
-  abbrev pub AllDone : List Action → Type 0
+  abbrev pub AllDone : List PathAction → Type 0
   AllDone [] = Unit {0}
   AllDone (action ∷ actions) = IsDone action × AllDone actions
 
-  pub done_append : (xs ys : List Action) → AllDone xs → AllDone ys → AllDone (xs ++ ys)
+  pub done_append : (xs ys : List PathAction) → AllDone xs → AllDone ys → AllDone (xs ++ ys)
   done_append [] ys h k = k
   done_append (x ∷ xs) ys h k = (h.0, done_append xs ys h.1 k)
 
   module _ (n : ℕ) (block : Block) (there : slice_get body.blocks n ≡ Some block) where
     -- ---- statements
     of_uses : (line : ℕ) (stmt : Stmt) → slice_get block.stmts line ≡ Some stmt → places_of_stmt stmt ≢ [] →
-        (us : List (Use × Place)) → NoDrops us → AllDone (at_line n line us)
+        (us : List (PlaceUse × Place)) → NoDrops us → AllDone (at_line n line us)
     of_uses line stmt at some [] h = tt
     of_uses line stmt at some (u ∷ us) h = (
       record { block = block; there = there; by_line = by_a_stmt stmt at some h.0 },
@@ -128,7 +128,7 @@ module _ (body : Body) where
     of_stmt : (line : ℕ) (stmt : Stmt) → slice_get block.stmts line ≡ Some stmt → AllDone (at_line n line (stmt_uses stmt))
     of_stmt line stmt at = by_uses (stmt_uses stmt) refl (by_stmt stmt)
       where
-        by_uses : (us : List (Use × Place)) → us ≡ stmt_uses stmt → NoDrops us → AllDone (at_line n line us)
+        by_uses : (us : List (PlaceUse × Place)) → us ≡ stmt_uses stmt → NoDrops us → AllDone (at_line n line us)
         by_uses [] e h = tt
         by_uses (u ∷ us) e h = of_uses line stmt at (has_places u us (stmt_uses stmt) e) (u ∷ us) h
 
@@ -154,7 +154,7 @@ module _ (body : Body) where
         (of_stmts (front ++ stmt ∷ []) stmts (e ∙ sym (moved_over front stmt stmts))))
 
     -- ---- the terminator
-    of_plain_term : used_by_term block.term ≢ [] → (us : List (Use × Place)) → NoDrops us → AllDone (at_line n (length block.stmts) us)
+    of_plain_term : used_by_term block.term ≢ [] → (us : List (PlaceUse × Place)) → NoDrops us → AllDone (at_line n (length block.stmts) us)
     of_plain_term some [] h = tt
     of_plain_term some (u ∷ us) h = (
       record { block = block; there = there; by_line = by_the_term refl some h.0 },
@@ -169,7 +169,7 @@ module _ (body : Body) where
     second_of [] vs some e = some e
     second_of (u ∷ us) vs some e = not_empty u (us ++ vs) e
 
-    of_list : (uses : List (Use × Place)) (stored : List Place) → (map place_used uses ++ stored ≢ [] → used_by_term block.term ≢ []) →
+    of_list : (uses : List (PlaceUse × Place)) (stored : List Place) → (map place_used uses ++ stored ≢ [] → used_by_term block.term ≢ []) →
         NoDrops uses → AllDone (at_line n (length block.stmts) uses)
     of_list [] stored some h = tt
     of_list (u ∷ us) stored some h = of_plain_term (some (first_of (map place_used (u ∷ us)) stored (not_empty (place_used u) (map place_used us)))) (u ∷ us) h

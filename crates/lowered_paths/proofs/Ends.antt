@@ -18,14 +18,14 @@ use Rattle.cfg_graph.specs.declared.graph.Kind.{Kind}
 use Rattle.cfg_graph.specs.declared.place.Place.{Place}
 use Rattle.cfg_graph.specs.declared.terminator.Term.{Term}
 use Rattle.cfg_graph.specs.declared.terminator.Unwind.{Unwind}
-use Rattle.cfg_graph.specs.Edges.{Exit, ToBlock, LeavesBody, onward, unwind_exit, unwind_targets}
+use Rattle.cfg_graph.specs.Edges.{BlockExit, ToBlock, LeavesBody, onward, unwind_exit, unwind_targets}
 use Rattle.cfg_graph.specs.Places.{ty_of_place, ty_of_operand}
 use Rattle.cfg_graph.specs.Uses.{Stores, stored_by_term, term_uses}
 use Rattle.cfg_graph.specs.WellFormed.Typing.{stmt_is_typed, term_is_typed, term_has_types}
 use Rattle.cfg_graph.specs.Moves.Actions.{actions_on}
 use Rattle.cfg_graph.specs.Moves.BadUses.{BadUse}
-use Rattle.cfg_graph.specs.Moves.Gone.{Action, is_param}
-use Rattle.cfg_graph.specs.Moves.Paths.{Way, ways, IsPath}
+use Rattle.cfg_graph.specs.Moves.Gone.{PathAction, is_param}
+use Rattle.cfg_graph.specs.Moves.Paths.{PathWay, ways, IsPath}
 use Rattle.move_flow.proofs.Along.{actions_in, actions_between}
 use Rattle.move_errors.proofs.Pathways.{in-flat, in-map, map-in, along, entry_choices, choices_between, between-way, way-between, path-snoc, actions-snoc}
 use Rattle.move_errors.proofs.Sorted.{here, none-in, first-or}
@@ -33,30 +33,30 @@ use Rattle.move_errors.specs.Reaches.{first_bad, Reaches, MeetsNone}
 use Rattle.free_walks.specs.Meets.{PanicsLeadElsewhere, before_bad, RunsReach, in_block, on_way}
 use Rattle.free_walks.proofs.Lines.{at_line, stmt_actions}
 use Rattle.free_walks.proofs.Performing.{some-rest}
-use Rattle.cfg_build.specs.Build.{Frame}
+use Rattle.cfg_build.specs.Build.{LoweringFrame}
 use Rattle.cfg_build.proofs.Stops.{BlockStops}
 use Rattle.lowered_paths.proofs.Clean.{none-after}
 use Rattle.lowered_paths.proofs.Stopping.{untrue, made, ends_any, Comes, meets, clear, stops, calm, then_comes, bad_first, calm_line, block_comes, never_at}
 
-abbrev Out : Exit → List Bool → Way
+abbrev Out : BlockExit → List Bool → PathWay
 Out exit choices = record { choices = choices; exit = exit }
 
-only : (w x : Way) → Contains (w ∷ []) x → w ≡ x
+only : (w x : PathWay) → Contains (w ∷ []) x → w ≡ x
 only w x has = elim (first-or x w [] has) [ inl same ↦ same | inr later ↦ absurd (none-in x later) ]
 
-abbrev block_or : Exit → ℕ → ℕ
+abbrev block_or : BlockExit → ℕ → ℕ
 block_or (ToBlock n) d = n
 block_or LeavesBody d = d
 
 same_block : (a b : ℕ) → ToBlock a ≡ ToBlock b → a ≡ b
-same_block a b e = ap (λ (x : Exit). block_or x 0) e
+same_block a b e = ap (λ (x : BlockExit). block_or x 0) e
 
-abbrev leaves : Exit → Bool
+abbrev leaves : BlockExit → Bool
 leaves (ToBlock n) = false
 leaves LeavesBody = true
 
 -- both ways of a call
-abbrev each : ℕ → Unwind → List Way
+abbrev each : ℕ → Unwind → List PathWay
 each next unwind = Out (ToBlock next) (false ∷ []) ∷ Out (unwind_exit unwind) (true ∷ []) ∷ []
 
 -- the way of a panic leads to the block of unwinding
@@ -82,7 +82,7 @@ same_int_never (Some (Ty.Dyn n)) = refl
 
 module _ (items : ItemTable) (body : Body) where
   -- ---- the store of a result, on a way of a path
-  abbrev result : Bool → (n line : ℕ) → Term → List Action
+  abbrev result : Bool → (n line : ℕ) → Term → List PathAction
   result b n line term = if b then at_line n line (map (λ place. (Stores, place)) (stored_by_term term)) else []
 
   nothing_stored : (b : Bool) (n line : ℕ) (term : Term) → stored_by_term term ≡ [] → ends_any items body (result b n line term) ≡ false
@@ -115,8 +115,8 @@ module _ (items : ItemTable) (body : Body) where
   call_back : (to : Place) (next m : ℕ) (given : List Bool) (unwind : Unwind) (term : Term) → ways items body term ≡ (if never_at items body to then Out (unwind_exit unwind) (true ∷ []) ∷ [] else each next unwind) → Contains (ways items body term) (Out (ToBlock m) given) →
       never_at items body to ≡ true → unwind_exit unwind ≡ ToBlock m
   call_back to next m given unwind term are way e =
-      ap (λ (w : Way). w.exit) (only (Out (unwind_exit unwind) (true ∷ [])) (Out (ToBlock m) given)
-      (subst (λ (ws : List Way). Contains ws (Out (ToBlock m) given)) (are ∙ ap (λ (b : Bool). if b then Out (unwind_exit unwind) (true ∷ []) ∷ [] else each next unwind) e) way))
+      ap (λ (w : PathWay). w.exit) (only (Out (unwind_exit unwind) (true ∷ [])) (Out (ToBlock m) given)
+      (subst (λ (ws : List PathWay). Contains ws (Out (ToBlock m) given)) (are ∙ ap (λ (b : Bool). if b then Out (unwind_exit unwind) (true ∷ []) ∷ [] else each next unwind) e) way))
 
   term_stores : (n line m : ℕ) (term : Term) → term_has_types items body.locals term ≡ true → (Contains (onward term) m → Contains (unwind_targets term) m → ⊥) → (given : List Bool) → Contains (ways items body term) (Out (ToBlock m) given) →
       ends_any items body (result (list_any (nat_eq m) (onward term)) n line term) ≡ false
@@ -147,14 +147,14 @@ module _ (items : ItemTable) (body : Body) where
     no_bad None h = refl
     no_bad (Some bad) h = absurd (h bad refl)
 
-    here_none : (front : List ℕ) (n : ℕ) (given : List Bool) → IsPath items body (front ++ n ∷ []) given → (earlier : List Action) → actions_on body (front ++ n ∷ []) ≡ earlier ++ actions_on body (n ∷ []) →
+    here_none : (front : List ℕ) (n : ℕ) (given : List Bool) → IsPath items body (front ++ n ∷ []) given → (earlier : List PathAction) → actions_on body (front ++ n ∷ []) ≡ earlier ++ actions_on body (n ∷ []) →
         first_bad items body [] earlier ≡ None → first_bad items body [] (actions_on body (front ++ n ∷ [])) ≡ None
     here_none front n given is earlier before none =
         ap (first_bad items body []) before ∙ some-rest items body [] earlier (actions_on body (n ∷ [])) none
         ∙ no_bad (first_bad items body earlier (actions_on body (n ∷ []))) (λ bad e. never (front ++ n ∷ []) given bad
         (inl (record { front = front; last = n; path_is = refl; is_path = is; earlier = earlier; before = before; none = none; first = e })))
 
-    walked : (rest front : List ℕ) (n : ℕ) (given : List Bool) → IsPath items body (front ++ n ∷ []) given → (earlier : List Action) → actions_on body (front ++ n ∷ []) ≡ earlier ++ actions_on body (n ∷ []) →
+    walked : (rest front : List ℕ) (n : ℕ) (given : List Bool) → IsPath items body (front ++ n ∷ []) given → (earlier : List PathAction) → actions_on body (front ++ n ∷ []) ≡ earlier ++ actions_on body (n ∷ []) →
         first_bad items body [] earlier ≡ None → (more : List Bool) → Contains (along items body n rest) more → first_bad items body [] (actions_on body (front ++ n ∷ rest)) ≡ None
     walked [] front n given is earlier before none more has = here_none front n given is earlier before none
     walked (m ∷ rest) front n given is earlier before none more has =
@@ -195,14 +195,14 @@ module _ (items : ItemTable) (body : Body) where
     meets_none path given is = none-after items body path (none_met path given is)
 
   -- ---- along a path of a lowered body
-  module _ (f : Frame) (own : ℕ → Type 0) (same_items : f.items ≡ items) (same_tys : f.tys ≡ body.locals) (owned : (key : ℕ) → own key → is_param items body (f.local_of key) ≡ false)
+  module _ (f : LoweringFrame) (own : ℕ → Type 0) (same_items : f.items ≡ items) (same_tys : f.tys ≡ body.locals) (owned : (key : ℕ) → own key → is_param items body (f.local_of key) ≡ false)
       (stop : (n : ℕ) (block : Block) → slice_get body.blocks n ≡ Some block → BlockStops f own block.stmts block.term)
       (typed : (n : ℕ) (block : Block) → slice_get body.blocks n ≡ Some block → (list_all (stmt_is_typed items body.locals) block.stmts ≡ true) × (term_is_typed items body.locals block.term ≡ true))
       (elsewhere : PanicsLeadElsewhere body) (rank : ℕ) (kind : Kind) (returns : slice_get body.blocks 1 ≡ Some (record { kind = kind; rank = rank; stmts = []; term = Term.Return })) where
-    abbrev block_actions : ℕ → Option Block → List Action
+    abbrev block_actions : ℕ → Option Block → List PathAction
     block_actions n o = option_map_or (λ block. stmt_actions n 0 block.stmts ++ at_line n (length block.stmts) (term_uses block.term)) o []
 
-    in_this : (n : ℕ) (block : Block) → slice_get body.blocks n ≡ Some block → (earlier : List Action) → ends_any items body earlier ≡ false → Comes items body (block.term ≡ Term.Goto 1) earlier (actions_in body n)
+    in_this : (n : ℕ) (block : Block) → slice_get body.blocks n ≡ Some block → (earlier : List PathAction) → ends_any items body earlier ≡ false → Comes items body (block.term ≡ Term.Goto 1) earlier (actions_in body n)
     in_this n block at earlier none =
         let types = typed n block at in
         subst (λ (o : Option Block). Comes items body (block.term ≡ Term.Goto 1) earlier (block_actions n o)) (sym at)
@@ -214,7 +214,7 @@ module _ (items : ItemTable) (body : Body) where
         (term_stores n (length block.stmts) m block.term (second_so _ (term_has_types items body.locals block.term) (typed n block at).1) (elsewhere n m block at) given way)
 
     -- behind the block that returns there is nothing
-    returned : (m : ℕ) → m ≡ 1 → (rest : List ℕ) (more : List Bool) → Contains (along items body m rest) more → (earlier : List Action) → first_bad items body earlier (actions_on body (m ∷ rest)) ≡ None
+    returned : (m : ℕ) → m ≡ 1 → (rest : List ℕ) (more : List Bool) → Contains (along items body m rest) more → (earlier : List PathAction) → first_bad items body earlier (actions_on body (m ∷ rest)) ≡ None
     returned m is rest more has earlier = subst (λ (m : ℕ). Contains (along items body m rest) more → first_bad items body earlier (actions_on body (m ∷ rest)) ≡ None) (sym is) (by rest) has
       where
         by : (rest : List ℕ) → Contains (along items body 1 rest) more → first_bad items body earlier (actions_on body (1 ∷ rest)) ≡ None
@@ -226,7 +226,7 @@ module _ (items : ItemTable) (body : Body) where
 
     stopped : (n m : ℕ) (block : Block) → slice_get body.blocks n ≡ Some block → block.term ≡ Term.Goto 1 → (given : List Bool) → Contains (ways items body block.term) (Out (ToBlock m) given) → (m ≡ 1) × (actions_between body n m ≡ [])
     stopped n m block at goto given way = (
-      sym (same_block 1 m (ap (λ (w : Way). w.exit) (only (Out (ToBlock 1) []) (Out (ToBlock m) given) (subst (λ (term : Term). Contains (ways items body term) (Out (ToBlock m) given)) goto way)))),
+      sym (same_block 1 m (ap (λ (w : PathWay). w.exit) (only (Out (ToBlock 1) []) (Out (ToBlock m) given) (subst (λ (term : Term). Contains (ways items body term) (Out (ToBlock m) given)) goto way)))),
       ap (λ (o : Option Block). option_map_or (λ block. result (list_any (nat_eq m) (onward block.term)) n (length block.stmts) block.term) o []) at
           ∙ (λ i. result (list_any (nat_eq m) (onward block.term)) n (length block.stmts) (goto i)) ∙ nothing (list_any (nat_eq m) (onward block.term)),
     )
@@ -235,12 +235,12 @@ module _ (items : ItemTable) (body : Body) where
         nothing true = refl
         nothing false = refl
 
-    wide : {stop : Type 0} (earlier acts : List Action) → Comes items body stop earlier acts → Comes items body (Unit {0}) earlier acts
+    wide : {stop : Type 0} (earlier acts : List PathAction) → Comes items body stop earlier acts → Comes items body (Unit {0}) earlier acts
     wide earlier acts (meets bad is before) = meets bad is before
     wide earlier acts (clear is none) = clear is none
     wide earlier acts (stops is s) = stops is tt
 
-    comes : (rest : List ℕ) (n : ℕ) (earlier : List Action) → ends_any items body earlier ≡ false → (more : List Bool) → Contains (along items body n rest) more → Comes items body (Unit {0}) earlier (actions_on body (n ∷ rest))
+    comes : (rest : List ℕ) (n : ℕ) (earlier : List PathAction) → ends_any items body earlier ≡ false → (more : List Bool) → Contains (along items body n rest) more → Comes items body (Unit {0}) earlier (actions_on body (n ∷ rest))
     comes [] n earlier none more has = by (slice_get body.blocks n) refl
       where
         by : (o : Option Block) → slice_get body.blocks n ≡ o → Comes items body (Unit {0}) earlier (actions_in body n)
@@ -264,7 +264,7 @@ module _ (items : ItemTable) (body : Body) where
         let it = in-map (λ (rest : List Bool). entry_choices items body 0 ++ rest) (along items body 0 rest) given is in
         comes rest 0 [] refl it.0 it.1
 
-    before_it : (acts : List Action) (bad : BadUse) → Comes items body (Unit {0}) [] acts → first_bad items body [] acts ≡ Some bad → ends_any items body (before_bad items body [] acts) ≡ false
+    before_it : (acts : List PathAction) (bad : BadUse) → Comes items body (Unit {0}) [] acts → first_bad items body [] acts ≡ Some bad → ends_any items body (before_bad items body [] acts) ≡ false
     before_it acts bad (meets other is before) some = before
     before_it acts bad (clear is none) some = absurd (none-some bad (sym is ∙ some))
     before_it acts bad (stops is s) some = absurd (none-some bad (sym is ∙ some))
@@ -283,6 +283,6 @@ module _ (items : ItemTable) (body : Body) where
         ∙ (λ i. (actions_on body (sym r.path_is i) ++ sym stored i) ++ actions_on body (r.next ∷ [])) in
         let some : first_bad items body [] (actions_on body path ++ r.stored) ≡ Some bad = some-rest items body [] (actions_on body path) r.stored r.none ∙ r.first in
         let all = bad_first items body [] (actions_on body path ++ r.stored) (actions_on body (r.next ∷ [])) bad some in
-        on_way r (ap (ends_any items body) (sym all.1) ∙ ap (λ (z : List Action). ends_any items body (before_bad items body [] z)) (sym snoc)
+        on_way r (ap (ends_any items body) (sym all.1) ∙ ap (λ (z : List PathAction). ends_any items body (before_bad items body [] z)) (sym snoc)
         ∙ before_it (actions_on body (path ++ r.next ∷ [])) bad (of_path (path ++ r.next ∷ []) ((r.before ++ r.choices) ++ entry_choices items body r.next) on)
         (ap (first_bad items body []) snoc ∙ all.0))

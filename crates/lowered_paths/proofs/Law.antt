@@ -4,7 +4,7 @@ use Rattle.std.proofs.lemmas.List.{append-nil}
 use Rattle.std.proofs.lemmas.Option.{none-some, same_Some}
 use Rattle.mir_ty.specs.ItemTable.{ItemTable}
 use Rattle.store_model.specs.Abstract.Effects.{AbstractState}
-use Rattle.store_model.specs.Effects.{Site, Out, Go, Unwind, Halts, Halt, Aborted, OutOfTicks, Stuck, StuckAt, BadUse, BadStore, NoChoice, Infeasible, Unreachable}
+use Rattle.store_model.specs.Effects.{EffectSite, Out, Go, Unwind, Halts, Halt, Aborted, OutOfTicks, Stuck, StuckAt, BadUse, BadStore, NoChoice, Infeasible, Unreachable}
 use Rattle.cfg_graph.specs.declared.graph.Body.{Body}
 use Rattle.cfg_graph.specs.Moves.BadUses as bad_uses
 use Rattle.cfg_graph.specs.Moves.BadUses.{UseRule, U1, U2}
@@ -22,17 +22,17 @@ use Rattle.lowered_paths.specs.Refused.{LoweredPathsMeetItsRefusals}
 use Rattle.lowered_paths.proofs.Clean.{none-reached}
 
 -- a walk that halts at a bad use, with all choices taken, is refused there
-told : (rule : UseRule) (site : Site) (w : AbstractState) → w.choices ≡ [] → refused_of (Halts (halt_by rule site) w) ≡ Some site
+told : (rule : UseRule) (site : EffectSite) (w : AbstractState) → w.choices ≡ [] → refused_of (Halts (halt_by rule site) w) ≡ Some site
 told U1 site w e = simp (e)
 told U2 site w e = simp (e)
 
 -- and back: where a walk is refused at a site, it has halted there, and has taken all choices
-pub record Refusal (halt : Halt) (w : AbstractState) (site : Site) : Type 0 where
+pub record Refusal (halt : Halt) (w : AbstractState) (site : EffectSite) : Type 0 where
   pub is : is_refused halt ≡ true
   pub taken : w.choices ≡ []
   pub at : (bad : bad_uses.BadUse) (node : ℕ → ℕ → ℕ) → halt ≡ halt_of node bad → site ≡ site_of node bad.action
 
-refusal : (halt : Halt) (w : AbstractState) (site : Site) → refused_of (Halts halt w) ≡ Some site → Refusal halt w site
+refusal : (halt : Halt) (w : AbstractState) (site : EffectSite) → refused_of (Halts halt w) ≡ Some site → Refusal halt w site
 refusal (BadUse at) w site h = by w.choices refl h
   where
     by : (l : List Bool) → w.choices ≡ l → refused_of (Halts (BadUse at) (record w { choices = l })) ≡ Some site → Refusal (BadUse at) w site
@@ -42,7 +42,7 @@ refusal (BadUse at) w site h = by w.choices refl h
       at = λ bad node same. sym (same_Some at site h) ∙ same_site bad.rule (site_of node bad.action) same;
     }
       where
-        same_site : (rule : UseRule) (other : Site) → BadUse at ≡ halt_by rule other → at ≡ other
+        same_site : (rule : UseRule) (other : EffectSite) → BadUse at ≡ halt_by rule other → at ≡ other
         same_site U1 other e = cc
         same_site U2 other e = absurd (cc)
     by (c ∷ l) e h = absurd (none-some site h)
@@ -55,7 +55,7 @@ refusal (BadStore at) w site h = by w.choices refl h
       at = λ bad node same. sym (same_Some at site h) ∙ same_site bad.rule (site_of node bad.action) same;
     }
       where
-        same_site : (rule : UseRule) (other : Site) → BadStore at ≡ halt_by rule other → at ≡ other
+        same_site : (rule : UseRule) (other : EffectSite) → BadStore at ≡ halt_by rule other → at ≡ other
         same_site U1 other e = absurd (cc)
         same_site U2 other e = cc
     by (c ∷ l) e h = absurd (none-some site h)
@@ -77,7 +77,7 @@ module _ (items : ItemTable) (tree : BodyTree) (names : NamesItsLoops tree) wher
   meets : MeetsSame items body node
   meets = free-walks-meet items body (lowered_is_ranked items tree names) (kept-elsewhere body (lowered_keeps_to_cleanup items tree names)) node
 
-  abbrev Reached : List Bool → Site → Type 0
+  abbrev Reached : List Bool → EffectSite → Type 0
   Reached given site =
       (path : List ℕ) × (bad : bad_uses.BadUse) × RunsReach items body path given bad × (site ≡ site_of node bad.action)
 
@@ -89,7 +89,7 @@ module _ (items : ItemTable) (tree : BodyTree) (names : NamesItsLoops tree) wher
       let it = meets.walks path given [] bad reaches in
       sym (walked given) ∙ ap refused_of (ap (free_walk items node body) (sym (append-nil given)) ∙ it.1) ∙ told bad.rule (site_of node bad.action) it.0 it.2
 
-  reached : (given : List Bool) (site : Site) → reached_by items tree given ≡ Some site → Reached given site
+  reached : (given : List Bool) (site : EffectSite) → reached_by items tree given ≡ Some site → Reached given site
   reached given site is = by (free_walk items node body given) refl (walked given ∙ is)
     where
       by : (out : Out AbstractState) → free_walk items node body given ≡ out → refused_of out ≡ Some site → Reached given site
@@ -110,7 +110,7 @@ module _ (items : ItemTable) (tree : BodyTree) (names : NamesItsLoops tree) wher
   accepted : MeetsNone items body → (given : List Bool) → reached_by items tree given ≡ None
   accepted none given = by (reached_by items tree given) refl
     where
-      by : (o : Option Site) → reached_by items tree given ≡ o → reached_by items tree given ≡ None
+      by : (o : Option EffectSite) → reached_by items tree given ≡ o → reached_by items tree given ≡ None
       by None e = e
       by (Some site) e = let it = reached given site e in absurd (none-reached items body none it.0 given it.1 it.2)
 

@@ -12,7 +12,7 @@ use Rattle.mir_ty.specs.ItemTable.{ItemTable}
 use Rattle.typed_tree.specs.Tree.{BodyTree, ProgramTree}
 use Rattle.use_sites.specs.Listed.{placed, at_line, of_lines, of_blocks, body_sites, of_bodies, program_sites}
 use Rattle.use_sites.specs.declared.site.Site.{Site}
-use Rattle.lowered_paths.specs.Told.{Line, stands_at, has_site}
+use Rattle.lowered_paths.specs.Told.{LineOfBody, stands_at, has_site}
 
 any_left : (p : Site → Bool) (xs ys : List Site) → list_any p xs ≡ true → list_any p (xs ++ ys) ≡ true
 any_left p xs ys h = list_any-append p xs ys ∙ ap (λ b. b || list_any p ys) h
@@ -84,7 +84,7 @@ in_bodies items p start (suc i) k (one ∷ trees) tree e there h =
 from_start : (n : ℕ) → n ≡ n + 0
 from_start n = omega arith
 
-pub is_listed : (program : ProgramTree) (n : ℕ) (tree : BodyTree) → slice_get program.bodies n ≡ Some tree → (at : Line) (block : Block) →
+pub is_listed : (program : ProgramTree) (n : ℕ) (tree : BodyTree) → slice_get program.bodies n ≡ Some tree → (at : LineOfBody) (block : Block) →
     slice_get (body_of program.items tree).blocks at.block ≡ Some block → at.line ≤ length block.stmts → (site : UseSite) →
     site_at program.items tree at.block at.line ≡ Some site → has_site program n at ≡ true
 is_listed program n tree there at block at_block within site e =

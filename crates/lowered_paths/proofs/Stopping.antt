@@ -22,15 +22,15 @@ use Rattle.cfg_graph.specs.declared.place.Step.{Step}
 use Rattle.cfg_graph.specs.declared.statement.Stmt.{Stmt}
 use Rattle.cfg_graph.specs.declared.terminator.Term.{Term}
 use Rattle.cfg_graph.specs.Places.{named, named_step, place_id, ty_of_place, ty_of_operand}
-use Rattle.cfg_graph.specs.Uses.{Use, Copies, Moves, Borrows, Touches, Tests, Stores, Drops, Frees, operand_uses, stmt_uses, term_uses}
+use Rattle.cfg_graph.specs.Uses.{PlaceUse, Copies, Moves, Borrows, Touches, Tests, Stores, Drops, Frees, operand_uses, stmt_uses, term_uses}
 use Rattle.cfg_graph.specs.WellFormed.Typing.{stmt_is_typed, stmt_has_types, term_is_typed, term_has_types, operand_is, are_elements, operands_are}
 use Rattle.cfg_graph.specs.Moves.BadUses.{BadUse, may_not_store}
-use Rattle.cfg_graph.specs.Moves.Gone.{Action, counts, is_at_or_above, are_first, is_param, last_left, is_gone_after, is_whole_after, leaves_gone}
+use Rattle.cfg_graph.specs.Moves.Gone.{PathAction, counts, is_at_or_above, are_first, is_param, last_left, is_gone_after, is_whole_after, leaves_gone}
 use Rattle.move_errors.specs.Reaches.{rule_of, is_bad, first_bad}
 use Rattle.free_walks.specs.Meets.{ends_runs, before_bad}
 use Rattle.free_walks.proofs.Lines.{at_line, stmt_actions}
 use Rattle.free_walks.proofs.Performing.{before-append, some-rest}
-use Rattle.cfg_build.specs.Build.{Frame}
+use Rattle.cfg_build.specs.Build.{LoweringFrame}
 use Rattle.cfg_build.proofs.Stops.{CopiesNone, AllCopyNone, StmtCopies, TermCopies, IsNever, IsOwn, Behind, BlockStops}
 
 pub untrue : false ≡ true → ⊥
@@ -60,22 +60,22 @@ made o test none passes = by (is_never o) refl
     by false e = e
 
 module _ (items : ItemTable) (body : Body) where
-  abbrev pub ends : Action → Bool
+  abbrev pub ends : PathAction → Bool
   ends = ends_runs items body
 
-  abbrev pub ends_any : List Action → Bool
+  abbrev pub ends_any : List PathAction → Bool
   ends_any acts = list_any ends acts
 
   -- ---- what actions come to, after earlier ones
   -- a use among them is bad, and no value of type `!` is copied or stored before it; or none is bad, and none is copied
   -- or stored; or none is bad, and something else is so
-  pub data Comes (stop : Type 0) (earlier acts : List Action) : Type 0 where
+  pub data Comes (stop : Type 0) (earlier acts : List PathAction) : Type 0 where
     meets : (bad : BadUse) → first_bad items body earlier acts ≡ Some bad → ends_any (before_bad items body earlier acts) ≡ false → Comes stop earlier acts
     clear : first_bad items body earlier acts ≡ None → ends_any acts ≡ false → Comes stop earlier acts
     stops : first_bad items body earlier acts ≡ None → stop → Comes stop earlier acts
 
   -- of actions of which none copies or stores such a value
-  none_before : (earlier acts : List Action) → ends_any acts ≡ false → ends_any (before_bad items body earlier acts) ≡ false
+  none_before : (earlier acts : List PathAction) → ends_any acts ≡ false → ends_any (before_bad items body earlier acts) ≡ false
   none_before earlier [] h = refl
   none_before earlier (a ∷ acts) h = by (is_bad items body earlier a a.how) (ends a) refl h (none_before (earlier ++ a ∷ []) acts)
     where
@@ -85,7 +85,7 @@ module _ (items : ItemTable) (body : Body) where
       by false true e h later = absurd (false≢true (sym h))
       by false false e h later = ap (λ (c : Bool). c || ends_any (before_bad items body (earlier ++ a ∷ []) acts)) e ∙ later h
 
-  pub calm : {stop : Type 0} (earlier acts : List Action) → ends_any acts ≡ false → Comes stop earlier acts
+  pub calm : {stop : Type 0} (earlier acts : List PathAction) → ends_any acts ≡ false → Comes stop earlier acts
   calm {stop} earlier acts h = by (first_bad items body earlier acts) refl
     where
       by : (o : Option BadUse) → first_bad items body earlier acts ≡ o → Comes stop earlier acts
@@ -93,7 +93,7 @@ module _ (items : ItemTable) (body : Body) where
       by (Some bad) e = meets bad e (none_before earlier acts h)
 
   -- what is bad among the first ones is bad among all
-  pub bad_first : (earlier xs ys : List Action) (bad : BadUse) → first_bad items body earlier xs ≡ Some bad → (first_bad items body earlier (xs ++ ys) ≡ Some bad) × (before_bad items body earlier (xs ++ ys) ≡ before_bad items body earlier xs)
+  pub bad_first : (earlier xs ys : List PathAction) (bad : BadUse) → first_bad items body earlier xs ≡ Some bad → (first_bad items body earlier (xs ++ ys) ≡ Some bad) × (before_bad items body earlier (xs ++ ys) ≡ before_bad items body earlier xs)
   bad_first earlier [] ys bad h = absurd (none-some bad h)
   bad_first earlier (a ∷ xs) ys bad h = by (is_bad items body earlier a a.how) (bad_first (earlier ++ a ∷ []) xs ys bad) h
     where
@@ -102,13 +102,13 @@ module _ (items : ItemTable) (body : Body) where
           → ((if b then Some (record { rule = rule_of a.how; action = a }) else first_bad items body (earlier ++ a ∷ []) (xs ++ ys)) ≡ Some bad)
           × ((if b then [] else a ∷ before_bad items body (earlier ++ a ∷ []) (xs ++ ys)) ≡ (if b then [] else a ∷ before_bad items body (earlier ++ a ∷ []) xs))
       by true later h = (h, refl)
-      by false later h = let it = later h in (it.0, ap (λ (z : List Action). a ∷ z) it.1)
+      by false later h = let it = later h in (it.0, ap (λ (z : List PathAction). a ∷ z) it.1)
 
-  none_both : (xs ys : List Action) → ends_any xs ≡ false → ends_any ys ≡ false → ends_any (xs ++ ys) ≡ false
+  none_both : (xs ys : List PathAction) → ends_any xs ≡ false → ends_any ys ≡ false → ends_any (xs ++ ys) ≡ false
   none_both xs ys h k = list_any-append ends xs ys ∙ ap (λ (b : Bool). b || ends_any ys) h ∙ k
 
   -- one after the other: behind what stops no use is bad
-  pub then_comes : {stop end : Type 0} (earlier xs ys : List Action) → ends_any earlier ≡ false → Comes stop earlier xs → (ends_any (earlier ++ xs) ≡ false → Comes end (earlier ++ xs) ys) →
+  pub then_comes : {stop end : Type 0} (earlier xs ys : List PathAction) → ends_any earlier ≡ false → Comes stop earlier xs → (ends_any (earlier ++ xs) ≡ false → Comes end (earlier ++ xs) ys) →
       (stop → (first_bad items body (earlier ++ xs) ys ≡ None) × end) → Comes end earlier (xs ++ ys)
   then_comes earlier xs ys none (meets bad is before) more halts =
       let it = bad_first earlier xs ys bad is in meets bad it.0 (ap ends_any it.1 ∙ before)
@@ -125,20 +125,20 @@ module _ (items : ItemTable) (body : Body) where
   abbrev pub never_at : Place → Bool
   never_at place = is_never (ty_of_place items body.locals place)
 
-  abbrev is_copy_or_store : Use → Bool
+  abbrev is_copy_or_store : PlaceUse → Bool
   is_copy_or_store Copies = true
   is_copy_or_store Stores = true
   is_copy_or_store how = false
 
-  abbrev pub AreCalm : List (Use × Place) → Type 0
+  abbrev pub AreCalm : List (PlaceUse × Place) → Type 0
   AreCalm [] = Unit {0}
   AreCalm (u ∷ us) = (is_copy_or_store u.0 && never_at u.1 ≡ false) × AreCalm us
 
-  pub calm_line : (n line : ℕ) (us : List (Use × Place)) → AreCalm us → ends_any (at_line n line us) ≡ false
+  pub calm_line : (n line : ℕ) (us : List (PlaceUse × Place)) → AreCalm us → ends_any (at_line n line us) ≡ false
   calm_line n line [] h = refl
   calm_line n line (u ∷ us) h = ap (λ (b : Bool). b || ends_any (at_line n line us)) h.0 ∙ calm_line n line us h.1
 
-  calm_both : (us vs : List (Use × Place)) → AreCalm us → AreCalm vs → AreCalm (us ++ vs)
+  calm_both : (us vs : List (PlaceUse × Place)) → AreCalm us → AreCalm vs → AreCalm (us ++ vs)
   calm_both [] vs h k = k
   calm_both (u ∷ us) vs h k = (h.0, calm_both us vs h.1 k)
 
@@ -168,7 +168,7 @@ module _ (items : ItemTable) (body : Body) where
   calm_two left right h k = calm_both (operand_uses left) (flat_map operand_uses (right ∷ [])) h (calm_one right k)
 
   -- operands, and what is stored into a place whose type is not `!`
-  with_store : (us : List (Use × Place)) (to : Place) → AreCalm us → never_at to ≡ false → AreCalm (us ++ (Stores, to) ∷ [])
+  with_store : (us : List (PlaceUse × Place)) (to : Place) → AreCalm us → never_at to ≡ false → AreCalm (us ++ (Stores, to) ∷ [])
   with_store us to h k = calm_both us ((Stores, to) ∷ []) h (k, tt)
 
   -- ---- statements
@@ -266,7 +266,7 @@ module _ (items : ItemTable) (body : Body) where
   is_first_of_none [] h = refl
   is_first_of_none (x ∷ steps) h = absurd (untrue h)
 
-  was_stored : (local : ℕ) → is_never (option_and_then (type_at items) (plain.place_ty items (slice_get body.locals) (plain.whole_local local))) ≡ true → (earlier : List Action) →
+  was_stored : (local : ℕ) → is_never (option_and_then (type_at items) (plain.place_ty items (slice_get body.locals) (plain.whole_local local))) ≡ true → (earlier : List PathAction) →
       last_left items body (plain.whole_local local) earlier ≡ Some false → ends_any earlier ≡ true
   was_stored local never [] h = absurd (none-some false h)
   was_stored local never (a ∷ earlier) h = by (last_left items body (plain.whole_local local) earlier) refl h (was_stored local never earlier)
@@ -279,7 +279,7 @@ module _ (items : ItemTable) (body : Body) where
       first true c e = refl
       first false c e = absurd (untrue e)
 
-      stores : (how : Use) → leaves_gone how ≡ Some false → is_copy_or_store how ≡ true
+      stores : (how : PlaceUse) → leaves_gone how ≡ Some false → is_copy_or_store how ≡ true
       stores Copies h = absurd (none-some false h)
       stores Moves h = absurd (untrue (sym (same_Some true false h)))
       stores Borrows h = absurd (none-some false h)
@@ -306,8 +306,8 @@ module _ (items : ItemTable) (body : Body) where
       by None e h later = first (ends a) (ends_any earlier) (here (counts items body a.place && is_at_or_above a.place (plain.whole_local local)) refl h)
 
   -- so no such value is moved out of a cell that is no parameter's
-  not_moved : (local : ℕ) → is_never (option_and_then (type_at items) (plain.place_ty items (slice_get body.locals) (plain.whole_local local))) ≡ true → is_param items body local ≡ false → (earlier : List Action) → ends_any earlier ≡ false →
-      (a : Action) → a.place ≡ plain.whole_local local → is_bad items body earlier a Moves ≡ false → ⊥
+  not_moved : (local : ℕ) → is_never (option_and_then (type_at items) (plain.place_ty items (slice_get body.locals) (plain.whole_local local))) ≡ true → is_param items body local ≡ false → (earlier : List PathAction) → ends_any earlier ≡ false →
+      (a : PathAction) → a.place ≡ plain.whole_local local → is_bad items body earlier a Moves ≡ false → ⊥
   not_moved local never param earlier none a at fine = by (last_left items body (plain.whole_local local) earlier) refl present
     where
       or_first : (b c : Bool) → (b || c) ≡ false → b ≡ false
@@ -346,21 +346,21 @@ module _ (items : ItemTable) (body : Body) where
       by (Some a) (Some b) h = ap (λ (z : TyId). Some z) (same_types a b h)
 
   -- a store into a whole local is not bad
-  whole_is_fine : (earlier : List Action) (n line : ℕ) (to : Place) → to.steps ≡ [] → is_bad items body earlier (record { how = Stores; place = named to; block = n; line = line }) Stores ≡ false
+  whole_is_fine : (earlier : List PathAction) (n line : ℕ) (to : Place) → to.steps ≡ [] → is_bad items body earlier (record { how = Stores; place = named to; block = n; line = line }) Stores ≡ false
   whole_is_fine earlier n line to e = ap (λ (steps : List Step). may_not_store items body earlier (record { local = to.local; steps = map named_step steps })) e
 
-  module _ (f : Frame) (own : ℕ → Type 0) (same_items : f.items ≡ items) (same_tys : f.tys ≡ body.locals) (owned : (key : ℕ) → own key → is_param items body (f.local_of key) ≡ false) where
+  module _ (f : LoweringFrame) (own : ℕ → Type 0) (same_items : f.items ≡ items) (same_tys : f.tys ≡ body.locals) (owned : (key : ℕ) → own key → is_param items body (f.local_of key) ≡ false) where
     is_never_there : (to : Place) → never_at to ≡ true → IsNever f own to
     is_never_there to e = (λ i. is_never (ty_of_place (same_items i) (same_tys i) to)) ∙ e
 
-    put : (earlier : List Action) → ends_any earlier ≡ false → (n line : ℕ) (to : Place) (from : Operand) (stmts : List Stmt) (term : Term) → StmtCopies (Stmt.Put to from) → Behind f own (Stmt.Put to from) stmts term → stmt_has_types items body.locals (Stmt.Put to from) ≡ true →
+    put : (earlier : List PathAction) → ends_any earlier ≡ false → (n line : ℕ) (to : Place) (from : Operand) (stmts : List Stmt) (term : Term) → StmtCopies (Stmt.Put to from) → Behind f own (Stmt.Put to from) stmts term → stmt_has_types items body.locals (Stmt.Put to from) ≡ true →
         Comes (IsStop stmts term) earlier (at_line n line (stmt_uses (Stmt.Put to from)))
     put earlier none n line to from stmts term copies behind typed = by (never_at to) refl from copies behind typed
       where
-        stored : Action
+        stored : PathAction
         stored = record { how = Stores; place = named to; block = n; line = line }
 
-        used : Use → Place → Action
+        used : PlaceUse → Place → PathAction
         used how p = record { how = how; place = named p; block = n; line = line }
 
         -- a store alone
@@ -438,7 +438,7 @@ module _ (items : ItemTable) (body : Body) where
         by false e (Operand.Truth value) copies behind typed = calm_put (Operand.Truth value) tt e
         by false e Operand.Unit copies behind typed = calm_put Operand.Unit tt e
 
-    stmt_comes : (earlier : List Action) → ends_any earlier ≡ false → (n line : ℕ) (stmt : Stmt) (stmts : List Stmt) (term : Term) → StmtCopies stmt → Behind f own stmt stmts term → stmt_has_types items body.locals stmt ≡ true →
+    stmt_comes : (earlier : List PathAction) → ends_any earlier ≡ false → (n line : ℕ) (stmt : Stmt) (stmts : List Stmt) (term : Term) → StmtCopies stmt → Behind f own stmt stmts term → stmt_has_types items body.locals stmt ≡ true →
         Comes (IsStop stmts term) earlier (at_line n line (stmt_uses stmt))
     stmt_comes earlier none n line (Stmt.Put to from) stmts term copies behind typed = put earlier none n line to from stmts term copies behind typed
     stmt_comes earlier none n line (Stmt.Compare to op left right) stmts term copies behind typed = calm earlier _ (calm_line n line (stmt_uses (Stmt.Compare to op left right)) (calm_stmt (Stmt.Compare to op left right) copies typed refl))
@@ -473,7 +473,7 @@ module _ (items : ItemTable) (body : Body) where
     calm_term Term.Resume c h = tt
 
     -- ---- blocks
-    pub block_comes : (stmts : List Stmt) (term : Term) (earlier : List Action) → ends_any earlier ≡ false → (n line last : ℕ) → BlockStops f own stmts term → list_all (stmt_is_typed items body.locals) stmts ≡ true → term_is_typed items body.locals term ≡ true →
+    pub block_comes : (stmts : List Stmt) (term : Term) (earlier : List PathAction) → ends_any earlier ≡ false → (n line last : ℕ) → BlockStops f own stmts term → list_all (stmt_is_typed items body.locals) stmts ≡ true → term_is_typed items body.locals term ≡ true →
         Comes (term ≡ Term.Goto 1) earlier (stmt_actions n line stmts ++ at_line n last (term_uses term))
     block_comes [] term earlier none n line last stops_so typed term_typed =
         calm earlier (at_line n last (term_uses term)) (calm_line n last (term_uses term) (calm_term term stops_so (second_so _ (term_has_types items body.locals term) term_typed)))

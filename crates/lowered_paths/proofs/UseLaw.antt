@@ -17,25 +17,25 @@ use Rattle.cfg_graph.specs.declared.terminator.Term.{Term}
 use Rattle.cfg_graph.specs.declared.terminator.Unwind.{Unwind}
 use Rattle.cfg_graph.specs.Moves.Actions.{actions_on}
 use Rattle.cfg_graph.specs.Moves.BadUses.{BadUse, may_not_store}
-use Rattle.cfg_graph.specs.Moves.Gone.{Action}
+use Rattle.cfg_graph.specs.Moves.Gone.{PathAction}
 use Rattle.cfg_graph.specs.Places.{named, named_step}
-use Rattle.cfg_graph.specs.Uses.{Use, Copies, Moves, Borrows, Touches, Tests, Stores, Drops, Frees, operand_uses, place_used, places_of_stmt}
+use Rattle.cfg_graph.specs.Uses.{PlaceUse, Copies, Moves, Borrows, Touches, Tests, Stores, Drops, Frees, operand_uses, place_used, places_of_stmt}
 use Rattle.mir_ty.specs.ItemTable.{ItemTable}
 use Rattle.store_model.specs.Places.Place as store
 use Rattle.store_model.specs.Places.Place.{Step}
 use Rattle.typed_tree.specs.Tree.{BodyTree, ProgramTree}
-use Rattle.lowered_paths.specs.Told.{Line, behind_drop, told_by, line_told, has_site, LoweredUsesHaveSites}
+use Rattle.lowered_paths.specs.Told.{LineOfBody, behind_drop, told_by, line_told, has_site, LoweredUsesHaveSites}
 use Rattle.lowered_paths.proofs.Done.{is_dropping, ByLine, by_a_stmt, by_the_term, by_a_drop, IsDone, AllDone, on_path}
 use Rattle.lowered_paths.proofs.Listed.{is_listed}
 
 -- ---- a bad use is one of the actions on a path
 module _ (items : ItemTable) (body : Body) where
   record IsBad (bad : BadUse) : Type 0 where
-    pub earlier : List Action
+    pub earlier : List PathAction
     pub done : IsDone body bad.action
     pub is : is_bad items body earlier bad.action bad.action.how ≡ true
 
-  first_is : (earlier actions : List Action) → AllDone body actions → (bad : BadUse) →
+  first_is : (earlier actions : List PathAction) → AllDone body actions → (bad : BadUse) →
       first_bad items body earlier actions ≡ Some bad → IsBad bad
   first_is earlier [] h bad e = absurd (none-some bad e)
   first_is earlier (action ∷ later) h bad e =
@@ -47,11 +47,11 @@ module _ (items : ItemTable) (body : Body) where
       by_test true is e k = subst IsBad (same_Some (record { rule = rule_of action.how; action = action }) bad e) (record { earlier = earlier; done = h.0; is = is })
       by_test false is e k = k e
 
-  first_part : (xs ys : List Action) → AllDone body (xs ++ ys) → AllDone body xs
+  first_part : (xs ys : List PathAction) → AllDone body (xs ++ ys) → AllDone body xs
   first_part [] ys h = tt
   first_part (x ∷ xs) ys h = (h.0, first_part xs ys h.1)
 
-  second_part : (xs ys : List Action) → AllDone body (xs ++ ys) → AllDone body ys
+  second_part : (xs ys : List PathAction) → AllDone body (xs ++ ys) → AllDone body ys
   second_part [] ys h = h
   second_part (x ∷ xs) ys h = second_part xs ys h.1
 
@@ -65,12 +65,12 @@ module _ (items : ItemTable) (body : Body) where
       bad at.first
 
   -- a whole local has no container that could be gone
-  local_stands : (earlier : List Action) (local : ℕ) (steps : List Step) → steps ≡ [] →
+  local_stands : (earlier : List PathAction) (local : ℕ) (steps : List Step) → steps ≡ [] →
       may_not_store items body earlier (record { local = local; steps = steps }) ≡ false
   local_stands earlier local steps e = ap (λ steps. may_not_store items body earlier (record { local = local; steps = steps })) e
 
 -- ---- the line by which it is told
-own_line : (how : Use) → is_dropping how ≡ false → (block : Option Block) (own : Line) → told_by how block own ≡ own
+own_line : (how : PlaceUse) → is_dropping how ≡ false → (block : Option Block) (own : LineOfBody) → told_by how block own ≡ own
 own_line Copies h block own = refl
 own_line Moves h block own = refl
 own_line Borrows h block own = refl
@@ -80,7 +80,7 @@ own_line Stores h block own = refl
 own_line Drops h block own = absurd (false≢true (sym h))
 own_line Frees h block own = refl
 
-has_one : (operand : List (Use × Place)) (place : Place) → map place_used (operand ++ (Stores, place) ∷ []) ≢ []
+has_one : (operand : List (PlaceUse × Place)) (place : Place) → map place_used (operand ++ (Stores, place) ∷ []) ≢ []
 has_one [] place e = cc
 has_one (u ∷ us) place e = cc
 
@@ -103,7 +103,7 @@ module _ (program : ProgramTree) (n : ℕ) (tree : BodyTree) (at_n : slice_get p
   abbrev body : Body
   body = body_of items tree
 
-  by_line : (earlier : List Action) (action : Action) (block : Block) → slice_get body.blocks action.block ≡ Some block →
+  by_line : (earlier : List PathAction) (action : PathAction) (block : Block) → slice_get body.blocks action.block ≡ Some block →
       ByLine body block action → is_bad items body earlier action action.how ≡ true → has_site program n (line_told body action) ≡ true
   by_line earlier action block there (by_a_stmt stmt at uses no_drop) bad =
       let site = (lowered_has_sites items tree action.block block there).0 action.line stmt at uses in

@@ -1,7 +1,7 @@
 -- What the paths of a lowered body meet, and where the free runs of its source are refused.
 use Rattle.std.specs.Prelude.{◌≡◌, ◌↔◌, ℕ, Bool, true, List, Some, None, slice_get}
 use Rattle.mir_ty.specs.ItemTable.{ItemTable}
-use Rattle.store_model.specs.Effects.{Site}
+use Rattle.store_model.specs.Effects.{EffectSite}
 use Rattle.cfg_graph.specs.declared.graph.Body.{Body}
 use Rattle.cfg_graph.specs.Moves.BadUses.{BadUse}
 use Rattle.cfg_graph.specs.WellFormed.Faults.{IsWellFormed}
@@ -23,7 +23,7 @@ pub record MeetsItsRefusals (items : ItemTable) (tree : BodyTree) (body : Body) 
       reached_by items tree given ≡ Some (site_of (node_of items tree) bad.action)
   -- with the choices by which a free run is refused a path reaches a bad use, at the same place and node
   pub reached :
-      (given : List Bool) (site : Site) → reached_by items tree given ≡ Some site →
+      (given : List Bool) (site : EffectSite) → reached_by items tree given ≡ Some site →
       (path : List ℕ) × (bad : BadUse) × RunsReach items body path given bad
       × (site ≡ site_of (node_of items tree) bad.action)
   -- where no path meets a bad use, no free run is refused
@@ -34,8 +34,8 @@ abbrev pub LoweredPathsMeetItsRefusals : Type 0
 LoweredPathsMeetItsRefusals =
     (items : ItemTable) (tree : BodyTree) → NamesItsLoops tree → MeetsItsRefusals items tree (body_of items tree)
 
--- Behind a copy or a store of a value of type `!` a lowered body only returns, so a path reaches no bad use there: with no
--- word of such values, paths and free runs meet the same refused uses.
+-- Behind a copy or a store of a value of type `!` a lowered body only returns, so a path reaches no bad use there: with
+-- no word of such values, paths and free runs meet the same refused uses.
 pub record MeetsExactly (items : ItemTable) (tree : BodyTree) (body : Body) : Type 0 where
   -- with the choices of a path that reaches a bad use the free run is refused, at the use's place and node
   pub refused :
@@ -43,7 +43,7 @@ pub record MeetsExactly (items : ItemTable) (tree : BodyTree) (body : Body) : Ty
       reached_by items tree given ≡ Some (site_of (node_of items tree) bad.action)
   -- where a free run is refused, a path with its choices reaches a bad use, at the same place and node
   pub reached :
-      (given : List Bool) (site : Site) → reached_by items tree given ≡ Some site →
+      (given : List Bool) (site : EffectSite) → reached_by items tree given ≡ Some site →
       (path : List ℕ) × (bad : BadUse) × Reaches items body path given bad
       × (site ≡ site_of (node_of items tree) bad.action)
   -- no path meets a bad use exactly where no free run is refused

@@ -10,7 +10,7 @@ use Rattle.call_rows.specs.Lists.{behind_form}
 use Rattle.item_heads.specs.Answers.{Refuses}
 use Rattle.type_rows.specs.declared.checker.Checker.{Checker}
 use Rattle.typed_tree.specs.Tree.{Node, Nodes}
-use Rattle.typing_rules.specs.Check.{Broken, Check, State, and_then, ◌>>=◌, ◌>>◌, pure, breaks, obeys, the_items}
+use Rattle.typing_rules.specs.Check.{Broken, Check, TypingState, and_then, ◌>>=◌, ◌>>◌, pure, breaks, obeys, the_items}
 use Rattle.typing_rules.specs.Places.{Coerced, Differs, Fit, Fits, Member, a_node_of, fit, is_behind_shared, through}
 use Rattle.typing_rules.specs.Rows.{Method, fitted, fitted_by, head_of, is_drop_method, is_unique_borrow, method_form, received, takes_self, with_method, with_self}
 use Rattle.typing_rules.specs.Scope.{Env}
@@ -47,16 +47,16 @@ self_none items own (first ∷ params) e = none_by _ first e
 -- ---- what is behind `&`
 
 -- a node that is fitted to a type leaves the items as they were
-by_fit : (want : TyId) (n m : Node) (s t : State) (f : Fit) → fitted_by want n f s ≡ Ok (m, t) → s.items ≡ t.items
+by_fit : (want : TyId) (n m : Node) (s t : TypingState) (f : Fit) → fitted_by want n f s ≡ Ok (m, t) → s.items ≡ t.items
 by_fit want n m s t Fits e = ap (items_in s.items) e
 by_fit want n m s t (Coerced trait_no) e = ap (items_in s.items) e
 by_fit want n m s t Differs e = absurd (cc)
 
-fitted_items : (want : Option TyId) (n m : Node) (s t : State) → fitted want n s ≡ Ok (m, t) → s.items ≡ t.items
+fitted_items : (want : Option TyId) (n m : Node) (s t : TypingState) → fitted want n s ≡ Ok (m, t) → s.items ≡ t.items
 fitted_items None n m s t e = ap (items_in s.items) e
 fitted_items (Some want) n m s t e = by_fit want n m s t (fit s.items want (ty_of n)) e
 
-module _ (id : ℕ) (at : Pos) (called : Called) (want : Option TyId) (receiver : Node) (given : Nodes) (s : State) where
+module _ (id : ℕ) (at : Pos) (called : Called) (want : Option TyId) (receiver : Node) (given : Nodes) (s : TypingState) where
   abbrev counted : Bool → Node → Check Node
   counted is_count n = do
     obeys Rule.T04 at is_count
@@ -76,7 +76,7 @@ module _ (id : ℕ) (at : Pos) (called : Called) (want : Option TyId) (receiver 
     obeys Rule.T13 at (not called.is_drop)
     pure n
 
-  same_asked : (is_count : Bool) (o : Result (Node × State) Broken) → ((m : Node) (t : State) → o ≡ Ok (m, t) → s.items ≡ t.items) →
+  same_asked : (is_count : Bool) (o : Result (Node × TypingState) Broken) → ((m : Node) (t : TypingState) → o ≡ Ok (m, t) → s.items ≡ t.items) →
       and_then (and_then o (counted is_count)) (asked s.items) ≡ and_then o (all_asked is_count)
   same_asked true (Ok x) same = ap (λ (items : ItemTable). asked items x.0 x.1) (same x.0 x.1 refl)
   same_asked false (Ok x) same = refl
@@ -89,7 +89,7 @@ module _ (id : ℕ) (at : Pos) (called : Called) (want : Option TyId) (receiver 
 
 -- ---- what is called behind its receiver
 
-module _ (env : Env) (at : Pos) (id : ℕ) (base : Node) (f : Method) (count : ℕ) (args : Arguments) (want : Option TyId) (s : State) where
+module _ (env : Env) (at : Pos) (id : ℕ) (base : Node) (f : Method) (count : ℕ) (args : Arguments) (want : Option TyId) (s : TypingState) where
   -- the call where its method has `self`
   chosen : Bool → Check Node
   chosen b = if b then with_self env at id base f count args want (head_of f).params else (args [] >> breaks Rule.T12 at)
@@ -123,7 +123,7 @@ module _ (env : Env) (at : Pos) (id : ℕ) (base : Node) (f : Method) (count : �
     pub refuses : (e : Broken) → received env at base self s ≡ Err e → with_method env at id base (Some f) count args want s ≡ Err e
     refuses e h = begins ∙ ap (λ r. and_then r behind) h
 
-    pub given_behind : (called : Called) (params : List TyId) (r : Node) (t : State) → received env at base self s ≡ Ok (r, t) →
+    pub given_behind : (called : Called) (params : List TyId) (r : Node) (t : TypingState) → received env at base self s ≡ Ok (r, t) →
         ((items : ItemTable) → (called.is_unique && borrows_shared items r) ≡ (is_unique_borrow (form_of r) && is_behind_shared items base)) →
         params ≡ drop 1 (head_of f).params → called.answer ≡ (head_of f).result → called.is_drop ≡ is_drop_method f →
         ((given : Nodes) → behind_form called.behind r given ≡ method_form f r given) →
@@ -146,7 +146,7 @@ pub some_of : {A : Type 0} (o : Option A) → IsSome o → (x : A) × (o ≡ Som
 some_of None h = absurd (cc)
 some_of (Some x) h = (x, refl)
 
-pub receiver_as : (env env_after : Env) (id : ℕ) (at : Pos) (named : Member Method) (want : Option TyId) (base n : Node) (found : Option Method) (f : Method) (s t : State) →
+pub receiver_as : (env env_after : Env) (id : ℕ) (at : Pos) (named : Member Method) (want : Option TyId) (base n : Node) (found : Option Method) (f : Method) (s t : TypingState) →
     through named at base s ≡ Ok ((n, found), t) → found ≡ Some f → env_after ≡ env → (count : ℕ) (args : Arguments) →
     method_rest env id at named want base count args s ≡ with_method env_after at id n (Some f) count args want t
 receiver_as env env_after id at named want base n found f s t e is same count args =
@@ -155,7 +155,7 @@ receiver_as env env_after id at named want base n found f s t e is same count ar
     ∙ sym (ap (λ (v : Env). with_method v at id n (Some f) count args want t) same)
 
 -- a check that gives the same
-pub gives_same : {B : Type 0} (check first : ℕ → Arguments → Check Node) (s t : State) (params : B → List TyId) (rest : B → Node → ℕ → Nodes → Check Node) (r : Result B RuleError) (after : Checker) →
+pub gives_same : {B : Type 0} (check first : ℕ → Arguments → Check Node) (s t : TypingState) (params : B → List TyId) (rest : B → Node → ℕ → Nodes → Check Node) (r : Result B RuleError) (after : Checker) →
     ((count : ℕ) (args : Arguments) → check count args s ≡ first count args t) → GivesCall first t params rest r after → GivesCall check s params rest r after
 gives_same check first s t params rest (Ok b) after same h = λ count args. same count args ∙ h count args
-gives_same check first s t params rest (Err e) after same h = λ count args. subst (λ (o : Result (Node × State) Broken). Refuses o e) (sym (same count args)) (h count args)
+gives_same check first s t params rest (Err e) after same h = λ count args. subst (λ (o : Result (Node × TypingState) Broken). Refuses o e) (sym (same count args)) (h count args)

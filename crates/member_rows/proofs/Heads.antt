@@ -10,7 +10,7 @@ use Rattle.mir_ty.specs.ItemTable.{ItemTable}
 use Rattle.mir_ty.specs.declared.def.Sig.{Sig}
 use Rattle.mir_ty.specs.declared.def.TraitDef.{TraitDef}
 use Rattle.src_ast.specs.Syntax.{Word}
-use Rattle.type_rows.specs.Tables.{IsReady, method_words}
+use Rattle.type_rows.specs.Tables.{AreTablesOf, method_words}
 use Rattle.type_rows.specs.declared.tables.Tables.{Tables}
 use Rattle.typing_rules.specs.Named.{trait_method}
 use Rattle.typing_rules.specs.Rows as rows
@@ -61,7 +61,7 @@ prefix_mapped p f (x ∷ xs) = ap (λ n. if p (f x) then 1 + n else 0) (prefix_m
 position_mapped : {X Y : Type 0} (p : Y → Bool) (f : X → Y) (xs : List X) → position_of p (map f xs) ≡ position_of (λ x. p (f x)) xs
 position_mapped p f xs = λ i. cond (nat_lt (prefix_mapped (λ y. not (p y)) f xs i) (length-map xs f i)) (Some (prefix_mapped (λ y. not (p y)) f xs i)) None
 
-module _ (items : ItemTable) (t : Tables) (trait_no : ℕ) (name : Word) (ready : IsReady items t) where
+module _ (items : ItemTable) (t : Tables) (trait_no : ℕ) (name : Word) (ready : AreTablesOf items t) where
   words_at : slice_get t.methods trait_no ≡ option_map method_words (slice_get items.traits trait_no)
   words_at = ap (λ (ns : List (List Word)). slice_get ns trait_no) ready.methods ∙ slice_get-map method_words items.traits trait_no
 

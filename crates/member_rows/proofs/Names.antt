@@ -15,7 +15,7 @@ use Rattle.src_ast.specs.Syntax.{Word}
 use Rattle.type_env.specs.Members.{adt_names}
 use Rattle.type_env.specs.declared.members.AdtNames.{AdtNames}
 use Rattle.member_rows.specs.Fields.{number_in}
-use Rattle.type_rows.specs.Tables.{IsReady}
+use Rattle.type_rows.specs.Tables.{AreTablesOf}
 use Rattle.type_rows.specs.declared.tables.Tables.{Tables}
 use Rattle.typing_rules.specs.Places.{part_with}
 use Rattle.typing_rules.specs.Scope.{field_named}
@@ -23,7 +23,7 @@ use Rattle.well_typed.specs.Types.{variant_at}
 
 -- ---- the table of names of a variant
 
-names_at : (items : ItemTable) (t : Tables) (adt : ℕ) → IsReady items t → slice_get t.members adt ≡ option_map adt_names (slice_get items.adts adt)
+names_at : (items : ItemTable) (t : Tables) (adt : ℕ) → AreTablesOf items t → slice_get t.members adt ≡ option_map adt_names (slice_get items.adts adt)
 names_at items t adt ready = ap (λ (ns : List AdtNames). slice_get ns adt) ready.members ∙ slice_get-map adt_names items.adts adt
 
 through_map : {A B C : Type 0} (f : B → Option C) (g : A → B) (a : Option A) → option_and_then f (option_map g a) ≡ option_and_then (λ x. f (g x)) a
@@ -43,20 +43,20 @@ module _ (variant : ℕ) (name : Word) where
       ap (option_and_then (position_of (bytes_eq name))) (slice_get-map (λ (v : Variant). v.field_names) def.variants variant)
       ∙ through_map (position_of (bytes_eq name)) (λ (v : Variant). v.field_names) (slice_get def.variants variant)
 
-  pub found : (items : ItemTable) (t : Tables) (adt : ℕ) → IsReady items t → number_in t adt variant name ≡ option_and_then (λ v. field_named v name) (variant_at items adt variant)
+  pub found : (items : ItemTable) (t : Tables) (adt : ℕ) → AreTablesOf items t → number_in t adt variant name ≡ option_and_then (λ v. field_named v name) (variant_at items adt variant)
   found items t adt ready = ap by_table (names_at items t adt ready) ∙ same_field (slice_get items.adts adt)
 
-  pub field_some : (items : ItemTable) (t : Tables) (adt : ℕ) (ns : AdtNames) (fields : List Word) → IsReady items t → Some ns ≡ slice_get t.members adt → Some fields ≡ slice_get ns.fields variant →
+  pub field_some : (items : ItemTable) (t : Tables) (adt : ℕ) (ns : AdtNames) (fields : List Word) → AreTablesOf items t → Some ns ≡ slice_get t.members adt → Some fields ≡ slice_get ns.fields variant →
       position_of (bytes_eq name) fields ≡ option_and_then (λ v. field_named v name) (variant_at items adt variant)
   field_some items t adt ns fields ready e f =
       ap (option_and_then (position_of (bytes_eq name))) f ∙ ap by_table e ∙ found items t adt ready
 
-  pub field_none : (items : ItemTable) (t : Tables) (adt : ℕ) (ns : AdtNames) → IsReady items t → Some ns ≡ slice_get t.members adt → None ≡ slice_get ns.fields variant →
+  pub field_none : (items : ItemTable) (t : Tables) (adt : ℕ) (ns : AdtNames) → AreTablesOf items t → Some ns ≡ slice_get t.members adt → None ≡ slice_get ns.fields variant →
       None ≡ option_and_then (λ v. field_named v name) (variant_at items adt variant)
   field_none items t adt ns ready e f =
       ap (option_and_then (position_of (bytes_eq name))) f ∙ ap by_table e ∙ found items t adt ready
 
-  pub field_nothing : (items : ItemTable) (t : Tables) (adt : ℕ) → IsReady items t → None ≡ slice_get t.members adt →
+  pub field_nothing : (items : ItemTable) (t : Tables) (adt : ℕ) → AreTablesOf items t → None ≡ slice_get t.members adt →
       None ≡ option_and_then (λ v. field_named v name) (variant_at items adt variant)
   field_nothing items t adt ready e = ap by_table e ∙ found items t adt ready
 

@@ -7,20 +7,20 @@ use Rattle.mir_ty.specs.ItemTable.{ItemTable, type_at}
 use Rattle.mir_ty.specs.declared.ty.Ty.{Ty}
 use Rattle.mir_ty.specs.declared.ty.TyId.{TyId}
 use Rattle.typed_tree.specs.Tree.{Node}
-use Rattle.typing_rules.specs.Check.{Broken, State, and_then}
+use Rattle.typing_rules.specs.Check.{Broken, TypingState, and_then}
 use Rattle.typing_rules.specs.Places.{Member, through, through_at, through_in}
 use Rattle.well_typed.specs.Places.{ty_of}
 use Rattle.well_typed.specs.Types.{inside_in, inside_of}
 use Rattle.member_rows.specs.Going.{deref_of}
 
-module _ {A : Type 0} (member : Member A) (at : Pos) (n : ℕ) (items : ItemTable) (base : Node) (s : State) where
+module _ {A : Type 0} (member : Member A) (at : Pos) (n : ℕ) (items : ItemTable) (base : Node) (s : TypingState) where
   pub found_here : (f : A) → member items (ty_of base) ≡ Some f → through_in member at (suc n) items base s ≡ Ok ((base, Some f), s)
   found_here f e = ap (λ m. through_at member at (through_in member at n items) base m (inside_of items (ty_of base)) s) e
 
   pub ends_here : member items (ty_of base) ≡ None → inside_of items (ty_of base) ≡ None → through_in member at (suc n) items base s ≡ Ok ((base, None), s)
   ends_here e f = λ i. through_at member at (through_in member at n items) base (e i) (f i) s
 
-  pub goes_on : (ty : TyId) (later : Node) (t : State) → member items (ty_of base) ≡ None → inside_of items (ty_of base) ≡ Some ty → deref_of at ty base s ≡ Ok (later, t) →
+  pub goes_on : (ty : TyId) (later : Node) (t : TypingState) → member items (ty_of base) ≡ None → inside_of items (ty_of base) ≡ Some ty → deref_of at ty base s ≡ Ok (later, t) →
       through_in member at (suc n) items base s ≡ through_in member at n items later t
   goes_on ty later t e f g =
       (λ i. through_at member at (through_in member at n items) base (e i) (f i) s)
@@ -35,29 +35,29 @@ leads items id ty e = by (type_at items id) refl e
     by (Some t) is h = slice_get_within items.types id.0 t is
 
 -- the items behind a check
-abbrev pub items_in : ItemTable → Result (Node × State) Broken → ItemTable
+abbrev pub items_in : ItemTable → Result (Node × TypingState) Broken → ItemTable
 items_in items (Ok x) = x.1.items
 items_in items (Err e) = items
 
 -- ---- so many steps
 
 -- at the first type, or at one from which there are no more steps than types
-abbrev pub Near : ℕ → ℕ → Node → State → Type 0
+abbrev pub Near : ℕ → ℕ → Node → TypingState → Type 0
 Near k count base s = ((k ≡ 0) × (count ≡ (ty_of base).0 + 1)) ⊎ (count ≤ length s.items.types)
 
 -- what is left of going there is what the whole gives
-pub record IsGoing {A : Type 0} (member : Member A) (at : Pos) (whole : Result ((Node × Option A) × State) Broken) (k count : ℕ) (base : Node) (s : State) : Type 0 where
+pub record IsGoing {A : Type 0} (member : Member A) (at : Pos) (whole : Result ((Node × Option A) × TypingState) Broken) (k count : ℕ) (base : Node) (s : TypingState) : Type 0 where
   pub left : through_in member at (suc (length s.items.types) - k) s.items base s ≡ whole
   pub near : Near k count base s
 
-module _ {A : Type 0} (member : Member A) (at : Pos) (count : ℕ) (base : Node) (s : State) where
+module _ {A : Type 0} (member : Member A) (at : Pos) (count : ℕ) (base : Node) (s : TypingState) where
   pub starts : count ≡ (ty_of base).0 + 1 → IsGoing member at (through member at base s) 0 count base s
   starts e = record {
     left = let same : suc (length s.items.types) - 0 ≡ suc (length s.items.types) = omega arith in ap (λ n. through_in member at n s.items base s) same;
     near = inl (refl, e);
   }
 
-  module _ (whole : Result ((Node × Option A) × State) Broken) (k : ℕ) (going : IsGoing member at whole k count base s) (less : k < count) where
+  module _ (whole : Result ((Node × Option A) × TypingState) Broken) (k : ℕ) (going : IsGoing member at whole k count base s) (less : k < count) where
     room : Near k count base s → suc (length s.items.types) - k ≡ suc (length s.items.types - k)
     room (inl first) = let zero_ : k ≡ 0 = first.0 in omega arith
     room (inr near) = omega arith
@@ -71,7 +71,7 @@ module _ {A : Type 0} (member : Member A) (at : Pos) (count : ℕ) (base : Node)
     pub ends : member s.items (ty_of base) ≡ None → inside_of s.items (ty_of base) ≡ None → whole ≡ Ok ((base, None), s)
     ends e f = sym here ∙ ends_here member at (length s.items.types - k) s.items base s e f
 
-    pub next : (ty : TyId) (later : Node) (t : State) → member s.items (ty_of base) ≡ None → inside_of s.items (ty_of base) ≡ Some ty → deref_of at ty base s ≡ Ok (later, t) →
+    pub next : (ty : TyId) (later : Node) (t : TypingState) → member s.items (ty_of base) ≡ None → inside_of s.items (ty_of base) ≡ Some ty → deref_of at ty base s ≡ Ok (later, t) →
         IsGoing member at whole (k + 1) count later t
     next ty later t e f g =
         let same : t.items ≡ s.items = sym (items_same g) in

@@ -6,7 +6,7 @@ use Rattle.item_heads.specs.Answers.{Refuses}
 use Rattle.typed_tree.specs.Tree.{Node, Nodes}
 use Rattle.type_rows.specs.Stand.{stack, state, top}
 use Rattle.type_rows.specs.declared.checker.Checker.{Checker}
-use Rattle.typing_rules.specs.Check.{Check, State, ◌>>=◌}
+use Rattle.typing_rules.specs.Check.{Check, TypingState, ◌>>=◌}
 
 -- what checks arguments, by the types of the parameters
 abbrev pub Arguments : Type 0
@@ -14,7 +14,7 @@ Arguments = List TyId → Check Nodes
 
 -- Whatever arguments there are, so many: what a check gives with them is what they give for parameters of these types,
 -- and then the rest of the check gives behind the last node and them.
-abbrev pub GivesCall : {B : Type 0} → (ℕ → Arguments → Check Node) → State → (B → List TyId) →
+abbrev pub GivesCall : {B : Type 0} → (ℕ → Arguments → Check Node) → TypingState → (B → List TyId) →
     (B → Node → ℕ → Nodes → Check Node) → Result B RuleError → Checker → Type 0
 GivesCall check before params rest (Ok b) after =
     (count : ℕ) (args : Arguments) →

@@ -7,7 +7,7 @@ use Rattle.item_heads.specs.Answers.{Refuses}
 use Rattle.typed_tree.specs.Tree.{Node, Deref}
 use Rattle.type_rows.specs.Stand.{stack, state, top}
 use Rattle.type_rows.specs.declared.checker.Checker.{Checker}
-use Rattle.typing_rules.specs.Check.{Broken, Check, State, ◌>>=◌, pure, number}
+use Rattle.typing_rules.specs.Check.{Broken, Check, TypingState, ◌>>=◌, pure, number}
 use Rattle.typing_rules.specs.Places.{a_node_of}
 
 -- what a box or a reference leads to, which is of this type
@@ -17,7 +17,8 @@ deref_of at ty base = do
   pure (a_node_of id at ty (Deref base))
 
 -- the last node is the one that was gone to, and this was found of its type; want of memory says nothing
-abbrev pub GivesFound : {A B : Type 0} → (B → A) → Result ((Node × Option A) × State) Broken → Result (Option B) RuleError
+abbrev pub GivesFound : {A B : Type 0} → (B → A) → Result ((Node × Option A) × TypingState) Broken →
+    Result (Option B) RuleError
     → Checker → Type 0
 GivesFound view outcome (Ok found) after = outcome ≡ Ok ((top (stack after), option_map view found), state after)
 GivesFound view outcome (Err e) after = Refuses outcome e

@@ -9,7 +9,7 @@ use Rattle.typed_tree.specs.Tree.{Form, Node}
 use Rattle.item_heads.specs.Answers.{Refuses}
 use Rattle.type_rows.specs.Stand.{stack, state, top}
 use Rattle.type_rows.specs.declared.checker.Checker.{Checker}
-use Rattle.typing_rules.specs.Check.{Broken, State}
+use Rattle.typing_rules.specs.Check.{Broken, TypingState}
 use Rattle.typing_rules.specs.Named.{with_head}
 use Rattle.typing_rules.specs.Places.{is_behind_shared}
 use Rattle.typing_rules.specs.Rows as rows
@@ -31,7 +31,7 @@ IsMethod items None found = found ≡ None
 IsMethod items (Some method) found = IsSome found × (found ≡ method_seen items method)
 
 -- the last node is the one that was gone to, and this method was found of its type; want of memory says nothing
-abbrev pub GivesMethod : Result ((Node × Option rows.Method) × State) Broken → Result (Option Method) RuleError →
+abbrev pub GivesMethod : Result ((Node × Option rows.Method) × TypingState) Broken → Result (Option Method) RuleError →
     Checker → Type 0
 GivesMethod outcome (Ok method) after =
     (found : Option rows.Method) × IsMethod after.walk.items method found ×
@@ -57,9 +57,9 @@ form_shared items _ = false
 abbrev pub borrows_shared : ItemTable → Node → Bool
 borrows_shared items n = form_shared items (form_of n)
 
--- the last node is the receiver that was made of this one; whether it is borrowed by `&mut`, so that it may not be behind
--- `&`
-abbrev pub GivesReceiver : Result (Node × State) Broken → Node → Result Bool RuleError → Checker → Type 0
+-- the last node is the receiver that was made of this one; whether it is borrowed by `&mut`, so that it may not be
+-- behind `&`
+abbrev pub GivesReceiver : Result (Node × TypingState) Broken → Node → Result Bool RuleError → Checker → Type 0
 GivesReceiver outcome base (Ok unique) after =
     (outcome ≡ Ok (top (stack after), state after)) ×
     ((items : ItemTable) → (unique && borrows_shared items (top (stack after)))

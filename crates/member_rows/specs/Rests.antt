@@ -14,7 +14,7 @@ use Rattle.typing_rules.specs.Scope.{Env}
 use Rattle.member_rows.specs.Calls.{Arguments}
 use Rattle.member_rows.specs.Methods.{borrows_shared}
 use Rattle.member_rows.specs.declared.receivers.Called.{Called}
-use Rattle.member_rows.specs.declared.receivers.Receiver.{Receiver}
+use Rattle.member_rows.specs.declared.receivers.MethodReceiver.{MethodReceiver}
 
 -- ---- fields
 
@@ -54,6 +54,6 @@ abbrev pub receiver_by : ℕ → Pos → Option Called → Bool → Option TyId 
 receiver_by id at None is_count want receiver given = breaks Rule.T12 at
 receiver_by id at (Some called) is_count want receiver given = called_rest id at called is_count want receiver given
 
-abbrev pub receiver_rest : ℕ → Pos → Option TyId → Receiver → Node → ℕ → Nodes → Check Node
+abbrev pub receiver_rest : ℕ → Pos → Option TyId → MethodReceiver → Node → ℕ → Nodes → Check Node
 receiver_rest id at want r receiver count given =
     receiver_by id at r.called (count == length r.params) want receiver given

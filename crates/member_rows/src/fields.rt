@@ -22,14 +22,14 @@ use type_rows::{Checker, One};
 
 /// A field of a struct or a part of a tuple, by its number from 0.
 #[derive(Clone, Copy)]
-pub struct Part {
+pub struct MemberPart {
     pub number: u32,
     pub ty: TyId,
 }
 
 /// What is looked for of a type.
 #[derive(Clone, Copy)]
-pub enum Wanted<'a> {
+pub enum WantedMember<'a> {
     /// The field of this name.
     Named(&'a str),
     /// The part of this number, or the field whose name is that number in decimal digits.
@@ -51,17 +51,17 @@ pub fn field_named(checker: &Checker, adt: u32, variant: u32, name: &str) -> Opt
     }
 }
 
-fn part_of(fields: &[TyId], number: u32) -> Option<Part>
+fn part_of(fields: &[TyId], number: u32) -> Option<MemberPart>
     ensures { option_map part_seen result ≡ places.part_with fields.now number }
 {
     match fields.get(number as usize) {
-        Some(ty) => Some(Part { number, ty: *ty }),
+        Some(ty) => Some(MemberPart { number, ty: *ty }),
         None => None,
     }
 }
 
 /// A field of a struct by its number.
-fn field_at(items: &Items, adt: u32, number: u32) -> Option<Part>
+fn field_at(items: &Items, adt: u32, number: u32) -> Option<MemberPart>
     ensures { option_map part_seen result ≡ option_and_then (λ v. places.part_with v.fields number) (types.variant_at items.now adt 0) }
 {
     match items.adt(adt) {
@@ -75,7 +75,7 @@ fn field_at(items: &Items, adt: u32, number: u32) -> Option<Part>
 
 /// A field of a struct by its name.
 #[tactic(auto, using(crate::proofs::Names::at_name, crate::proofs::Names::at_no_name))]
-fn field_in(checker: &Checker, adt: u32, name: &str) -> Option<Part>
+fn field_in(checker: &Checker, adt: u32, name: &str) -> Option<MemberPart>
     ensures { option_map part_seen result ≡ option_and_then (λ v. option_and_then (places.part_with v.fields) (scope.field_named v name.now)) (types.variant_at checker.now.walk.items adt 0) }
 {
     match field_named(checker, adt, 0, name) {
@@ -84,7 +84,7 @@ fn field_in(checker: &Checker, adt: u32, name: &str) -> Option<Part>
     }
 }
 
-fn struct_field(checker: &Checker, ty: TyId, name: &str) -> Option<Part>
+fn struct_field(checker: &Checker, ty: TyId, name: &str) -> Option<MemberPart>
     ensures { option_map part_seen result ≡ places.struct_field name.now checker.now.walk.items ty }
 {
     match adt_of(&checker.walk.items, ty) {
@@ -101,12 +101,12 @@ fn struct_field(checker: &Checker, ty: TyId, name: &str) -> Option<Part>
 
 /// A part of a tuple.
 #[tactic(auto, using(crate::proofs::Names::few_parts))]
-fn tuple_part(items: &Items, ty: TyId, number: u64) -> Option<Part>
+fn tuple_part(items: &Items, ty: TyId, number: u64) -> Option<MemberPart>
     ensures { option_map part_seen result ≡ option_and_then (λ tys. places.part_with tys number) (types.tuple_of items.now ty) }
 {
     match items.ty(ty) {
         Some(Ty::Tuple(parts)) => match parts.get(number as usize) {
-            Some(part) => Some(Part {
+            Some(part) => Some(MemberPart {
                 number: number as u32,
                 ty: *part,
             }),
@@ -116,7 +116,7 @@ fn tuple_part(items: &Items, ty: TyId, number: u64) -> Option<Part>
     }
 }
 
-fn numbered_part(checker: &Checker, ty: TyId, number: u64, word: &str) -> Option<Part>
+fn numbered_part(checker: &Checker, ty: TyId, number: u64, word: &str) -> Option<MemberPart>
     ensures { option_map part_seen result ≡ numbered number word.now checker.now.walk.items ty }
 {
     match tuple_part(&checker.walk.items, ty, number) {
@@ -126,17 +126,21 @@ fn numbered_part(checker: &Checker, ty: TyId, number: u64, word: &str) -> Option
 }
 
 /// What a type has of what is looked for.
-fn member(checker: &Checker, ty: TyId, wanted: Wanted) -> Option<Part>
+fn member(checker: &Checker, ty: TyId, wanted: WantedMember) -> Option<MemberPart>
     ensures { option_map part_seen result ≡ wanted_by wanted.entry checker.now.walk.items ty }
 {
     match wanted {
-        Wanted::Named(name) => struct_field(checker, ty, name),
-        Wanted::Numbered { number, word } => numbered_part(checker, ty, number, word),
+        WantedMember::Named(name) => struct_field(checker, ty, name),
+        WantedMember::Numbered { number, word } => numbered_part(checker, ty, number, word),
     }
 }
 
 /// The last node through boxes and references, up to the first type that has what is looked for.
-fn through(checker: &mut Checker, at: Pos, wanted: Wanted) -> Result<Option<Part>, RuleError>
+fn through(
+    checker: &mut Checker,
+    at: Pos,
+    wanted: WantedMember,
+) -> Result<Option<MemberPart>, RuleError>
     ensures gives { GivesFound part_seen (places.through (wanted_by wanted.entry) at (top (stack checker.old)) (state checker.old)) result checker.new }
     ensures kept { Keeps (below (stack checker.old)) checker.old result checker.new }
 {
@@ -155,7 +159,12 @@ fn through(checker: &mut Checker, at: Pos, wanted: Wanted) -> Result<Option<Part
     Err(RuleError::Memory)
 }
 
-fn wanted_end(checker: &mut Checker, id: NodeId, at: Pos, wanted: Wanted) -> Result<(), RuleError>
+fn wanted_end(
+    checker: &mut Checker,
+    id: NodeId,
+    at: Pos,
+    wanted: WantedMember,
+) -> Result<(), RuleError>
     ensures gives { Gives (field_rest (wanted_by wanted.entry) id.0 at (top (stack checker.old)) (state checker.old)) result checker.new }
     ensures kept { Keeps (below (stack checker.old)) checker.old result checker.new }
 {
@@ -170,7 +179,7 @@ pub fn field_end(checker: &mut Checker, id: NodeId, at: Pos, name: &str) -> Resu
     ensures gives { Gives (field_rest (places.struct_field name.now) id.0 at (top (stack checker.old)) (state checker.old)) result checker.new }
     ensures kept { Keeps (below (stack checker.old)) checker.old result checker.new }
 {
-    wanted_end(checker, id, at, Wanted::Named(name))
+    wanted_end(checker, id, at, WantedMember::Named(name))
 }
 
 /// A number in decimal digits.
@@ -191,7 +200,7 @@ pub fn part_end(checker: &mut Checker, id: NodeId, at: Pos, number: u64) -> Resu
     match digits(checker.alloc, number) {
         Ok(word) => {
             let word = word.as_str();
-            wanted_end(checker, id, at, Wanted::Numbered { number, word })
+            wanted_end(checker, id, at, WantedMember::Numbered { number, word })
         }
         Err(_) => Err(RuleError::Memory),
     }

@@ -8,4 +8,4 @@ mod methods;
 mod receivers;
 
 pub use fields::{field_end, field_named, part_end};
-pub use receivers::{Called, Receiver, method_end, method_receiver};
+pub use receivers::{Called, MethodReceiver, method_end, method_receiver};

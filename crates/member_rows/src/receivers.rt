@@ -42,7 +42,7 @@ pub struct Called {
 
 /// A receiver and the method that is called on it.
 #[derive(Drop)]
-pub struct Receiver {
+pub struct MethodReceiver {
     /// `None` where its type has no such method.
     pub called: Option<Called>,
     /// The types of the parameters behind `self`.
@@ -173,7 +173,7 @@ fn with_self(
     at: Pos,
     method: Method,
     self_ty: TyId,
-) -> Result<Receiver, RuleError>
+) -> Result<MethodReceiver, RuleError>
     ensures gives { (id : ℕ) (found : rows.Method) → method_seen checker.old.walk.items method ≡ Some found →
         self_of checker.old.walk.items (ty_of (top (stack checker.old))) (rows.head_of found).params ≡ Some self_ty →
         (want : Option TyId) → GivesCall (λ count args. rows.with_method (env checker.old) at id (top (stack checker.old)) (Some found) count args want) (state checker.old) (λ r. r.params) (receiver_rest id at want) result checker.new }
@@ -183,7 +183,7 @@ fn with_self(
     let is_drop = is_drop(checker, method);
     let params = other_params(checker, method)?;
     let is_unique = received(checker, at, self_ty)?;
-    Ok(Receiver {
+    Ok(MethodReceiver {
         called: Some(Called {
             behind: behind_of(method),
             answer,
@@ -194,16 +194,16 @@ fn with_self(
     })
 }
 
-fn no_method(checker: &Checker) -> Receiver
+fn no_method(checker: &Checker) -> MethodReceiver
     ensures { result ≡ record { called = None; params = [] } }
 {
-    Receiver {
+    MethodReceiver {
         called: None,
         params: List::new(checker.alloc),
     }
 }
 
-fn with_method(checker: &mut Checker, at: Pos, method: Method) -> Result<Receiver, RuleError>
+fn with_method(checker: &mut Checker, at: Pos, method: Method) -> Result<MethodReceiver, RuleError>
     ensures gives { (id : ℕ) (found : rows.Method) → method_seen checker.old.walk.items method ≡ Some found →
         (want : Option TyId) → GivesCall (λ count args. rows.with_method (env checker.old) at id (top (stack checker.old)) (Some found) count args want) (state checker.old) (λ r. r.params) (receiver_rest id at want) result checker.new }
     ensures kept { Keeps (below (stack checker.old)) checker.old result checker.new }
@@ -216,7 +216,11 @@ fn with_method(checker: &mut Checker, at: Pos, method: Method) -> Result<Receive
 
 /// The last node as the receiver of a method of this name: it is gone through, up to the first type that has one, and
 /// borrowed or taken as the method says. The arguments are checked behind it, and then [`method_end`] ends the call.
-pub fn method_receiver(checker: &mut Checker, at: Pos, name: &str) -> Result<Receiver, RuleError>
+pub fn method_receiver(
+    checker: &mut Checker,
+    at: Pos,
+    name: &str,
+) -> Result<MethodReceiver, RuleError>
     ensures gives { (id : ℕ) (want : Option TyId) → GivesCall (method_rest (env checker.old) id at (named.method_named name.now) want (top (stack checker.old))) (state checker.old) (λ r. r.params) (receiver_rest id at want) result checker.new }
     ensures kept { Keeps (below (stack checker.old)) checker.old result checker.new }
 {
@@ -311,7 +315,7 @@ pub fn method_end(
     checker: &mut Checker,
     id: NodeId,
     at: Pos,
-    receiver: &Receiver,
+    receiver: &MethodReceiver,
     count: usize,
     want: Option<TyId>,
 ) -> Result<(), RuleError>

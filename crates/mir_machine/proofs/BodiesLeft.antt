@@ -32,7 +32,7 @@ use Rattle.store_model.specs.Concrete.Effects.{choose, evaluate_operand, give, w
 use Rattle.store_model.specs.Concrete.Location.{Setting, Located, OfType, root_address, stored_at}
 use Rattle.store_model.specs.Concrete.State.{Activation, Bodies, Returns, State, Unwinds, cell, with_activation, with_cell_at, with_event, without_activation}
 use Rattle.store_model.specs.Effects as actions
-use Rattle.store_model.specs.Effects.{Test, Site, OutOfTicks, Stuck, StuckAt, Out, Go, Halts, Choice, Yes, No, Neither}
+use Rattle.store_model.specs.Effects.{Test, EffectSite, OutOfTicks, Stuck, StuckAt, Out, Go, Halts, Choice, Yes, No, Neither}
 use Rattle.store_model.specs.Places.Place.{whole_local}
 use Rattle.store_model.specs.Values.Datum.{Datum, Gone}
 use Rattle.store_model.specs.declared.value.Value.{Value}
@@ -104,7 +104,7 @@ module _ (graph : Graph) (tasks : List Task) (old new : World) (number block : �
 abbrev root_by : Addr → State → Datum
 root_by address w = option_map_or (λ (a : Activation). cell address.key.0 a.cells) (at_depth address.depth w.activations) Gone
 
-abbrev pub result_site : Site
+abbrev pub result_site : EffectSite
 result_site = record { node = 0; place = whole_local 0 }
 
 -- the result is that of the youngest body

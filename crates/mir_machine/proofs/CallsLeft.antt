@@ -31,7 +31,7 @@ use Rattle.store_model.specs.Concrete.Effects.{act, evaluate_operand, evaluate_o
 use Rattle.store_model.specs.Concrete.Location.{Setting, Located, stored_at}
 use Rattle.store_model.specs.Concrete.State.{Bodies, State}
 use Rattle.store_model.specs.Effects as actions
-use Rattle.store_model.specs.Effects.{Action, Site, Stuck, Out, Go, Halts, halting_if, stores_where}
+use Rattle.store_model.specs.Effects.{Action, EffectSite, Stuck, Out, Go, Halts, halting_if, stores_where}
 use Rattle.store_model.specs.Values.Datum as a_datum
 use Rattle.store_model.specs.Values.Datum.{Datum, Gone}
 

@@ -13,7 +13,7 @@ use Rattle.cfg_meaning.specs.Walk.{acts, renamed, stuck_in}
 use Rattle.drop_glue.specs.declared.drops.Drops.{Drops}
 use Rattle.drop_glue.specs.declared.drops.Turn.{Turn}
 use Rattle.drop_glue.specs.Left as dropping
-use Rattle.drop_glue.specs.Left.{Level, PartsOf, ContentOf, Rest, AtEnd, after_by, HasLeft, IsAfter, Visits, AsRead, Again, Then, AwaitsLeft, finished, found_as, from_part, at_path}
+use Rattle.drop_glue.specs.Left.{Level, PartsOf, ContentOf, DropRest, AtEnd, after_by, HasLeft, IsAfter, Visits, AsRead, Again, Then, AwaitsLeft, finished, found_as, from_part, at_path}
 use Rattle.drop_glue.specs.Turns.{TurnLeft, levels_of, mode_by, stage_by}
 use Rattle.mir_base.specs.declared.trace.End.{End}
 use Rattle.mir_base.specs.declared.trace.Event.{Event}
@@ -21,7 +21,7 @@ use Rattle.mir_base.specs.Trace.{Trace}
 use Rattle.mir_machine.specs.declared.tasks.Doing.{Doing}
 use Rattle.mir_machine.specs.declared.tasks.Post.{Post}
 use Rattle.mir_machine.specs.declared.tasks.Task.{Task}
-use Rattle.mir_machine.specs.Left.{Place, Waiting, ForCall, ForDrop, walks, goes_on, resumed, left}
+use Rattle.mir_machine.specs.Left.{WaitingBody, Waiting, ForCall, ForDrop, walks, goes_on, resumed, left}
 use Rattle.mir_machine.specs.Tasks.{AllWait, BodyEnds, DoingLeft, DropWaits, CallWaits, PostEnds, RunLeftFrom, WaitsFor, place_in}
 use Rattle.mir_steps.specs.Steps.{Seen, Goes, Panics, Halted, seen}
 use Rattle.mir_store.specs.Standing.{dynamic_of}
@@ -35,7 +35,7 @@ use Rattle.store_model.specs.Concrete.Location.{Setting, DynamicType, concrete_t
 use Rattle.store_model.specs.Concrete.State.{State, with_event, without_activation, Answer, Returns, Unwinds, HaltsIn, Bodies}
 use Rattle.store_model.specs.declared.address.At.{At}
 use Rattle.store_model.specs.declared.address.At.TheVariants.{Part, Inside}
-use Rattle.store_model.specs.Effects.{Halt, Aborted, OutOfTicks, Stuck, Mode, Normal, Unwinding, Out, Go, Unwind, Halts, Site, halting_if}
+use Rattle.store_model.specs.Effects.{Halt, Aborted, OutOfTicks, Stuck, Mode, Normal, Unwinding, Out, Go, Unwind, Halts, EffectSite, halting_if}
 use Rattle.store_model.specs.Values.Datum.{Datum, Data, Gone, Number, Truth, UnitValue, Aggregate, Box, Address, no_part, a_part}
 
 -- so much was told before
@@ -181,15 +181,15 @@ module _ (setting : Setting) (run : Bodies) (bodies : BodiesAdd run) where
 
   -- What is left of a drop.
   module _ (depth key : ℕ) where
-    end_adds : (rest : Rest) → AtEnd rest → AddsIn rest
+    end_adds : (rest : DropRest) → AtEnd rest → AddsIn rest
     end_adds rest e mode before w t = subst (ToldOut before) (sym (e mode w)) t
 
-    after_adds : (levels : List Level) (Left : List At → Rest → Type 0) → ((path : List At) (rest : Rest) → Left path rest → AddsIn rest) → (path : List At) (rest : Rest) →
+    after_adds : (levels : List Level) (Left : List At → DropRest → Type 0) → ((path : List At) (rest : DropRest) → Left path rest → AddsIn rest) → (path : List At) (rest : DropRest) →
         after_by setting run depth key levels Left path rest → AddsIn rest
     after_adds [] Left adds path rest h = end_adds rest h
     after_adds (level ∷ levels) Left adds path rest h = adds h.above rest h.left
 
-    left_adds : (levels : List Level) (w : State) (path : List At) (rest : Rest) → HasLeft setting run depth key levels w path rest → AddsIn rest
+    left_adds : (levels : List Level) (w : State) (path : List At) (rest : DropRest) → HasLeft setting run depth key levels w path rest → AddsIn rest
     left_adds [] w path rest h mode before v t = end_adds rest h mode before v t
     left_adds (PartsOf dynamic variant next total ticks ∷ levels) w path rest h mode before v t =
         subst (ToldOut before) (sym (h.does mode v))
@@ -203,10 +203,10 @@ module _ (setting : Setting) (run : Bodies) (bodies : BodiesAdd run) where
         (in_mode_told before mode _ h.outer (freed_adds (found_as setting run depth key path dynamic Gone) before v t)
         (after_adds levels (HasLeft setting run depth key levels w) (left_adds levels w) path h.outer h.after))
 
-    rest_adds : (levels : List Level) (w : State) (path : List At) (rest : Rest) → IsAfter setting run depth key levels w path rest → AddsIn rest
+    rest_adds : (levels : List Level) (w : State) (path : List At) (rest : DropRest) → IsAfter setting run depth key levels w path rest → AddsIn rest
     rest_adds levels w path rest h = after_adds levels (HasLeft setting run depth key levels w) (left_adds levels w) path rest h
 
-    visits_told : (w : State) (path : List At) (stage : Stage) (does : Rest) (expected : Option DynamicType) → Visits setting run depth key w path stage does expected → AddsIn does
+    visits_told : (w : State) (path : List At) (stage : Stage) (does : DropRest) (expected : Option DynamicType) → Visits setting run depth key w path stage does expected → AddsIn does
     visits_told w path stage does _ (AsRead fuel s enough there is) mode before v t =
         subst (ToldOut before) (sym (is mode v)) (value_adds (drop_at setting run fuel) (drop_adds fuel) w.ticks s.value stage s mode before v t)
     visits_told w path stage does _ (Again fuel dynamic enough is) mode before v t =
@@ -285,7 +285,7 @@ module _ (strict : Bool) (graph : Graph) (ticks : ℕ) where
       (values_follow setting (bodies_of strict graph ticks) (bodies_more setting (code_of graph) (within_follows graph) ticks) (suc ticks))
       number (λ block line. 0) body (suc ticks) block (After before) w w (refl, t)))
 
-  goes_on_told : (place : Place) (before : Trace) (o : Out State) → ToldOut before o → ToldAnswer before (goes_on strict graph ticks place o)
+  goes_on_told : (place : WaitingBody) (before : Trace) (o : Out State) → ToldOut before o → ToldAnswer before (goes_on strict graph ticks place o)
   goes_on_told place before (Go w) t = ended_told before place.number 0 _ (walks_add place.number place.body place.onward before w t)
   goes_on_told place before (Unwind w) t = ended_told before place.number 0 _ (by place.unwind)
     where
@@ -295,7 +295,7 @@ module _ (strict : Bool) (graph : Graph) (ticks : ℕ) where
       by ways.Unwind.Abort = t
   goes_on_told place before (Halts halt w) t = t
 
-  put_told : (to : Site) (value : Datum) → Adds (put setting to value)
+  put_told : (to : EffectSite) (value : Datum) → Adds (put setting to value)
   put_told to value before w t = go (reach setting w to.place)
     where
       go : (r : Reached) → ToldOut before (on_reached r (λ s. Go (stored_at s.address value w)) (Halts Stuck w) (Halts Stuck w))
@@ -303,7 +303,7 @@ module _ (strict : Bool) (graph : Graph) (ticks : ℕ) where
       go CutOff = t
       go Nowhere = t
 
-  answered_told : (to : Site) (before : Trace) (a : Answer) → ToldAnswer before a → ToldOut before (answered setting to a)
+  answered_told : (to : EffectSite) (before : Trace) (a : Answer) → ToldAnswer before a → ToldOut before (answered setting to a)
   answered_told to before (Returns value w) t = put_told to value before w t
   answered_told to before (Unwinds w) t = t
   answered_told to before (HaltsIn halt w) t = t
@@ -316,7 +316,7 @@ module _ (strict : Bool) (graph : Graph) (ticks : ℕ) where
   AllAdd [] = Unit {0}
   AllAdd (waiting ∷ others) = WaitingAdds waiting × AllAdd others
 
-  call_adds : (place : Place) (to : Site) (lost : Bool) → WaitingAdds (ForCall place to lost)
+  call_adds : (place : WaitingBody) (to : EffectSite) (lost : Bool) → WaitingAdds (ForCall place to lost)
   call_adds place to lost before a t = goes_on_told place before _ (halting_told before lost Stuck _ (answered_told to before a t))
 
   waits_adds : (least : ℕ) (task : Task) (waiting : Waiting) → WaitsFor strict graph ticks least task waiting → WaitingAdds waiting

@@ -30,11 +30,11 @@ use Rattle.store_model.specs.Concrete.Effects.{put}
 use Rattle.store_model.specs.Concrete.Location.{Setting, Reached, Reaches, CutOff, Nowhere, reach}
 use Rattle.store_model.specs.Concrete.State.{Returns, State, Unwinds}
 use Rattle.store_model.specs.declared.value.Value.{Value}
-use Rattle.store_model.specs.Effects.{Site, Aborted, Stuck, Unwind, halting_if}
+use Rattle.store_model.specs.Effects.{EffectSite, Aborted, Stuck, Unwind, halting_if}
 use Rattle.store_model.specs.Values.Datum.{Datum, datum_of}
 
 -- a store spends no ticks
-put_ticks : (setting : Setting) (to : Site) (value : Datum) (lost : Bool) (w : State) → NoMore ticks_of w.ticks (halting_if lost Stuck (put setting to value w))
+put_ticks : (setting : Setting) (to : EffectSite) (value : Datum) (lost : Bool) (w : State) → NoMore ticks_of w.ticks (halting_if lost Stuck (put setting to value w))
 put_ticks setting to value lost w = go (reach setting w to.place) refl lost
   where
     go : (r : Reached) → reach setting w to.place ≡ r → (lost : Bool) → NoMore ticks_of w.ticks (halting_if lost Stuck (put setting to value w))

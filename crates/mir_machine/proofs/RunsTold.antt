@@ -20,7 +20,7 @@ use Rattle.store_model.proofs.Concrete.Effects.{ticks_of}
 use Rattle.mir_edge.specs.Told.{WhereTold}
 use Rattle.mir_machine.proofs.FlowsOnward.{all_sent, flows_first, part_of}
 use Rattle.mir_machine.proofs.OnlyAdds.{told_first}
-use Rattle.mir_machine.specs.declared.flowing.Flow.{Flow}
+use Rattle.mir_machine.specs.declared.flowing.TextFlow.{TextFlow}
 use Rattle.mir_machine.specs.declared.error.RunError.{RunError}
 use Rattle.mir_machine.specs.Flows.{Flows, FlowsOn, StopsIn}
 use Rattle.mir_machine.specs.Runs.{ForRun, IsHandedOn, ended_by, events_of, lines_in, run_by, run_text}
@@ -28,7 +28,7 @@ use Rattle.mir_machine.specs.Errors.{TookPart}
 use Rattle.mir_base.specs.Lines.{end_line}
 use Rattle.mir_ty.specs.Named.{line_of}
 use Rattle.mir_machine.specs.Tasks.{AreRanked, AtEntry, DoingLeft, Keeps, Next, RunsGraph}
-use Rattle.mir_steps.specs.declared.told.Told.{Told}
+use Rattle.mir_steps.specs.declared.told.ToldEvents.{ToldEvents}
 use Rattle.mir_steps.specs.declared.world.World.{World}
 use Rattle.mir_store.specs.Activations.{activations_of}
 use Rattle.mir_steps.specs.Worlds.{event_of, state_of, run_setting}
@@ -92,15 +92,15 @@ begins graph first now tasks main doing is none k strict ticks run ranked runs h
     (subst (λ n. AtEntry graph [] (Event.Call n) n [] strict ticks run (state_of [] first)) (sym is) h))
 
 -- so the lines of what was handed on flow to the sink
-abbrev pub IsTold : Option (List ℕ) → Option (List ℕ) → Graph → World → World → List Task → Doing → Flow → Type 0
+abbrev pub IsTold : Option (List ℕ) → Option (List ℕ) → Graph → World → World → List Task → Doing → TextFlow → Type 0
 IsTold start taken graph first now tasks doing flow = (handed : Trace) × StillRuns graph first handed now tasks doing × Flows start taken (lines_in graph handed) flow
 
-pub told_first_of_all : (start : Option (List ℕ)) (graph : Graph) (first now : World) (tasks : List Task) (main : ℕ) (doing : Doing) (flow : Flow) → main ≡ main_of graph.items → tasks ≡ [] →
+pub told_first_of_all : (start : Option (List ℕ)) (graph : Graph) (first now : World) (tasks : List Task) (main : ℕ) (doing : Doing) (flow : TextFlow) → main ≡ main_of graph.items → tasks ≡ [] →
     Keeps graph first now (AtEntry graph tasks (Event.Call main) main []) (Next graph tasks doing) → flow.sent ≡ 0 → string_bytes flow.piece ≡ [] → IsTold start start graph first now tasks doing flow
 told_first_of_all start graph first now tasks main doing flow is none k sent waits = ([], begins graph first now tasks main doing is none k, flows_first start flow sent waits)
 
 module _ (start old new : Option (List ℕ)) (graph : Graph) (first now later : World) where
-  pub told_goes_on : (tasks others : List Task) (doing next : Doing) (flow : Flow) → IsTold start old graph first now tasks doing flow →
+  pub told_goes_on : (tasks others : List Task) (doing next : Doing) (flow : TextFlow) → IsTold start old graph first now tasks doing flow →
       Keeps graph now later (Next graph tasks doing) (Next graph others next) → IsTold start old graph first later others next flow
   told_goes_on tasks others doing next flow (handed, h, f) k =
       (handed, (λ strict ticks run ranked runs enters. let s = h strict ticks run ranked runs enters in k strict ticks run handed ranked s.0 s.1), f)
@@ -109,8 +109,8 @@ lines_append : (graph : Graph) (a b : Trace) → lines_in graph (a ++ b) ≡ lin
 lines_append graph [] b = refl
 lines_append graph (event ∷ a) b = ap (λ l. line_of graph.items event ++ l) (lines_append graph a b) ∙ sym (append_assoc (line_of graph.items event) (lines_in graph a) (lines_in graph b))
 
-module _ (start old new : Option (List ℕ)) (graph : Graph) (first now : World) (tasks : List Task) (doing : Doing) (flow : Flow) where
-  pub told_handed : (later : World) (after : Flow) → IsTold start old graph first now tasks doing flow → IsHandedOn now later →
+module _ (start old new : Option (List ℕ)) (graph : Graph) (first now : World) (tasks : List Task) (doing : Doing) (flow : TextFlow) where
+  pub told_handed : (later : World) (after : TextFlow) → IsTold start old graph first now tasks doing flow → IsHandedOn now later →
       FlowsOn old new flow after (lines_in graph (events_of now.told)) → IsTold start new graph first later tasks doing after
   told_handed later after (handed, h, f) (none, runs, same) flows = (
     handed ++ events_of now.told,
@@ -160,7 +160,7 @@ module _ (start old new : Option (List ℕ)) (graph : Graph) (first now : World)
         by : (doing : Doing) → ended_by doing ≡ Some end → DoingLeft strict graph ticks run tasks (state_of handed now) doing → run ≡ (handed, end)
         by (Doing.Ended other) e l =
             let same : other ≡ end = cc in
-            l ∙ ap (λ (t : List Told). (handed ++ map event_of t, other)) none ∙ ap (λ t. (t, other)) (append-nil handed) ∙ ap (λ e. (handed, e)) same
+            l ∙ ap (λ (t : List ToldEvents). (handed ++ map event_of t, other)) none ∙ ap (λ t. (t, other)) (append-nil handed) ∙ ap (λ e. (handed, e)) same
         by (Doing.Walks number block) e l = absurd (cc)
         by (Doing.Drops post drops turn) e l = absurd (cc)
         by (Doing.Returned value) e l = absurd (cc)
@@ -169,7 +169,7 @@ module _ (start old new : Option (List ℕ)) (graph : Graph) (first now : World)
     pub end_is : IsTold start old graph first now tasks doing flow → ForRun graph first (λ run. run.1 ≡ end)
     end_is (handed, h, f) strict ticks run ranked runs enters = ap (λ (run : Trace × End). run.1) (ends handed h strict ticks run ranked runs enters)
 
-    pub text_is : (after : Flow) → IsTold start old graph first now tasks doing flow → FlowsOn old new flow after (end_line end) → string_bytes after.piece ≡ [] →
+    pub text_is : (after : TextFlow) → IsTold start old graph first now tasks doing flow → FlowsOn old new flow after (end_line end) → string_bytes after.piece ≡ [] →
         ForRun graph first (λ run. WhereTold start (λ taken. new ≡ Some (taken ++ run_text graph run)))
     text_is after (handed, h, f) flows waits strict ticks run ranked runs enters = λ taken at.
         all_sent start new (lines_in graph handed ++ end_line end) after (flows start (lines_in graph handed) f) waits taken at
@@ -207,11 +207,11 @@ module _ (strict : Bool) (graph : Graph) (asked : List ℤ) (ticks : ℕ) (world
       by false s = tells strict (suc ticks) (run_by strict graph asked ticks) ranked runs (entry false s (run_by strict graph asked ticks) (ap (λ b. run_by b graph asked ticks) s ∙ ap (λ b. left b graph (suc ticks) [] (bodies_of b graph (suc ticks) (Event.Call (main_of graph.items)) (main_of graph.items) [] (beginning asked ticks))) (sym s)))
 
 -- what was told is let go
-pub handed_over : (old : World) (told : List Told) → told ≡ [] → IsHandedOn old (record old { told = told })
+pub handed_over : (old : World) (told : List ToldEvents) → told ≡ [] → IsHandedOn old (record old { told = told })
 handed_over old told none = (
   none,
   refl,
-  λ before. ap (λ (told : List Told). state_of (before ++ events_of old.told) (record old { told = told })) none
+  λ before. ap (λ (told : List ToldEvents). state_of (before ++ events_of old.told) (record old { told = told })) none
       ∙ ap (λ (trace : Trace). record (state_of before old) { trace = trace }) (append-nil (before ++ events_of old.told)),
 )
 

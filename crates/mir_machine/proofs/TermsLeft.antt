@@ -34,7 +34,7 @@ use Rattle.store_model.specs.Concrete.Effects.{act, drop, whole_at}
 use Rattle.store_model.specs.Concrete.Location.{Setting, Located, Reached, Reaches, CutOff, Nowhere, reach}
 use Rattle.store_model.specs.Concrete.State.{Bodies, HaltsIn, State}
 use Rattle.store_model.specs.declared.address.Addr.{Addr}
-use Rattle.store_model.specs.Effects.{Action, Mode, Site, Stuck, StuckAt, Out, Go, Unwind as Unwinds, Halts, Choice, Yes, No, Neither}
+use Rattle.store_model.specs.Effects.{Action, Mode, EffectSite, Stuck, StuckAt, Out, Go, Unwind as Unwinds, Halts, Choice, Yes, No, Neither}
 use Rattle.store_model.specs.Values.Datum.{Gone}
 use Rattle.store_model.specs.Values.Wholeness.{is_whole}
 
@@ -168,7 +168,7 @@ module _ (strict : Bool) (graph : Graph) (ticks : ℕ) (run : Trace × End) (tas
   drop_begins post w out address dynamic (Doing.Ended end) d e h = absurd d
 
 -- what a drop of a place does
-module _ (setting : Setting) (bodies : Bodies) (fuel : ℕ) (mode : Mode) (site : Site) (w : State) where
+module _ (setting : Setting) (bodies : Bodies) (fuel : ℕ) (mode : Mode) (site : EffectSite) (w : State) where
   pub drops_whole : (s : Located) → setting.strict ≡ true → whole_at setting w site ≡ Some s → drop setting bodies fuel mode site w ≡ drop_at setting bodies fuel Begins s mode w
   drops_whole s strict is = go (reach setting w site.place) refl
     where

@@ -13,7 +13,7 @@ use Rattle.cfg_meaning.specs.Walk.{naming, stuck_in, term_does, unfolded}
 use Rattle.mir_base.specs.declared.trace.End.{End}
 use Rattle.mir_base.specs.declared.trace.Event.{Event}
 use Rattle.mir_base.specs.Trace.{Trace}
-use Rattle.mir_machine.specs.Left.{Place, Waiting, ForCall, ForDrop, walks, entered, resumed, left}
+use Rattle.mir_machine.specs.Left.{WaitingBody, Waiting, ForCall, ForDrop, walks, entered, resumed, left}
 use Rattle.store_model.specs.Concrete.Bodies.{ended, main_of, outcome_of}
 use Rattle.store_model.specs.Concrete.Effects.{evaluate_operands, never_at}
 use Rattle.store_model.specs.Concrete.State.{HaltsIn, State, beginning}
@@ -53,7 +53,8 @@ WalkIsOneEquation =
 -- a call leaves its body to wait for the one that it calls
 abbrev pub CallIsOneEquation : Type 0
 CallIsOneEquation =
-    (strict : Bool) (graph : Graph) (ticks : ℕ) (place : Place) (to : places.Place) (callee : ℕ) (args : List Operand)
+    (strict : Bool) (graph : Graph) (ticks : ℕ) (place : WaitingBody) (to : places.Place) (callee : ℕ)
+    (args : List Operand)
     (w after : State) (values : List Datum) →
     evaluate_operands (setting_of strict graph) (operands_of 0 args) w ≡ Some (values, after) →
     ended place.number 0
@@ -79,7 +80,7 @@ HaltEndsTheRun =
     All HaltsWithIt waiting → IsPlaced halt →
     left strict graph ticks waiting (HaltsIn halt w) ≡ outcome_of (HaltsIn halt w)
 
-abbrev pub place_of : Waiting → Place
+abbrev pub place_of : Waiting → WaitingBody
 place_of (ForCall place to lost) = place
 place_of (ForDrop place comes_to) = place
 

@@ -15,11 +15,11 @@ use Rattle.mir_base.specs.Trace.{Trace}
 use Rattle.store_model.specs.Concrete.Bodies.{after_tick, ended, outcome_of}
 use Rattle.store_model.specs.Concrete.Effects.{answered}
 use Rattle.store_model.specs.Concrete.State.{Answer, State, tick, with_activation, with_event}
-use Rattle.store_model.specs.Effects.{Out, Site, Stuck, Halts, halting_if}
+use Rattle.store_model.specs.Effects.{Out, EffectSite, Stuck, Halts, halting_if}
 use Rattle.store_model.specs.Values.Datum.{Datum}
 
 -- a body that waits in a block, and the ways on from there
-pub record Place : Type 0 where
+pub record WaitingBody : Type 0 where
   pub number : ℕ
   pub body : Body
   pub block : ℕ
@@ -29,8 +29,8 @@ pub record Place : Type 0 where
 -- a body waits for one that it called, whose result it stores, unless it is lost at a place of the type `!`; or it
 -- waits for a `Drop` body, after which its drop comes to an end by how that ended
 pub data Waiting : Type 0 where
-  ForCall : (place : Place) (to : Site) (lost : Bool) → Waiting
-  ForDrop : (place : Place) (comes_to : Answer → Out State) → Waiting
+  ForCall : (place : WaitingBody) (to : EffectSite) (lost : Bool) → Waiting
+  ForDrop : (place : WaitingBody) (comes_to : Answer → Out State) → Waiting
 
 module _ (strict : Bool) (graph : Graph) (ticks : ℕ) where
   -- a body walks from a block on
@@ -49,7 +49,7 @@ module _ (strict : Bool) (graph : Graph) (ticks : ℕ) where
           option_map_or (λ body. walks number body 0 w) (slice_get graph.bodies number) (Halts Stuck w)
 
   -- what a terminator comes to, and then the walk, and the end of the body
-  abbrev pub goes_on : Place → Out State → Answer
+  abbrev pub goes_on : WaitingBody → Out State → Answer
   goes_on place out =
       ended place.number 0
       (acts (renamed (stuck_in place.number place.block) out) (walks place.number place.body) place.onward place.unwind)

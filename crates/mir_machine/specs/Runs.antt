@@ -4,7 +4,7 @@ use Rattle.cfg_graph.specs.declared.graph.Graph.{Graph}
 use Rattle.cfg_meaning.specs.Programs.{graph_run, raw_graph_run}
 use Rattle.mir_base.specs.declared.trace.End.{End}
 use Rattle.mir_base.specs.Trace.{Trace}
-use Rattle.mir_steps.specs.declared.told.Told.{Told}
+use Rattle.mir_steps.specs.declared.told.ToldEvents.{ToldEvents}
 use Rattle.mir_base.specs.declared.trace.Event.{Event}
 use Rattle.mir_machine.specs.declared.tasks.Doing.{Doing}
 use Rattle.mir_machine.specs.Tasks.{AreRanked, AtEntry, RunsGraph}
@@ -25,7 +25,7 @@ abbrev pub run_text : Graph → Trace × End → List ℕ
 run_text graph run = text_of graph.items run.0 run.1
 
 -- what a machine told, as events
-abbrev pub events_of : List Told → Trace
+abbrev pub events_of : List ToldEvents → Trace
 events_of told = map event_of told
 
 -- how a run has ended, where it has

@@ -21,7 +21,7 @@ use Rattle.mir_base.specs.Trace.{Trace}
 use Rattle.mir_machine.specs.declared.tasks.Doing.{Doing}
 use Rattle.mir_machine.specs.declared.tasks.Post.{Post}
 use Rattle.mir_machine.specs.declared.tasks.Task.{Task}
-use Rattle.mir_machine.specs.Left.{Place, Waiting, ForCall, ForDrop, walks, goes_on, left}
+use Rattle.mir_machine.specs.Left.{WaitingBody, Waiting, ForCall, ForDrop, walks, goes_on, left}
 use Rattle.mir_steps.specs.declared.actions.Outcome.{Outcome}
 use Rattle.mir_steps.specs.declared.world.World.{World}
 use Rattle.cfg_graph.specs.declared.place.Operand.{Operand}
@@ -69,7 +69,7 @@ abbrev pub destination_in : Graph → ℕ → ℕ → Option places.Place
 destination_in graph number block = option_and_then result_of (term_in graph number block)
 
 -- a body that waits in a block
-abbrev pub place_in : Post → Body → Place
+abbrev pub place_in : Post → Body → WaitingBody
 place_in post body = record {
   number = post.number;
   body = body;

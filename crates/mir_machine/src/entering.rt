@@ -16,7 +16,7 @@ use crate::going::stuck;
 use crate::tasks::{Doing, Post, Task};
 use cfg_graph::{Graph, Operand, Place};
 use mir_base::{End, Event, List, NoMemory};
-use mir_steps::{Told, World};
+use mir_steps::{ToldEvents, World};
 use mir_store::{Dynamic, Store, located_at};
 use mir_ty::{Items, Ty, TyId};
 use std::alloc::Global;
@@ -62,7 +62,7 @@ pub fn enter(
         return Ok(Doing::Ended(End::OutOfTicks));
     };
     world.ticks = left;
-    world.tell(Told::Event(event))?;
+    world.tell(ToldEvents::Event(event))?;
     world.store.enter(alloc, number, args)?;
     match graph.bodies.get(number as usize) {
         Some(_) => Ok(Doing::Walks { number, block: 0 }),

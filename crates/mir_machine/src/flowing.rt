@@ -11,7 +11,7 @@ use crate::RunError;
 use crate::text::{last_line, line_of};
 use mir_base::{End, NoMemory};
 use mir_edge::{Sink, WriteFault, write_whole};
-use mir_steps::Told;
+use mir_steps::ToldEvents;
 use mir_ty::Items;
 use std::alloc::Global;
 
@@ -20,20 +20,20 @@ const PIECE: usize = 8192;
 
 /// The text of a run on its way to a sink.
 #[derive(Drop)]
-pub struct Flow {
+pub struct TextFlow {
     /// How many bytes the sink took.
     pub sent: u64,
     /// What waits to be sent.
     pub piece: String,
 }
 
-impl Flow {
+impl TextFlow {
     /// Nothing was sent, and nothing waits.
-    pub fn new(alloc: Global) -> Flow
+    pub fn new(alloc: Global) -> TextFlow
         ensures sent { result.sent ≡ 0 }
         ensures waits { string_bytes result.piece ≡ [] }
     {
-        Flow {
+        TextFlow {
             sent: 0,
             piece: String::new(alloc),
         }
@@ -106,7 +106,7 @@ impl Flow {
         &mut self,
         alloc: Global,
         items: &Items,
-        told: &Told,
+        told: &ToldEvents,
         out: &mut K,
     ) -> Result<(), RunError>
         ensures counts { K.faults out.old ≤ K.faults out.new }
@@ -127,7 +127,7 @@ impl Flow {
         &mut self,
         alloc: Global,
         items: &Items,
-        told: &[Told],
+        told: &[ToldEvents],
         out: &mut K,
     ) -> Result<(), RunError>
         ensures counts { K.faults out.old ≤ K.faults out.new }

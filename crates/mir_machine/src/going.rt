@@ -14,7 +14,7 @@ ghost use Rattle.store_model.specs.Concrete.State.{with_event, without_activatio
 use crate::tasks::{Doing, Post};
 use cfg_graph::Unwind;
 use mir_base::{End, Event, NoMemory};
-use mir_steps::{Outcome, Told, World};
+use mir_steps::{Outcome, ToldEvents, World};
 
 /// The youngest body ends by unwinding.
 pub fn leave_unwinding(world: &mut World<'_>, number: u32) -> Result<(), NoMemory>
@@ -23,7 +23,7 @@ pub fn leave_unwinding(world: &mut World<'_>, number: u32) -> Result<(), NoMemor
         with_event (an_event.Unwind number) (without_activation (state_of before world.old))) }
 {
     let _left = world.store.leave();
-    world.tell(Told::Event(Event::Unwind(number)))
+    world.tell(ToldEvents::Event(Event::Unwind(number)))
 }
 
 /// The youngest body ends by returning.
@@ -33,7 +33,7 @@ pub fn leave_returning(world: &mut World<'_>, number: u32) -> Result<(), NoMemor
         with_event (an_event.Return number) (without_activation (state_of before world.old))) }
 {
     let _left = world.store.leave();
-    world.tell(Told::Event(Event::Return(number)))
+    world.tell(ToldEvents::Event(Event::Return(number)))
 }
 
 /// A body has no step in a block.

@@ -15,6 +15,6 @@ mod walking;
 mod whole;
 
 pub use error::RunError;
-pub use flowing::Flow;
+pub use flowing::TextFlow;
 pub use laws::law_of_runs;
 pub use running::{run, run_raw};

@@ -15,7 +15,7 @@ ghost use Rattle.store_model.specs.Concrete.Bodies.{main_of};
 use crate::entering::enter;
 use crate::tasks::Doing;
 use crate::turns::turn;
-use crate::{Flow, RunError};
+use crate::{RunError, TextFlow};
 use cfg_graph::Graph;
 use mir_base::{End, Event, List, Name, NoMemory};
 use mir_edge::Sink;
@@ -62,7 +62,7 @@ fn hand_on<K: Sink>(
     alloc: Global,
     graph: &Graph,
     world: &mut World<'_>,
-    flow: &mut Flow,
+    flow: &mut TextFlow,
     out: &mut K,
 ) -> Result<(), RunError>
     ensures counts { K.faults out.old ≤ K.faults out.new }
@@ -81,7 +81,12 @@ fn hand_on<K: Sink>(
 }
 
 /// Writes the last line, and answers how the run ended.
-fn finish<K: Sink>(alloc: Global, flow: &mut Flow, end: End, out: &mut K) -> Result<End, RunError>
+fn finish<K: Sink>(
+    alloc: Global,
+    flow: &mut TextFlow,
+    end: End,
+    out: &mut K,
+) -> Result<End, RunError>
     ensures counts { K.faults out.old ≤ K.faults out.new }
     ensures fault { IfErr result (λ error. IsWriteFault error → HasRisen (K.faults out.old) (K.faults out.new)) }
     ensures end { IfOk result (λ answer. answer ≡ end) }
@@ -126,7 +131,7 @@ fn turns<K: Sink>(
         Ok(doing) => doing,
         Err(NoMemory) => return Err(RunError::Memory),
     };
-    let mut flow = Flow::new(alloc);
+    let mut flow = TextFlow::new(alloc);
     for _turn in 0..u64::MAX {
         if let Err(error) = hand_on(alloc, graph, world, &mut flow, out) {
             return Err(error);

@@ -6,7 +6,7 @@ ghost use Rattle.mir_steps.specs.Worlds.{event_of};
 ghost use Rattle.mir_ty.specs.Named.{adt_name, body_name};
 
 use mir_base::{End, Event, NoMemory};
-use mir_steps::Told;
+use mir_steps::ToldEvents;
 use mir_ty::Items;
 use std::alloc::Global;
 
@@ -80,13 +80,13 @@ fn write_event(out: &mut String, items: &Items, event: &Event) -> Result<(), NoM
     }
 }
 
-fn write_told(out: &mut String, items: &Items, told: &Told) -> Result<(), NoMemory>
+fn write_told(out: &mut String, items: &Items, told: &ToldEvents) -> Result<(), NoMemory>
     ensures { OnOk result (string_bytes out.new ≡ string_bytes out.old
         ++ event_line (body_name items.now) (adt_name items.now) (event_of told.now)) }
 {
     match told {
-        Told::Event(event) => write_event(out, items, event),
-        Told::Printed(number) => {
+        ToldEvents::Event(event) => write_event(out, items, event),
+        ToldEvents::Printed(number) => {
             write!(out, "print {number}\n")?;
             Ok(())
         }
@@ -107,7 +107,7 @@ fn write_end(out: &mut String, end: &End) -> Result<(), NoMemory>
 }
 
 /// The line of an event.
-pub fn line_of(alloc: Global, items: &Items, told: &Told) -> Result<String, NoMemory>
+pub fn line_of(alloc: Global, items: &Items, told: &ToldEvents) -> Result<String, NoMemory>
     ensures { IfOk result (λ line. string_bytes line ≡
         event_line (body_name items.now) (adt_name items.now) (event_of told.now)) }
 {

@@ -6,10 +6,10 @@ use Rattle.std.proofs.lemmas.Str.{length-le-encodes, encodes-chars}
 use Rattle.src_token.specs.declared.token.Spanned.{Spanned}
 use Rattle.src_token.specs.declared.piece.Reading.{Reading}
 use Rattle.src_token.specs.declared.piece.Reading.TheVariants.{Skipped, Reads, Fails}
-use Rattle.src_token.specs.Rows.{Row, blank, line_comment, comment, open_comment, slash, mark, word, number, label, no_label, text, open_text, other}
+use Rattle.src_token.specs.Rows.{TokenRow, blank, line_comment, comment, open_comment, slash, mark, word, number, label, no_label, text, open_text, other}
 use Rattle.src_token.specs.Tokens.{Cut, Cutting, Tokens, token_of, tokens_of}
 
-row_some : (p : List ℕ) (r : Reading) → Row p r → 1 ≤ length p
+row_some : (p : List ℕ) (r : Reading) → TokenRow p r → 1 ≤ length p
 row_some p r (blank c e) = omega arith
 row_some p r (line_comment l e) = omega arith
 row_some p r (comment i e) = omega arith

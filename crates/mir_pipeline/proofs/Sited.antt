@@ -17,12 +17,12 @@ use Rattle.cfg_lower.specs.declared.programs.Lowered.{Lowered}
 use Rattle.lowered_paths.specs.Refused.{MeetsExactly}
 use Rattle.lowered_paths.proofs.Exact.{lowered-paths-meet-exactly}
 use Rattle.lowered_paths.specs.Told as told
-use Rattle.lowered_paths.specs.Told.{Line, has_site}
+use Rattle.lowered_paths.specs.Told.{LineOfBody, has_site}
 use Rattle.lowered_paths.proofs.UseLaw.{lowered_uses_have_sites}
 use Rattle.move_errors.specs.Refusal.{named_use}
 use Rattle.move_errors.specs.declared.errors.BadUse.{BadUse}
 use Rattle.move_paths.specs.Uses.{use_of}
-use Rattle.move_paths.specs.declared.uses.Use.{Use}
+use Rattle.move_paths.specs.declared.uses.PlaceUse.{PlaceUse}
 use Rattle.typed_tree.specs.Tree.{BodyTree, ProgramTree}
 use Rattle.use_sites.specs.Listed.{program_sites}
 use Rattle.use_sites.specs.declared.site.Site.{Site}
@@ -40,7 +40,7 @@ found_where_any p (site ∷ sites) h = by_test (p site) h (found_where_any p sit
     by_test true h k = refl
     by_test false h k = k h
 
-abbrev line_of : LineOfUse → Line
+abbrev line_of : LineOfUse → LineOfBody
 line_of at = record { block = at.block; line = at.line }
 
 behind_same : (term : Term) (own : LineOfUse) → line_of (behind_drop term own) ≡ told.behind_drop term (line_of own)
@@ -58,16 +58,16 @@ behind_same (Term.Panic why unwind) own = refl
 behind_same Term.Return own = refl
 behind_same Term.Resume own = refl
 
-told_same : (by : Use) (block : Option Block) (own : LineOfUse) → line_of (told_by (is_drop by) block own) ≡ told.told_by (use_of by) block (line_of own)
-told_same Use.Copies block own = refl
-told_same Use.Moves block own = refl
-told_same Use.Borrows block own = refl
-told_same Use.Touches block own = refl
-told_same Use.Tests block own = refl
-told_same Use.Stores block own = refl
-told_same Use.Drops None own = refl
-told_same Use.Drops (Some block) own = behind_same block.term own
-told_same Use.Frees block own = refl
+told_same : (by : PlaceUse) (block : Option Block) (own : LineOfUse) → line_of (told_by (is_drop by) block own) ≡ told.told_by (use_of by) block (line_of own)
+told_same PlaceUse.Copies block own = refl
+told_same PlaceUse.Moves block own = refl
+told_same PlaceUse.Borrows block own = refl
+told_same PlaceUse.Touches block own = refl
+told_same PlaceUse.Tests block own = refl
+told_same PlaceUse.Stores block own = refl
+told_same PlaceUse.Drops None own = refl
+told_same PlaceUse.Drops (Some block) own = behind_same block.term own
+told_same PlaceUse.Frees block own = refl
 
 module _ (program : ProgramTree) (named : AllNameTheirLoops program) where
   abbrev graph : Graph

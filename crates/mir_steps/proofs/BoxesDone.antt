@@ -26,7 +26,7 @@ use Rattle.store_model.specs.Concrete.Effects.{acted, forgotten, with_operand, w
 use Rattle.store_model.specs.Concrete.Location.{Setting, Located, DynamicType}
 use Rattle.store_model.specs.Concrete.State.{State, Bodies}
 use Rattle.store_model.specs.Effects as actions
-use Rattle.store_model.specs.Effects.{Site, Go, Out}
+use Rattle.store_model.specs.Effects.{EffectSite, Go, Out}
 use Rattle.store_model.specs.Values.Datum.{Datum}
 use Rattle.store_model.proofs.Values.Datum.{datum_of-Parts, datum_of-Boxed}
 use Rattle.store_model.specs.declared.value.Value.{Value}
@@ -108,10 +108,10 @@ popped_all p old rest last e = ap (list_all p) e ∙ list_all-append p rest (las
 -- What unsizing and forgetting do.
 
 module _ (setting : Setting) (run : Bodies) where
-  abbrev pub unsized : Site → ℕ → Option ℕ → Datum → State → Out State
+  abbrev pub unsized : EffectSite → ℕ → Option ℕ → Datum → State → Out State
   unsized to trait_no adt value w = put_if setting to (option_and_then (λ n. with_row n value) (option_and_then (impl_of setting.items trait_no) adt)) w
 
-  pub acts_unsizing : (to : Site) (trait_no : ℕ) (from : Operand) (w : State) → acted setting run (actions.Unsize to trait_no (operand_of 0 from)) w
+  pub acts_unsizing : (to : EffectSite) (trait_no : ℕ) (from : Operand) (w : State) → acted setting run (actions.Unsize to trait_no (operand_of 0 from)) w
       ≡ with_operand setting (operand_of 0 from) w (unsized to trait_no (adt_in_box setting w from))
   acts_unsizing to trait_no (Operand.Copied place) w = refl
   acts_unsizing to trait_no (Operand.Moved place) w = refl

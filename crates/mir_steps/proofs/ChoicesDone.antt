@@ -20,7 +20,7 @@ use Rattle.store_model.specs.Concrete.Location.{Setting, Located, Reached, Reach
 use Rattle.store_model.specs.Concrete.State.{State, with_event}
 use Rattle.store_model.specs.declared.value.Value.{Value}
 use Rattle.store_model.specs.Effects as actions
-use Rattle.store_model.specs.Effects.{Site, Stuck, Out, Choice, Yes, No, Neither}
+use Rattle.store_model.specs.Effects.{EffectSite, Stuck, Out, Choice, Yes, No, Neither}
 use Rattle.store_model.specs.Values.Datum.{Datum, Gone, Number, Truth, UnitValue, Aggregate, Box, Address, Data, datum_of}
 
 -- a value of which no variant is asked
@@ -59,7 +59,7 @@ module _ (setting : Setting) (count : ℕ) (w : World) where
 
 -- Asking.
 
-module _ (setting : Setting) (to : Site) (old : World) where
+module _ (setting : Setting) (to : EffectSite) (old : World) where
   abbrev asks : State → Out State
   asks w = asked setting to w.asked w
 

@@ -15,24 +15,24 @@ use Rattle.mir_steps.specs.Typed.{running, kind_of}
 use Rattle.mir_steps.specs.Worlds.{state_of, run_setting}
 use Rattle.mir_store.proofs.Activations.{youngest_frame}
 use Rattle.mir_store.specs.Activations.{on_top_of}
-use Rattle.mir_store.specs.declared.frame.Entry.{Entry}
+use Rattle.mir_store.specs.declared.frame.StoredLocal.{StoredLocal}
 use Rattle.std.specs.Prelude.{List, []}
 use Rattle.store_model.specs.Concrete.Effects.{acted, compute, negate, with_operand, with_two_operands, Computed}
 use Rattle.store_model.specs.Concrete.Location.{Setting}
 use Rattle.store_model.specs.Concrete.State.{State, Bodies}
 use Rattle.store_model.specs.Effects as actions
-use Rattle.store_model.specs.Effects.{Site, Out}
+use Rattle.store_model.specs.Effects.{EffectSite, Out}
 use Rattle.store_model.specs.Values.Datum.{Datum, Gone, Number, Truth, UnitValue, Aggregate, Box, Address}
 
 -- the body that runs is that of the last frame
-pub runs_last : (frames : List (ℕ × List Entry)) (depth : ℕ) (frame : ℕ × List Entry) → slice_get frames depth ≡ Some frame → suc depth ≡ length frames → running (on_top_of frames []) ≡ Some frame.0
+pub runs_last : (frames : List (ℕ × List StoredLocal)) (depth : ℕ) (frame : ℕ × List StoredLocal) → slice_get frames depth ≡ Some frame → suc depth ≡ length frames → running (on_top_of frames []) ≡ Some frame.0
 runs_last frames depth frame e l = ap running (youngest_frame frames depth frame e l).1
 
 -- the same steps end the same way
 pub same_does : (one other : State → Out State) (old new : World) (outcome : Outcome) → ((before : Trace) → one (state_of before old) ≡ other (state_of before old)) → Does other old outcome new → Does one old outcome new
 same_does one other old new outcome e h before = ap seen (e before) ∙ h before
 
-pub computes_by : (setting : Setting) (to : Site) (operator : Math) (kind : Option IntKind) (left right : Datum) (w : State) →
+pub computes_by : (setting : Setting) (to : EffectSite) (operator : Math) (kind : Option IntKind) (left right : Datum) (w : State) →
     compute setting to operator kind left right w ≡ puts_if setting to (computation operator kind left right) w
 computes_by setting to operator None left right w = refl
 computes_by setting to operator (Some kind) (Number a) (Number b) w = refl
@@ -49,7 +49,7 @@ computes_by setting to operator (Some kind) (Aggregate variant serial parts) rig
 computes_by setting to operator (Some kind) (Box serial impl_no inside) right w = refl
 computes_by setting to operator (Some kind) (Address address) right w = refl
 
-pub negates_by : (setting : Setting) (to : Site) (kind : Option IntKind) (value : Datum) (w : State) → negate setting to kind value w ≡ puts_if setting to (negation kind value) w
+pub negates_by : (setting : Setting) (to : EffectSite) (kind : Option IntKind) (value : Datum) (w : State) → negate setting to kind value w ≡ puts_if setting to (negation kind value) w
 negates_by setting to None value w = refl
 negates_by setting to (Some kind) (Number a) w = refl
 negates_by setting to (Some kind) Gone w = refl
@@ -59,7 +59,7 @@ negates_by setting to (Some kind) (Aggregate variant serial parts) w = refl
 negates_by setting to (Some kind) (Box serial impl_no inside) w = refl
 negates_by setting to (Some kind) (Address address) w = refl
 
-module _ (setting : Setting) (run : Bodies) (to : Site) where
+module _ (setting : Setting) (run : Bodies) (to : EffectSite) where
   pub acts_computing : (operator : Math) (left right : Operand) (w : State) → acted setting run (actions.Compute to operator (operand_of 0 left) (operand_of 0 right)) w
       ≡ with_two_operands setting (operand_of 0 left) (operand_of 0 right) w (compute setting to operator (kind_of setting w left))
   acts_computing operator (Operand.Copied place) right w = refl
@@ -85,7 +85,7 @@ same_kind w before (Operand.Truth value) = refl
 same_kind w before Operand.Unit = refl
 
 -- what was computed is stored
-module _ (setting : Setting) (to : Site) (last new : World) (outcome : Outcome) (computed : Option Computed) (h : Does (puts_if setting to computed) last outcome new) where
+module _ (setting : Setting) (to : EffectSite) (last new : World) (outcome : Outcome) (computed : Option Computed) (h : Does (puts_if setting to computed) last outcome new) where
   pub puts_computed : (operator : Math) (kind other : Option IntKind) (left right : Datum) → kind ≡ other → computed ≡ computation operator other left right → Does (compute setting to operator kind left right) last outcome new
   puts_computed operator kind other left right k e before =
       ap seen (computes_by setting to operator kind left right (state_of before last) ∙ ap (λ k. puts_if setting to (computation operator k left right) (state_of before last)) k

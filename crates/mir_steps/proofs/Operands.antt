@@ -18,17 +18,17 @@ use Rattle.cfg_graph.specs.declared.place.Operand.{Operand}
 use Rattle.cfg_graph.specs.declared.place.Operand.TheVariants.{Copied, Moved, Number, Truth, Unit}
 use Rattle.store_model.specs.Concrete.Location.{Setting, Located, Reached, Reaches, CutOff, Nowhere, reach, stored_at}
 use Rattle.store_model.specs.Concrete.State.{State}
-use Rattle.store_model.specs.Effects.{Site}
+use Rattle.store_model.specs.Effects.{EffectSite}
 use Rattle.store_model.specs.Values.Datum as a_datum
 use Rattle.store_model.specs.Values.Datum.{Datum, Gone, datum_of}
 use Rattle.store_model.specs.declared.value.Value.{Value}
 use Rattle.store_model.specs.Values.Wholeness.{IsWhole, is_whole}
 
-pub whole_same : (strict : Bool) (graph : Graph) (w : State) (site : Site) → whole_at (setting_of strict graph) w site ≡ whole_at (setting_of true graph) (with_activations w.activations) site
+pub whole_same : (strict : Bool) (graph : Graph) (w : State) (site : EffectSite) → whole_at (setting_of strict graph) w site ≡ whole_at (setting_of true graph) (with_activations w.activations) site
 whole_same strict graph w site = rw (reach_same strict graph w site.place) refl
 
 -- what stands whole at a place is whole, and stands there
-module _ (setting : Setting) (w : State) (site : Site) (s : Located) (is : whole_at setting w site ≡ Some s) where
+module _ (setting : Setting) (w : State) (site : EffectSite) (s : Located) (is : whole_at setting w site ≡ Some s) where
   found_whole : (r : Reached) → reach setting w site.place ≡ r → ReachesStanding w.activations r → IsWhole s.value × Stands w.activations s
   found_whole CutOff e h = absurd (let k : None ≡ Some s = sym (rw e refl) ∙ is in cc)
   found_whole Nowhere e h = absurd (let k : None ≡ Some s = sym (rw e refl) ∙ is in cc)

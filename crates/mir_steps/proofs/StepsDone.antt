@@ -23,7 +23,7 @@ use Rattle.std.proofs.lemmas.Bool.{true≢false}
 use Rattle.std.specs.Option.{option_map_or, is_some}
 use Rattle.store_model.specs.Concrete.Location.{Setting, Located}
 use Rattle.store_model.specs.Concrete.State.{State, with_event, numbered_next}
-use Rattle.store_model.specs.Effects.{Site, Stuck, Out, Go, Unwind, Halts, OfVariant}
+use Rattle.store_model.specs.Effects.{EffectSite, Stuck, Out, Go, Unwind, Halts, OfVariant}
 use Rattle.store_model.specs.Values.Datum.{Datum, Gone, Number, Truth, UnitValue, Aggregate, Box, Address, data_from, datum_of, datum_of_layer}
 use Rattle.store_model.specs.Values.Wholeness.{IsWhole, AreWhole}
 use Rattle.store_model.proofs.Values.Wholeness.{AreWhole-data_from}
@@ -89,10 +89,10 @@ abbrev pub other_of : Datum → Option Datum
 other_of (Truth b) = Some (Truth (not b))
 other_of _ = None
 
-abbrev pub other_truth : Setting → Site → Datum → State → Out State
+abbrev pub other_truth : Setting → EffectSite → Datum → State → Out State
 other_truth setting to value = put_if setting to (other_of value)
 
-module _ (setting : Setting) (to : Site) (old new : World) (outcome : Outcome) (value : Datum) where
+module _ (setting : Setting) (to : EffectSite) (old new : World) (outcome : Outcome) (value : Datum) where
   pub other_stored : (truth : Bool) → truth_of value ≡ Some truth → Does (put setting to (Truth (not truth))) old outcome new → Does (other_truth setting to value) old outcome new
   other_stored truth e h = go value e
     where
@@ -105,7 +105,7 @@ module _ (setting : Setting) (to : Site) (old new : World) (outcome : Outcome) (
       go (Box serial impl_no inside) e = absurd (cc)
       go (Address address) e = absurd (cc)
 
-pub no_other : (setting : Setting) (to : Site) (w : World) (value : Datum) → truth_of value ≡ None → Does (other_truth setting to value) w Outcome.Stuck w
+pub no_other : (setting : Setting) (to : EffectSite) (w : World) (value : Datum) → truth_of value ≡ None → Does (other_truth setting to value) w Outcome.Stuck w
 no_other setting to w (Truth b) e before = absurd (cc)
 no_other setting to w Gone e before = refl
 no_other setting to w (Number number) e before = refl
@@ -167,7 +167,7 @@ not_told setting event (Go v) Outcome.Stuck w e h = absurd (cc)
 not_told setting event (Unwind v) outcome w e h = e
 not_told setting event (Halts halt v) outcome w e h = e
 
-module _ (setting : Setting) (to : Site) (value : Datum) (event : Event) (old mid : World) where
+module _ (setting : Setting) (to : EffectSite) (value : Datum) (event : Event) (old mid : World) where
   pub stored_then_told : (new : World) → Does (put setting to value) old Outcome.Goes mid → ((before : Trace) → state_of before new ≡ with_event event (state_of before mid)) →
       Does (stored_and_told setting to value event) old Outcome.Goes new
   stored_then_told new h told before = told_after_going setting event (put setting to value (state_of before old)) (state_of before mid) (h before) ∙ ap Goes (sym (told before))
@@ -176,7 +176,7 @@ module _ (setting : Setting) (to : Site) (value : Datum) (event : Event) (old mi
   not_stored outcome h other before = not_told setting event (put setting to value (state_of before old)) outcome (state_of before mid) (h before) other
 
 -- a box is made with the serial number that was drawn
-pub box_made : (setting : Setting) (to : Site) (old drawn new : World) (outcome : Outcome) (serial : ℕ) (content : Datum) → serial ≡ old.serial →
+pub box_made : (setting : Setting) (to : EffectSite) (old drawn new : World) (outcome : Outcome) (serial : ℕ) (content : Datum) → serial ≡ old.serial →
     ((before : Trace) → state_of before drawn ≡ numbered_next (state_of before old)) →
     Does (stored_and_told setting to (Box serial None content) (Event.Boxed serial)) drawn outcome new → Does (boxed setting to content) old outcome new
 box_made setting to old drawn new outcome serial content is next h before =
@@ -318,7 +318,7 @@ nothing_compared operator (Aggregate variant serial parts) right e f = refl
 nothing_compared operator (Box serial impl_no inside) right e f = refl
 nothing_compared operator (Address address) right e f = refl
 
-module _ (setting : Setting) (to : Site) (last : World) where
+module _ (setting : Setting) (to : EffectSite) (last : World) where
   abbrev stores_truth : Option Bool → State → Out State
   stores_truth o = put_if setting to (option_map_or (λ t. Some (Truth t)) o None)
 
@@ -339,12 +339,12 @@ abbrev made_by : ℕ → ℕ → List Datum → Option ℕ → Option (ℕ × �
 made_by adt variant parts serial None = Aggregate variant None (data_from parts)
 made_by adt variant parts serial (Some of) = Aggregate variant serial (data_from parts)
 
-built_is : (setting : Setting) (to : Site) (adt variant : ℕ) (parts : List Datum) (w : State) (body : Option ℕ) → option_map_or (λ (adt : Adt). adt.drop_body) (slice_get setting.items.adts adt) None ≡ body →
+built_is : (setting : Setting) (to : EffectSite) (adt variant : ℕ) (parts : List Datum) (w : State) (body : Option ℕ) → option_map_or (λ (adt : Adt). adt.drop_body) (slice_get setting.items.adts adt) None ≡ body →
     built setting to (OfVariant adt variant) parts w ≡ made_event setting adt to (made_by adt variant parts (Some w.serial) (impl_by adt body)) (impl_by adt body) w
 built_is setting to adt variant parts w None e = rw e refl
 built_is setting to adt variant parts w (Some body) e = rw e refl
 
-module _ (setting : Setting) (to : Site) (adt variant : ℕ) (parts : List Datum) (old : World) (body : Option ℕ)
+module _ (setting : Setting) (to : EffectSite) (adt variant : ℕ) (parts : List Datum) (old : World) (body : Option ℕ)
     (is : option_map_or (λ (adt : Adt). adt.drop_body) (slice_get setting.items.adts adt) None ≡ body) where
   pub unnumbered_made : body ≡ None → (outcome : Outcome) (new : World) → Does (put setting to (Aggregate variant None (data_from parts))) old outcome new →
       Does (built setting to (OfVariant adt variant) parts) old outcome new

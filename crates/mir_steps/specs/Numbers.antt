@@ -7,7 +7,7 @@ use Rattle.store_model.specs.Concrete.Effects as effects
 use Rattle.store_model.specs.Concrete.Effects.{Computed, computed, if_within, put_computed}
 use Rattle.store_model.specs.Concrete.Location.{Setting}
 use Rattle.store_model.specs.Concrete.State.{State}
-use Rattle.store_model.specs.Effects.{Site, Stuck, Out, Halts}
+use Rattle.store_model.specs.Effects.{EffectSite, Stuck, Out, Halts}
 use Rattle.store_model.specs.Values.Datum.{Datum, Number}
 
 abbrev pub computed_as : Computation → Computed
@@ -25,6 +25,6 @@ negation (Some kind) (Number a) = Some (if_within kind (neg_ℤ a))
 negation kind value = None
 
 -- a number that was computed is stored, or a panic starts; or there is no step
-abbrev pub puts_if : Setting → Site → Option Computed → State → Out State
+abbrev pub puts_if : Setting → EffectSite → Option Computed → State → Out State
 puts_if setting to None w = Halts Stuck w
 puts_if setting to (Some computed) w = put_computed setting to computed w

@@ -10,7 +10,7 @@ use Rattle.store_model.specs.Concrete.Location.{Setting}
 use Rattle.mir_base.specs.declared.trace.Event.{Event}
 use Rattle.store_model.specs.Concrete.State.{State, Bodies}
 use Rattle.store_model.specs.Values.Datum.{Datum, Truth}
-use Rattle.store_model.specs.Effects.{Site, Action, Test, Halt, Stuck, Out, Go, Unwind, Halts, Choice, Yes, No, Neither}
+use Rattle.store_model.specs.Effects.{EffectSite, Action, Test, Halt, Stuck, Out, Go, Unwind, Halts, Choice, Yes, No, Neither}
 
 pub data Seen : Type 0 where
   Goes : (w : State) → Seen
@@ -41,7 +41,7 @@ truth_of (Truth truth) = Some truth
 truth_of value = None
 
 -- a value is stored, and then an event tells of it
-abbrev pub stored_and_told : Setting → Site → Datum → Event → State → Out State
+abbrev pub stored_and_told : Setting → EffectSite → Datum → Event → State → Out State
 stored_and_told setting to value event w = tell_after setting event (put setting to value w)
 
 -- a truth value as a number, by which it compares

@@ -6,7 +6,7 @@ use Rattle.cfg_meaning.specs.Actions.{site_of, operand_of, operands_of}
 use Rattle.cfg_meaning.specs.Programs.{setting_of}
 use Rattle.mir_base.specs.Trace.{Trace}
 use Rattle.mir_base.specs.declared.trace.Event.{Event}
-use Rattle.mir_steps.specs.declared.told.Told.{Told}
+use Rattle.mir_steps.specs.declared.told.ToldEvents.{ToldEvents}
 use Rattle.mir_store.specs.Activations.{activations_of}
 use Rattle.mir_steps.specs.declared.world.World.{World}
 use Rattle.store_model.specs.Concrete.Location.{Setting}
@@ -18,9 +18,9 @@ use Rattle.store_model.specs.Values.Datum.{datum_of}
 use Rattle.store_model.specs.Values.Wholeness.{IsWhole}
 
 -- the event that was told
-abbrev pub event_of : Told → Event
-event_of (Told.Event event) = event
-event_of (Told.Printed number) = Event.Printed number
+abbrev pub event_of : ToldEvents → Event
+event_of (ToldEvents.Event event) = event
+event_of (ToldEvents.Printed number) = Event.Printed number
 
 -- after these events, which were handed on
 abbrev pub state_of : Trace → World → State

@@ -10,7 +10,7 @@ ghost use Rattle.store_model.specs.Effects as actions;
 ghost use Rattle.store_model.specs.Values.Datum.{Aggregate, Box as a_box, data_from, datum_of};
 ghost use Rattle.store_model.specs.Values.Wholeness.{IsWhole};
 
-use crate::{Told, World};
+use crate::{ToldEvents, World};
 use cfg_graph::{Operand, Place};
 use mir_base::{Event, List, NoMemory};
 use mir_store::{Reached, reach, whole_at};
@@ -127,7 +127,7 @@ impl World<'_> {
     }
 
     /// Tells of an event.
-    pub fn tell(&mut self, event: Told) -> Result<(), NoMemory>
+    pub fn tell(&mut self, event: ToldEvents) -> Result<(), NoMemory>
         ensures run { run_setting self.new ≡ run_setting self.old }
         ensures told { OnOk result ((before : Trace) →
             state_of before self.new ≡ with_event (event_of event) (state_of before self.old)) }
@@ -147,7 +147,7 @@ impl World<'_> {
         let Some(number) = number_in(&value) else {
             return Ok(Outcome::Stuck);
         };
-        self.tell(Told::Printed(number))?;
+        self.tell(ToldEvents::Printed(number))?;
         Ok(Outcome::Goes)
     }
 
@@ -184,7 +184,7 @@ impl World<'_> {
     {
         match self.put(alloc, to, value)? {
             Outcome::Goes => {
-                self.tell(Told::Event(event))?;
+                self.tell(ToldEvents::Event(event))?;
                 Ok(Outcome::Goes)
             }
             other => Ok(other),

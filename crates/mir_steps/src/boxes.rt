@@ -16,7 +16,7 @@ ghost use Rattle.store_model.specs.Effects as actions;
 ghost use Rattle.store_model.specs.Values.Datum.{datum_of};
 ghost use Rattle.store_model.specs.Values.Wholeness.{IsWhole};
 
-use crate::{Outcome, Told, World, tell_forgotten};
+use crate::{Outcome, ToldEvents, World, tell_forgotten};
 use cfg_graph::{Operand, Place};
 use mir_base::{Event, List, NoMemory};
 use mir_store::{Dynamic, Reached, reach, whole_at};
@@ -164,7 +164,7 @@ impl World<'_> {
         let _freed = self
             .store
             .take(alloc, depth as usize, key.0, path.as_slice())?;
-        self.tell(Told::Event(Event::Freed(serial)))?;
+        self.tell(ToldEvents::Event(Event::Freed(serial)))?;
         Ok(Outcome::Goes)
     }
 

@@ -9,7 +9,7 @@ ghost use Rattle.store_model.specs.Concrete.State.{with_event};
 ghost use Rattle.store_model.specs.Effects as actions;
 
 use crate::actions::{number_in, truth_in};
-use crate::{Outcome, Told, World};
+use crate::{Outcome, ToldEvents, World};
 use cfg_graph::{Operand, Place};
 use mir_base::{Event, NoMemory, Why};
 use mir_store::{Reached, reach};
@@ -23,7 +23,7 @@ impl World<'_> {
         ensures told { OnOk result ((before : Trace) →
             state_of before self.new ≡ with_event (an_event.Panicked why) (state_of before self.old)) }
     {
-        self.tell(Told::Event(Event::Panicked(why)))
+        self.tell(ToldEvents::Event(Event::Panicked(why)))
     }
 
     /// Panics unless an index is below a length.

@@ -10,7 +10,7 @@ ghost use Rattle.store_model.specs.Concrete.Location.{concrete_ty};
 ghost use Rattle.store_model.specs.Places.TypeForms.{adt_of};
 ghost use Rattle.store_model.specs.Values.Datum.{datum_of};
 
-use crate::{Told, drop_body_of};
+use crate::{ToldEvents, drop_body_of};
 use mir_base::{Event, List, NoMemory};
 use mir_store::{Dynamic, adt_of_impl, field_ty, type_of_part};
 use mir_ty::{Items, Ty};
@@ -60,7 +60,7 @@ fn dropping_adt(items: &Items, dynamic: Dynamic) -> Option<u32>
 /// Tells of a numbered value of a struct or enum.
 fn tell_made(
     items: &Items,
-    told: &mut List<Told>,
+    told: &mut List<ToldEvents>,
     serial: Option<u64>,
     dynamic: Dynamic,
 ) -> Result<(), NoMemory>
@@ -73,13 +73,13 @@ fn tell_made(
     let Some(adt) = dropping_adt(items, dynamic) else {
         return Ok(());
     };
-    told.push(Told::Event(Event::ForgotMade { adt, serial }))
+    told.push(ToldEvents::Event(Event::ForgotMade { adt, serial }))
 }
 
 /// Goes over a value: what it tells at once is told, and its parts are to be gone over.
 fn go_over_value<'a>(
     items: &Items,
-    told: &mut List<Told>,
+    told: &mut List<ToldEvents>,
     work: &mut List<Forgets<'a>>,
     value: &'a Value,
     dynamic: Dynamic,
@@ -146,7 +146,7 @@ fn go_over_parts<'a>(
 /// Goes over one thing.
 fn go_over<'a>(
     items: &Items,
-    told: &mut List<Told>,
+    told: &mut List<ToldEvents>,
     work: &mut List<Forgets<'a>>,
     next: Forgets<'a>,
 ) -> Result<(), NoMemory>
@@ -161,7 +161,7 @@ fn go_over<'a>(
             variant,
             dynamic,
         } => go_over_parts(items, work, parts, next, variant, dynamic),
-        Forgets::Boxed(serial) => told.push(Told::Event(Event::ForgotBox(serial))),
+        Forgets::Boxed(serial) => told.push(ToldEvents::Event(Event::ForgotBox(serial))),
     }
 }
 
@@ -170,7 +170,7 @@ fn go_over<'a>(
 pub fn tell_forgotten(
     alloc: Global,
     items: &Items,
-    told: &mut List<Told>,
+    told: &mut List<ToldEvents>,
     value: &Value,
     dynamic: Dynamic,
 ) -> Result<(), NoMemory>

@@ -17,5 +17,5 @@ pub use arithmetic::Computation;
 pub use forgetting::{Forgets, adt_of_dynamic, tell_forgotten};
 pub use making::drop_body_of;
 pub use statements::stop_if;
-pub use told::Told;
+pub use told::ToldEvents;
 pub use world::World;

@@ -6,7 +6,7 @@ ghost use Rattle.store_model.specs.Concrete.Effects.{evaluate_operand};
 ghost use Rattle.store_model.specs.Values.Datum.{datum_of};
 ghost use Rattle.store_model.specs.Values.Wholeness.{IsWhole};
 
-use crate::Told;
+use crate::ToldEvents;
 use cfg_graph::{Graph, Operand, Place};
 use mir_base::{List, NoMemory};
 use mir_store::{Store, whole_at};
@@ -24,7 +24,7 @@ pub struct World<'a> {
     pub ticks: u64,
     pub serial: u64,
     pub store: Store,
-    pub told: List<Told>,
+    pub told: List<ToldEvents>,
 }
 
 impl<'a> World<'a> {

@@ -4,14 +4,14 @@ use Rattle.std.specs.Option.{option_map, option_map_or}
 use Rattle.std.proofs.lemmas.Bool.Decides.{Decides-eqb}
 use Rattle.cfg_meaning.specs.Programs.{arguments_from}
 use Rattle.mir_store.specs.Activations.{on_top_of, root_in}
-use Rattle.mir_store.specs.declared.frame.Entry.{Entry}
+use Rattle.mir_store.specs.declared.frame.StoredLocal.{StoredLocal}
 use Rattle.mir_store.specs.Frames.{activation_of, cells_of}
 use Rattle.store_model.specs.Concrete.State.{Activation, Cells, cell, with_cell, at_depth, with_cell_at}
 use Rattle.store_model.specs.declared.value.Value.{Value}
 use Rattle.store_model.specs.Values.Datum.{Datum, Gone, datum_of}
 
 abbrev pub Frames : Type 0
-Frames = List (ℕ × List Entry)
+Frames = List (ℕ × List StoredLocal)
 
 same_number : (n : ℕ) → (n == n) ≡ true
 same_number n = (Decides-eqb n n).1 refl
@@ -41,7 +41,7 @@ older_kept (frame ∷ frames) older depth h =
     older_kept frames (activation_of frame ∷ older) depth (omega arith) ∙ rw (other_number depth (length older) h) refl
 
 -- the activation of a depth is the frame of that number
-pub frame_at : (frames : Frames) (older : List Activation) (n : ℕ) (frame : ℕ × List Entry) → slice_get frames n ≡ Some frame →
+pub frame_at : (frames : Frames) (older : List Activation) (n : ℕ) (frame : ℕ × List StoredLocal) → slice_get frames n ≡ Some frame →
     at_depth (length older + n) (on_top_of frames older) ≡ Some (activation_of frame)
 frame_at [] older n frame h = absurd (cc)
 frame_at (first ∷ frames) older zero frame h =
@@ -69,7 +69,7 @@ older_changed (frame ∷ frames) older depth key value h =
 abbrev with_local : ℕ → Datum → Activation → Activation
 with_local key value a = record a { cells = with_cell key value a.cells }
 
-pub frame_changed : (frames : Frames) (older : List Activation) (n : ℕ) (frame changed : ℕ × List Entry) (key : ℕ) (value : Datum) → slice_get frames n ≡ Some frame →
+pub frame_changed : (frames : Frames) (older : List Activation) (n : ℕ) (frame changed : ℕ × List StoredLocal) (key : ℕ) (value : Datum) → slice_get frames n ≡ Some frame →
     activation_of changed ≡ with_local key value (activation_of frame) →
     on_top_of (slice_set frames n changed) older ≡ with_cell_at (length older + n) key value (on_top_of frames older)
 frame_changed [] older n frame changed key value h e = absurd (cc)
@@ -87,7 +87,7 @@ too_deep_changed (a ∷ older) depth key value h =
     let rest = too_deep_changed older depth key value (omega arith) in
     rw (number_above depth (length older) (omega arith)) (ap (λ rest. a ∷ rest) rest)
 
-pub on_top_pushed : (frames : Frames) (frame : ℕ × List Entry) (older : List Activation) → on_top_of (frames ++ frame ∷ []) older ≡ activation_of frame ∷ on_top_of frames older
+pub on_top_pushed : (frames : Frames) (frame : ℕ × List StoredLocal) (older : List Activation) → on_top_of (frames ++ frame ∷ []) older ≡ activation_of frame ∷ on_top_of frames older
 on_top_pushed [] frame older = refl
 on_top_pushed (first ∷ frames) frame older = on_top_pushed frames frame (activation_of first ∷ older)
 
@@ -98,7 +98,7 @@ argument_added key (first ∷ args) arg =
     rw (number_above (key + suc (length args)) key (omega arith))
     (ap (λ cells. (key, first) ∷ cells) (ap (λ n. with_cell n arg (arguments_from (suc key) args)) (let i : key + suc (length args) ≡ suc key + length args = omega arith in i) ∙ argument_added (suc key) args arg))
 
-module _ (frames : Frames) (depth key : ℕ) (frame : ℕ × List Entry) (is : slice_get frames depth ≡ Some frame) where
+module _ (frames : Frames) (depth key : ℕ) (frame : ℕ × List StoredLocal) (is : slice_get frames depth ≡ Some frame) where
   at_this_depth : at_depth depth (on_top_of frames []) ≡ Some (activation_of frame)
   at_this_depth = subst (λ n. at_depth n (on_top_of frames []) ≡ Some (activation_of frame)) (let i : 0 + depth ≡ depth = omega arith in i) (frame_at frames [] depth frame is)
 
@@ -106,7 +106,7 @@ module _ (frames : Frames) (depth key : ℕ) (frame : ℕ × List Entry) (is : s
   root_is = ap (λ o. option_map_or (λ a. cell key a.cells) o Gone) at_this_depth
 
   -- what a local of the activation of a depth holds is changed in its frame
-  pub changed_in : (stored : Datum → Datum) (changed : ℕ × List Entry) → changed.0 ≡ frame.0 →
+  pub changed_in : (stored : Datum → Datum) (changed : ℕ × List StoredLocal) → changed.0 ≡ frame.0 →
       cells_of changed.1 ≡ with_cell key (stored (cell key (cells_of frame.1))) (cells_of frame.1) →
       on_top_of (slice_set frames depth changed) [] ≡ with_cell_at depth key (stored (root_in depth key (on_top_of frames []))) (on_top_of frames [])
   changed_in stored changed body cells =
@@ -119,7 +119,7 @@ module _ (frames : Frames) (depth key : ℕ) (frame : ℕ × List Entry) (is : s
 pub left_as_was : (frames : Frames) (depth key : ℕ) (value : Datum) → length frames ≤ depth → on_top_of frames [] ≡ with_cell_at depth key value (on_top_of frames [])
 left_as_was frames depth key value h = let d = depth_of frames [] in sym (too_deep_changed (on_top_of frames []) depth key value (omega arith))
 
-pub popped : (answer : Option (ℕ × List Entry)) (frames rest : Frames) → MatchOption answer ((frames ≡ []) × (rest ≡ [])) (λ last. frames ≡ rest ++ last ∷ []) →
+pub popped : (answer : Option (ℕ × List StoredLocal)) (frames rest : Frames) → MatchOption answer ((frames ≡ []) × (rest ≡ [])) (λ last. frames ≡ rest ++ last ∷ []) →
     MatchOption answer ((on_top_of frames [] ≡ []) × (on_top_of rest [] ≡ [])) (λ frame. on_top_of frames [] ≡ activation_of frame ∷ on_top_of rest [])
 popped None frames rest h = (ap (λ f. on_top_of f []) h.0, ap (λ f. on_top_of f []) h.1)
 popped (Some frame) frames rest h = ap (λ f. on_top_of f []) h ∙ on_top_pushed rest frame []
@@ -132,7 +132,7 @@ same_items : {A : Type 0} (list : List A) → map (λ x. x) list ≡ list
 same_items [] = refl
 same_items (x ∷ list) = ap (λ rest. x ∷ rest) (same_items list)
 
-pub entered : (frame : ℕ × List Entry) (body : ℕ) (yielded args : List Value) → frame.0 ≡ body → cells_of frame.1 ≡ arguments_from 1 (map datum_of yielded) → map (λ x. x) yielded ≡ args →
+pub entered : (frame : ℕ × List StoredLocal) (body : ℕ) (yielded args : List Value) → frame.0 ≡ body → cells_of frame.1 ≡ arguments_from 1 (map datum_of yielded) → map (λ x. x) yielded ≡ args →
     activation_of frame ≡ record { body = body; cells = arguments_from 1 (map datum_of args) }
 entered frame body yielded args b cells all =
     ap (λ n. record { body = n; cells = cells_of frame.1 }) b
@@ -147,12 +147,12 @@ past_end (x ∷ list) (suc n) e = let h = past_end list n e in omega arith
 pub depth_lookup : (frames : Frames) (depth : ℕ) → at_depth depth (on_top_of frames []) ≡ option_map activation_of (slice_get frames depth)
 depth_lookup frames depth = go (slice_get frames depth) refl
   where
-    go : (o : Option (ℕ × List Entry)) → slice_get frames depth ≡ o → at_depth depth (on_top_of frames []) ≡ option_map activation_of o
+    go : (o : Option (ℕ × List StoredLocal)) → slice_get frames depth ≡ o → at_depth depth (on_top_of frames []) ≡ option_map activation_of o
     go (Some frame) e = at_this_depth frames depth 0 frame e
     go None e = let d = depth_of frames [] in let h = past_end frames depth e in too_deep (on_top_of frames []) depth (omega arith)
 
 -- the youngest activation is the last frame
-youngest : (first : ℕ × List Entry) (frames : Frames) (older : List Activation) (depth : ℕ) (frame : ℕ × List Entry) → slice_get (first ∷ frames) depth ≡ Some frame → depth ≡ length frames →
+youngest : (first : ℕ × List StoredLocal) (frames : Frames) (older : List Activation) (depth : ℕ) (frame : ℕ × List StoredLocal) → slice_get (first ∷ frames) depth ≡ Some frame → depth ≡ length frames →
     (rest : List Activation) × (on_top_of (first ∷ frames) older ≡ activation_of frame ∷ rest) × (length rest ≡ depth + length older)
 youngest first [] older zero frame e h = (older, ap (λ f. activation_of f ∷ older) (let same : first ≡ frame = cc in same), omega arith)
 youngest first [] older (suc depth) frame e h = absurd (let never : ⊥ = omega arith in never)
@@ -161,7 +161,7 @@ youngest first (second ∷ frames) older (suc depth) frame e h =
     let found = youngest second frames (activation_of first ∷ older) depth frame e (omega arith) in
     (found.0, found.1, (let n = found.2 in omega arith))
 
-pub youngest_frame : (frames : Frames) (depth : ℕ) (frame : ℕ × List Entry) → slice_get frames depth ≡ Some frame → suc depth ≡ length frames →
+pub youngest_frame : (frames : Frames) (depth : ℕ) (frame : ℕ × List StoredLocal) → slice_get frames depth ≡ Some frame → suc depth ≡ length frames →
     (rest : List Activation) × (on_top_of frames [] ≡ activation_of frame ∷ rest) × (length rest ≡ depth)
 youngest_frame [] depth frame e h = absurd (let never : ⊥ = omega arith in never)
 youngest_frame (first ∷ frames) depth frame e h =

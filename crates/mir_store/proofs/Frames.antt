@@ -6,18 +6,18 @@ use Rattle.std.specs.Option.{option_map, option_map_or}
 use Rattle.store_model.specs.declared.address.At.{At}
 use Rattle.store_model.specs.declared.address.At.TheVariants.{Part, Inside}
 use Rattle.store_model.specs.Values.Access.{replaced}
-use Rattle.mir_store.specs.declared.frame.Entry.{Entry}
+use Rattle.mir_store.specs.declared.frame.StoredLocal.{StoredLocal}
 use Rattle.mir_store.specs.Frames.{place_of, place_from, place_in, entry_of, cells_of}
 use Rattle.store_model.specs.declared.value.Value.{Value}
 use Rattle.store_model.specs.Concrete.State.{cell, with_cell}
 use Rattle.store_model.specs.Values.Datum.{Datum, Gone, datum_of}
 
-abbrev holding : Entry → Value → Entry
+abbrev holding : StoredLocal → Value → StoredLocal
 holding entry value = record entry { cell = value }
 
 -- a local has an entry at a place; to change what it holds there is to store into it
-pub record EntryAt (key place : ℕ) (entries : List Entry) : Type 0 where
-  pub entry : Entry
+pub record EntryAt (key place : ℕ) (entries : List StoredLocal) : Type 0 where
+  pub entry : StoredLocal
   pub within : place < length entries
   pub is : slice_get entries place ≡ Some entry
   pub found : entry_of key entries ≡ Some entry.cell
@@ -25,7 +25,7 @@ pub record EntryAt (key place : ℕ) (entries : List Entry) : Type 0 where
   pub changed : (value : Value) → cells_of (slice_set entries place (holding entry value)) ≡ with_cell key (datum_of value) (cells_of entries)
   pub kept : (value : Value) (other : ℕ) → place_of other (slice_set entries place (holding entry value)) ≡ place_of other entries
 
-first_entry : (key : ℕ) (entry : Entry) (entries : List Entry) → (key == entry.key) ≡ true → EntryAt key 0 (entry ∷ entries)
+first_entry : (key : ℕ) (entry : StoredLocal) (entries : List StoredLocal) → (key == entry.key) ≡ true → EntryAt key 0 (entry ∷ entries)
 first_entry key entry entries e = record {
   entry = entry;
   within = omega arith;
@@ -36,7 +36,7 @@ first_entry key entry entries e = record {
   kept = λ value other. refl;
 }
 
-later_entry : (key place : ℕ) (entry : Entry) (entries : List Entry) → (key == entry.key) ≡ false → EntryAt key place entries → EntryAt key (suc place) (entry ∷ entries)
+later_entry : (key place : ℕ) (entry : StoredLocal) (entries : List StoredLocal) → (key == entry.key) ≡ false → EntryAt key place entries → EntryAt key (suc place) (entry ∷ entries)
 later_entry key place entry entries e at = record {
   entry = at.entry;
   within = let h = at.within in omega arith;
@@ -47,24 +47,24 @@ later_entry key place entry entries e at = record {
   kept = λ value other. ap (λ o. if other == entry.key then Some 0 else option_map suc o) (at.kept value other);
 }
 
-entry_after : (key place : ℕ) (entry : Entry) (entries : List Entry) → ((p : ℕ) → place_of key entries ≡ Some p → EntryAt key p entries) →
+entry_after : (key place : ℕ) (entry : StoredLocal) (entries : List StoredLocal) → ((p : ℕ) → place_of key entries ≡ Some p → EntryAt key p entries) →
     (b : Bool) → (key == entry.key) ≡ b → (o : Option ℕ) → place_of key entries ≡ o → (if b then Some 0 else option_map suc o) ≡ Some place → EntryAt key place (entry ∷ entries)
 entry_after key place entry entries ih true e o d h = subst (λ p. EntryAt key p (entry ∷ entries)) (let k : 0 ≡ place = cc in k) (first_entry key entry entries e)
 entry_after key place entry entries ih false e None d h = absurd (cc)
 entry_after key place entry entries ih false e (Some p) d h = subst (λ q. EntryAt key q (entry ∷ entries)) (let k : suc p ≡ place = cc in k) (later_entry key p entry entries e (ih p d))
 
-pub entry_at : (key : ℕ) (entries : List Entry) (place : ℕ) → place_of key entries ≡ Some place → EntryAt key place entries
+pub entry_at : (key : ℕ) (entries : List StoredLocal) (place : ℕ) → place_of key entries ≡ Some place → EntryAt key place entries
 entry_at key [] place h = absurd (cc)
 entry_at key (entry ∷ entries) place h = entry_after key place entry entries (entry_at key entries) (key == entry.key) refl (place_of key entries) refl h
 
 -- a local has no entry; to add one is to store into it
-pub record NoEntry (key : ℕ) (entries : List Entry) : Type 0 where
+pub record NoEntry (key : ℕ) (entries : List StoredLocal) : Type 0 where
   pub missing : entry_of key entries ≡ None
   pub empty : cell key (cells_of entries) ≡ Gone
   pub added : (value : Value) → cells_of (entries ++ (record { key = key; cell = value }) ∷ []) ≡ with_cell key (datum_of value) (cells_of entries)
   pub last : (value : Value) → place_of key (entries ++ (record { key = key; cell = value }) ∷ []) ≡ Some (length entries)
 
-no_entry_after : (key : ℕ) (entry : Entry) (entries : List Entry) → (place_of key entries ≡ None → NoEntry key entries) →
+no_entry_after : (key : ℕ) (entry : StoredLocal) (entries : List StoredLocal) → (place_of key entries ≡ None → NoEntry key entries) →
     (b : Bool) → (key == entry.key) ≡ b → (o : Option ℕ) → place_of key entries ≡ o → (if b then Some 0 else option_map suc o) ≡ None → NoEntry key (entry ∷ entries)
 no_entry_after key entry entries ih true e o d h = absurd (cc)
 no_entry_after key entry entries ih false e (Some p) d h = absurd (cc)
@@ -77,7 +77,7 @@ no_entry_after key entry entries ih false e None d h =
       last = λ value. rw e (ap (option_map suc) (none.last value));
     }
 
-pub no_entry : (key : ℕ) (entries : List Entry) → place_of key entries ≡ None → NoEntry key entries
+pub no_entry : (key : ℕ) (entries : List StoredLocal) → place_of key entries ≡ None → NoEntry key entries
 no_entry key [] h = record { missing = refl; empty = refl; added = λ value. refl; last = λ value. rw ((Decides-eqb key key).1 refl) refl }
 no_entry key (entry ∷ entries) h = no_entry_after key entry entries (no_entry key entries) (key == entry.key) refl (place_of key entries) refl h
 
@@ -89,7 +89,7 @@ different a b h = go (a == b) refl
     go false e = e
 
 -- an added entry is that of its local alone
-pub others_kept : (entry : Entry) (other : ℕ) (entries : List Entry) → other ≢ entry.key → place_of other (entries ++ entry ∷ []) ≡ place_of other entries
+pub others_kept : (entry : StoredLocal) (other : ℕ) (entries : List StoredLocal) → other ≢ entry.key → place_of other (entries ++ entry ∷ []) ≡ place_of other entries
 others_kept entry other [] h = rw (different other entry.key h) refl
 others_kept entry other (first ∷ entries) h = ap (λ o. if other == first.key then Some 0 else option_map suc o) (others_kept entry other entries h)
 
@@ -107,7 +107,7 @@ set_elsewhere (first ∷ list) (suc n) (suc m) value h =
     set_elsewhere list n m value (different m n (λ e. true≢false (sym ((Decides-eqb (suc m) (suc n)).1 (ap suc e)) ∙ h)))
 
 -- the index with one place more is that of the entries with one entry more
-pub index_added : (index : List ℕ) (entries : List Entry) (entry : Entry) → ((key : ℕ) → place_in index key ≡ place_of key entries) → entry.key < length index →
+pub index_added : (index : List ℕ) (entries : List StoredLocal) (entry : StoredLocal) → ((key : ℕ) → place_in index key ≡ place_of key entries) → entry.key < length index →
     place_of entry.key entries ≡ None → (key : ℕ) → place_in (slice_set index entry.key (suc (length entries))) key ≡ place_of key (entries ++ entry ∷ [])
 index_added index entries entry indexed wide none key = go (key == entry.key) refl
   where
@@ -121,10 +121,10 @@ index_added index entries entry indexed wide none key = go (key == entry.key) re
 
 -- The same, of what was read at the place.
 
-same_entry : (place : ℕ) (entries : List Entry) (one other : Entry) → slice_get entries place ≡ Some one → slice_get entries place ≡ Some other → one ≡ other
+same_entry : (place : ℕ) (entries : List StoredLocal) (one other : StoredLocal) → slice_get entries place ≡ Some one → slice_get entries place ≡ Some other → one ≡ other
 same_entry place entries one other e h = cc
 
-module _ (key place : ℕ) (entries : List Entry) (entry : Entry) (h : place_of key entries ≡ Some place) (is : slice_get entries place ≡ Some entry) where
+module _ (key place : ℕ) (entries : List StoredLocal) (entry : StoredLocal) (h : place_of key entries ≡ Some place) (is : slice_get entries place ≡ Some entry) where
   pub read_found : entry_of key entries ≡ Some entry.cell
   read_found = let at = entry_at key entries place h in at.found ∙ ap (λ e. Some e.cell) (same_entry place entries at.entry entry at.is is)
 
@@ -141,12 +141,12 @@ module _ (key place : ℕ) (entries : List Entry) (entry : Entry) (h : place_of 
       let at = entry_at key entries place h in
       ap (λ e. place_of other (slice_set entries place (holding e value))) (sym (same_entry place entries at.entry entry at.is is)) ∙ at.kept value other
 
-pub within_entries : (key place : ℕ) (entries : List Entry) → place_of key entries ≡ Some place → place < length entries
+pub within_entries : (key place : ℕ) (entries : List StoredLocal) → place_of key entries ≡ Some place → place < length entries
 within_entries key place entries h = (entry_at key entries place h).within
 
 -- to add an entry of a local that has none is to store into it
-pub store_added : (frame : ℕ × List Entry) (key : ℕ) (value : Value) (stored : Datum → Datum) → place_of key frame.1 ≡ None → datum_of value ≡ stored Gone →
-    (after : ℕ × List Entry) → after ≡ (frame.0, frame.1 ++ (record { key = key; cell = value }) ∷ []) →
+pub store_added : (frame : ℕ × List StoredLocal) (key : ℕ) (value : Value) (stored : Datum → Datum) → place_of key frame.1 ≡ None → datum_of value ≡ stored Gone →
+    (after : ℕ × List StoredLocal) → after ≡ (frame.0, frame.1 ++ (record { key = key; cell = value }) ∷ []) →
     cells_of after.1 ≡ with_cell key (stored (cell key (cells_of frame.1))) (cells_of frame.1)
 store_added frame key value stored none is after e =
     let no = no_entry key frame.1 none in
@@ -158,7 +158,7 @@ nothing_stays (Part n ∷ place) = refl
 nothing_stays (Inside ∷ place) = refl
 
 -- what a local holds, by its entry
-pub cell_by_entry : (key : ℕ) (entries : List Entry) → cell key (cells_of entries) ≡ option_map_or datum_of (entry_of key entries) Gone
+pub cell_by_entry : (key : ℕ) (entries : List StoredLocal) → cell key (cells_of entries) ≡ option_map_or datum_of (entry_of key entries) Gone
 cell_by_entry key [] = refl
 cell_by_entry key (entry ∷ entries) = go (key == entry.key) (cell_by_entry key entries)
   where

@@ -16,7 +16,7 @@ use Rattle.cfg_meaning.specs.Programs.{setting_of}
 use Rattle.mir_store.specs.Activations.{on_top_of}
 use Rattle.mir_store.specs.Frames.{activation_of, cells_of}
 use Rattle.mir_store.specs.Standing.{with_activations, count_of_parts, number_of, reach_of_found, into_element_found, located_root_found, into_all_found, along_found}
-use Rattle.mir_store.specs.declared.frame.Entry.{Entry}
+use Rattle.mir_store.specs.declared.frame.StoredLocal.{StoredLocal}
 use Rattle.mir_store.proofs.Activations.{Frames, depth_lookup, youngest_frame}
 use Rattle.store_model.specs.declared.address.Addr.{Addr}
 use Rattle.store_model.specs.Concrete.Location.{Located, CutOff, Nowhere, into, located_at, reach, on_reached}
@@ -27,7 +27,7 @@ module _ (graph : Graph) (frames : Frames) (address : Addr) where
   pub no_frame : slice_get frames address.depth ≡ None → located_at (setting_of true graph) (with_activations (on_top_of frames [])) address ≡ None
   no_frame e = rw (depth_lookup frames address.depth, e) refl
 
-  pub by_frame : (frame : ℕ × List Entry) → slice_get frames address.depth ≡ Some frame →
+  pub by_frame : (frame : ℕ × List StoredLocal) → slice_get frames address.depth ≡ Some frame →
       located_at (setting_of true graph) (with_activations (on_top_of frames [])) address
       ≡ option_and_then (into_all_found graph.items address.path) (located_root_found address.depth address.key.0 (cells_of frame.1) ((setting_of true graph).local_ty frame.0 address.key.0))
   by_frame frame e = rw (depth_lookup frames address.depth, e) refl
@@ -84,13 +84,13 @@ at_none o P e h = subst (λ o. IfNone o P) e h
 
 -- where a place of the youngest activation is, by its frame
 module _ (graph : Graph) (frames : Frames) (place : Place) where
-  reach_in : (depth : ℕ) (frame : ℕ × List Entry) (rest : List Activation) (w : State) → w.activations ≡ activation_of frame ∷ rest → length rest ≡ depth →
+  reach_in : (depth : ℕ) (frame : ℕ × List StoredLocal) (rest : List Activation) (w : State) → w.activations ≡ activation_of frame ∷ rest → length rest ≡ depth →
       reach (setting_of true graph) w place
       ≡ on_reached (reach_of_found (located_root_found depth place.local (cells_of frame.1) ((setting_of true graph).local_ty frame.0 place.local)))
       (along_found (setting_of true graph) w (cells_of frame.1) place.steps) CutOff Nowhere
   reach_in depth frame rest w e h = rw (e, sym h) refl
 
-  pub reach_by_frame : (depth : ℕ) (frame : ℕ × List Entry) → slice_get frames depth ≡ Some frame → suc depth ≡ length frames →
+  pub reach_by_frame : (depth : ℕ) (frame : ℕ × List StoredLocal) → slice_get frames depth ≡ Some frame → suc depth ≡ length frames →
       reach (setting_of true graph) (with_activations (on_top_of frames [])) place
       ≡ on_reached (reach_of_found (located_root_found depth place.local (cells_of frame.1) ((setting_of true graph).local_ty frame.0 place.local)))
       (along_found (setting_of true graph) (with_activations (on_top_of frames [])) (cells_of frame.1) place.steps) CutOff Nowhere

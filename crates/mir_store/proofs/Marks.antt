@@ -5,7 +5,7 @@ use Rattle.std.specs.Cmp.{first_so, second_so}
 use Rattle.std.specs.List.{list_any, filter}
 use Rattle.std.specs.Option.{option_map, is_some}
 use Rattle.std.proofs.lemmas.Bool.Decides.{Decides-eqb}
-use Rattle.mir_store.specs.Marks.{same_step, leads_into, is_outside, IsMarked, Marks}
+use Rattle.mir_store.specs.Marks.{same_step, leads_into, is_outside, IsMarked, GoneMarks}
 use Rattle.store_model.proofs.Values.Access.{none_or_some, value_at-below, value_at-append, replaced-nowhere, value_at-replaced, value_at-replaced_above, value_at-replaced_below, value_at-below_Gone, value_at-replaced_apart, paths_compare}
 use Rattle.store_model.proofs.Values.Wholeness.{IsWhole-iff_no_gone, is_whole-iff_IsWhole}
 use Rattle.store_model.specs.declared.address.At.{At}
@@ -109,7 +109,7 @@ same_outside place path new root out = go (paths_compare place path)
     go (inr (inr apart)) = rw (value_at-replaced_apart place path new root apart) (λ h. h, λ h. h)
 
 -- nothing is gone in a whole value
-pub none_gone : (root : Datum) → IsWhole root → Marks root []
+pub none_gone : (root : Datum) → IsWhole root → GoneMarks root []
 none_gone root whole path = (λ c. absurd c, λ h. absurd ((IsWhole-iff_no_gone root).0 whole path h))
 
 -- Which paths are marked after some were removed or one was added.
@@ -176,7 +176,7 @@ found_marked test [] path m h = absurd m
 found_marked test (p ∷ places) path m h = found_there test p places path h (λ k. found_marked test places path k h) (test p) refl m
 
 -- a place is whole where no mark leads to it or into it
-pub whole_by_marks : (root inner : Datum) (places : List (List At)) (place : List At) → Marks root places → value_at place root ≡ Some inner →
+pub whole_by_marks : (root inner : Datum) (places : List (List At)) (place : List At) → GoneMarks root places → value_at place root ≡ Some inner →
     not (list_any (λ path. leads_into path place) places) ≡ is_whole inner
 whole_by_marks root inner places place marks stands = go (list_any (λ path. leads_into path place) places) refl (is_whole inner) refl
   where
@@ -229,8 +229,8 @@ nothing_gone_within root new place below whole h = go (none_or_some (value_at pl
     go (inr (old, stands)) = (IsWhole-iff_no_gone new).0 whole below (sym (value_at-replaced_above place below new root old stands) ∙ h)
 
 -- the marks after a whole value was put at a place
-pub marks_put : (root new : Datum) (places : List (List At)) (place : List At) → IsWhole new → Marks root places →
-    Marks (replaced place new root) (filter (is_outside true place) places)
+pub marks_put : (root new : Datum) (places : List (List At)) (place : List At) → IsWhole new → GoneMarks root places →
+    GoneMarks (replaced place new root) (filter (is_outside true place) places)
 marks_put root new places place whole marks path = (told, tells)
   where
     told : IsMarked (filter (is_outside true place) places) path → value_at path (replaced place new root) ≡ Some Gone
@@ -252,8 +252,8 @@ same_by_length path place ([], e) h = sym (append-nil place) ∙ sym e
 same_by_length path place (step ∷ below, e) h = absurd (let k = ap length e in let l = length-append place (step ∷ below) in omega arith)
 
 -- the marks after what stood at a place was taken
-pub marks_taken : (root old : Datum) (places : List (List At)) (place : List At) → value_at place root ≡ Some old → Marks root places →
-    Marks (replaced place Gone root) (filter (is_outside false place) (places ++ place ∷ []))
+pub marks_taken : (root old : Datum) (places : List (List At)) (place : List At) → value_at place root ≡ Some old → GoneMarks root places →
+    GoneMarks (replaced place Gone root) (filter (is_outside false place) (places ++ place ∷ []))
 marks_taken root old places place stands marks path = (told, tells)
   where
     told : IsMarked (filter (is_outside false place) (places ++ place ∷ [])) path → value_at path (replaced place Gone root) ≡ Some Gone
@@ -314,8 +314,8 @@ root_alone (step ∷ path) = (told step, tells step)
     tells Inside h = absurd (cc)
 
 -- of what is gone the whole is the one place that is
-pub all_gone : (places : List (List At)) → places ≡ [] ∷ [] → Marks (datum_of nothing) places
-all_gone places e = subst (λ root. Marks root places) (sym datum_of_nothing) (subst (Marks Gone) (sym e) root_alone)
+pub all_gone : (places : List (List At)) → places ≡ [] ∷ [] → GoneMarks (datum_of nothing) places
+all_gone places e = subst (λ root. GoneMarks root places) (sym datum_of_nothing) (subst (GoneMarks Gone) (sym e) root_alone)
 
 -- a value put in what is gone is lost, but for one in place of the whole
 pub put_in_gone : (place : List At) (value : Datum) → (length place == 0) ≡ false → replaced place value Gone ≡ Gone

@@ -3,7 +3,7 @@ use Rattle.std.proofs.Common.{◌≡◌, ℕ, false, List, [], ◌∷◌, Some, 
 use Rattle.std.specs.Option.{option_map, option_map_or}
 use Rattle.mir_store.specs.Activations.{on_top_of, root_in}
 use Rattle.mir_store.specs.Frames.{entry_of, activation_of}
-use Rattle.mir_store.specs.declared.frame.Entry.{Entry}
+use Rattle.mir_store.specs.declared.frame.StoredLocal.{StoredLocal}
 use Rattle.mir_store.proofs.Activations.{Frames, depth_lookup, root_is}
 use Rattle.mir_store.proofs.Frames.{cell_by_entry}
 use Rattle.mir_store.proofs.Stands.{Stands, ReachesStanding, reach_stands}
@@ -28,7 +28,7 @@ module _ (frames : Frames) (depth key : ℕ) (place : List At) (value : Datum) (
       whole_in_gone place value
       (sym (ap (λ o. value_at place (option_map_or (λ a. cell key a.cells) o Gone)) (depth_lookup frames depth ∙ ap (option_map activation_of) none)) ∙ stands)
 
-  module _ (frame : ℕ × List Entry) (is : slice_get frames depth ≡ Some frame) where
+  module _ (frame : ℕ × List StoredLocal) (is : slice_get frames depth ≡ Some frame) where
     pub not_whole_unstored : entry_of key frame.1 ≡ None → false ≡ is_whole value
     not_whole_unstored none =
         whole_in_gone place value

@@ -1,14 +1,14 @@
 -- The activations of the bodies that run or wait, as the machine holds them.
 use Rattle.std.specs.Prelude.{ℕ, List, [], ◌∷◌}
 use Rattle.std.specs.Option.{option_map_or}
-use Rattle.mir_store.specs.declared.frame.Entry.{Entry}
+use Rattle.mir_store.specs.declared.frame.StoredLocal.{StoredLocal}
 use Rattle.mir_store.specs.declared.store.Store.{Store}
 use Rattle.mir_store.specs.Frames.{activation_of}
 use Rattle.store_model.specs.Concrete.State.{Activation, cell, at_depth}
 use Rattle.store_model.specs.Values.Datum.{Datum, Gone}
 
 -- activations, the youngest first, on top of older ones
-abbrev pub on_top_of : List (ℕ × List Entry) → List Activation → List Activation
+abbrev pub on_top_of : List (ℕ × List StoredLocal) → List Activation → List Activation
 on_top_of [] older = older
 on_top_of (frame ∷ frames) older = on_top_of frames (activation_of frame ∷ older)
 

@@ -25,5 +25,5 @@ IsMarked [] path = ⊥
 IsMarked (marked ∷ places) path = (marked ≡ path) ⊎ IsMarked places path
 
 -- these are all places of a value that are gone
-abbrev pub Marks : Datum → List (List At) → Type 0
-Marks root places = (path : List At) → IsMarked places path ↔ (value_at path root ≡ Some Gone)
+abbrev pub GoneMarks : Datum → List (List At) → Type 0
+GoneMarks root places = (path : List At) → IsMarked places path ↔ (value_at path root ≡ Some Gone)

@@ -24,7 +24,7 @@ pub struct Cell {
 impl Model for Cell {
     ghost use Rattle.store_model.specs.declared.value.Value.{Value as Held};
     ghost use Rattle.store_model.specs.Values.Datum.{datum_of};
-    ghost use Rattle.mir_store.specs.Marks.{Marks};
+    ghost use Rattle.mir_store.specs.Marks.{GoneMarks};
     ghost use Rattle.store_model.specs.contracts.value.Value as held;
     ghost use Rattle.std.specs.Coded.{codes};
 
@@ -34,7 +34,7 @@ impl Model for Cell {
 
     ghost view = { λ cell. cell.value };
 
-    ghost invariant = { λ cell. Marks (datum_of cell.value) cell.gone.items };
+    ghost invariant = { λ cell. GoneMarks (datum_of cell.value) cell.gone.items };
 }
 
 /// Whether a path leads to a place or into it.

@@ -15,7 +15,7 @@ use store_model::{At, Value};
 
 /// A local that was stored into.
 #[derive(Drop)]
-pub struct Entry {
+pub struct StoredLocal {
     pub key: u32,
     pub cell: Cell,
 }
@@ -23,18 +23,18 @@ pub struct Entry {
 /// The locals of a body that runs: those that were stored into, in the order of their first stores. A local is found by
 /// its number without a search.
 #[derive(Drop)]
-pub struct Frame {
+pub struct MachineFrame {
     body: u32,
-    entries: List<Entry>,
+    entries: List<StoredLocal>,
     /// By the number of a local: 0, or one more than its place among the entries.
     index: List<u32>,
 }
 
-impl Model for Frame {
+impl Model for MachineFrame {
     ghost use Rattle.std.specs.Prelude.{◌≡◌, ℕ, List as Listed};
     ghost use Rattle.std.specs.Coded.{codes};
     ghost use Rattle.mir_store.specs.contracts.cell.Cell as held;
-    ghost use Rattle.mir_store.specs.declared.frame.Entry.{Entry as an_entry};
+    ghost use Rattle.mir_store.specs.declared.frame.StoredLocal.{StoredLocal as an_entry};
     ghost use Rattle.mir_store.specs.Frames.{place_in, place_of};
 
     ghost Value = { ℕ × Listed an_entry };
@@ -101,12 +101,12 @@ fn widen(index: &mut List<u32>, key: u32) -> Result<(), NoMemory>
     Ok(())
 }
 
-impl Frame {
+impl MachineFrame {
     /// A body that has just been entered: nothing was stored yet.
-    pub fn new(alloc: Global, body: u32) -> Frame
+    pub fn new(alloc: Global, body: u32) -> MachineFrame
         ensures { result ≡ (body, []) }
     {
-        Frame {
+        MachineFrame {
             body,
             entries: List::new(alloc),
             index: List::new(alloc),
@@ -132,7 +132,7 @@ impl Frame {
     }
 
     /// Makes an entry of a local into which nothing was stored.
-    fn add(&mut self, entry: Entry) -> Result<(), NoMemory>
+    fn add(&mut self, entry: StoredLocal) -> Result<(), NoMemory>
         requires { place_of entry.key self.old.1 ≡ None }
         ensures body { self.new.0 ≡ self.old.0 }
         ensures added { OnOk result (self.new ≡ (self.old.0, self.old.1 ++ entry ∷ [])) }
@@ -165,7 +165,7 @@ impl Frame {
             }
             None => {
                 let cell = new_cell(alloc, place, value)?;
-                self.add(Entry { key, cell })
+                self.add(StoredLocal { key, cell })
             }
         }
     }
@@ -183,7 +183,7 @@ impl Frame {
             Some(number) => self.entries.element_mut(number).cell.take(alloc, place),
             None => {
                 let cell = Cell::vacant(alloc)?;
-                self.add(Entry { key, cell })?;
+                self.add(StoredLocal { key, cell })?;
                 Ok(taken_of_nothing(place))
             }
         }

@@ -10,7 +10,7 @@ mod types;
 mod whole;
 
 pub use cell::Cell;
-pub use frame::{Entry, Frame};
+pub use frame::{MachineFrame, StoredLocal};
 pub use location::{Located, Reached, is_of_type, located_at, reach};
 pub use store::Store;
 pub use types::{Dynamic, adt_of_impl, field_ty, local_ty, type_of_part};

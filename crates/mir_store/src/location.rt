@@ -16,7 +16,7 @@ ghost use Rattle.store_model.specs.Values.Access.{part};
 ghost use Rattle.store_model.specs.Values.Datum.{datum_of};
 
 use crate::types::{adt_of_impl, local_ty, type_of_part};
-use crate::{Dynamic, Frame, Store};
+use crate::{Dynamic, MachineFrame, Store};
 use cfg_graph::{Graph, Place, Step};
 use mir_base::{Key, NoMemory};
 use mir_ty::{Items, Ty, TyId};
@@ -76,7 +76,7 @@ fn into<'a>(items: &Items, step: At, s: Located<'a>) -> Result<Option<Located<'a
 }
 
 /// What a local holds that was stored into.
-fn local_value(frame: &Frame, key: u32) -> Option<&Value>
+fn local_value(frame: &MachineFrame, key: u32) -> Option<&Value>
     ensures { standing result ≡ cell key (cells_of frame.now.1) }
 {
     match frame.cell(key) {
@@ -89,7 +89,7 @@ fn local_value(frame: &Frame, key: u32) -> Option<&Value>
 fn root<'a>(
     alloc: Global,
     graph: &Graph,
-    frame: &'a Frame,
+    frame: &'a MachineFrame,
     depth: u32,
     key: u32,
 ) -> Option<Located<'a>>
@@ -312,7 +312,7 @@ fn follow<'a>(
     alloc: Global,
     graph: &Graph,
     store: &'a Store,
-    frame: &Frame,
+    frame: &MachineFrame,
     step: Step,
     s: Located<'a>,
 ) -> Result<Reached<'a>, NoMemory>

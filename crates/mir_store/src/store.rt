@@ -9,7 +9,7 @@ ghost use Rattle.store_model.specs.Values.Datum.{Gone, datum_of};
 ghost use Rattle.store_model.specs.Values.Access.{value_at, replaced};
 ghost use Rattle.store_model.specs.Values.Wholeness.{IsWhole};
 
-use crate::Frame;
+use crate::MachineFrame;
 use crate::frame::taken_of_nothing;
 use mir_base::{List, NoMemory};
 use std::alloc::Global;
@@ -21,11 +21,11 @@ use store_model::{At, Value};
 /// activations, nor on the size of values.
 #[derive(Drop)]
 pub struct Store {
-    frames: List<Frame>,
+    frames: List<MachineFrame>,
 }
 
 /// The locals of a body that is entered: the arguments are those from 1 on.
-fn frame_with(alloc: Global, body: u32, args: List<Value>) -> Result<Frame, NoMemory>
+fn frame_with(alloc: Global, body: u32, args: List<Value>) -> Result<MachineFrame, NoMemory>
     requires { All (λ arg. IsWhole (datum_of arg)) args }
     ensures { IfOk result (λ frame. activation_of frame ≡ record {
       body = body;
@@ -33,7 +33,7 @@ fn frame_with(alloc: Global, body: u32, args: List<Value>) -> Result<Frame, NoMe
           datum_of args);
     }) }
 {
-    let mut frame = Frame::new(alloc, body);
+    let mut frame = MachineFrame::new(alloc, body);
     let mut key: u32 = 0;
     for arg in args.into_vec() {
         key = key.checked_add(1).ok_or(NoMemory)?;
@@ -60,7 +60,7 @@ impl Store {
     }
 
     /// The locals of the activation of a depth, if one runs.
-    pub fn frame(&self, depth: usize) -> Option<&Frame>
+    pub fn frame(&self, depth: usize) -> Option<&MachineFrame>
         ensures { option_copied result ≡ slice_get self.now.frames depth }
     {
         self.frames.get(depth)
@@ -79,7 +79,7 @@ impl Store {
     }
 
     /// The youngest body ends; what its locals held is handed out.
-    pub fn leave(&mut self) -> Option<Frame>
+    pub fn leave(&mut self) -> Option<MachineFrame>
         ensures { MatchOption result ((activations_of self.old ≡ []) × (activations_of self.new ≡ []))
             (λ frame. activations_of self.old ≡ activation_of frame ∷ activations_of self.new) }
     {

@@ -11,7 +11,7 @@ use Rattle.mir_ty.specs.declared.ty.TyId.{TyId}
 use Rattle.mir_ty.specs.declared.adt.Adt.{Adt}
 use Rattle.mir_ty.specs.declared.def.ClosureDef.{ClosureDef}
 use Rattle.mir_ty.specs.Facts.{Rule, copy_rule, drop_rule, adt_drop_rule}
-use Rattle.mir_ty.specs.declared.facts.Fact.{Fact}
+use Rattle.mir_ty.specs.declared.facts.TypeFact.{TypeFact}
 use Rattle.mir_ty.specs.AreItems.{types_in}
 use Rattle.mir_ty.specs.Known.{rule_of}
 use Rattle.mir_ty.proofs.ListLemmas.{slice_get-append_left, slice_get-below, list_any-same, list_all-same, All-slice_get}
@@ -169,6 +169,6 @@ module _ (adts : List Adt) (closures : List ClosureDef) where
   drop_other_closures def P (Ty.Closure n) other = at_other _ closures def n (λ e. other (ap Ty.Closure e))
   drop_other_closures def P _ other = refl
 
-pub rule_of-growing : (fact : Fact) (adts : List Adt) (closures : List ClosureDef) → IsGrowing (rule_of fact adts closures)
-rule_of-growing Fact.IsCopy adts closures = copy_rule-growing adts closures
-rule_of-growing Fact.NeedsDrop adts closures = drop_rule-growing adts closures
+pub rule_of-growing : (fact : TypeFact) (adts : List Adt) (closures : List ClosureDef) → IsGrowing (rule_of fact adts closures)
+rule_of-growing TypeFact.IsCopy adts closures = copy_rule-growing adts closures
+rule_of-growing TypeFact.NeedsDrop adts closures = drop_rule-growing adts closures

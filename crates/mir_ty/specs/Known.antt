@@ -4,15 +4,15 @@ use Rattle.mir_ty.specs.declared.ty.Ty.{Ty}
 use Rattle.mir_ty.specs.declared.ty.TyId.{TyId}
 use Rattle.mir_ty.specs.declared.adt.Adt.{Adt}
 use Rattle.mir_ty.specs.declared.def.ClosureDef.{ClosureDef}
-use Rattle.mir_ty.specs.declared.facts.Fact.{Fact}
+use Rattle.mir_ty.specs.declared.facts.TypeFact.{TypeFact}
 use Rattle.mir_ty.specs.Facts.{Rule, copy_rule, drop_rule, by_rule}
 
 abbrev pub known_by : List Bool → TyId → Bool
 known_by known id = slice_index_or known id.0 false
 
-abbrev pub rule_of : Fact → List Adt → List ClosureDef → Rule
-rule_of Fact.IsCopy = copy_rule
-rule_of Fact.NeedsDrop = drop_rule
+abbrev pub rule_of : TypeFact → List Adt → List ClosureDef → Rule
+rule_of TypeFact.IsCopy = copy_rule
+rule_of TypeFact.NeedsDrop = drop_rule
 
 -- nothing is known that the rule does not show
 abbrev pub IsShown : List Ty → Rule → List Bool → Type 0

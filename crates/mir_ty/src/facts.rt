@@ -13,7 +13,7 @@ use mir_base::List;
 
 /// What may be true of a type.
 #[derive(Clone, Copy)]
-pub enum Fact {
+pub enum TypeFact {
     IsCopy,
     NeedsDrop,
 }
@@ -102,7 +102,7 @@ fn needs_drop_by_parts(
 
 /// Whether a fact is shown of a type, where it is known of which of its parts it holds.
 pub fn is_shown(
-    fact: Fact,
+    fact: TypeFact,
     adts: &List<Adt>,
     closures: &List<ClosureDef>,
     known: &[bool],
@@ -111,14 +111,14 @@ pub fn is_shown(
     ensures { result ≡ rule_of fact adts.now closures.now (known_by known.now) ty.now }
 {
     match fact {
-        Fact::IsCopy => is_copy_by_parts(adts, closures, known, ty),
-        Fact::NeedsDrop => needs_drop_by_parts(adts, closures, known, ty),
+        TypeFact::IsCopy => is_copy_by_parts(adts, closures, known, ty),
+        TypeFact::NeedsDrop => needs_drop_by_parts(adts, closures, known, ty),
     }
 }
 
 /// Whether a fact is shown of the type with this number, and not known yet.
 fn is_news(
-    fact: Fact,
+    fact: TypeFact,
     types: &[Ty],
     adts: &List<Adt>,
     closures: &List<ClosureDef>,
@@ -136,7 +136,7 @@ fn is_news(
 /// there was any of which it was not known. Types that are named before they are declared mostly stand before
 /// what they hold, so that going backwards takes few rounds.
 fn note_shown(
-    fact: Fact,
+    fact: TypeFact,
     types: &[Ty],
     adts: &List<Adt>,
     closures: &List<ClosureDef>,
@@ -161,7 +161,7 @@ fn note_shown(
 /// Notes of which types the fact is shown, until nothing more is. Each round but the last notes it of one more
 /// type.
 fn settle(
-    fact: Fact,
+    fact: TypeFact,
     types: &[Ty],
     adts: &List<Adt>,
     closures: &List<ClosureDef>,
@@ -177,7 +177,7 @@ fn settle(
 /// Brings one fact up to date, where the rule shows no more of any type but of the one that was added, which has
 /// this number. Where it shows no more of that one either there is nothing to do.
 fn update(
-    fact: Fact,
+    fact: TypeFact,
     types: &[Ty],
     added: &Ty,
     number: usize,
@@ -215,8 +215,24 @@ pub fn bring_up_to_date(
     if let Some(number) = types.find(added) {
         let types = types.as_slice();
         let copies = copies.as_mut_slice();
-        update(Fact::IsCopy, types, added, number, adts, closures, copies);
+        update(
+            TypeFact::IsCopy,
+            types,
+            added,
+            number,
+            adts,
+            closures,
+            copies,
+        );
         let drops = drops.as_mut_slice();
-        update(Fact::NeedsDrop, types, added, number, adts, closures, drops);
+        update(
+            TypeFact::NeedsDrop,
+            types,
+            added,
+            number,
+            adts,
+            closures,
+            drops,
+        );
     }
 }

@@ -6,7 +6,7 @@ ghost use Rattle.mir_ty.specs.Facts.{IsCopy, NeedsDrop, is_copy, needs_drop, has
 ghost use Rattle.mir_ty.specs.Parts.{field_ty, fields_of};
 
 use crate::duplicate::Duplicate;
-use crate::facts::{Fact, bring_up_to_date, is_known, is_shown};
+use crate::facts::{TypeFact, bring_up_to_date, is_known, is_shown};
 use crate::sizes::{check_adt, check_len, check_sig, check_trait, check_ty, next_number};
 use crate::type_table::TypeTable;
 use crate::{Adt, ClosureDef, ImplDef, Sig, TraitDef, Ty, TyId};
@@ -129,14 +129,14 @@ impl Items {
         let number = next_number(self.types.len())?;
         check_ty(&ty)?;
         let copies = is_shown(
-            Fact::IsCopy,
+            TypeFact::IsCopy,
             &self.adts,
             &self.closures,
             self.copies.as_slice(),
             &ty,
         );
         let drops = is_shown(
-            Fact::NeedsDrop,
+            TypeFact::NeedsDrop,
             &self.adts,
             &self.closures,
             self.drops.as_slice(),

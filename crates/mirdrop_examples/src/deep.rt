@@ -96,15 +96,15 @@ const BOXES: u64 = 1000000;
 
 /// A chain of boxes is made in a loop and dropped.
 const CHAIN: &str = "mirdrop 1
-enum Chain { End (), Link (Box<Chain>) }
+enum DeepChain { End (), Link (Box<DeepChain>) }
 body 0 main 0
 local 0 ()
-local 1 Chain
-local 2 Box<Chain>
+local 1 DeepChain
+local 2 Box<DeepChain>
 local 3 i32
 local 4 bool
 block 0 plain rank 3
-_1 = make Chain 0 ()
+_1 = make DeepChain 0 ()
 _3 = const 0_i32
 goto 1
 block 1 turn rank 2
@@ -112,7 +112,7 @@ _4 = lt copy _3 const 1000000_i32
 if copy _4 2 3
 block 2 plain rank 0
 _2 = box move _1
-_1 = make Chain 1 (move _2)
+_1 = make DeepChain 1 (move _2)
 _3 = add copy _3 const 1_i32 then 1 unwind resume
 block 3 plain rank 1
 drop _1 then 4 unwind resume

@@ -7,7 +7,7 @@ use std::{fs, io};
 /// A row of the table: an example, the file with its text, the words that it is run with, and the status that is
 /// wanted.
 #[derive(Clone, Copy)]
-struct Row<'a> {
+struct ExampleRow<'a> {
     name: &'a str,
     text: &'a str,
     words: &'a str,
@@ -20,12 +20,12 @@ fn plain(cell: &str) -> &str {
 }
 
 /// The row that a line is, if its first cell is in backticks.
-fn row_in(line: &str) -> Option<Row<'_>> {
+fn row_in(line: &str) -> Option<ExampleRow<'_>> {
     if !line.starts_with("| `") {
         return None;
     }
     let mut cells = line.split('|').skip(1);
-    Some(Row {
+    Some(ExampleRow {
         name: plain(cells.next()?),
         text: plain(cells.next()?),
         words: plain(cells.next()?),
@@ -34,7 +34,7 @@ fn row_in(line: &str) -> Option<Row<'_>> {
 }
 
 /// What an example ends with.
-fn ended(rt: &(impl Files + AllocGlobal), row: &Row<'_>) -> io::Result<Ended> {
+fn ended(rt: &(impl Files + AllocGlobal), row: &ExampleRow<'_>) -> io::Result<Ended> {
     let text = fs::read_to_string(rt, row.text)?;
     Ok(run(rt.alloc(), row.words, text.as_bytes())?)
 }
@@ -48,7 +48,7 @@ fn is_trace(rt: &(impl Files + AllocGlobal), name: &str, written: &[u8]) -> io::
 
 fn verdict_on(
     rt: &(impl Files + AllocGlobal),
-    row: &Row<'_>,
+    row: &ExampleRow<'_>,
     ended: &Ended,
 ) -> io::Result<&'static str> {
     if row.status.parse::<u8>().ok() != Some(ended.status) {
@@ -62,12 +62,12 @@ fn verdict_on(
 }
 
 /// The verdict on one example.
-fn verdict(rt: &(impl Files + AllocGlobal), row: &Row<'_>) -> io::Result<&'static str> {
+fn verdict(rt: &(impl Files + AllocGlobal), row: &ExampleRow<'_>) -> io::Result<&'static str> {
     let ended = ended(rt, row)?;
     verdict_on(rt, row, &ended)
 }
 
-fn row_told(rt: &(impl Files + Print + AllocGlobal), row: &Row<'_>) -> io::Result<()> {
+fn row_told(rt: &(impl Files + Print + AllocGlobal), row: &ExampleRow<'_>) -> io::Result<()> {
     let verdict = verdict(rt, row)?;
     println!(rt; "{}: {verdict}", row.name)
 }

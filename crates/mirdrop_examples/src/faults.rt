@@ -6,7 +6,7 @@ use std::alloc::{AllocError, Global};
 const MAIN: &[u8] = b"fn main() {}";
 
 /// The words, which reads and which writes fail; the status, and what the sink holds.
-type Fault = (
+type FaultRow = (
     &'static str,
     &'static [u32],
     &'static [u32],
@@ -14,7 +14,7 @@ type Fault = (
     &'static [u8],
 );
 
-static FAULTS: [Fault; 8] = [
+static FAULTS: [FaultRow; 8] = [
     ("run", &[0], &[], 3, b"fault: read\n"),
     ("check", &[1], &[], 3, b"fault: read\n"),
     ("run", &[], &[1], 4, b"call"),

@@ -7,7 +7,7 @@ use std::{fs, io};
 
 /// What the rows of a file ask.
 #[derive(Clone, Copy)]
-enum Question {
+enum RowQuestion {
     /// What `check` writes first.
     Check,
     /// Whether the text has a tree, or else what `check` writes first.
@@ -20,18 +20,18 @@ enum Question {
     Listing,
 }
 
-static FILES: [(&str, Question); 11] = [
-    ("grammar.rows", Question::Tree),
-    ("item_rules.rows", Question::Items),
-    ("items.rows", Question::Check),
-    ("names.rows", Question::Check),
-    ("bodies.rows", Question::Check),
-    ("types.rows", Question::Check),
-    ("uses.rows", Question::Check),
-    ("borrows.rows", Question::Check),
-    ("programs.rows", Question::Check),
-    ("words.rows", Question::Words),
-    ("damaged_listing.rows", Question::Listing),
+static FILES: [(&str, RowQuestion); 11] = [
+    ("grammar.rows", RowQuestion::Tree),
+    ("item_rules.rows", RowQuestion::Items),
+    ("items.rows", RowQuestion::Check),
+    ("names.rows", RowQuestion::Check),
+    ("bodies.rows", RowQuestion::Check),
+    ("types.rows", RowQuestion::Check),
+    ("uses.rows", RowQuestion::Check),
+    ("borrows.rows", RowQuestion::Check),
+    ("programs.rows", RowQuestion::Check),
+    ("words.rows", RowQuestion::Words),
+    ("damaged_listing.rows", RowQuestion::Listing),
 ];
 
 /// The first line that was written, without `refused: `.
@@ -79,13 +79,18 @@ fn answered_to_damage(alloc: Global, listing: &str, row: &str) -> Result<String,
     answered(alloc, "exec", damaged.as_str())
 }
 
-fn answer(alloc: Global, listing: &str, asks: Question, row: &str) -> Result<String, AllocError> {
+fn answer(
+    alloc: Global,
+    listing: &str,
+    asks: RowQuestion,
+    row: &str,
+) -> Result<String, AllocError> {
     match asks {
-        Question::Check => answered(alloc, "check", row),
-        Question::Tree => stands_or(alloc, has_tree(alloc, row.as_bytes()), "tree", row),
-        Question::Items => stands_or(alloc, has_items(alloc, row.as_bytes()), "items", row),
-        Question::Words => answered_with_status(alloc, row),
-        Question::Listing => answered_to_damage(alloc, listing, row),
+        RowQuestion::Check => answered(alloc, "check", row),
+        RowQuestion::Tree => stands_or(alloc, has_tree(alloc, row.as_bytes()), "tree", row),
+        RowQuestion::Items => stands_or(alloc, has_items(alloc, row.as_bytes()), "items", row),
+        RowQuestion::Words => answered_with_status(alloc, row),
+        RowQuestion::Listing => answered_to_damage(alloc, listing, row),
     }
 }
 
@@ -97,7 +102,7 @@ fn wrong_told(rt: &impl Print, row: &str, found: &str, wanted: &str) -> io::Resu
 fn stands(
     rt: &(impl Print + AllocGlobal),
     listing: &str,
-    asks: Question,
+    asks: RowQuestion,
     line: &str,
 ) -> io::Result<bool> {
     let (row, wanted) = line.rsplit_once(" // ").unwrap_or((line, "an answer"));
@@ -122,7 +127,7 @@ fn file_told(
     rt: &(impl Files + Print + AllocGlobal),
     listing: &str,
     file: &str,
-    asks: Question,
+    asks: RowQuestion,
 ) -> io::Result<()> {
     let rows = fs::read_to_string(rt, file)?;
     let (mut count, mut wrong) = (0u32, 0u32);

@@ -6,12 +6,12 @@ use Rattle.std.proofs.lemmas.Option.{none-some, same_Some}
 use Rattle.program_text.specs.Words.{request_of}
 use Rattle.program_text.specs.declared.request.Request.{Request}
 use Rattle.mirdrop_program.specs.Owed.{Owed}
-use Rattle.mirdrop_program.specs.TopCall.{Due, wrong_words, not_read, too_long, answered, Answers, whole, part, no_memory, no_memory_for_trace, HasAnswered, IsComplete, Delivered, taken_whole, taken_part, Responded, owing, cut_short, wanting, answers_a_text, writes_a_trace}
+use Rattle.mirdrop_program.specs.TopCall.{DueAnswer, wrong_words, not_read, too_long, answered, Answers, whole, part, no_memory, no_memory_for_trace, HasAnswered, IsComplete, Delivered, taken_whole, taken_part, Responded, owing, cut_short, wanting, answers_a_text, writes_a_trace}
 use Rattle.mirdrop_program.proofs.Answered.{IsAnswer, owed_is_answer}
 
 module _ (words : List (List ℕ)) (left taken taken_after : Option (List ℕ)) (source_failed sink_failed : Type 0) where
   -- what was due was handed to the sink
-  pub delivers : (status : ℕ) (due : List ℕ) (result : ℕ) → ((text : List ℕ) → left ≡ Some text → Due words text source_failed status due)
+  pub delivers : (status : ℕ) (due : List ℕ) (result : ℕ) → ((text : List ℕ) → left ≡ Some text → DueAnswer words text source_failed status due)
       → Delivered status due taken taken_after sink_failed result → HasAnswered words left taken taken_after source_failed sink_failed result
   delivers status due result owes (taken_whole h) text before told kept = (due, h before kept, whole (owes text told))
   delivers status due result owes (taken_part n failed h) text before told kept = (take n due, h before kept, part (owes text told) n failed)

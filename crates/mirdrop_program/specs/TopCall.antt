@@ -22,21 +22,22 @@ writes_a_trace Command.Exec = true
 writes_a_trace command = false
 
 -- a status, and the text that is due with it
-pub data Due (words : List (List ℕ)) (text : List ℕ) (source_failed : Type 0) : ℕ → List ℕ → Type 0 where
-  wrong_words : request_of words ≡ None → Due words text source_failed 2 words_line
-  not_read : (request : Request) → request_of words ≡ Some request → source_failed → Due words text source_failed 3 read_line
+pub data DueAnswer (words : List (List ℕ)) (text : List ℕ) (source_failed : Type 0) : ℕ → List ℕ → Type 0 where
+  wrong_words : request_of words ≡ None → DueAnswer words text source_failed 2 words_line
+  not_read : (request : Request) → request_of words ≡ Some request → source_failed →
+      DueAnswer words text source_failed 3 read_line
   too_long : (request : Request) → request_of words ≡ Some request → 131072 < length text →
-      Due words text source_failed 6 long_line
+      DueAnswer words text source_failed 6 long_line
   answered : {status : ℕ} {answer : List ℕ} (request : Request) → request_of words ≡ Some request →
-      length text ≤ 131072 → Owed request text status answer → Due words text source_failed status answer
+      length text ≤ 131072 → Owed request text status answer → DueAnswer words text source_failed status answer
 
 -- a status, and what is written with it: all that is due; a part of it, where the sink failed; or, for want of memory,
 -- nothing, and of a trace some beginning
 pub data Answers (words : List (List ℕ)) (text : List ℕ) (source_failed sink_failed : Type 0) : ℕ → List ℕ →
     Type 0 where
-  whole : {status : ℕ} {written : List ℕ} → Due words text source_failed status written →
+  whole : {status : ℕ} {written : List ℕ} → DueAnswer words text source_failed status written →
       Answers words text source_failed sink_failed status written
-  part : {status : ℕ} {due : List ℕ} → Due words text source_failed status due → (n : ℕ) → sink_failed →
+  part : {status : ℕ} {due : List ℕ} → DueAnswer words text source_failed status due → (n : ℕ) → sink_failed →
       Answers words text source_failed sink_failed 4 (take n due)
   no_memory : Answers words text source_failed sink_failed 5 []
   no_memory_for_trace : (status : ℕ) (due : List ℕ) (request : Request) → request_of words ≡ Some request →

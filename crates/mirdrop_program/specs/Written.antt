@@ -6,7 +6,8 @@ use Rattle.mirdrop_program.specs.TopCall.{Delivered}
 use Rattle.mirdrop_program.specs.declared.answers.Answer.{Answer}
 
 -- a trace was written as it came, with the status of its end; or it was cut off, for want of memory
-pub data Ran (status : ℕ) (text : List ℕ) (taken taken_after : Option (List ℕ)) (sink_failed : Type 0) : ℕ → Type 0 where
+pub data Ran (status : ℕ) (text : List ℕ) (taken taken_after : Option (List ℕ)) (sink_failed : Type 0) : ℕ →
+    Type 0 where
   ran : {result : ℕ} → Delivered status text taken taken_after sink_failed result →
       Ran status text taken taken_after sink_failed result
   cut : (n : ℕ) → ((before : List ℕ) → taken ≡ Some before → taken_after ≡ Some (before ++ take n text)) →

@@ -13,9 +13,9 @@ use Rattle.store_model.specs.Places.Place.{Place, Step, ToPart, ToField, ToConte
 use Rattle.cfg_graph.specs.declared.place.Place.{Place as GraphPlace}
 use Rattle.cfg_graph.specs.declared.graph.Body.{Body}
 use Rattle.cfg_graph.specs.Places.{named}
-use Rattle.cfg_graph.specs.Uses.{Use, Copies, Moves, Borrows, Touches, Tests, Stores, Drops, Frees}
+use Rattle.cfg_graph.specs.Uses.{PlaceUse, Copies, Moves, Borrows, Touches, Tests, Stores, Drops, Frees}
 use Rattle.cfg_graph.specs.Moves.Gone.{are_first, is_at_or_above, has_index, counts, leaves_gone}
-use Rattle.init_flow.specs.Carried.{Row}
+use Rattle.init_flow.specs.Carried.{Bits}
 use Rattle.move_paths.specs.Trie.{Reaches, upto}
 use Rattle.move_paths.specs.declared.trie.Near.{Near}
 use Rattle.move_paths.specs.Forest.{PathForest, IsForest, IsRoot, IsStepBelow, is_local, is_above_change}
@@ -103,7 +103,7 @@ module _ (items : ItemTable) (body : Body) (forest : PathForest) (is : IsForest 
   abbrev paths : List Place
   paths = forest.paths
 
-  abbrev change : Place → Use × GraphPlace → Bool
+  abbrev change : Place → PlaceUse × GraphPlace → Bool
   change q made = is_above_change items body q made
 
   closed : (q z : Place) → Contains paths q → is_at_or_above z q ≡ true → Contains paths z
@@ -203,7 +203,7 @@ module _ (items : ItemTable) (body : Body) (forest : PathForest) (is : IsForest 
     abbrev at : Place
     at = place_at paths near.path
 
-    pub read-told : (row : Row) → (some_on (above paths (Some near.path)) paths row || ((exact && some_on (is_at_or_above at) paths row) || (array && some_on (is_at_or_above at) paths row)))
+    pub read-told : (row : Bits) → (some_on (above paths (Some near.path)) paths row || ((exact && some_on (is_at_or_above at) paths row) || (array && some_on (is_at_or_above at) paths row)))
         ≡ some_on (λ q. concerns_read q x) paths row
     read-told row =
         ap (λ (z : Bool). some_on (above paths (Some near.path)) paths row || z)
@@ -217,7 +217,7 @@ module _ (items : ItemTable) (body : Body) (forest : PathForest) (is : IsForest 
             ap (λ (z : Place). is_at_or_above q z || ((exact && is_at_or_above z q) || (array && is_at_or_above z q))) at-p
             ∙ (λ i. sym (above-near q has) i || (sym (below-near q has) i || sym (array-near q has) i))
 
-    pub test-told : (row : Row) → (some_on (above paths (Some near.path)) paths row || (array && some_on (is_at_or_above at) paths row)) ≡ some_on (λ q. concerns_test q x) paths row
+    pub test-told : (row : Bits) → (some_on (above paths (Some near.path)) paths row || (array && some_on (is_at_or_above at) paths row)) ≡ some_on (λ q. concerns_test q x) paths row
     test-told row =
         ap (λ (z : Bool). some_on (above paths (Some near.path)) paths row || z) (sym (some-if array (is_at_or_above at) paths row))
         ∙ sym (some-or (above paths (Some near.path)) (λ q. array && is_at_or_above at q) paths row)
@@ -228,7 +228,7 @@ module _ (items : ItemTable) (body : Body) (forest : PathForest) (is : IsForest 
             ap (λ (z : Place). is_at_or_above q z || (array && is_at_or_above z q)) at-p
             ∙ (λ i. sym (above-near q has) i || sym (array-near q has) i)
 
-    pub store-told : (row : Row) (up : Option ℕ) → OnlyAbove paths x near up
+    pub store-told : (row : Bits) (up : Option ℕ) → OnlyAbove paths x near up
         → (some_on (above paths up) paths row || (array && some_on (is_at_or_above at) paths row)) ≡ some_on (λ q. concerns_store q x) paths row
     store-told row up only =
         ap (λ (z : Bool). some_on (above paths up) paths row || z) (sym (some-if array (is_at_or_above at) paths row))
@@ -293,7 +293,7 @@ module _ (items : ItemTable) (body : Body) (forest : PathForest) (is : IsForest 
             ap (λ (z : Place). above paths up (place_at paths i) || (array && is_at_or_above z (place_at paths i))) at-p
             ∙ (λ j. strict i within j || sym (array-near (place_at paths i) (place-in i within)) j)
 
-    whole : (row : Row) (over : Option ℕ) (within : Bool) → (over ≡ Some near.path) × (within ≡ (exact || array))
+    whole : (row : Bits) (over : Option ℕ) (within : Bool) → (over ≡ Some near.path) × (within ≡ (exact || array))
         → (some_on (above paths over) paths row || (within && some_on (is_at_or_above at) paths row)) ≡ some_on (λ q. concerns_read q x) paths row
     whole row over within asked =
         (λ i. some_on (above paths (asked.0 i)) paths row || (asked.1 i && some_on (is_at_or_above at) paths row))
@@ -308,7 +308,7 @@ module _ (items : ItemTable) (body : Body) (forest : PathForest) (is : IsForest 
         split false b c = refl
 
     -- for any use
-    pub told : (how : Use) (row : Row) (over : Option ℕ) (within : Bool) → Asks paths x near how over within
+    pub told : (how : PlaceUse) (row : Bits) (over : Option ℕ) (within : Bool) → Asks paths x near how over within
         → (some_on (above paths over) paths row || (within && some_on (is_at_or_above at) paths row)) ≡ some_on (λ q. concerns how q x) paths row
     told Copies row over within asked = whole row over within asked
     told Moves row over within asked = whole row over within asked

@@ -12,16 +12,16 @@ use Rattle.cfg_graph.specs.Edges.{ToBlock, is_turn, onward}
 use Rattle.cfg_graph.specs.Uses.{Stores, stored_by_term}
 use Rattle.cfg_graph.specs.Moves.Actions.{actions_on}
 use Rattle.cfg_graph.specs.Moves.BadUses.{BadUse}
-use Rattle.cfg_graph.specs.Moves.Gone.{Action}
+use Rattle.cfg_graph.specs.Moves.Gone.{PathAction}
 use Rattle.cfg_graph.specs.Moves.Paths.{ways, IsPath}
-use Rattle.init_flow.specs.Carried.{Row}
+use Rattle.init_flow.specs.Carried.{Bits}
 use Rattle.init_flow.specs.Ways.{target}
 use Rattle.move_flow.specs.Concerns.{AreOfBody}
 use Rattle.move_flow.proofs.Along.{actions_between}
 use Rattle.move_paths.specs.Forest.{PathForest}
 use Rattle.move_errors.specs.Reaches.{rule_of, first_bad, Reaches}
 use Rattle.move_errors.specs.Rows.{state, after, first_by, IsWatched}
-use Rattle.move_errors.specs.Runs.{Problem, Trip, Run, begins, goes, Leads, problem, optional, met, number_of, point, acts_at, at_line, stored_between, entered, arrived, onward_from}
+use Rattle.move_errors.specs.Runs.{Problem, Trip, IsRun, begins, goes, Leads, problem, optional, met, number_of, point, acts_at, at_line, stored_between, entered, arrived, onward_from}
 use Rattle.move_errors.specs.declared.point.Point.{Point}
 use Rattle.move_errors.specs.declared.point.Stage.{Stage}
 use Rattle.move_errors.specs.declared.point.Onward.{Onward}
@@ -30,7 +30,7 @@ use Rattle.move_errors.proofs.Using.{acts-used}
 use Rattle.move_errors.proofs.Rowing.{Both, none, some, both, none-append, of-body-more}
 use Rattle.move_errors.proofs.Pathways.{actions-snoc, entry_choices, path-snoc, way-between, goes-by}
 
-module _ (items : ItemTable) (body : Body) (forest : PathForest) (below : List Row) (watched : IsWatched items body forest below) where
+module _ (items : ItemTable) (body : Body) (forest : PathForest) (below : List Bits) (watched : IsWatched items body forest below) where
   abbrev f : Problem
   f = problem items body forest.paths
 
@@ -50,7 +50,7 @@ module _ (items : ItemTable) (body : Body) (forest : PathForest) (below : List R
       by (Some block) = so block (list_any (nat_eq m) (onward block.term))
 
   -- how a run came to a point, and what was done before
-  abbrev pub Comes : (n : ℕ) → Stage → List ℕ → List Bool → List Action → Type 0
+  abbrev pub Comes : (n : ℕ) → Stage → List ℕ → List Bool → List PathAction → Type 0
   Comes n Stage.Entry path given earlier =
       IsPath items body (path ++ n ∷ []) (given ++ entry_choices items body n)
       × (actions_on body (path ++ n ∷ []) ≡ earlier ++ actions_on body (n ∷ []))
@@ -64,14 +64,14 @@ module _ (items : ItemTable) (body : Body) (forest : PathForest) (below : List R
       × (given ≡ before ++ choices) × (target items body n (number_of k) ≡ Some m)
 
   pub record Told (t : Trip) : Type 0 where
-    pub earlier : List Action
+    pub earlier : List PathAction
     pub clean : first_bad items body [] earlier ≡ None
     pub row : t.row ≡ state items body forest.paths earlier
     pub used : AreOfBody body earlier
     pub comes : Comes t.at.block t.at.stage t.path t.given earlier
 
   -- past a point without a bad use
-  pub record Past (t : Trip) (earlier : List Action) : Type 0 where
+  pub record Past (t : Trip) (earlier : List PathAction) : Type 0 where
     pub clean : first_bad items body [] (earlier ++ acts_at items body t.at.block t.at.stage) ≡ None
     pub row : f.pass t.at t.row ≡ state items body forest.paths (earlier ++ acts_at items body t.at.block t.at.stage)
     pub used : AreOfBody body (earlier ++ acts_at items body t.at.block t.at.stage)
@@ -79,7 +79,7 @@ module _ (items : ItemTable) (body : Body) (forest : PathForest) (below : List R
   pub past : (t : Trip) (told : Told t) → f.bad t.at t.row ≡ false → Past t told.earlier
   past t told clean = by (both items body forest below watched told.earlier acts told.used (acts-used items body t.at.block t.at.stage))
     where
-      acts : List Action
+      acts : List PathAction
       acts = acts_at items body t.at.block t.at.stage
 
       by : Both items body forest below watched told.earlier (acts_at items body t.at.block t.at.stage) → Past t told.earlier
@@ -89,7 +89,7 @@ module _ (items : ItemTable) (body : Body) (forest : PathForest) (below : List R
         used = of-body-more body told.earlier (acts_at items body t.at.block t.at.stage) told.used (acts-used items body t.at.block t.at.stage);
       }
       by (some a plain rows) =
-          absurd (false≢true (sym clean ∙ ap (λ (r : Row). is_some (first_by items body forest.paths (acts_at items body t.at.block t.at.stage) r)) told.row ∙ ap is_some rows))
+          absurd (false≢true (sym clean ∙ ap (λ (r : Bits). is_some (first_by items body forest.paths (acts_at items body t.at.block t.at.stage) r)) told.row ∙ ap is_some rows))
 
   pub enter : (n : ℕ) (choice : Option Bool) (to : Point) → Leads (onward_from items body n Stage.Entry) choice to → (to ≡ point n Stage.Inside) × (optional choice ≡ entry_choices items body n)
   enter n choice to leads = by (slice_get body.blocks n) leads
@@ -124,7 +124,7 @@ module _ (items : ItemTable) (body : Body) (forest : PathForest) (below : List R
       by (Some m) e leads = go m (nat_lt m (length body.blocks)) e leads
 
   -- from a point to the next
-  comes-on : (n : ℕ) (stage : Stage) (path : List ℕ) (given : List Bool) (earlier : List Action) (choice : Option Bool) (to : Point)
+  comes-on : (n : ℕ) (stage : Stage) (path : List ℕ) (given : List Bool) (earlier : List PathAction) (choice : Option Bool) (to : Point)
       → Comes n stage path given earlier → Leads (onward_from items body n stage) choice to
       → Comes to.block to.stage (path ++ met to) (given ++ optional choice) (earlier ++ acts_at items body n stage)
   comes-on n Stage.Entry path given earlier choice to comes leads =
@@ -133,7 +133,7 @@ module _ (items : ItemTable) (body : Body) (forest : PathForest) (below : List R
         path,
         refl,
         subst (λ (z : List Bool). IsPath items body (path ++ n ∷ []) (given ++ z)) (sym it.1) comes.0,
-        comes.1 ∙ ap (λ (z : List Action). z ++ actions_on body (n ∷ [])) (sym (append-nil earlier)),
+        comes.1 ∙ ap (λ (z : List PathAction). z ++ actions_on body (n ∷ [])) (sym (append-nil earlier)),
       )
   comes-on n Stage.Inside path given earlier choice to comes leads =
       let it = goes-by items body n choice to leads in
@@ -167,7 +167,7 @@ module _ (items : ItemTable) (body : Body) (forest : PathForest) (below : List R
             ∙ (λ i. (sym (comes.7 ∙ ap (actions_on body) comes.1) i ++ sym stored i) ++ actions_on body (comes.4 ∷ [])),
       ))
 
-  pub told : (t : Trip) → Run f t → Told t
+  pub told : (t : Trip) → IsRun f t → Told t
   told _ begins = record {
     earlier = [];
     clean = refl;
@@ -191,14 +191,14 @@ module _ (items : ItemTable) (body : Body) (forest : PathForest) (below : List R
 
   -- A run that meets a bad use reaches it along its path.
 
-  pub reaches : (t : Trip) → Run f t → (a : Action) → first_by items body forest.paths (acts_at items body t.at.block t.at.stage) t.row ≡ Some a
+  pub reaches : (t : Trip) → IsRun f t → (a : PathAction) → first_by items body forest.paths (acts_at items body t.at.block t.at.stage) t.row ≡ Some a
       → Reaches items body t.path t.given (record { rule = rule_of a.how; action = a })
   reaches t run a is = by (both items body forest below watched it.earlier (acts_at items body t.at.block t.at.stage) it.used (acts-used items body t.at.block t.at.stage))
     where
       it : Told t
       it = told t run
 
-      at : (n : ℕ) (stage : Stage) (bad : BadUse) (earlier : List Action) → Comes n stage t.path t.given earlier → first_bad items body [] earlier ≡ None
+      at : (n : ℕ) (stage : Stage) (bad : BadUse) (earlier : List PathAction) → Comes n stage t.path t.given earlier → first_bad items body [] earlier ≡ None
           → first_bad items body earlier (acts_at items body n stage) ≡ Some bad → Reaches items body t.path t.given bad
       at n Stage.Entry bad earlier comes clean is = absurd (none-some bad is)
       at n Stage.Inside bad earlier comes clean is = inl (record {
@@ -234,4 +234,4 @@ module _ (items : ItemTable) (body : Body) (forest : PathForest) (below : List R
       by (some x plain rows) =
           let same : x ≡ a = same_Some x a (sym rows ∙ ap (first_by items body forest.paths (acts_at items body t.at.block t.at.stage)) (sym (told t run).row) ∙ is) in
           at t.at.block t.at.stage (record { rule = rule_of a.how; action = a }) (told t run).earlier (told t run).comes (told t run).clean
-          (plain ∙ ap (λ (z : Action). Some (record { rule = rule_of z.how; action = z })) same)
+          (plain ∙ ap (λ (z : PathAction). Some (record { rule = rule_of z.how; action = z })) same)

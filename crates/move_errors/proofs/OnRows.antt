@@ -5,7 +5,7 @@ use Rattle.std.specs.Option.{MatchOption}
 use Rattle.std.proofs.lemmas.Bool.{false≢true}
 use Rattle.store_model.specs.Places.Place.{Place}
 use Rattle.bit_rows.specs.Words.{any_both}
-use Rattle.init_flow.specs.Carried.{Row}
+use Rattle.init_flow.specs.Carried.{Bits}
 use Rattle.move_paths.specs.Trie.{AreOnce}
 use Rattle.move_paths.specs.Forest.{IsRoot, IsStepBelow}
 use Rattle.move_flow.proofs.Marking.{above-step, above-root}
@@ -16,7 +16,7 @@ and-off true = refl
 and-off false = refl
 
 -- tests that agree at the bits that are on
-pub some-same : (f g : Place → Bool) (paths : List Place) (row : Row)
+pub some-same : (f g : Place → Bool) (paths : List Place) (row : Bits)
     → ((i : ℕ) → i < length paths → slice_index_or row i false ≡ true → f (place_at paths i) ≡ g (place_at paths i))
     → some_on f paths row ≡ some_on g paths row
 some-same f g [] row same = refl
@@ -28,12 +28,12 @@ some-same f g (q ∷ qs) (b ∷ row) same =
     one true is = ap (λ (z : Bool). z && true) (is refl)
     one false is = and-off (f q) ∙ sym (and-off (g q))
 
-pub some-none : (paths : List Place) (row : Row) → some_on (λ q. false) paths row ≡ false
+pub some-none : (paths : List Place) (row : Bits) → some_on (λ q. false) paths row ≡ false
 some-none [] row = refl
 some-none (q ∷ qs) [] = refl
 some-none (q ∷ qs) (b ∷ row) = some-none qs row
 
-pub some-at : (f : Place → Bool) (paths : List Place) (row : Row) (i : ℕ) → i < length paths → slice_index_or row i false ≡ true
+pub some-at : (f : Place → Bool) (paths : List Place) (row : Bits) (i : ℕ) → i < length paths → slice_index_or row i false ≡ true
     → f (place_at paths i) ≡ true → some_on f paths row ≡ true
 some-at f [] row i within on h = absurd (omega (within, arith))
 some-at f (q ∷ qs) [] i within on h = absurd (false≢true on)
@@ -45,7 +45,7 @@ some-at f (q ∷ qs) (b ∷ row) (suc i) within on h = or-second (f q && b) (som
     or-second false h = h
 
 -- one path further up
-pub above-up : (paths : List Place) (row : Row) (of : ℕ) (up : Option ℕ) → AreOnce paths → of < length paths
+pub above-up : (paths : List Place) (row : Bits) (of : ℕ) (up : Option ℕ) → AreOnce paths → of < length paths
     → slice_index_or row of false ≡ false → MatchOption up (IsRoot paths of) (λ p. IsStepBelow paths p of)
     → some_on (above paths (Some of)) paths row ≡ some_on (above paths up) paths row
 above-up paths row of None once within off root =
@@ -56,13 +56,13 @@ above-up paths row of (Some p) once within off step =
     (λ i here on. above-step paths once i of p here within (λ same. false≢true (sym off ∙ ap (λ (n : ℕ). slice_index_or row n false) (sym same) ∙ on)) step)
 
 -- a mask of paths
-pub both-some : (f : Place → Bool) (paths : List Place) (row : Row) → any_both (map f paths) row ≡ some_on f paths row
+pub both-some : (f : Place → Bool) (paths : List Place) (row : Bits) → any_both (map f paths) row ≡ some_on f paths row
 both-some f [] row = refl
 both-some f (q ∷ qs) [] = refl
 both-some f (q ∷ qs) (b ∷ row) = ap (λ (z : Bool). (f q && b) || z) (both-some f qs row)
 
 -- tests of which one holds
-pub some-or : (f g : Place → Bool) (paths : List Place) (row : Row) → some_on (λ q. f q || g q) paths row ≡ (some_on f paths row || some_on g paths row)
+pub some-or : (f g : Place → Bool) (paths : List Place) (row : Bits) → some_on (λ q. f q || g q) paths row ≡ (some_on f paths row || some_on g paths row)
 some-or f g [] row = refl
 some-or f g (q ∷ qs) [] = refl
 some-or f g (q ∷ qs) (b ∷ row) = ap (λ (z : Bool). ((f q || g q) && b) || z) (some-or f g qs row) ∙ one (f q) (g q) b (some_on f qs row) (some_on g qs row)
@@ -76,6 +76,6 @@ some-or f g (q ∷ qs) (b ∷ row) = ap (λ (z : Bool). ((f q || g q) && b) || z
     one false true false x y = refl
     one false false b x y = refl
 
-pub some-if : (b : Bool) (f : Place → Bool) (paths : List Place) (row : Row) → some_on (λ q. b && f q) paths row ≡ (b && some_on f paths row)
+pub some-if : (b : Bool) (f : Place → Bool) (paths : List Place) (row : Bits) → some_on (λ q. b && f q) paths row ≡ (b && some_on f paths row)
 some-if true f paths row = refl
 some-if false f paths row = some-none paths row

@@ -11,8 +11,8 @@ use Rattle.store_model.specs.Places.Place.{Place}
 use Rattle.cfg_graph.specs.declared.graph.Block.{Block}
 use Rattle.cfg_graph.specs.declared.graph.Body.{Body}
 use Rattle.cfg_graph.specs.Edges.{is_turn}
-use Rattle.cfg_graph.specs.Moves.Gone.{Action, left_by, is_gone_after}
-use Rattle.init_flow.specs.Carried.{Row}
+use Rattle.cfg_graph.specs.Moves.Gone.{PathAction, left_by, is_gone_after}
+use Rattle.init_flow.specs.Carried.{Bits}
 use Rattle.init_flow.specs.Ways.{target}
 use Rattle.move_errors.specs.Rows.{some_on, place_at, concerns, left, is_bad_by, after, first_by}
 use Rattle.move_errors.specs.Runs.{Leads, problem, index_of, number_of, acts_at, point, entered, silently, arrived, leaving, left_block, is_silent, onward_from}
@@ -24,7 +24,7 @@ use Rattle.move_errors.proofs.OnRows.{some-at}
 use Rattle.move_errors.proofs.Leaving.{length-left}
 use Rattle.move_errors.proofs.Turning.{stage-small}
 
-some-in : (test : Place → Bool) (paths : List Place) (row : Row) → some_on test paths row ≡ true
+some-in : (test : Place → Bool) (paths : List Place) (row : Bits) → some_on test paths row ≡ true
     → (i : ℕ) × (i < length paths) × (bit row i ≡ true) × (test (place_at paths i) ≡ true)
 some-in test [] row h = absurd (false≢true h)
 some-in test (q ∷ qs) [] h = absurd (false≢true h)
@@ -35,7 +35,7 @@ some-in test (q ∷ qs) (b ∷ row) h = by (some-in test qs row) (test q && b) r
     by again false e h = let it = again h in (suc it.0, (let k = it.1 in omega (k, arith)), it.2, it.3)
 
 module _ (items : ItemTable) (body : Body) where
-  left-bit : (a : Action) (paths : List Place) (row : Row) (i : ℕ) → i < length paths → length row ≡ length paths
+  left-bit : (a : PathAction) (paths : List Place) (row : Bits) (i : ℕ) → i < length paths → length row ≡ length paths
       → bit (left items body a paths row) i ≡ unwrap_or (left_by items body (place_at paths i) a) (bit row i)
   left-bit a [] row i within long = absurd (omega (within, arith))
   left-bit a (q ∷ qs) [] i within long = absurd (omega (long, arith))
@@ -43,21 +43,21 @@ module _ (items : ItemTable) (body : Body) where
   left-bit a (q ∷ qs) (b ∷ row) (suc i) within long = left-bit a qs row i (omega (within, arith)) (omega (long, arith))
 
   module _ (paths : List Place) where
-    pub after-width : (acts : List Action) (row : Row) → length row ≡ length paths → length (after items body paths acts row) ≡ length paths
+    pub after-width : (acts : List PathAction) (row : Bits) → length row ≡ length paths → length (after items body paths acts row) ≡ length paths
     after-width [] row long = long
     after-width (a ∷ acts) row long = after-width acts (left items body a paths row) (length-left items body a paths row long)
 
-    abbrev pub Ways : (Row → Row) → ℕ → Type 0
-    Ways g i = ((b : Bool) × ((row : Row) → length row ≡ length paths → bit (g row) i ≡ b)) ⊎ ((row : Row) → length row ≡ length paths → bit (g row) i ≡ bit row i)
+    abbrev pub Ways : (Bits → Bits) → ℕ → Type 0
+    Ways g i = ((b : Bool) × ((row : Bits) → length row ≡ length paths → bit (g row) i ≡ b)) ⊎ ((row : Bits) → length row ≡ length paths → bit (g row) i ≡ bit row i)
 
-    left-own : (a : Action) (i : ℕ) → i < length paths → Ways (left items body a paths) i
+    left-own : (a : PathAction) (i : ℕ) → i < length paths → Ways (left items body a paths) i
     left-own a i within = by (left_by items body (place_at paths i) a) refl
       where
         by : (o : Option Bool) → left_by items body (place_at paths i) a ≡ o → Ways (left items body a paths) i
         by None e = inr (λ row long. left-bit a paths row i within long ∙ ap (λ (z : Option Bool). unwrap_or z (bit row i)) e)
         by (Some b) e = inl (b, λ row long. left-bit a paths row i within long ∙ ap (λ (z : Option Bool). unwrap_or z (bit row i)) e)
 
-    pub after-own : (acts : List Action) (i : ℕ) → i < length paths → Ways (after items body paths acts) i
+    pub after-own : (acts : List PathAction) (i : ℕ) → i < length paths → Ways (after items body paths acts) i
     after-own [] i within = inr (λ row long. refl)
     after-own (a ∷ acts) i within = elim (after-own acts i within) [
       | inl always ↦ inl (always.0, λ row long. always.1 (left items body a paths row) (length-left items body a paths row long))
@@ -67,35 +67,35 @@ module _ (items : ItemTable) (body : Body) where
       ]
     ]
 
-    abbrev bad : List Action → Row → Bool
+    abbrev bad : List PathAction → Bits → Bool
     bad acts row = is_some (first_by items body paths acts row)
 
-    now-bad : (a : Action) (acts : List Action) (row : Row) → is_bad_by items body paths a row ≡ true → bad (a ∷ acts) row ≡ true
+    now-bad : (a : PathAction) (acts : List PathAction) (row : Bits) → is_bad_by items body paths a row ≡ true → bad (a ∷ acts) row ≡ true
     now-bad a acts row h = ap (λ (b : Bool). is_some (if b then Some a else first_by items body paths acts (left items body a paths row))) h
 
     -- whatever comes first, a later bad one makes some bad
-    later-bad : (a : Action) (acts : List Action) (row : Row) → bad acts (left items body a paths row) ≡ true → bad (a ∷ acts) row ≡ true
+    later-bad : (a : PathAction) (acts : List PathAction) (row : Bits) → bad acts (left items body a paths row) ≡ true → bad (a ∷ acts) row ≡ true
     later-bad a acts row h = by (is_bad_by items body paths a row)
       where
         by : (b : Bool) → is_some (if b then Some a else first_by items body paths acts (left items body a paths row)) ≡ true
         by true = refl
         by false = h
 
-    abbrev pub Badly : List Action → Row → Type 0
+    abbrev pub Badly : List PathAction → Bits → Type 0
     Badly acts row =
-        ((other : Row) → length other ≡ length paths → bad acts other ≡ true)
-        ⊎ ((i : ℕ) × (bit row i ≡ true) × ((other : Row) → length other ≡ length paths → bit other i ≡ true → bad acts other ≡ true))
+        ((other : Bits) → length other ≡ length paths → bad acts other ≡ true)
+        ⊎ ((i : ℕ) × (bit row i ≡ true) × ((other : Bits) → length other ≡ length paths → bit other i ≡ true → bad acts other ≡ true))
 
-    bit-in : (row : Row) (i : ℕ) → bit row i ≡ true → i < length row
+    bit-in : (row : Bits) (i : ℕ) → bit row i ≡ true → i < length row
     bit-in [] i on = absurd (false≢true on)
     bit-in (b ∷ row) zero on = omega arith
     bit-in (b ∷ row) (suc i) on = let k = bit-in row i on in omega (k, arith)
 
-    pub bad-own : (acts : List Action) (row : Row) → length row ≡ length paths → bad acts row ≡ true → Badly acts row
+    pub bad-own : (acts : List PathAction) (row : Bits) → length row ≡ length paths → bad acts row ≡ true → Badly acts row
     bad-own [] row long h = absurd (false≢true h)
     bad-own (a ∷ acts) row long h = by (bad-own acts (left items body a paths row) (length-left items body a paths row long)) (is_bad_by items body paths a row) refl h
       where
-        at : (i : ℕ) → bit (left items body a paths row) i ≡ true → ((other : Row) → length other ≡ length paths → bit other i ≡ true → bad acts other ≡ true) → Badly (a ∷ acts) row
+        at : (i : ℕ) → bit (left items body a paths row) i ≡ true → ((other : Bits) → length other ≡ length paths → bit other i ≡ true → bad acts other ≡ true) → Badly (a ∷ acts) row
         at i on all =
             let within : i < length paths = (let k = bit-in (left items body a paths row) i on in let l = length-left items body a paths row long in omega (k, l, arith)) in
             elim (left-own a i within) [

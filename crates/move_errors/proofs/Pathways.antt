@@ -13,11 +13,11 @@ use Rattle.cfg_graph.specs.declared.terminator.Term.{Term}
 use Rattle.cfg_graph.specs.declared.terminator.Unwind.{Unwind}
 use Rattle.cfg_graph.specs.declared.graph.Block.{Block}
 use Rattle.cfg_graph.specs.declared.graph.Body.{Body}
-use Rattle.cfg_graph.specs.Edges.{Exit, ToBlock, LeavesBody, unwind_exit, is_turn}
+use Rattle.cfg_graph.specs.Edges.{BlockExit, ToBlock, LeavesBody, unwind_exit, is_turn}
 use Rattle.cfg_graph.specs.Places.{place_id, ty_of_place}
 use Rattle.cfg_graph.specs.Moves.Actions.{actions_on}
-use Rattle.cfg_graph.specs.Moves.Gone.{Action}
-use Rattle.cfg_graph.specs.Moves.Paths.{Way, ways, IsPath}
+use Rattle.cfg_graph.specs.Moves.Gone.{PathAction}
+use Rattle.cfg_graph.specs.Moves.Paths.{PathWay, ways, IsPath}
 use Rattle.init_flow.specs.Carried.{last_of}
 use Rattle.init_flow.specs.Ways.{target, target_among, block_of}
 use Rattle.move_flow.proofs.Along.{actions_in, actions_between}
@@ -78,12 +78,12 @@ module _ (body : Body) where
   actions-snoc [] n m = refl
   actions-snoc (k ∷ []) n m = regroup (actions_in body k ++ actions_between body k n) (actions_in body n) (actions_between body n m) (actions_on body (m ∷ []))
   actions-snoc (k ∷ (j ∷ front)) n m =
-      ap (λ (z : List Action). (actions_in body k ++ actions_between body k j) ++ z) (actions-snoc (j ∷ front) n m)
+      ap (λ (z : List PathAction). (actions_in body k ++ actions_between body k j) ++ z) (actions-snoc (j ∷ front) n m)
       ∙ regroup (actions_in body k ++ actions_between body k j) (actions_on body ((j ∷ front) ++ n ∷ [])) (actions_between body n m) (actions_on body (m ∷ []))
 
 -- The choices, as the definition has them.
 
-abbrev choices_to : ℕ → Way → List (List Bool)
+abbrev choices_to : ℕ → PathWay → List (List Bool)
 choices_to block way =
     elim way.exit [ ToBlock next ↦ if next == block then way.choices ∷ [] else [] | LeavesBody ↦ [] ]
 
@@ -92,7 +92,7 @@ zero_if true = false ∷ []
 zero_if false = []
 
 module _ (items : ItemTable) (body : Body) where
-  abbrev ways_from : ℕ → List Way
+  abbrev ways_from : ℕ → List PathWay
   ways_from block = option_map_or (λ found. ways items body found.term) (slice_get body.blocks block) []
 
   abbrev pub entry_choices : ℕ → List Bool
@@ -148,14 +148,14 @@ module _ (items : ItemTable) (body : Body) where
 
   -- The ways out of a block, and where a run goes on from within it.
 
-  abbrev Out : Exit → List Bool → Way
+  abbrev Out : BlockExit → List Bool → PathWay
   Out exit choices = record { choices = choices; exit = exit }
 
-  pub data Shape : List Way → Bool → Type 0 where
+  pub data Shape : List PathWay → Bool → Type 0 where
     none : (silent : Bool) → Shape [] silent
-    lone : (exit : Exit) → Shape (Out exit [] ∷ []) true
-    second : (exit : Exit) → Shape (Out exit (true ∷ []) ∷ []) false
-    both : (first other : Exit) → Shape (Out first (false ∷ []) ∷ Out other (true ∷ []) ∷ []) false
+    lone : (exit : BlockExit) → Shape (Out exit [] ∷ []) true
+    second : (exit : BlockExit) → Shape (Out exit (true ∷ []) ∷ []) false
+    both : (first other : BlockExit) → Shape (Out first (false ∷ []) ∷ Out other (true ∷ []) ∷ []) false
 
   shape-call : (never : Bool) (next : ℕ) (unwind : Unwind)
       → Shape (if never then Out (unwind_exit unwind) (true ∷ []) ∷ [] else Out (ToBlock next) (false ∷ []) ∷ Out (unwind_exit unwind) (true ∷ []) ∷ []) false
@@ -188,43 +188,43 @@ module _ (items : ItemTable) (body : Body) where
   Chosen false k choice = choice ≡ Some k
 
   -- the way with a number that leads to a block gives its choice
-  way-there : (list : List Way) (silent : Bool) → Shape list silent → (k : Bool) (choice : Option Bool) (m : ℕ) → Chosen silent k choice → target_among (number_of k) list ≡ Some m
+  way-there : (list : List PathWay) (silent : Bool) → Shape list silent → (k : Bool) (choice : Option Bool) (m : ℕ) → Chosen silent k choice → target_among (number_of k) list ≡ Some m
       → Contains list (Out (ToBlock m) (optional choice))
   way-there _ _ (none silent) k choice m chosen to = absurd (none-some m to)
   way-there _ _ (lone exit) true choice m chosen to = absurd (false≢true (sym chosen.0))
   way-there _ _ (lone (ToBlock b)) false choice m chosen to =
-      subst (λ (z : Way). Contains (Out (ToBlock b) [] ∷ []) z) (λ i. Out (ToBlock (same_Some b m to i)) (optional (sym chosen.1 i))) (here (Out (ToBlock b) []) [])
+      subst (λ (z : PathWay). Contains (Out (ToBlock b) [] ∷ []) z) (λ i. Out (ToBlock (same_Some b m to i)) (optional (sym chosen.1 i))) (here (Out (ToBlock b) []) [])
   way-there _ _ (lone LeavesBody) false choice m chosen to = absurd (none-some m to)
   way-there _ _ (second exit) false choice m chosen to = absurd (none-some m to)
   way-there _ _ (second (ToBlock b)) true choice m chosen to =
-      subst (λ (z : Way). Contains (Out (ToBlock b) (true ∷ []) ∷ []) z) (λ i. Out (ToBlock (same_Some b m to i)) (optional (sym chosen i))) (here (Out (ToBlock b) (true ∷ [])) [])
+      subst (λ (z : PathWay). Contains (Out (ToBlock b) (true ∷ []) ∷ []) z) (λ i. Out (ToBlock (same_Some b m to i)) (optional (sym chosen i))) (here (Out (ToBlock b) (true ∷ [])) [])
   way-there _ _ (second LeavesBody) true choice m chosen to = absurd (none-some m to)
   way-there _ _ (both (ToBlock b) other) false choice m chosen to =
-      subst (λ (z : Way). Contains (Out (ToBlock b) (false ∷ []) ∷ Out other (true ∷ []) ∷ []) z) (λ i. Out (ToBlock (same_Some b m to i)) (optional (sym chosen i))) (here (Out (ToBlock b) (false ∷ [])) (Out other (true ∷ []) ∷ []))
+      subst (λ (z : PathWay). Contains (Out (ToBlock b) (false ∷ []) ∷ Out other (true ∷ []) ∷ []) z) (λ i. Out (ToBlock (same_Some b m to i)) (optional (sym chosen i))) (here (Out (ToBlock b) (false ∷ [])) (Out other (true ∷ []) ∷ []))
   way-there _ _ (both LeavesBody other) false choice m chosen to = absurd (none-some m to)
   way-there _ _ (both first (ToBlock b)) true choice m chosen to =
-      subst (λ (z : Way). Contains (Out first (false ∷ []) ∷ Out (ToBlock b) (true ∷ []) ∷ []) z) (λ i. Out (ToBlock (same_Some b m to i)) (optional (sym chosen i)))
+      subst (λ (z : PathWay). Contains (Out first (false ∷ []) ∷ Out (ToBlock b) (true ∷ []) ∷ []) z) (λ i. Out (ToBlock (same_Some b m to i)) (optional (sym chosen i)))
       (there (Out (ToBlock b) (true ∷ [])) (Out first (false ∷ [])) (Out (ToBlock b) (true ∷ []) ∷ []) (here (Out (ToBlock b) (true ∷ [])) []))
   way-there _ _ (both first LeavesBody) true choice m chosen to = absurd (none-some m to)
 
   -- a way is one by its number
-  abbrev pub Numbered : List Way → Bool → ℕ → List Bool → Type 0
+  abbrev pub Numbered : List PathWay → Bool → ℕ → List Bool → Type 0
   Numbered list silent m choices = (k : Bool) × (choice : Option Bool) × Chosen silent k choice × (target_among (number_of k) list ≡ Some m) × (choices ≡ optional choice)
 
-  way-number : (list : List Way) (silent : Bool) → Shape list silent → (m : ℕ) (choices : List Bool) → Contains list (Out (ToBlock m) choices) → Numbered list silent m choices
+  way-number : (list : List PathWay) (silent : Bool) → Shape list silent → (m : ℕ) (choices : List Bool) → Contains list (Out (ToBlock m) choices) → Numbered list silent m choices
   way-number _ _ (none silent) m choices has = absurd (none-in (Out (ToBlock m) choices) has)
   way-number _ _ (lone exit) m choices has = elim (first-or (Out (ToBlock m) choices) (Out exit []) [] has) [
-    | inl same ↦ (false, None, (refl, refl), ap (λ (z : Way). block_of z.exit) same, ap (λ (z : Way). z.choices) (sym same))
+    | inl same ↦ (false, None, (refl, refl), ap (λ (z : PathWay). block_of z.exit) same, ap (λ (z : PathWay). z.choices) (sym same))
     | inr stop ↦ absurd (none-in (Out (ToBlock m) choices) stop)
   ]
   way-number _ _ (second exit) m choices has = elim (first-or (Out (ToBlock m) choices) (Out exit (true ∷ [])) [] has) [
-    | inl same ↦ (true, Some true, refl, ap (λ (z : Way). block_of z.exit) same, ap (λ (z : Way). z.choices) (sym same))
+    | inl same ↦ (true, Some true, refl, ap (λ (z : PathWay). block_of z.exit) same, ap (λ (z : PathWay). z.choices) (sym same))
     | inr stop ↦ absurd (none-in (Out (ToBlock m) choices) stop)
   ]
   way-number _ _ (both first other) m choices has = elim (first-or (Out (ToBlock m) choices) (Out first (false ∷ [])) (Out other (true ∷ []) ∷ []) has) [
-    | inl same ↦ (false, Some false, refl, ap (λ (z : Way). block_of z.exit) same, ap (λ (z : Way). z.choices) (sym same))
+    | inl same ↦ (false, Some false, refl, ap (λ (z : PathWay). block_of z.exit) same, ap (λ (z : PathWay). z.choices) (sym same))
     | inr more ↦ elim (first-or (Out (ToBlock m) choices) (Out other (true ∷ [])) [] more) [
-      | inl same ↦ (true, Some true, refl, ap (λ (z : Way). block_of z.exit) same, ap (λ (z : Way). z.choices) (sym same))
+      | inl same ↦ (true, Some true, refl, ap (λ (z : PathWay). block_of z.exit) same, ap (λ (z : PathWay). z.choices) (sym same))
       | inr stop ↦ absurd (none-in (Out (ToBlock m) choices) stop)
     ]
   ]
@@ -258,7 +258,7 @@ module _ (items : ItemTable) (body : Body) where
       )
 
   -- the choices between two blocks are those of a way
-  to-exit : (m : ℕ) (way : Way) (choices : List Bool) → Contains (choices_to m way) choices → way ≡ Out (ToBlock m) choices
+  to-exit : (m : ℕ) (way : PathWay) (choices : List Bool) → Contains (choices_to m way) choices → way ≡ Out (ToBlock m) choices
   to-exit m way choices has = by way.exit refl has
     where
       so : (next : ℕ) (b : Bool) → way.exit ≡ ToBlock next → (next == m) ≡ b → Contains (if b then way.choices ∷ [] else []) choices → way ≡ Out (ToBlock m) choices
@@ -268,7 +268,7 @@ module _ (items : ItemTable) (body : Body) where
       ]
       so next false is e has = absurd (none-in choices has)
 
-      by : (exit : Exit) → way.exit ≡ exit → Contains (elim exit [ ToBlock next ↦ if next == m then way.choices ∷ [] else [] | LeavesBody ↦ [] ]) choices → way ≡ Out (ToBlock m) choices
+      by : (exit : BlockExit) → way.exit ≡ exit → Contains (elim exit [ ToBlock next ↦ if next == m then way.choices ∷ [] else [] | LeavesBody ↦ [] ]) choices → way ≡ Out (ToBlock m) choices
       by (ToBlock next) is has = so next (next == m) is refl has
       by LeavesBody is has = absurd (none-in choices has)
 

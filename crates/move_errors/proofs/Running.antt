@@ -10,15 +10,15 @@ use Rattle.cfg_graph.specs.declared.graph.Body.{Body}
 use Rattle.cfg_graph.specs.Edges.{is_turn}
 use Rattle.cfg_graph.specs.Moves.Actions.{actions_on}
 use Rattle.cfg_graph.specs.Moves.BadUses.{BadUse, bad_uses_on}
-use Rattle.cfg_graph.specs.Moves.Gone.{Action}
+use Rattle.cfg_graph.specs.Moves.Gone.{PathAction}
 use Rattle.cfg_graph.specs.Moves.Paths.{IsPath}
-use Rattle.init_flow.specs.Carried.{Row, last_of}
+use Rattle.init_flow.specs.Carried.{Bits, last_of}
 use Rattle.init_flow.specs.Ways.{target}
 use Rattle.move_flow.proofs.Along.{actions_in, actions_between}
 use Rattle.move_paths.specs.Forest.{PathForest}
 use Rattle.move_errors.specs.Reaches.{first_bad, Reaches, MeetsNone}
 use Rattle.move_errors.specs.Rows.{first_by, IsWatched}
-use Rattle.move_errors.specs.Runs.{Problem, Trip, Run, begins, goes, Leads, step, beginning, problem, optional, number_of, point, acts_at, at_line, stmt_actions, entered, arrived, onward_from}
+use Rattle.move_errors.specs.Runs.{Problem, Trip, IsRun, begins, goes, Leads, step, beginning, problem, optional, number_of, point, acts_at, at_line, stmt_actions, entered, arrived, onward_from}
 use Rattle.move_errors.specs.Searching.{number, number_from}
 use Rattle.move_errors.specs.Stands.{MeetsNoBad}
 use Rattle.move_errors.specs.declared.point.Point.{Point}
@@ -42,17 +42,17 @@ some-first : (blocks : List Block) → 0 < length blocks → (block : Block) × 
 some-first [] within = absurd (omega (within, arith))
 some-first (block ∷ blocks) within = (block, refl)
 
-module _ (items : ItemTable) (body : Body) (forest : PathForest) (below : List Row) (watched : IsWatched items body forest below) where
+module _ (items : ItemTable) (body : Body) (forest : PathForest) (below : List Bits) (watched : IsWatched items body forest below) where
   abbrev f : Problem
   f = problem items body forest.paths
 
   -- a run of no greater number meets a bad use
   abbrev pub BadSoon : ℕ → Type 0
-  BadSoon most = (v : Trip) × Run f v × (f.bad v.at v.row ≡ true) × (number v ≤ most)
+  BadSoon most = (v : Trip) × IsRun f v × (f.bad v.at v.row ≡ true) × (number v ≤ most)
 
   pub record AtEnd (path : List ℕ) (given : List Bool) (n : ℕ) : Type 0 where
     pub by : Trip
-    pub run : Run f by
+    pub run : IsRun f by
     pub at : by.at ≡ point n Stage.Inside
     pub path_is : by.path ≡ path
     pub given_is : by.given ≡ given
@@ -95,13 +95,13 @@ module _ (items : ItemTable) (body : Body) (forest : PathForest) (below : List R
   pub none-inside : (m : ℕ) → slice_get body.blocks m ≡ None → actions_on body (m ∷ []) ≡ []
   none-inside m e = inside-are body m ∙ ap (λ (z : Option Block). option_map_or (λ block. stmt_actions m 0 block.stmts ++ at_line m (length block.stmts) (term_uses block.term)) z []) e
 
-  module _ (t : Trip) (n m : ℕ) (k : Bool) (choice : Option Bool) (run : Run f t) (at : t.at ≡ point n Stage.Inside) (clean : f.bad t.at t.row ≡ false)
+  module _ (t : Trip) (n m : ℕ) (k : Bool) (choice : Option Bool) (run : IsRun f t) (at : t.at ≡ point n Stage.Inside) (clean : f.bad t.at t.row ≡ false)
       (leads : Leads (onward_from items body n Stage.Inside) choice (point n (Stage.Leaving k))) (to : target items body n (number_of k) ≡ Some m) where
     -- the run on the way out of its block
     abbrev out : Trip
     out = step f t choice (point n (Stage.Leaving k))
 
-    out-run : Run f out
+    out-run : IsRun f out
     out-run = goes t choice (point n (Stage.Leaving k)) run clean (subst (λ (z : Point). Leads (onward_from items body z.block z.stage) choice (point n (Stage.Leaving k))) (sym at) leads)
 
     -- to a block that does not exist
@@ -114,7 +114,7 @@ module _ (items : ItemTable) (body : Body) (forest : PathForest) (below : List R
         let path : t.path ≡ it.comes.0 ++ n ∷ [] = sym (append-nil t.path) ∙ it.comes.1 in
         let earlier : it.earlier ≡ actions_on body (it.comes.0 ++ n ∷ []) = it.comes.7 ∙ ap (actions_on body) it.comes.1 in
         ap (λ (z : List ℕ). first_bad items body [] (actions_on body (z ++ m ∷ []))) path
-        ∙ ap (first_bad items body []) (actions-snoc body it.comes.0 n m ∙ ap (λ (z : List Action). (actions_on body (it.comes.0 ++ n ∷ []) ++ actions_between body n m) ++ z) (none-inside m missing)
+        ∙ ap (first_bad items body []) (actions-snoc body it.comes.0 n m ∙ ap (λ (z : List PathAction). (actions_on body (it.comes.0 ++ n ∷ []) ++ actions_between body n m) ++ z) (none-inside m missing)
         ∙ append-nil (actions_on body (it.comes.0 ++ n ∷ []) ++ actions_between body n m) ∙ (λ i. sym earlier i ++ sym stored i))
         ∙ p.clean
 
@@ -122,13 +122,13 @@ module _ (items : ItemTable) (body : Body) (forest : PathForest) (below : List R
       abbrev before : Trip
       before = step f out None (point m Stage.Entry)
 
-      before-run : Run f before
+      before-run : IsRun f before
       before-run = goes out None (point m Stage.Entry) out-run fine (arrival n m k to (slice_get_within body.blocks m block there))
 
       abbrev within : Trip
       within = step f before (entry m block there).0 (point m Stage.Inside)
 
-      within-run : Run f within
+      within-run : IsRun f within
       within-run = goes before (entry m block there).0 (point m Stage.Inside) before-run refl (entry m block there).1
 
       within-path : within.path ≡ t.path ++ m ∷ []
@@ -138,7 +138,7 @@ module _ (items : ItemTable) (body : Body) (forest : PathForest) (below : List R
       within-given = (λ i. append-nil (t.given ++ optional choice) i ++ (entry m block there).2 i)
 
   -- along a path from a block on
-  pub onwards : (rest : List ℕ) (t : Trip) (n : ℕ) (more : List Bool) → Run f t → t.at ≡ point n Stage.Inside → Contains (along items body n rest) more
+  pub onwards : (rest : List ℕ) (t : Trip) (n : ℕ) (more : List Bool) → IsRun f t → t.at ≡ point n Stage.Inside → Contains (along items body n rest) more
       → Outcome (t.path ++ rest) (t.given ++ more) (last_of n rest)
   onwards [] t n more run at has = elim (first-or more [] [] has) [
     | inl same ↦ inr (inl (record { by = t; run = run; at = at; path_is = sym (append-nil t.path); given_is = sym (append-nil t.given) ∙ ap (λ (z : List Bool). t.given ++ z) same }))
@@ -154,7 +154,7 @@ module _ (items : ItemTable) (body : Body) (forest : PathForest) (below : List R
       go : (k : Bool) (choice : Option Bool) (choices later : List Bool) → Leads (onward_from items body n Stage.Inside) choice (point n (Stage.Leaving k))
           → target items body n (number_of k) ≡ Some m → choices ≡ optional choice → Contains (along items body m rest) later → (choices ++ entry_choices items body m) ++ later ≡ more
           → (b : Bool) → f.bad t.at t.row ≡ b
-          → ((x : Trip) → x.at ≡ point m Stage.Inside → Run f x → Outcome (x.path ++ rest) (x.given ++ later) (last_of m rest))
+          → ((x : Trip) → x.at ≡ point m Stage.Inside → IsRun f x → Outcome (x.path ++ rest) (x.given ++ later) (last_of m rest))
           → Outcome (t.path ++ m ∷ rest) (t.given ++ more) (last_of m rest)
       go k choice choices later leads to is has_later whole true e again = inl (t, run, e, more-number t.given more)
       go k choice choices later leads to is has_later whole false e again = next (f.bad (out t n m k choice run at e leads to).at (out t n m k choice run at e leads to).row) refl (slice_get body.blocks m) refl
@@ -209,7 +209,7 @@ module _ (items : ItemTable) (body : Body) (forest : PathForest) (below : List R
       let it = in-map (λ (rest : List Bool). entry_choices items body 0 ++ rest) (along items body 0 rest) given path in
       let some = some-first body.blocks watched.some_block in
       let e = entry 0 some.0 some.1 in
-      let run : Run f (step f (beginning f) e.0 (point 0 Stage.Inside)) = goes (beginning f) e.0 (point 0 Stage.Inside) begins refl e.1 in
+      let run : IsRun f (step f (beginning f) e.0 (point 0 Stage.Inside)) = goes (beginning f) e.0 (point 0 Stage.Inside) begins refl e.1 in
       let given_is : optional e.0 ++ it.0 ≡ given = ap (λ (z : List Bool). z ++ it.0) e.2 ∙ it.2 in (
         last_of 0 rest,
         λ front last is. ap (last_of 0) is ∙ ends 0 front last,
@@ -228,7 +228,7 @@ module _ (items : ItemTable) (body : Body) (forest : PathForest) (below : List R
       by (inr (inr lost)) = meets-none items body path lost.1
       by (inr (inl end)) = at-end end.by end.run (along-path path given is_path).0 end.at end.path_is
         where
-          at-end : (u : Trip) → Run f u → (n : ℕ) → u.at ≡ point n Stage.Inside → u.path ≡ path → bad_uses_on items body path ≡ []
+          at-end : (u : Trip) → IsRun f u → (n : ℕ) → u.at ≡ point n Stage.Inside → u.path ≡ path → bad_uses_on items body path ≡ []
           at-end u run n at same =
               let it = told items body forest below watched u run in
               let p = past items body forest below watched u it (clean u run) in
@@ -237,7 +237,7 @@ module _ (items : ItemTable) (body : Body) (forest : PathForest) (below : List R
               (ap (first_bad items body []) (ap (actions_on body) (sym same) ∙ comes.3 ∙ ap (λ (z : Point). it.earlier ++ acts_at items body z.block z.stage) (sym at)) ∙ p.clean)
 
   -- a run at the end of a path meets what the path meets there
-  bad-at : (u : Trip) → Run f u → (n : ℕ) (earlier : List Action) (bad : BadUse) → u.at ≡ point n Stage.Inside
+  bad-at : (u : Trip) → IsRun f u → (n : ℕ) (earlier : List PathAction) (bad : BadUse) → u.at ≡ point n Stage.Inside
       → actions_on body u.path ≡ earlier ++ actions_on body (n ∷ []) → first_bad items body earlier (actions_on body (n ∷ [])) ≡ Some bad → f.bad u.at u.row ≡ true
   bad-at u run n earlier bad at path is = by (both items body forest below watched (told items body forest below watched u run).earlier (actions_on body (n ∷ [])) (told items body forest below watched u run).used (acts-used items body n Stage.Inside))
     where
@@ -248,11 +248,11 @@ module _ (items : ItemTable) (body : Body) (forest : PathForest) (below : List R
           append_cancel_right it.earlier earlier (actions_on body (n ∷ [])) (sym comes.3 ∙ path)
 
       by : Both items body forest below watched (told items body forest below watched u run).earlier (actions_on body (n ∷ [])) → f.bad u.at u.row ≡ true
-      by (none plain rows next) = absurd (none-some bad (sym plain ∙ ap (λ (z : List Action). first_bad items body z (actions_on body (n ∷ []))) same ∙ is))
+      by (none plain rows next) = absurd (none-some bad (sym plain ∙ ap (λ (z : List PathAction). first_bad items body z (actions_on body (n ∷ []))) same ∙ is))
       by (some a plain rows) =
-          ap (λ (z : Point). f.bad z u.row) at ∙ ap (λ (r : Row). is_some (first_by items body forest.paths (actions_on body (n ∷ [])) r)) (told items body forest below watched u run).row ∙ ap is_some rows
+          ap (λ (z : Point). f.bad z u.row) at ∙ ap (λ (r : Bits). is_some (first_by items body forest.paths (actions_on body (n ∷ [])) r)) (told items body forest below watched u run).row ∙ ap is_some rows
 
-  bad-on-way : (u : Trip) → Run f u → (n m : ℕ) (k : Bool) (bad : BadUse) → u.at ≡ point n (Stage.Leaving k) → target items body n (number_of k) ≡ Some m
+  bad-on-way : (u : Trip) → IsRun f u → (n m : ℕ) (k : Bool) (bad : BadUse) → u.at ≡ point n (Stage.Leaving k) → target items body n (number_of k) ≡ Some m
       → first_bad items body (actions_on body u.path) (actions_between body n m) ≡ Some bad → f.bad u.at u.row ≡ true
   bad-on-way u run n m k bad at to is = by (both items body forest below watched (told items body forest below watched u run).earlier (acts_at items body n (Stage.Leaving k)) (told items body forest below watched u run).used (acts-used items body n (Stage.Leaving k)))
     where
@@ -265,7 +265,7 @@ module _ (items : ItemTable) (body : Body) (forest : PathForest) (below : List R
       by : Both items body forest below watched (told items body forest below watched u run).earlier (acts_at items body n (Stage.Leaving k)) → f.bad u.at u.row ≡ true
       by (none plain rows next) = absurd (none-some bad (sym plain ∙ (λ i. first_bad items body (same i) (stored-is items body forest below watched n m k to i)) ∙ is))
       by (some a plain rows) =
-          ap (λ (z : Point). f.bad z u.row) at ∙ ap (λ (r : Row). is_some (first_by items body forest.paths (acts_at items body n (Stage.Leaving k)) r)) (told items body forest below watched u run).row ∙ ap is_some rows
+          ap (λ (z : Point). f.bad z u.row) at ∙ ap (λ (r : Bits). is_some (first_by items body forest.paths (acts_at items body n (Stage.Leaving k)) r)) (told items body forest below watched u run).row ∙ ap is_some rows
 
   -- what reaches a bad use has no lesser number than a run that meets one
   pub reached-soon : (path : List ℕ) (given : List Bool) (bad : BadUse) → Reaches items body path given bad → BadSoon (number_from 1 given)
@@ -295,7 +295,7 @@ module _ (items : ItemTable) (body : Body) (forest : PathForest) (below : List R
       stored = append_cancel_left (actions_in body r.last) r.stored (actions_between body r.last r.next)
           (append_cancel_right (actions_in body r.last ++ r.stored) (actions_in body r.last ++ actions_between body r.last r.next) (actions_on body (r.next ∷ [])) (sym r.stores))
 
-      at-end : (u : Trip) → Run f u → u.at ≡ point r.last Stage.Inside → u.path ≡ path → u.given ≡ r.before → (b : Bool) → f.bad u.at u.row ≡ b → BadSoon (number_from 1 given)
+      at-end : (u : Trip) → IsRun f u → u.at ≡ point r.last Stage.Inside → u.path ≡ path → u.given ≡ r.before → (b : Bool) → f.bad u.at u.row ≡ b → BadSoon (number_from 1 given)
       at-end u run at path_is given_is true e = (u, run, e, (let k = less in let same = ap (number_from 1) given_is in omega (k, same, arith)))
       at-end u run at path_is given_is false e =
           let it = leaves-by items body r.last r.next r.block r.choices r.there r.way in

@@ -10,15 +10,15 @@ use Rattle.store_model.specs.Places.Place.{whole_local}
 use Rattle.cfg_graph.specs.declared.graph.Block.{Block}
 use Rattle.cfg_graph.specs.declared.graph.Body.{Body}
 use Rattle.cfg_graph.specs.Moves.Actions.{actions_on}
-use Rattle.cfg_graph.specs.Moves.Gone.{Action, is_gone_after}
+use Rattle.cfg_graph.specs.Moves.Gone.{PathAction, is_gone_after}
 use Rattle.cfg_graph.specs.Moves.Paths.{IsPath}
-use Rattle.init_flow.specs.Carried.{Row, AreCarried, last_of}
+use Rattle.init_flow.specs.Carried.{Bits, AreCarried, last_of}
 use Rattle.init_flow.specs.Ways.{target}
 use Rattle.move_paths.specs.Forest.{PathForest}
 use Rattle.move_flow.specs.Moved.{Says}
 use Rattle.move_flow.proofs.OnPaths.{solved-says}
 use Rattle.move_errors.specs.Rows.{IsWatched, place_at, first_by}
-use Rattle.move_errors.specs.Runs.{Problem, Trip, Run, begins, goes, Leads, problem, point, acts_at, stored_between, number_of, onward_from}
+use Rattle.move_errors.specs.Runs.{Problem, Trip, IsRun, begins, goes, Leads, problem, point, acts_at, stored_between, number_of, onward_from}
 use Rattle.move_errors.specs.Searching.{bit}
 use Rattle.move_errors.specs.Shown.{ShowsNone}
 use Rattle.move_errors.specs.Stands.{MeetsNoBad}
@@ -31,7 +31,7 @@ use Rattle.move_errors.proofs.Running.{none-inside}
 use Rattle.move_errors.proofs.Sorted.{none-in}
 use Rattle.move_errors.proofs.Visiting.{run-width}
 
-bit-in : (row : Row) (i : ℕ) → bit row i ≡ true → i < length row
+bit-in : (row : Bits) (i : ℕ) → bit row i ≡ true → i < length row
 bit-in [] i on = absurd (false≢true on)
 bit-in (b ∷ row) zero on = omega arith
 bit-in (b ∷ row) (suc i) on = let k = bit-in row i on in omega (k, arith)
@@ -39,15 +39,15 @@ bit-in (b ∷ row) (suc i) on = let k = bit-in row i on in omega (k, arith)
 none-leaving : (items : ItemTable) (body : Body) (n : ℕ) (k : Bool) → slice_get body.blocks n ≡ None → acts_at items body n (Stage.Leaving k) ≡ []
 none-leaving items body n k e = ap (λ (z : Option Block). option_map_or (λ found. stored_between found n (target items body n (number_of k))) z []) e
 
-module _ (items : ItemTable) (body : Body) (forest : PathForest) (below : List Row) (watched : IsWatched items body forest below) where
+module _ (items : ItemTable) (body : Body) (forest : PathForest) (below : List Bits) (watched : IsWatched items body forest below) where
   abbrev f : Problem
   f = problem items body forest.paths
 
   -- a run on a way out of a block comes from within it
-  abbrev Came : ℕ → Row → Type 0
-  Came n row = (t : Trip) × Run f t × (t.at ≡ point n Stage.Inside) × (row ≡ f.pass (point n Stage.Inside) t.row)
+  abbrev Came : ℕ → Bits → Type 0
+  Came n row = (t : Trip) × IsRun f t × (t.at ≡ point n Stage.Inside) × (row ≡ f.pass (point n Stage.Inside) t.row)
 
-  came : (u : Trip) → Run f u → (n : ℕ) (k : Bool) → u.at ≡ point n (Stage.Leaving k) → Came n u.row
+  came : (u : Trip) → IsRun f u → (n : ℕ) (k : Bool) → u.at ≡ point n (Stage.Leaving k) → Came n u.row
   came _ begins n k at = absurd (cc (ap (λ (z : Point). z.stage) at))
   came _ (goes t choice to run clean leads) n k at = by t.at.block t.at.stage refl refl leads
     where
@@ -60,24 +60,24 @@ module _ (items : ItemTable) (body : Body) (forest : PathForest) (below : List R
           (t, run, here, ap (λ (z : Point). f.pass z t.row) here)
       by m (Stage.Leaving j) b s leads = let it = arrive items body forest below watched m j choice to leads in absurd (cc (ap (λ (z : Point). z.stage) (sym at ∙ it.1)))
 
-  module _ (pass : ℕ → ℕ → Row → Row) (first : Row) (rows : List Row) (says : Says items body forest.paths true (target items body) pass first)
+  module _ (pass : ℕ → ℕ → Bits → Bits) (first : Bits) (rows : List Bits) (says : Says items body forest.paths true (target items body) pass first)
       (carried : AreCarried (length body.blocks) (target items body) pass first rows)
       (widths : (n : ℕ) → n < length body.blocks → length (slice_index_or rows n []) ≡ length forest.paths)
       (shows : (n : ℕ) → n < length body.blocks → ShowsNone f n (slice_index_or rows n [])) where
-    abbrev at_start : ℕ → Row
+    abbrev at_start : ℕ → Bits
     at_start n = slice_index_or rows n []
 
     -- what a run brings to a block is in the row of the block
-    brought : (t : Trip) → Run f t → (n : ℕ) → t.at ≡ point n Stage.Inside → n < length body.blocks → (i : ℕ) → bit t.row i ≡ true → bit (at_start n) i ≡ true
+    brought : (t : Trip) → IsRun f t → (n : ℕ) → t.at ≡ point n Stage.Inside → n < length body.blocks → (i : ℕ) → bit t.row i ≡ true → bit (at_start n) i ≡ true
     brought t run n at within i on =
         let it = told items body forest below watched t run in
         let comes = subst (λ (z : Point). Comes items body forest below watched z.block z.stage t.path t.given it.earlier) at it.comes in
         let inside : i < length forest.paths = (let k = bit-in t.row i on in let l = run-width f (owns items body forest.paths) t run in omega (k, l, arith)) in
         let gone : is_gone_after items body it.earlier (place_at forest.paths i) ≡ true =
-        sym (get_or-map (λ path. is_gone_after items body it.earlier path) forest.paths i (whole_local 0) false inside) ∙ ap (λ (z : Row). bit z i) (sym it.row) ∙ on in
+        sym (get_or-map (λ path. is_gone_after items body it.earlier path) forest.paths i (whole_local 0) false inside) ∙ ap (λ (z : Bits). bit z i) (sym it.row) ∙ on in
         by t.path t.given it.earlier comes.0 comes.1 comes.2 comes.3 gone inside
       where
-        by : (path : List ℕ) (given : List Bool) (earlier : List Action) (front : List ℕ) → path ≡ front ++ n ∷ [] → IsPath items body path given
+        by : (path : List ℕ) (given : List Bool) (earlier : List PathAction) (front : List ℕ) → path ≡ front ++ n ∷ [] → IsPath items body path given
             → actions_on body path ≡ earlier ++ actions_on body (n ∷ []) → is_gone_after items body earlier (place_at forest.paths i) ≡ true → i < length forest.paths → bit (at_start n) i ≡ true
         by [] given earlier front is path before gone inside = absurd (none-in given path)
         by (suc k ∷ rest) given earlier front is path before gone inside = absurd (none-in given path)
@@ -85,20 +85,20 @@ module _ (items : ItemTable) (body : Body) (forest : PathForest) (below : List R
             (solved-says items body forest.paths true pass first rows says carried n i (place_at forest.paths i) within (slice_get-get_or forest.paths i (whole_local 0) inside)).1
             (record { rest = rest; choices = given; earlier = earlier; is_path = path; ends = ap (last_of 0) is ∙ ends 0 front n; before = before; is = gone })
 
-    within-block : (u : Trip) → Run f u → (n : ℕ) → u.at ≡ point n Stage.Inside → n < length body.blocks → f.bad (point n Stage.Inside) u.row ≡ true → ⊥
+    within-block : (u : Trip) → IsRun f u → (n : ℕ) → u.at ≡ point n Stage.Inside → n < length body.blocks → f.bad (point n Stage.Inside) u.row ≡ true → ⊥
     within-block u run n at within bad =
         elim ((owns items body forest.paths).bad_own (point n Stage.Inside) u.row (run-width f (owns items body forest.paths) u run) bad) [
           | inl always ↦ false≢true (sym (shows n within).inside ∙ always (at_start n) (widths n within))
           | inr some ↦ false≢true (sym (shows n within).inside ∙ some.2 (at_start n) (widths n within) (brought u run n at within some.0 some.1))
         ]
 
-    on-way : (u t : Trip) → Run f u → Run f t → (n : ℕ) (k : Bool) → t.at ≡ point n Stage.Inside → u.row ≡ f.pass (point n Stage.Inside) t.row → n < length body.blocks
+    on-way : (u t : Trip) → IsRun f u → IsRun f t → (n : ℕ) (k : Bool) → t.at ≡ point n Stage.Inside → u.row ≡ f.pass (point n Stage.Inside) t.row → n < length body.blocks
         → f.bad (point n (Stage.Leaving k)) u.row ≡ true → ⊥
     on-way u t run before n k at is within bad =
         elim ((owns items body forest.paths).bad_own (point n (Stage.Leaving k)) u.row (run-width f (owns items body forest.paths) u run) bad) [
           | inl always ↦ false≢true (sym ((shows n within).leaving k) ∙ always (f.pass (point n Stage.Inside) (at_start n)) ((owns items body forest.paths).keeps (point n Stage.Inside) (at_start n) (widths n within)))
           | inr some ↦ false≢true (sym ((shows n within).leaving k) ∙ some.2 (f.pass (point n Stage.Inside) (at_start n)) ((owns items body forest.paths).keeps (point n Stage.Inside) (at_start n) (widths n within))
-              (passed some.0 (sym (ap (λ (z : Row). bit z some.0) is) ∙ some.1)))
+              (passed some.0 (sym (ap (λ (z : Bits). bit z some.0) is) ∙ some.1)))
         ]
       where
         passed : (i : ℕ) → bit (f.pass (point n Stage.Inside) t.row) i ≡ true → bit (f.pass (point n Stage.Inside) (at_start n)) i ≡ true
@@ -118,14 +118,14 @@ module _ (items : ItemTable) (body : Body) (forest : PathForest) (below : List R
     decided u run = by u.at.block u.at.stage refl
       where
         missing : (n : ℕ) → slice_get body.blocks n ≡ None → f.bad (point n Stage.Inside) u.row ≡ false
-        missing n e = ap (λ (z : List Action). is_some (first_by items body forest.paths z u.row)) (none-inside items body forest below watched n e)
+        missing n e = ap (λ (z : List PathAction). is_some (first_by items body forest.paths z u.row)) (none-inside items body forest below watched n e)
 
         inside : (n : ℕ) → u.at ≡ point n Stage.Inside → (o : Option Block) → slice_get body.blocks n ≡ o → f.bad (point n Stage.Inside) u.row ≡ false
         inside n at None e = missing n e
         inside n at (Some block) e = not-bad (f.bad (point n Stage.Inside) u.row) (within-block u run n at (slice_get_within body.blocks n block e))
 
         leaving : (n : ℕ) (k : Bool) → u.at ≡ point n (Stage.Leaving k) → (o : Option Block) → slice_get body.blocks n ≡ o → f.bad (point n (Stage.Leaving k)) u.row ≡ false
-        leaving n k at None e = ap (λ (z : List Action). is_some (first_by items body forest.paths z u.row)) (none-leaving items body n k e)
+        leaving n k at None e = ap (λ (z : List PathAction). is_some (first_by items body forest.paths z u.row)) (none-leaving items body n k e)
         leaving n k at (Some block) e =
             let it = came u run n k at in
             not-bad (f.bad (point n (Stage.Leaving k)) u.row) (on-way u it.0 run it.1 n k it.2 it.3 (slice_get_within body.blocks n block e))

@@ -9,7 +9,7 @@ use Rattle.std.proofs.lemmas.List.Elements.{Contains-append_left, Contains-appen
 use Rattle.std.proofs.Math.ListN.{get_or-eq_default}
 use Rattle.mir_ty.proofs.ListLemmas.{slice_get-push_cases}
 use Rattle.bit_rows.specs.Words.{union}
-use Rattle.init_flow.specs.Carried.{Row}
+use Rattle.init_flow.specs.Carried.{Bits}
 use Rattle.init_flow.specs.WorkList.{off, is_off}
 use Rattle.init_flow.proofs.Rows.{union-bit, union-length, fewer, fewer-than}
 use Rattle.move_errors.specs.Runs.{Problem, Trip, Leads, beginning, step, met, optional, index_of, stage_number}
@@ -83,7 +83,7 @@ module _ (f : Problem) (law : Own f) where
   source-early done t None within = refl
   source-early done t (Some n) within = get-early done t (beginning f) n within
 
-  trip-early : (done : List Trip) (t : Trip) (visit : Visit) (row : Row) → IsFrom f visit.from (length done) → trip_of f (done ++ t ∷ []) visit row ≡ trip_of f done visit row
+  trip-early : (done : List Trip) (t : Trip) (visit : Visit) (row : Bits) → IsFrom f visit.from (length done) → trip_of f (done ++ t ∷ []) visit row ≡ trip_of f done visit row
   trip-early done t visit row within =
       ap (λ (z : Trip). record { path = z.path ++ met visit.at; given = z.given ++ optional visit.choice; at = visit.at; row = row }) (source-early done t visit.from within)
 
@@ -94,24 +94,24 @@ module _ (f : Problem) (law : Own f) where
       λ i. trip-early done t item.visit item.row (from item (here item items)) i
       ∷ waiting-early done t items (λ x has. from x (there x item items has)) i
 
-  trip-new : (done : List Trip) (t : Trip) (row : Row) (choice : Option Bool) (to : Point) (n : ℕ) → n ≡ length done → row ≡ f.pass t.at t.row
+  trip-new : (done : List Trip) (t : Trip) (row : Bits) (choice : Option Bool) (to : Point) (n : ℕ) → n ≡ length done → row ≡ f.pass t.at t.row
       → trip_of f (done ++ t ∷ []) (item_from n row choice to).visit row ≡ step f t choice to
   trip-new done t row choice to n last is =
       ap (λ (k : ℕ). trip_of f (done ++ t ∷ []) (record { at = to; from = Some k; choice = choice }) row) last
       ∙ ap (λ (z : Trip). record { path = z.path ++ met to; given = z.given ++ optional choice; at = to; row = row }) (get-last done t (beginning f))
-      ∙ ap (λ (r : Row). record { path = t.path ++ met to; given = t.given ++ optional choice; at = to; row = r }) is
+      ∙ ap (λ (r : Bits). record { path = t.path ++ met to; given = t.given ++ optional choice; at = to; row = r }) is
 
   waiting-append : (done : List Trip) (xs ys : List Waiting) → waiting_of f done (xs ++ ys) ≡ waiting_of f done xs ++ waiting_of f done ys
   waiting-append done [] ys = refl
   waiting-append done (x ∷ xs) ys = ap (λ z. trip_of f done x.visit x.row ∷ z) (waiting-append done xs ys)
 
-  waiting-chosen : (done : List Trip) (t : Trip) (row : Row) (o : Option Point) (choice : Bool) (n : ℕ) → n ≡ length done → row ≡ f.pass t.at t.row
+  waiting-chosen : (done : List Trip) (t : Trip) (row : Bits) (o : Option Point) (choice : Bool) (n : ℕ) → n ≡ length done → row ≡ f.pass t.at t.row
       → waiting_of f (done ++ t ∷ []) (chosen_items n row o choice) ≡ chosen f t o choice
   waiting-chosen done t row None choice n last is = refl
   waiting-chosen done t row (Some to) choice n last is = ap (λ (z : Trip). z ∷ []) (trip-new done t row (Some choice) to n last is)
 
   -- what waits where a run went on
-  waiting-pushed : (done : List Trip) (t : Trip) (row : Row) (o : Onward) (items : List Waiting) (n : ℕ) → n ≡ length done → row ≡ f.pass t.at t.row
+  waiting-pushed : (done : List Trip) (t : Trip) (row : Bits) (o : Onward) (items : List Waiting) (n : ℕ) → n ≡ length done → row ≡ f.pass t.at t.row
       → ((item : Waiting) → Contains items item → IsFrom f item.visit.from (length done))
       → waiting_of f (done ++ t ∷ []) (pushed_items o n row items) ≡ pushed f o t (waiting_of f done items)
   waiting-pushed done t row Onward.Nowhere items n last is from = waiting-early done t items from
@@ -121,7 +121,7 @@ module _ (f : Problem) (law : Own f) where
       ∙ (λ i. waiting-early done t items from i ++ (waiting-append (done ++ t ∷ []) (chosen_items n row a false) (chosen_items n row b true)
       ∙ (λ j. waiting-chosen done t row a false n last is j ++ waiting-chosen done t row b true n last is j)) i)
 
-  in-items : (o : Onward) (n : ℕ) (row : Row) (items : List Waiting) (x : Waiting) → Contains (pushed_items o n row items) x
+  in-items : (o : Onward) (n : ℕ) (row : Bits) (items : List Waiting) (x : Waiting) → Contains (pushed_items o n row items) x
       → Contains items x ⊎ ((choice : Option Bool) × (to : Point) × Leads o choice to × (item_from n row choice to ≡ x))
   in-items Onward.Nowhere n row items x has = inl has
   in-items (Onward.Silent to) n row items x has = elim (first-or x (item_from n row None to) items has) [
@@ -142,7 +142,7 @@ module _ (f : Problem) (law : Own f) where
 
   -- What was brought.
 
-  seen-more : (seen : List Row) (reached : List Bool) (done : List Trip) (t : Trip) → Seen f seen reached done → index_of t.at < f.points → length t.row ≡ f.width
+  seen-more : (seen : List Bits) (reached : List Bool) (done : List Trip) (t : Trip) → Seen f seen reached done → index_of t.at < f.points → length t.row ≡ f.width
       → Seen f (slice_set seen (index_of t.at) (union t.row (slice_index_or seen (index_of t.at) []))) (slice_set reached (index_of t.at) true) (done ++ t ∷ [])
   seen-more seen reached done t s within long = record {
     seen_are = length-set seen n row ∙ s.seen_are;
@@ -157,7 +157,7 @@ module _ (f : Problem) (law : Own f) where
     ];
     bits = λ at i on. elim (cases_eq (index_of at) n) [
       | inl same ↦ here-bit at i same (ap (λ (z : ℕ). bit (slice_index_or (slice_set seen n row) z []) i) (sym same) ∙ on)
-      | inr other ↦ (let it = s.bits at i (ap (λ (z : Row). bit z i) (sym (get_or-set_other seen n (index_of at) row [] other)) ∙ on) in
+      | inr other ↦ (let it = s.bits at i (ap (λ (z : Bits). bit z i) (sym (get_or-set_other seen n (index_of at) row [] other)) ∙ on) in
           (it.0, Contains-append_left done (t ∷ []) it.0 it.1, it.2, it.3))
     ];
   }
@@ -165,10 +165,10 @@ module _ (f : Problem) (law : Own f) where
       n : ℕ
       n = index_of t.at
 
-      old : Row
+      old : Bits
       old = slice_index_or seen (index_of t.at) []
 
-      row : Row
+      row : Bits
       row = union t.row (slice_index_or seen (index_of t.at) [])
 
       inside : index_of t.at < length seen
@@ -182,7 +182,7 @@ module _ (f : Problem) (law : Own f) where
       here-bit at i same on =
           either_true (bit t.row i) refl
           (sym (union-bit t.row (slice_index_or seen (index_of t.at) []) i (long ∙ sym (s.widths (index_of t.at) within)))
-          ∙ ap (λ (z : Row). bit z i) (sym (get_or-set_same seen (index_of t.at) (union t.row (slice_index_or seen (index_of t.at) [])) [] inside)) ∙ on)
+          ∙ ap (λ (z : Bits). bit z i) (sym (get_or-set_same seen (index_of t.at) (union t.row (slice_index_or seen (index_of t.at) [])) [] inside)) ∙ on)
         where
           either_true : (a : Bool) → bit t.row i ≡ a → (a || bit (slice_index_or seen (index_of t.at) []) i) ≡ true → (x : Trip) × Contains (done ++ t ∷ []) x × (x.at ≡ at) × (bit x.row i ≡ true)
           either_true true e h = (t, last-in done t, point-one t.at at (sym same), e)
@@ -191,11 +191,11 @@ module _ (f : Problem) (law : Own f) where
               (it.0, Contains-append_left done (t ∷ []) it.0 it.1, it.2, it.3)
 
   -- where a run brought nothing, it is settled
-  settled-old : (seen : List Row) (reached : List Bool) (done : List Trip) (t : Trip) (ts : List Trip) → Seen f seen reached done → Visited f done (t ∷ ts) → index_of t.at < f.points → length t.row ≡ f.width
+  settled-old : (seen : List Bits) (reached : List Bool) (done : List Trip) (t : Trip) (ts : List Trip) → Seen f seen reached done → Visited f done (t ∷ ts) → index_of t.at < f.points → length t.row ≡ f.width
       → union t.row (slice_index_or seen (index_of t.at) []) ≡ slice_index_or seen (index_of t.at) [] → slice_index_or reached (index_of t.at) false ≡ true → Settled f done t
   settled-old seen reached done t ts s v within long same flag = record {
     reached = (let it = s.flags t.at flag in record { by = it.0; has = it.1; there = it.2; less = (v.earlier it.0 it.1).0 });
-    brought = λ i on. (let it = s.bits t.at i (sym (ap (λ (z : Row). bit z i) same) ∙ union-bit t.row (slice_index_or seen (index_of t.at) []) i (long ∙ sym (s.widths (index_of t.at) within)) ∙ or-first (bit t.row i) (bit (slice_index_or seen (index_of t.at) []) i) on) in
+    brought = λ i on. (let it = s.bits t.at i (sym (ap (λ (z : Bits). bit z i) same) ∙ union-bit t.row (slice_index_or seen (index_of t.at) []) i (long ∙ sym (s.widths (index_of t.at) within)) ∙ or-first (bit t.row i) (bit (slice_index_or seen (index_of t.at) []) i) on) in
         record { by = it.0; has = it.1; there = it.2; less = (v.earlier it.0 it.1).0; on = it.3 });
   }
     where
@@ -203,7 +203,7 @@ module _ (f : Problem) (law : Own f) where
       or-first true b h = refl
       or-first false b h = absurd (false≢true h)
 
-  pub logged-more : (visits : List Visit) (done : List Trip) (visit : Visit) (row : Row) → Logged f visits done → IsFrom f visit.from (length done)
+  pub logged-more : (visits : List Visit) (done : List Trip) (visit : Visit) (row : Bits) → Logged f visits done → IsFrom f visit.from (length done)
       → Logged f (visits ++ visit ∷ []) (done ++ trip_of f done visit row ∷ [])
   logged-more visits done visit row l within = record {
     long = length-append visits (visit ∷ []) ∙ ap (λ (n : ℕ). n + 1) l.long ∙ sym (length-append done (trip_of f done visit row ∷ []));
@@ -243,7 +243,7 @@ module _ (f : Problem) (law : Own f) where
 
   -- The turns.
 
-  abbrev row_at : Search → ℕ → Row
+  abbrev row_at : Search → ℕ → Bits
   row_at s n = slice_index_or s.seen n []
 
   pub brings-nothing : (old new : Search) (item : Waiting) → Stands f old (item ∷ old.queue.items)
@@ -256,7 +256,7 @@ module _ (f : Problem) (law : Own f) where
         done = s.done;
         logged = subst (λ (z : List Visit). Logged f z s.done) (sym visits) s.logged;
         from_done = λ x has. s.from_done x (there x item old.queue.items has);
-        seen = subst (λ (z : List Row). Seen f z new.reached s.done) (sym seen_is) (subst (λ (z : List Bool). Seen f old.seen z s.done) (sym reached_is) s.seen);
+        seen = subst (λ (z : List Bits). Seen f z new.reached s.done) (sym seen_is) (subst (λ (z : List Bool). Seen f old.seen z s.done) (sym reached_is) s.seen);
         visited = passed-over f law s.done t (waiting_of f s.done old.queue.items) s.visited
             (settled-old old.seen old.reached s.done t (waiting_of f s.done old.queue.items) s.seen s.visited (s.within item (here item old.queue.items)) (s.widths item (here item old.queue.items)) same flag);
         widths = λ x has. s.widths x (there x item old.queue.items has);
@@ -272,7 +272,7 @@ module _ (f : Problem) (law : Own f) where
       reached_is : new.reached ≡ old.reached
       reached_is = reached ∙ ap (slice_set old.reached (index_of item.visit.at)) (sym flag) ∙ set-get_or old.reached (index_of item.visit.at) false
 
-  pub goes-on : (old new : Search) (item : Waiting) (row : Row) (n : ℕ) → Stands f old (item ∷ old.queue.items)
+  pub goes-on : (old new : Search) (item : Waiting) (row : Bits) (n : ℕ) → Stands f old (item ∷ old.queue.items)
       → ((choice : Option Bool) (to : Point) → Leads (f.onward item.visit.at) choice to → index_of to < f.points)
       → new.seen ≡ slice_set old.seen (index_of item.visit.at) (union item.row (row_at old (index_of item.visit.at)))
       → new.reached ≡ slice_set old.reached (index_of item.visit.at) true → new.visits ≡ old.visits ++ item.visit ∷ []
@@ -287,7 +287,7 @@ module _ (f : Problem) (law : Own f) where
           | inl early ↦ more x.visit.from (s.from_done x (there x item old.queue.items early))
           | inr new ↦ subst (λ (z : Waiting). IsFrom f z.visit.from (length (s.done ++ t ∷ []))) new.3 (let k = length-append s.done (t ∷ []) in let l = s.logged.long in omega (number_is, k, l, arith))
         ];
-        seen = subst (λ (z : List Row). Seen f z new.reached (s.done ++ t ∷ [])) (sym seen) (subst (λ (z : List Bool). Seen f (slice_set old.seen (index_of t.at) (union t.row (row_at old (index_of t.at)))) z (s.done ++ t ∷ [])) (sym reached)
+        seen = subst (λ (z : List Bits). Seen f z new.reached (s.done ++ t ∷ [])) (sym seen) (subst (λ (z : List Bool). Seen f (slice_set old.seen (index_of t.at) (union t.row (row_at old (index_of t.at)))) z (s.done ++ t ∷ [])) (sym reached)
             (seen-more old.seen old.reached s.done t s.seen (s.within item (here item old.queue.items)) (s.widths item (here item old.queue.items))));
         visited = subst (Visited f (s.done ++ t ∷ []))
             (sym (waiting-pushed s.done t row (f.onward item.visit.at) old.queue.items n (number_is ∙ s.logged.long) row_is (λ x has. s.from_done x (there x item old.queue.items has))))
@@ -320,7 +320,7 @@ module _ (f : Problem) (law : Own f) where
           each = λ n v at. absurd (none-some v at);
         });
         from_done = λ x has. only x has (λ (z : Waiting). IsFrom f z.visit.from 0) (subst (λ (o : Option ℕ). IsFrom f o 0) (sym from) tt);
-        seen = subst (λ (z : List Row). Seen f z s.reached []) (sym seen) (subst (λ (z : List Bool). Seen f (replicate f.points (replicate f.width false)) z []) (sym reached) (record {
+        seen = subst (λ (z : List Bits). Seen f z s.reached []) (sym seen) (subst (λ (z : List Bool). Seen f (replicate f.points (replicate f.width false)) z []) (sym reached) (record {
           seen_are = length-replicate f.points (replicate f.width false);
           reached_are = length-replicate f.points false;
           widths = λ n below. ap length (get_or-replicate f.points n (replicate f.width false) [] below) ∙ length-replicate f.width false;
@@ -342,12 +342,12 @@ module _ (f : Problem) (law : Own f) where
 
       none_there : (n i : ℕ) → bit (slice_index_or (replicate f.points (replicate f.width false)) n []) i ≡ false
       none_there n i = elim (cases_lt n f.points) [
-        | inl below ↦ ap (λ (z : Row). bit z i) (get_or-replicate f.points n (replicate f.width false) [] below) ∙ none_on f.width i
-        | inr past ↦ ap (λ (z : Row). bit z i) (get_or-eq_default (replicate f.points (replicate f.width false)) [] (let k = length-replicate f.points (replicate f.width false) in omega (past, k, arith)))
+        | inl below ↦ ap (λ (z : Bits). bit z i) (get_or-replicate f.points n (replicate f.width false) [] below) ∙ none_on f.width i
+        | inr past ↦ ap (λ (z : Bits). bit z i) (get_or-eq_default (replicate f.points (replicate f.width false)) [] (let k = length-replicate f.points (replicate f.width false) in omega (past, k, arith)))
       ]
 
   -- there is less to come
-  pub less-left : (old new : Search) (at : ℕ) (row : Row) → length row ≡ length (row_at old at) → at < length old.seen → at < length old.reached
+  pub less-left : (old new : Search) (at : ℕ) (row : Bits) → length row ≡ length (row_at old at) → at < length old.seen → at < length old.reached
       → new.seen ≡ slice_set old.seen at (union row (row_at old at)) → new.reached ≡ slice_set old.reached at true
       → (union row (row_at old at) ≢ row_at old at) ⊎ (slice_index_or old.reached at false ≡ false)
       → sum_by off new.seen + sum_by is_off new.reached < sum_by off old.seen + sum_by is_off old.reached
@@ -357,7 +357,7 @@ module _ (f : Problem) (law : Own f) where
   ]
     where
       bits : sum_by off new.seen + off (row_at old at) ≡ sum_by off old.seen + off (union row (row_at old at))
-      bits = ap (λ (z : List Row). sum_by off z + off (row_at old at)) seen ∙ sum_by-set off old.seen at (union row (row_at old at)) [] seen_in
+      bits = ap (λ (z : List Bits). sum_by off z + off (row_at old at)) seen ∙ sum_by-set off old.seen at (union row (row_at old at)) [] seen_in
 
       flags : sum_by is_off new.reached + is_off (slice_index_or old.reached at false) ≡ sum_by is_off old.reached + 0
       flags = ap (λ (z : List Bool). sum_by is_off z + is_off (slice_index_or old.reached at false)) reached ∙ sum_by-set is_off old.reached at true false reached_in
@@ -365,7 +365,7 @@ module _ (f : Problem) (law : Own f) where
       small : 0 ≤ is_off (slice_index_or old.reached at false)
       small = omega arith
 
-  pub two-more : (o : Onward) (n : ℕ) (row : Row) (items : List Waiting) → length (pushed_items o n row items) ≤ length items + 2
+  pub two-more : (o : Onward) (n : ℕ) (row : Bits) (items : List Waiting) → length (pushed_items o n row items) ≤ length items + 2
   two-more Onward.Nowhere n row items = omega arith
   two-more (Onward.Silent to) n row items = omega arith
   two-more (Onward.Choices a b) n row items =

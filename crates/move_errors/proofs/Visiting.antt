@@ -3,18 +3,18 @@ use Rattle.std.proofs.Common.{◌≡◌, ◌⊎◌, inl, inr, ℕ, ◌*◌, ◌<
 use Rattle.std.proofs.lemmas.Bool.{false≢true, cases_lt}
 use Rattle.std.proofs.Math.ListN.{get_or-eq_default}
 use Rattle.std.proofs.lemmas.List.Elements.{Contains-append_left, Contains-append_right, Contains-append_cases}
-use Rattle.init_flow.specs.Carried.{Row}
-use Rattle.move_errors.specs.Runs.{Problem, Trip, Run, begins, goes, Leads, beginning, step}
+use Rattle.init_flow.specs.Carried.{Bits}
+use Rattle.move_errors.specs.Runs.{Problem, Trip, IsRun, begins, goes, Leads, beginning, step}
 use Rattle.move_errors.specs.Searching.{number, bit, pushed, Own, Reached, Brought, Settled, Visited}
 use Rattle.move_errors.specs.declared.point.Point.{Point}
 use Rattle.move_errors.proofs.Sorted.{here, there, none-in, first-or, all-in, in-all, step-mono, step-more, in-pushed, stays-pushed, leads-pushed, ordered-pushed}
 
 module _ (f : Problem) (law : Own f) where
-  pub run-width : (t : Trip) → Run f t → length t.row ≡ f.width
+  pub run-width : (t : Trip) → IsRun f t → length t.row ≡ f.width
   run-width _ begins = law.starts
   run-width _ (goes t choice to run clean leads) = law.keeps t.at t.row (run-width t run)
 
-  bit-within : (row : Row) (i : ℕ) → length row ≡ f.width → bit row i ≡ true → i < f.width
+  bit-within : (row : Bits) (i : ℕ) → length row ≡ f.width → bit row i ≡ true → i < f.width
   bit-within row i long on = elim (cases_lt i f.width) [
     | inl less ↦ less
     | inr past ↦ absurd (false≢true (sym (get_or-eq_default row false (omega (past, long, arith))) ∙ on))
@@ -34,7 +34,7 @@ module _ (f : Problem) (law : Own f) where
           | inr waits ↦ inl (step f y choice to, waits, step-mono f y t choice to less)
         ]
 
-    reach-run : (u : Trip) → Run f u → Waits waiting (number u) ⊎ Reached f done u.at (number u)
+    reach-run : (u : Trip) → IsRun f u → Waits waiting (number u) ⊎ Reached f done u.at (number u)
     reach-run _ begins = elim v.began [
       | inl settled ↦ inr settled.reached
       | inr waits ↦ inl (beginning f, waits, omega arith)
@@ -52,7 +52,7 @@ module _ (f : Problem) (law : Own f) where
       ]
     ]
 
-    bit-run : (u : Trip) → Run f u → (i : ℕ) → bit u.row i ≡ true → Waits waiting (number u) ⊎ Brought f done u.at (number u) i
+    bit-run : (u : Trip) → IsRun f u → (i : ℕ) → bit u.row i ≡ true → Waits waiting (number u) ⊎ Brought f done u.at (number u) i
     bit-run _ begins i on = elim v.began [
       | inl settled ↦ inr (settled.brought i on)
       | inr waits ↦ inl (beginning f, waits, omega arith)
@@ -77,7 +77,7 @@ module _ (f : Problem) (law : Own f) where
         waits w = inl (w.0, w.1, (let k = step-more f t choice to in let l = w.2 in omega (k, l, arith)))
 
         by : (bit t.row i ≡ true → Waits waiting (number t) ⊎ Brought f done t.at (number t) i)
-            → ((b : Bool) × ((row : Row) → length row ≡ f.width → bit (f.pass t.at row) i ≡ b)) ⊎ ((row : Row) → length row ≡ f.width → bit (f.pass t.at row) i ≡ bit row i) → Waits waiting (number (step f t choice to)) ⊎ Brought f done to (number (step f t choice to)) i
+            → ((b : Bool) × ((row : Bits) → length row ≡ f.width → bit (f.pass t.at row) i ≡ b)) ⊎ ((row : Bits) → length row ≡ f.width → bit (f.pass t.at row) i ≡ bit row i) → Waits waiting (number (step f t choice to)) ⊎ Brought f done to (number (step f t choice to)) i
         by again (inl always) = elim (reach-run t run) [
           | inl w ↦ waits w
           | inr r ↦ from r.by r.has r.there r.less
@@ -89,7 +89,7 @@ module _ (f : Problem) (law : Own f) where
         ]
 
     -- a run that meets a bad use is no lesser than one that waits
-    pub bad-waits : (u : Trip) → Run f u → f.bad u.at u.row ≡ true → Waits waiting (number u)
+    pub bad-waits : (u : Trip) → IsRun f u → f.bad u.at u.row ≡ true → Waits waiting (number u)
     bad-waits u run bad = elim (law.bad_own u.at u.row (run-width u run) bad) [
       | inl always ↦ elim (reach-run u run) [
         | inl w ↦ w
@@ -105,7 +105,7 @@ module _ (f : Problem) (law : Own f) where
         clash y has same is = false≢true (sym (v.none_bad y has) ∙ subst (λ (z : Point). f.bad z y.row ≡ true) (sym same) is)
 
   -- where nothing waits, no run meets a bad use
-  pub none-left : (done : List Trip) → Visited f done [] → (u : Trip) → Run f u → f.bad u.at u.row ≡ false
+  pub none-left : (done : List Trip) → Visited f done [] → (u : Trip) → IsRun f u → f.bad u.at u.row ≡ false
   none-left done v u run = by (f.bad u.at u.row) refl
     where
       by : (b : Bool) → f.bad u.at u.row ≡ b → b ≡ false
@@ -113,7 +113,7 @@ module _ (f : Problem) (law : Own f) where
       by true e = absurd (none-in (bad-waits done [] v u run e).0 (bad-waits done [] v u run e).1)
 
   -- the first one that waits is the least
-  pub first-least : (done : List Trip) (t : Trip) (ts : List Trip) → Visited f done (t ∷ ts) → (u : Trip) → Run f u → f.bad u.at u.row ≡ true → number t ≤ number u
+  pub first-least : (done : List Trip) (t : Trip) (ts : List Trip) → Visited f done (t ∷ ts) → (u : Trip) → IsRun f u → f.bad u.at u.row ≡ true → number t ≤ number u
   first-least done t ts v u run bad =
       let w = bad-waits done (t ∷ ts) v u run bad in
       elim (first-or w.0 t ts w.1) [
@@ -140,10 +140,10 @@ module _ (f : Problem) (law : Own f) where
   -- the first that waits is visited, and goes on
   pub goes-further : (done : List Trip) (t : Trip) (ts : List Trip) → Visited f done (t ∷ ts) → f.bad t.at t.row ≡ false → Visited f (done ++ t ∷ []) (pushed f (f.onward t.at) t ts)
   goes-further done t ts v clean = record {
-    runs = λ x has. elim (among x has) [ inl old ↦ v.runs x old | inr new ↦ subst (Run f) new run ];
+    runs = λ x has. elim (among x has) [ inl old ↦ v.runs x old | inr new ↦ subst (IsRun f) new run ];
     waiting_runs = λ x has. elim (in-pushed f (f.onward t.at) t ts x has) [
       | inl old ↦ v.waiting_runs x (there x t ts old)
-      | inr new ↦ subst (Run f) new.3 (goes t new.0 new.1 run clean new.2)
+      | inr new ↦ subst (IsRun f) new.3 (goes t new.0 new.1 run clean new.2)
     ];
     earlier = λ x has. all-in (λ n. number x ≤ n) (pushed f (f.onward t.at) t ts) (λ y there. before x y has there);
     order = ordered-pushed f (f.onward t.at) t ts v.order;
@@ -171,7 +171,7 @@ module _ (f : Problem) (law : Own f) where
       last : Contains (done ++ t ∷ []) t
       last = Contains-append_right done (t ∷ []) t (here t [])
 
-      run : Run f t
+      run : IsRun f t
       run = v.waiting_runs t (here t ts)
 
       -- of no greater number than the first that waits
@@ -207,7 +207,7 @@ module _ (f : Problem) (law : Own f) where
   pub begun : Visited f [] (beginning f ∷ [])
   begun = record {
     runs = λ x has. absurd (none-in x has);
-    waiting_runs = λ x has. elim (first-or x (beginning f) [] has) [ inl same ↦ subst (Run f) same begins | inr stop ↦ absurd (none-in x stop) ];
+    waiting_runs = λ x has. elim (first-or x (beginning f) [] has) [ inl same ↦ subst (IsRun f) same begins | inr stop ↦ absurd (none-in x stop) ];
     earlier = λ x has. absurd (none-in x has);
     order = (tt, tt);
     none_bad = λ x has. absurd (none-in x has);

@@ -22,7 +22,7 @@ use Rattle.cfg_graph.specs.declared.graph.Block.{Block}
 use Rattle.cfg_graph.specs.declared.graph.Body.{Body}
 use Rattle.cfg_graph.specs.declared.graph.Graph.{Graph}
 use Rattle.cfg_graph.specs.Places.{index_locals, ty_of_operand}
-use Rattle.cfg_graph.specs.Uses.{Use, Stores, stmt_uses, term_uses, stored_by_term, places_of_stmt, places_of_term}
+use Rattle.cfg_graph.specs.Uses.{PlaceUse, Stores, stmt_uses, term_uses, stored_by_term, places_of_stmt, places_of_term}
 use Rattle.cfg_graph.specs.WellFormed.Faults.{nowhere, at_line, of_each, item_faults, own_faults, locals_faults, stmts_faults, block_faults, faults_of_body, end_faults, IsWellFormed}
 use Rattle.cfg_graph.specs.WellFormed.LineFaults.{stmt_faults, term_tests, term_faults, body_faults}
 use Rattle.cfg_graph.specs.WellFormed.NameFaults.{is_name, is_repeated}
@@ -108,14 +108,14 @@ module _ (graph : Graph) (well : IsWellFormed graph) (number : ℕ) (body : Body
       let blocks = second_empty (locals_faults graph (0 + number) body) (of_each (block_faults graph (0 + number) body) 0 body.blocks) rest in
       of_each-empty (block_faults graph (0 + number) body) 0 body.blocks blocks n block at
 
-  stmt-local : (n : ℕ) (block : Block) → slice_get body.blocks n ≡ Some block → (k : ℕ) (stmt : Stmt) → slice_get block.stmts k ≡ Some stmt → (made : Use × Place) → Contains (stmt_uses stmt) made → made.1.local < length body.locals
+  stmt-local : (n : ℕ) (block : Block) → slice_get body.blocks n ≡ Some block → (k : ℕ) (stmt : Stmt) → slice_get block.stmts k ≡ Some stmt → (made : PlaceUse × Place) → Contains (stmt_uses stmt) made → made.1.local < length body.locals
   stmt-local n block at k stmt here made has =
       let stmts = first_empty (stmts_faults graph (0 + number) body (0 + n) block) (at_line (0 + number) (0 + n) (length block.stmts) (term_faults graph.items bodies body block)) (in-blocks n block at) in
       let one = of_each-empty (λ line stmt. at_line (0 + number) (0 + n) line (stmt_faults graph.items bodies body stmt)) 0 block.stmts stmts k stmt here in
       let none = map_empty (λ (j : ℕ). record { number = j; body = 0 + number; block = 0 + n; line = 0 + k }) (stmt_faults graph.items bodies body stmt) one in
       local-exists graph.items bodies body (places_of_stmt stmt) made.1
       (broken-holds (stmt_tests graph.items bodies body stmt) none 1 (2, list_all (locals_exist graph.items bodies body) (places_of_stmt stmt)) refl)
-      (map-in (λ (made : Use × Place). made.1) (stmt_uses stmt) made has)
+      (map-in (λ (made : PlaceUse × Place). made.1) (stmt_uses stmt) made has)
 
   term-local : (n : ℕ) (block : Block) → slice_get body.blocks n ≡ Some block → (place : Place) → Contains (places_of_term block.term) place → place.local < length body.locals
   term-local n block at place has =
@@ -124,16 +124,16 @@ module _ (graph : Graph) (well : IsWellFormed graph) (number : ℕ) (body : Body
       local-exists graph.items bodies body (places_of_term block.term) place
       (broken-holds (term_tests graph.items bodies body block) none 1 (2, list_all (locals_exist graph.items bodies body) (places_of_term block.term)) refl) has
 
-  pub uses-locals : (made : Use × Place) → Contains (flat_map block_uses body.blocks) made → made.1.local < length body.locals
+  pub uses-locals : (made : PlaceUse × Place) → Contains (flat_map block_uses body.blocks) made → made.1.local < length body.locals
   uses-locals made has =
       let it = in-flat block_uses body.blocks made has in
       let at = slice_get-Contains body.blocks it.0 it.1 in
       elim (Contains-append_cases (flat_map stmt_uses it.0.stmts) (term_uses it.0.term ++ map (λ place. (Stores, place)) (stored_by_term it.0.term)) made it.2) [
         | inl stmt ↦ (let s = in-flat stmt_uses it.0.stmts made stmt in stmt-local it.1.0 it.0 at s.1.0 s.0 (slice_get-Contains it.0.stmts s.0 s.1) made s.2)
         | inr term ↦ term-local it.1.0 it.0 at made.1 (elim (Contains-append_cases (term_uses it.0.term) (map (λ place. (Stores, place)) (stored_by_term it.0.term)) made term) [
-          | inl used ↦ Contains-append_left (map (λ (made : Use × Place). made.1) (term_uses it.0.term)) (stored_by_term it.0.term) made.1 (map-in (λ (made : Use × Place). made.1) (term_uses it.0.term) made used)
+          | inl used ↦ Contains-append_left (map (λ (made : PlaceUse × Place). made.1) (term_uses it.0.term)) (stored_by_term it.0.term) made.1 (map-in (λ (made : PlaceUse × Place). made.1) (term_uses it.0.term) made used)
           | inr stored ↦ (let s = in-map (λ place. (Stores, place)) (stored_by_term it.0.term) made stored in
-              Contains-append_right (map (λ (made : Use × Place). made.1) (term_uses it.0.term)) (stored_by_term it.0.term) made.1 (subst (Contains (stored_by_term it.0.term)) (ap (λ (m : Use × Place). m.1) s.2) s.1))
+              Contains-append_right (map (λ (made : PlaceUse × Place). made.1) (term_uses it.0.term)) (stored_by_term it.0.term) made.1 (subst (Contains (stored_by_term it.0.term)) (ap (λ (m : PlaceUse × Place). m.1) s.2) s.1))
         ])
       ]
 
@@ -146,7 +146,7 @@ has-its-locals graph n body well found =
     both_true (lt-ltb 0 (length body.blocks) (has-block graph well n body found))
     (all-pass (is_local (length body.locals)) (flat_map block_uses body.blocks) (λ made has. lt-ltb made.1.local (length body.locals) (uses-locals graph well n body found made has)))
 
-pub locals-below : (body : Body) → has_locals body ≡ true → (made : Use × Place) → Contains (flat_map block_uses body.blocks) made → made.1.local < length body.locals
+pub locals-below : (body : Body) → has_locals body ≡ true → (made : PlaceUse × Place) → Contains (flat_map block_uses body.blocks) made → made.1.local < length body.locals
 locals-below body h made has =
     ltb-true made.1.local (length body.locals)
     (All-contains (λ m. is_local (length body.locals) m ≡ true) (flat_map block_uses body.blocks) made

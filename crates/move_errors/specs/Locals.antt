@@ -4,12 +4,12 @@ use Rattle.std.specs.List.{list_all}
 use Rattle.cfg_graph.specs.declared.place.Place.{Place}
 use Rattle.cfg_graph.specs.declared.graph.Body.{Body}
 use Rattle.cfg_graph.specs.declared.graph.Graph.{Graph}
-use Rattle.cfg_graph.specs.Uses.{Use}
+use Rattle.cfg_graph.specs.Uses.{PlaceUse}
 use Rattle.cfg_graph.specs.WellFormed.Faults.{IsWellFormed}
 use Rattle.move_paths.specs.Uses.{block_uses}
 
 -- a use is of a local below this number
-abbrev pub is_local : ℕ → Use × Place → Bool
+abbrev pub is_local : ℕ → PlaceUse × Place → Bool
 is_local count made = nat_lt made.1.local count
 
 -- a body has a block, and the locals that its uses name

@@ -5,21 +5,21 @@ use Rattle.mir_ty.specs.ItemTable.{ItemTable}
 use Rattle.cfg_graph.specs.declared.graph.Block.{Block}
 use Rattle.cfg_graph.specs.declared.graph.Body.{Body}
 use Rattle.cfg_graph.specs.Edges.{ToBlock}
-use Rattle.cfg_graph.specs.Uses.{Use, Copies, Moves, Borrows, Touches, Tests, Stores, Drops, Frees}
-use Rattle.cfg_graph.specs.Moves.Gone.{Action}
+use Rattle.cfg_graph.specs.Uses.{PlaceUse, Copies, Moves, Borrows, Touches, Tests, Stores, Drops, Frees}
+use Rattle.cfg_graph.specs.Moves.Gone.{PathAction}
 use Rattle.cfg_graph.specs.Moves.Paths.{ways, IsPath}
 use Rattle.cfg_graph.specs.Moves.Actions.{actions_on}
 use Rattle.cfg_graph.specs.Moves.BadUses.{UseRule, U1, U2, BadUse, may_not_read, may_not_test, may_not_store, bad_uses_on}
 
 -- a store or a drop is bad by U2, any other use by U1
-abbrev pub rule_of : Use → UseRule
+abbrev pub rule_of : PlaceUse → UseRule
 rule_of Stores = U2
 rule_of Drops = U2
 rule_of how = U1
 
 module _ (items : ItemTable) (body : Body) where
   -- a use of a place is bad after earlier actions; to free is never bad
-  abbrev pub is_bad : List Action → Action → Use → Bool
+  abbrev pub is_bad : List PathAction → PathAction → PlaceUse → Bool
   is_bad earlier action Copies = may_not_read items body earlier action.place
   is_bad earlier action Moves = may_not_read items body earlier action.place
   is_bad earlier action Borrows = may_not_read items body earlier action.place
@@ -30,7 +30,7 @@ module _ (items : ItemTable) (body : Body) where
   is_bad earlier action Frees = false
 
   -- the first bad one of these actions, after earlier ones
-  abbrev pub first_bad : List Action → List Action → Option BadUse
+  abbrev pub first_bad : List PathAction → List PathAction → Option BadUse
   first_bad earlier [] = None
   first_bad earlier (action ∷ later) =
       if is_bad earlier action action.how
@@ -43,7 +43,7 @@ module _ (items : ItemTable) (body : Body) where
     pub last : ℕ
     pub path_is : path ≡ front ++ last ∷ []
     pub is_path : IsPath items body path given
-    pub earlier : List Action
+    pub earlier : List PathAction
     pub before : actions_on body path ≡ earlier ++ actions_on body (last ∷ [])
     pub none : first_bad [] earlier ≡ None
     pub first : first_bad earlier (actions_on body (last ∷ [])) ≡ Some bad
@@ -63,7 +63,7 @@ module _ (items : ItemTable) (body : Body) where
     pub there : slice_get body.blocks last ≡ Some block
     pub way : Contains (ways items body block.term) (record { choices = choices; exit = ToBlock next })
     pub given_is : given ≡ before ++ choices
-    pub stored : List Action
+    pub stored : List PathAction
     pub stores :
         actions_on body (last ∷ next ∷ []) ≡ (actions_on body (last ∷ []) ++ stored) ++ actions_on body (next ∷ [])
     pub first : first_bad (actions_on body path) stored ≡ Some bad

@@ -4,9 +4,9 @@ use Rattle.mir_ty.specs.ItemTable.{ItemTable}
 use Rattle.store_model.specs.Places.Place.{Place, Step, ToPart, ToField, ToContent, ToElement, whole_local}
 use Rattle.cfg_graph.specs.declared.graph.Body.{Body}
 use Rattle.cfg_graph.specs.Places.{named}
-use Rattle.cfg_graph.specs.Uses.{Use, Copies, Moves, Borrows, Touches, Tests, Stores, Drops, Frees}
-use Rattle.cfg_graph.specs.Moves.Gone.{Action, left_by, is_gone_after, is_at_or_above}
-use Rattle.init_flow.specs.Carried.{Row}
+use Rattle.cfg_graph.specs.Uses.{PlaceUse, Copies, Moves, Borrows, Touches, Tests, Stores, Drops, Frees}
+use Rattle.cfg_graph.specs.Moves.Gone.{PathAction, left_by, is_gone_after, is_at_or_above}
+use Rattle.init_flow.specs.Carried.{Bits}
 use Rattle.cfg_graph.specs.declared.place.Place.{Place as GraphPlace}
 use Rattle.move_paths.specs.declared.trie.Near.{Near}
 use Rattle.move_paths.specs.Forest.{PathForest, IsForest, IsRoot, IsStepBelow}
@@ -15,7 +15,7 @@ use Rattle.move_flow.specs.Moved.{masks_of}
 use Rattle.move_flow.specs.Concerns.{concerns_read, concerns_test, concerns_store}
 
 -- a use concerns a path: it is bad where one of these is gone
-abbrev pub concerns : Use → (path place : Place) → Bool
+abbrev pub concerns : PlaceUse → (path place : Place) → Bool
 concerns Copies path place = concerns_read path place
 concerns Moves path place = concerns_read path place
 concerns Borrows path place = concerns_read path place
@@ -26,7 +26,7 @@ concerns Drops path place = concerns_store path place
 concerns Frees path place = false
 
 -- one of the paths that a test tells is gone
-abbrev pub some_on : (Place → Bool) → List Place → Row → Bool
+abbrev pub some_on : (Place → Bool) → List Place → Bits → Bool
 some_on test [] row = false
 some_on test (path ∷ paths) [] = false
 some_on test (path ∷ paths) (gone ∷ row) = (test path && gone) || some_on test paths row
@@ -65,7 +65,7 @@ module _ (paths : List Place) (place : Place) (near : Near) where
   abbrev pub ends_in_array : Bool
   ends_in_array = is_depth (depth_from 0 place.steps) near.depth
 
-  abbrev pub Asks : Use → Option ℕ → Bool → Type 0
+  abbrev pub Asks : PlaceUse → Option ℕ → Bool → Type 0
   Asks Copies over within = (over ≡ Some near.path) × (within ≡ (near.depth == length place.steps || ends_in_array))
   Asks Moves over within = (over ≡ Some near.path) × (within ≡ (near.depth == length place.steps || ends_in_array))
   Asks Borrows over within = (over ≡ Some near.path) × (within ≡ (near.depth == length place.steps || ends_in_array))
@@ -77,42 +77,43 @@ module _ (paths : List Place) (place : Place) (near : Near) where
 
 module _ (items : ItemTable) (body : Body) where
   -- what an action leaves of a row
-  abbrev pub left : Action → List Place → Row → Row
+  abbrev pub left : PathAction → List Place → Bits → Bits
   left action [] row = []
   left action (path ∷ paths) [] = []
   left action (path ∷ paths) (gone ∷ row) = unwrap_or (left_by items body path action) gone ∷ left action paths row
 
   -- what a row says after actions
-  abbrev pub state : List Place → List Action → Row
+  abbrev pub state : List Place → List PathAction → Bits
   state paths earlier = map (λ path. is_gone_after items body earlier path) paths
 
   module _ (paths : List Place) where
-    abbrev pub is_bad_by : Action → Row → Bool
+    abbrev pub is_bad_by : PathAction → Bits → Bool
     is_bad_by action row = some_on (λ path. concerns action.how path action.place) paths row
 
-    abbrev pub after : List Action → Row → Row
+    abbrev pub after : List PathAction → Bits → Bits
     after [] row = row
     after (action ∷ later) row = after later (left action paths row)
 
     -- the first bad one
-    abbrev pub first_by : List Action → Row → Option Action
+    abbrev pub first_by : List PathAction → Bits → Option PathAction
     first_by [] row = None
     first_by (action ∷ later) row = if is_bad_by action row then Some action else first_by later (left action paths row)
 
 -- a use of a place, wherever it stands
-abbrev pub use_at : Use → Place → Action
+abbrev pub use_at : PlaceUse → Place → PathAction
 use_at how place = record { how = how; place = place; block = 0; line = 0 }
 
 -- it is one of the body's
-abbrev pub IsUsed : Body → Use → Place → Type 0
+abbrev pub IsUsed : Body → PlaceUse → Place → Type 0
 IsUsed body how place =
-    (made : Use × GraphPlace) × Contains (flat_map block_uses body.blocks) made × (how ≡ made.0)
+    (made : PlaceUse × GraphPlace) × Contains (flat_map block_uses body.blocks) made × (how ≡ made.0)
     × (place ≡ named made.1)
 
 -- What a body's watch keeps: the forest of its paths, the masks of those, and locals that exist.
-pub record IsWatched (items : ItemTable) (body : Body) (forest : PathForest) (below : List Row) : Type 0 where
+pub record IsWatched (items : ItemTable) (body : Body) (forest : PathForest) (below : List Bits) : Type 0 where
   pub is_forest : IsForest items body forest
   pub masks : below ≡ masks_of forest.paths
   pub locals :
-      (made : Use × GraphPlace) → Contains (flat_map block_uses body.blocks) made → made.1.local < length body.locals
+      (made : PlaceUse × GraphPlace) → Contains (flat_map block_uses body.blocks) made →
+      made.1.local < length body.locals
   pub some_block : 0 < length body.blocks

@@ -13,10 +13,10 @@ use Rattle.cfg_graph.specs.declared.graph.Block.{Block}
 use Rattle.cfg_graph.specs.declared.graph.Body.{Body}
 use Rattle.cfg_graph.specs.Edges.{onward, is_turn}
 use Rattle.cfg_graph.specs.Places.{named, place_id}
-use Rattle.cfg_graph.specs.Uses.{Use, Stores, stored_by_term, stmt_uses}
+use Rattle.cfg_graph.specs.Uses.{PlaceUse, Stores, stored_by_term, stmt_uses}
 use Rattle.cfg_graph.specs.Moves.Actions.{actions_on}
-use Rattle.cfg_graph.specs.Moves.Gone.{Action}
-use Rattle.init_flow.specs.Carried.{Row}
+use Rattle.cfg_graph.specs.Moves.Gone.{PathAction}
+use Rattle.init_flow.specs.Carried.{Bits}
 use Rattle.init_flow.specs.Ways.{target}
 use Rattle.move_paths.specs.Uses.{use_of}
 use Rattle.move_errors.specs.Rows.{after, first_by, state}
@@ -37,26 +37,26 @@ stage_number (Stage.Leaving way) = 2 + number_of way
 abbrev pub index_of : Point → ℕ
 index_of at = at.block * 4 + stage_number at.stage
 
-abbrev pub at_line : (block line : ℕ) → List (Use × GraphPlace) → List Action
+abbrev pub at_line : (block line : ℕ) → List (PlaceUse × GraphPlace) → List PathAction
 at_line block line uses = map (λ made. record { how = made.0; place = named made.1; block = block; line = line }) uses
 
 -- of statements, the first of which has this number
-abbrev pub stmt_actions : (block line : ℕ) → List Stmt → List Action
+abbrev pub stmt_actions : (block line : ℕ) → List Stmt → List PathAction
 stmt_actions block line [] = []
 stmt_actions block line (stmt ∷ stmts) = at_line block line (stmt_uses stmt) ++ stmt_actions block (suc line) stmts
 
 -- acts as actions of a block
-abbrev pub action_of : (block : ℕ) → Act → Action
+abbrev pub action_of : (block : ℕ) → Act → PathAction
 action_of block act = record { how = use_of act.how; place = named act.place.now; block = block; line = act.line }
 
-abbrev pub actions_of : (block : ℕ) → List Act → List Action
+abbrev pub actions_of : (block : ℕ) → List Act → List PathAction
 actions_of block acts = map (action_of block) acts
 
 -- where a terminator stores its result on its way to a block
 abbrev pub stored_towards : Term → (next : ℕ) → List GraphPlace
 stored_towards term next = if list_any (nat_eq next) (onward term) then stored_by_term term else []
 
-abbrev pub stored_between : (block : Block) (n : ℕ) → Option ℕ → List Action
+abbrev pub stored_between : (block : Block) (n : ℕ) → Option ℕ → List PathAction
 stored_between block n None = []
 stored_between block n (Some next) =
     at_line n (length block.stmts) (map (λ place. (Stores, place)) (stored_towards block.term next))
@@ -89,7 +89,7 @@ module _ (items : ItemTable) (body : Body) where
   is_silent term = false
 
   -- what is done at a point: within a block its uses, on a way out of it the store of its result
-  abbrev pub acts_at : (block : ℕ) → Stage → List Action
+  abbrev pub acts_at : (block : ℕ) → Stage → List PathAction
   acts_at block Stage.Entry = []
   acts_at block Stage.Inside = actions_on body (block ∷ [])
   acts_at block (Stage.Leaving way) =
@@ -116,9 +116,9 @@ module _ (items : ItemTable) (body : Body) where
 pub record Problem : Type 0 where
   pub width : ℕ
   pub points : ℕ
-  pub start : Row
-  pub bad : Point → Row → Bool
-  pub pass : Point → Row → Row
+  pub start : Bits
+  pub bad : Point → Bits → Bool
+  pub pass : Point → Bits → Bits
   pub onward : Point → Onward
 
 -- a run: the blocks within which it was, the choices that it gave, where it stands, and the row there
@@ -126,7 +126,7 @@ pub record Trip : Type 0 where
   pub path : List ℕ
   pub given : List Bool
   pub at : Point
-  pub row : Row
+  pub row : Bits
 
 abbrev pub optional : Option Bool → List Bool
 optional None = []
@@ -157,10 +157,10 @@ module _ (f : Problem) where
   beginning = record { path = []; given = []; at = record { block = 0; stage = Stage.Entry }; row = f.start }
 
   -- the runs that meet no bad use before the point where they stand
-  pub data Run : Trip → Type 0 where
-    begins : Run beginning
+  pub data IsRun : Trip → Type 0 where
+    begins : IsRun beginning
     goes : (t : Trip) (choice : Option Bool) (to : Point) →
-        Run t → f.bad t.at t.row ≡ false → Leads (f.onward t.at) choice to → Run (step t choice to)
+        IsRun t → f.bad t.at t.row ≡ false → Leads (f.onward t.at) choice to → IsRun (step t choice to)
 
 -- the problem of a body
 abbrev pub problem : ItemTable → Body → List Place → Problem

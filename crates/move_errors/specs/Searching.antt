@@ -1,7 +1,7 @@
 -- What holds of the search from turn to turn; no public contract speaks of it.
 use Rattle.std.specs.Prelude.{◌≡◌, ◌⊎◌, ℕ, ◌+◌, ◌*◌, ◌<◌, ◌≤◌, Bool, true, false, List, [], ◌∷◌, ◌++◌, length, Option, Some, None, slice_index_or, Contains}
-use Rattle.init_flow.specs.Carried.{Row}
-use Rattle.move_errors.specs.Runs.{Problem, Trip, Run, Leads, beginning, step, number_of}
+use Rattle.init_flow.specs.Carried.{Bits}
+use Rattle.move_errors.specs.Runs.{Problem, Trip, IsRun, Leads, beginning, step, number_of}
 use Rattle.move_errors.specs.declared.point.Onward.{Onward}
 use Rattle.move_errors.specs.declared.point.Point.{Point}
 
@@ -13,7 +13,7 @@ number_from n (choice ∷ rest) = number_from (n * 2 + number_of choice) rest
 abbrev pub number : Trip → ℕ
 number t = number_from 1 t.given
 
-abbrev pub bit : Row → ℕ → Bool
+abbrev pub bit : Bits → ℕ → Bool
 bit row i = slice_index_or row i false
 
 -- numbers rise, and none is as great as twice another one
@@ -29,14 +29,14 @@ module _ (f : Problem) where
   -- each bit of a row goes its own way, and what makes a use bad is one bit, or none
   pub record Own : Type 0 where
     pub starts : length f.start ≡ f.width
-    pub keeps : (at : Point) (row : Row) → length row ≡ f.width → length (f.pass at row) ≡ f.width
+    pub keeps : (at : Point) (row : Bits) → length row ≡ f.width → length (f.pass at row) ≡ f.width
     pub pass_own : (at : Point) (i : ℕ) → i < f.width →
-        ((b : Bool) × ((row : Row) → length row ≡ f.width → bit (f.pass at row) i ≡ b))
-        ⊎ ((row : Row) → length row ≡ f.width → bit (f.pass at row) i ≡ bit row i)
-    pub bad_own : (at : Point) (row : Row) → length row ≡ f.width → f.bad at row ≡ true →
-        ((other : Row) → length other ≡ f.width → f.bad at other ≡ true)
+        ((b : Bool) × ((row : Bits) → length row ≡ f.width → bit (f.pass at row) i ≡ b))
+        ⊎ ((row : Bits) → length row ≡ f.width → bit (f.pass at row) i ≡ bit row i)
+    pub bad_own : (at : Point) (row : Bits) → length row ≡ f.width → f.bad at row ≡ true →
+        ((other : Bits) → length other ≡ f.width → f.bad at other ≡ true)
         ⊎ ((i : ℕ) × (bit row i ≡ true)
-        × ((other : Row) → length other ≡ f.width → bit other i ≡ true → f.bad at other ≡ true))
+        × ((other : Bits) → length other ≡ f.width → bit other i ≡ true → f.bad at other ≡ true))
 
   -- what waits where a run goes on: without a choice it is the first, and with a choice the last
   abbrev pub chosen : Trip → Option Point → Bool → List Trip
@@ -68,8 +68,8 @@ module _ (f : Problem) where
 
   -- what was visited, in which order, and what waits
   pub record Visited (done waiting : List Trip) : Type 0 where
-    pub runs : (t : Trip) → Contains done t → Run f t
-    pub waiting_runs : (t : Trip) → Contains waiting t → Run f t
+    pub runs : (t : Trip) → Contains done t → IsRun f t
+    pub waiting_runs : (t : Trip) → Contains waiting t → IsRun f t
     pub earlier : (t : Trip) → Contains done t → AllIn (λ n. number t ≤ n) waiting
     pub order : Ordered waiting
     pub none_bad : (t : Trip) → Contains done t → f.bad t.at t.row ≡ false

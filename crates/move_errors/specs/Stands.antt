@@ -3,28 +3,28 @@ use Rattle.std.specs.Prelude.{◌≡◌, ℕ, ◌+◌, ◌*◌, ◌<◌, ◌≤�
 use Rattle.mir_ty.specs.ItemTable.{ItemTable}
 use Rattle.store_model.specs.Places.Place.{Place}
 use Rattle.cfg_graph.specs.declared.graph.Body.{Body}
-use Rattle.init_flow.specs.Carried.{Row}
+use Rattle.init_flow.specs.Carried.{Bits}
 use Rattle.init_flow.specs.WorkList.{off, is_off}
 use Rattle.move_errors.specs.Rows.{first_by}
-use Rattle.move_errors.specs.Runs.{Problem, Trip, Run, problem, beginning, met, optional, index_of, acts_at, action_of}
+use Rattle.move_errors.specs.Runs.{Problem, Trip, IsRun, problem, beginning, met, optional, index_of, acts_at, action_of}
 use Rattle.move_errors.specs.Searching.{number, bit, Visited}
 use Rattle.move_errors.specs.declared.point.Onward.{Onward}
 use Rattle.move_errors.specs.declared.point.Point.{Point}
 use Rattle.move_errors.specs.declared.search.Visit.{Visit}
 use Rattle.move_errors.specs.declared.search.Waiting.{Waiting}
 use Rattle.move_errors.specs.declared.search.Search.{Search}
-use Rattle.move_errors.specs.declared.search.Found.{Found}
+use Rattle.move_errors.specs.declared.search.FoundUse.{FoundUse}
 
 -- what is added where a run goes on from a visit
-abbrev pub item_from : (from : ℕ) → Row → Option Bool → Point → Waiting
+abbrev pub item_from : (from : ℕ) → Bits → Option Bool → Point → Waiting
 item_from from row choice to =
     record { visit = record { at = to; from = Some from; choice = choice }; row = row }
 
-abbrev pub chosen_items : (from : ℕ) → Row → Option Point → Bool → List Waiting
+abbrev pub chosen_items : (from : ℕ) → Bits → Option Point → Bool → List Waiting
 chosen_items from row None choice = []
 chosen_items from row (Some to) choice = item_from from row (Some choice) to ∷ []
 
-abbrev pub pushed_items : Onward → (from : ℕ) → Row → List Waiting → List Waiting
+abbrev pub pushed_items : Onward → (from : ℕ) → Bits → List Waiting → List Waiting
 pushed_items Onward.Nowhere from row items = items
 pushed_items (Onward.Silent to) from row items = item_from from row None to ∷ items
 pushed_items (Onward.Choices none one) from row items =
@@ -32,7 +32,7 @@ pushed_items (Onward.Choices none one) from row items =
 
 module _ (f : Problem) where
   -- rows and flags by points
-  pub record Seen (seen : List Row) (reached : List Bool) (done : List Trip) : Type 0 where
+  pub record Seen (seen : List Bits) (reached : List Bool) (done : List Trip) : Type 0 where
     pub seen_are : length seen ≡ f.points
     pub reached_are : length reached ≡ f.points
     pub widths : (n : ℕ) → n < f.points → length (slice_index_or seen n []) ≡ f.width
@@ -48,7 +48,7 @@ module _ (f : Problem) where
   source done None = beginning f
   source done (Some n) = slice_index_or done n (beginning f)
 
-  abbrev pub trip_of : List Trip → Visit → Row → Trip
+  abbrev pub trip_of : List Trip → Visit → Bits → Trip
   trip_of done visit row =
       record {
         path = (source done visit.from).path ++ met visit.at;
@@ -85,17 +85,17 @@ module _ (f : Problem) where
 
 -- a bad use that a least run meets
 pub record IsFound
-    (items : ItemTable) (body : Body) (paths : List Place) (visits : List Visit) (bad : Found) : Type 0 where
+    (items : ItemTable) (body : Body) (paths : List Place) (visits : List Visit) (bad : FoundUse) : Type 0 where
   pub done : List Trip
   pub logged : Logged (problem items body paths) visits done
   pub trip : Trip
   pub at : slice_get done bad.visit ≡ Some trip
-  pub run : Run (problem items body paths) trip
+  pub run : IsRun (problem items body paths) trip
   pub first :
       first_by items body paths (acts_at items body trip.at.block trip.at.stage) trip.row
       ≡ Some (action_of trip.at.block bad.act)
   pub least :
-      (u : Trip) → Run (problem items body paths) u → (problem items body paths).bad u.at u.row ≡ true →
+      (u : Trip) → IsRun (problem items body paths) u → (problem items body paths).bad u.at u.row ≡ true →
       number trip ≤ number u
 
 -- a visit comes from an earlier one
@@ -105,7 +105,7 @@ ComeEarlier visits =
 
 -- no run meets a bad use
 abbrev pub MeetsNoBad : Problem → Type 0
-MeetsNoBad f = (u : Trip) → Run f u → f.bad u.at u.row ≡ false
+MeetsNoBad f = (u : Trip) → IsRun f u → f.bad u.at u.row ≡ false
 
 -- the measure of what is left to do
 abbrev pub remaining : Search → ℕ

@@ -41,7 +41,7 @@ pub struct Search {
 
 /// A bad use, and the number of the visit of the run that meets it.
 #[derive(Clone, Copy)]
-pub struct Found<'a> {
+pub struct FoundUse<'a> {
     pub visit: u32,
     pub act: Act<'a>,
 }
@@ -218,7 +218,7 @@ fn turn<'a>(
     watch: &Watch<'a>,
     search: &mut Search,
     item: Waiting,
-) -> Result<Option<Found<'a>>, NoMemory>
+) -> Result<Option<FoundUse<'a>>, NoMemory>
     requires watched { IsWatched watch.now.items.now watch.now.body.now watch.now.forest watch.now.below }
     requires stands { Stands (problem watch.now.items.now watch.now.body.now watch.now.forest.paths) search.old (item ∷ search.old.queue.items) }
     ensures stands { IfOk result (λ found. found ≡ None → Stands (problem watch.now.items.now watch.now.body.now watch.now.forest.paths) search.new search.new.queue.items) }
@@ -233,7 +233,7 @@ fn turn<'a>(
     done.fill(watch.items, watch.body, item.visit.at)?;
     let mut row = item.row;
     if let Some(act) = first_bad(watch, done.acts.as_slice(), &mut row) {
-        return Ok(Some(Found { visit: number, act }));
+        return Ok(Some(FoundUse { visit: number, act }));
     }
     let onward = goes_on(watch.items, watch.body, item.visit.at);
     search.go_on(alloc, number, row, onward)?;
@@ -272,7 +272,7 @@ fn begin(
 #[derive(Drop)]
 pub struct Trace<'a> {
     pub visits: List<Visit>,
-    pub found: Found<'a>,
+    pub found: FoundUse<'a>,
 }
 
 /// The bad use that the first of the runs meets that wait, or come from those.
@@ -280,7 +280,7 @@ fn first_found<'a>(
     alloc: Global,
     watch: &Watch<'a>,
     search: &mut Search,
-) -> Result<Option<Found<'a>>, NoMemory>
+) -> Result<Option<FoundUse<'a>>, NoMemory>
     requires watched { IsWatched watch.now.items.now watch.now.body.now watch.now.forest watch.now.below }
     requires stands { Stands (problem watch.now.items.now watch.now.body.now watch.now.forest.paths) search.old search.old.queue.items }
     ensures found { IfOk result (λ found. IfSome found (λ bad. IsFound watch.now.items.now watch.now.body.now watch.now.forest.paths search.new.visits bad)) }

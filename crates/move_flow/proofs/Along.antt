@@ -16,9 +16,9 @@ use Rattle.cfg_graph.specs.declared.terminator.Term.{Term}
 use Rattle.cfg_graph.specs.declared.terminator.Unwind.{Unwind}
 use Rattle.cfg_graph.specs.Edges.{onward, ToBlock, unwind_exit}
 use Rattle.cfg_graph.specs.Places.{named}
-use Rattle.cfg_graph.specs.Uses.{Use, Stores, stmt_uses, term_uses, stored_by_term}
+use Rattle.cfg_graph.specs.Uses.{PlaceUse, Stores, stmt_uses, term_uses, stored_by_term}
 use Rattle.cfg_graph.specs.Moves.Actions.{actions_on}
-use Rattle.cfg_graph.specs.Moves.Gone.{Action, last_left, left_by, is_param}
+use Rattle.cfg_graph.specs.Moves.Gone.{PathAction, last_left, left_by, is_param}
 use Rattle.init_flow.specs.Carried.{last_of}
 use Rattle.init_flow.specs.Ways.{block_of, exit_at}
 use Rattle.move_paths.specs.Forest.{PathForest, IsForest}
@@ -29,31 +29,31 @@ use Rattle.move_flow.specs.Switches.{all_switched}
 use Rattle.move_flow.proofs.Following.{act, acts, state, AreIn, follows}
 
 -- the actions of a path, as the definition has them
-abbrev at_line : (block line : ℕ) → List (Use × GraphPlace) → List Action
+abbrev at_line : (block line : ℕ) → List (PlaceUse × GraphPlace) → List PathAction
 at_line block line uses = map (λ made. record { how = made.0; place = named made.1; block = block; line = line }) uses
 
-abbrev stmt_actions : (block line : ℕ) → List Stmt → List Action
+abbrev stmt_actions : (block line : ℕ) → List Stmt → List PathAction
 stmt_actions block line [] = []
 stmt_actions block line (stmt ∷ stmts) = at_line block line (stmt_uses stmt) ++ stmt_actions block (suc line) stmts
 
-abbrev block_actions : ℕ → Block → List Action
+abbrev block_actions : ℕ → Block → List PathAction
 block_actions n block = stmt_actions n 0 block.stmts ++ at_line n (length block.stmts) (term_uses block.term)
 
-abbrev result_actions : (n next : ℕ) → Block → List Action
+abbrev result_actions : (n next : ℕ) → Block → List PathAction
 result_actions n next block =
     if list_any (nat_eq next) (onward block.term)
     then at_line n (length block.stmts) (map (λ place. (Stores, place)) (stored_by_term block.term))
     else []
 
 module _ (body : Body) where
-  abbrev pub actions_in : ℕ → List Action
+  abbrev pub actions_in : ℕ → List PathAction
   actions_in n = option_map_or (block_actions n) (slice_get body.blocks n) []
 
-  abbrev pub actions_between : (n next : ℕ) → List Action
+  abbrev pub actions_between : (n next : ℕ) → List PathAction
   actions_between n next = option_map_or (result_actions n next) (slice_get body.blocks n) []
 
   -- up to the entry to the last block
-  abbrev pub came : ℕ → List ℕ → List Action
+  abbrev pub came : ℕ → List ℕ → List PathAction
   came n [] = []
   came n (next ∷ path) = (actions_in n ++ actions_between n next) ++ came next path
 
@@ -67,7 +67,7 @@ module _ (body : Body) where
       ∙ sym (append_assoc (actions_in n ++ actions_between n next) (came next path) (actions_on body (last_of next path ∷ [])))
 
 -- an action, wherever it stands
-abbrev plain : Action → Action
+abbrev plain : PathAction → PathAction
 plain action = record { how = action.how; place = action.place; block = 0; line = 0 }
 
 map-all : {X Y : Type 0} (f g : X → Y) (xs : List X) → ((x : X) → f x ≡ g x) → map f xs ≡ map g xs
@@ -75,18 +75,18 @@ map-all f g [] same = refl
 map-all f g (x ∷ xs) same = λ i. same x i ∷ map-all f g xs same i
 
 module _ (items : ItemTable) (body : Body) where
-  last-plain : (q : Place) (xs : List Action) → last_left items body q (map plain xs) ≡ last_left items body q xs
+  last-plain : (q : Place) (xs : List PathAction) → last_left items body q (map plain xs) ≡ last_left items body q xs
   last-plain q [] = refl
   last-plain q (x ∷ xs) = ap (λ (z : Option Bool). option_or z (left_by items body q x)) (last-plain q xs)
 
-  pub state-plain : (paths : List Place) (gone : Bool) (xs : List Action) → state items body paths gone (map plain xs) ≡ state items body paths gone xs
+  pub state-plain : (paths : List Place) (gone : Bool) (xs : List PathAction) → state items body paths gone (map plain xs) ≡ state items body paths gone xs
   state-plain paths gone xs = map-all _ _ paths (λ q. ap (λ (z : Option Bool). says gone (unwrap_or z (not (is_param items body q.local)))) (last-plain q xs))
 
-line-plain : (block line : ℕ) (uses : List (Use × GraphPlace)) → map plain (at_line block line uses) ≡ acts uses
+line-plain : (block line : ℕ) (uses : List (PlaceUse × GraphPlace)) → map plain (at_line block line uses) ≡ acts uses
 line-plain block line [] = refl
 line-plain block line (made ∷ uses) = ap (λ z. act made ∷ z) (line-plain block line uses)
 
-acts-append : (uses more : List (Use × GraphPlace)) → acts (uses ++ more) ≡ acts uses ++ acts more
+acts-append : (uses more : List (PlaceUse × GraphPlace)) → acts (uses ++ more) ≡ acts uses ++ acts more
 acts-append uses more = map-append act uses more
 
 stmts-plain : (block line : ℕ) (stmts : List Stmt) → map plain (stmt_actions block line stmts) ≡ acts (flat_map stmt_uses stmts)
@@ -143,7 +143,7 @@ result-plain n line next way Term.Resume e = refl
 
 -- what a way does, and what its block does before it
 module _ (items : ItemTable) (body : Body) (forest : PathForest) (is : IsForest items body forest) where
-  pub step : (gone : Bool) (n way next : ℕ) (block : Block) (switches : List Switch) (earlier : List Action)
+  pub step : (gone : Bool) (n way next : ℕ) (block : Block) (switches : List Switch) (earlier : List PathAction)
       → slice_get body.blocks n ≡ Some block → exit_at block.term way ≡ Some next
       → Fits forest.paths gone switches (way_uses block way) → AreIn items body forest.paths (way_uses block way)
       → all_switched (masks_of forest.paths) switches (state items body forest.paths gone earlier)

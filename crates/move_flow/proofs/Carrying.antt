@@ -7,8 +7,8 @@ use Rattle.std.proofs.lemmas.List.{append-nil, append_assoc, length-map}
 use Rattle.mir_ty.specs.ItemTable.{ItemTable}
 use Rattle.cfg_graph.specs.declared.graph.Block.{Block}
 use Rattle.cfg_graph.specs.declared.graph.Body.{Body}
-use Rattle.cfg_graph.specs.Moves.Gone.{Action}
-use Rattle.init_flow.specs.Carried.{Row, leads_to, rows_along}
+use Rattle.cfg_graph.specs.Moves.Gone.{PathAction}
+use Rattle.init_flow.specs.Carried.{Bits, leads_to, rows_along}
 use Rattle.init_flow.specs.Ways.{target, way_target, exit_at, on_paths}
 use Rattle.init_flow.proofs.WayLemmas.{way_is}
 use Rattle.move_paths.specs.Forest.{PathForest, IsForest}
@@ -50,17 +50,17 @@ way-of items body n way to is = by (slice_get body.blocks n) refl is
 module _ (items : ItemTable) (body : Body) (forest : PathForest) (is : IsForest items body forest)
     (inside : (n way : ℕ) (block : Block) → way < 2 → slice_get body.blocks n ≡ Some block → AreIn items body forest.paths (way_uses block way))
     (gone : Bool) (s : Switches) (are : AreSwitches forest.paths gone s body) where
-  abbrev pass : ℕ → ℕ → Row → Row
+  abbrev pass : ℕ → ℕ → Bits → Bits
   pass block way row = passed_by s block way row
 
-  one_way : (n way to : ℕ) (earlier : List Action) → way < 2 → target items body n way ≡ Some to
+  one_way : (n way to : ℕ) (earlier : List PathAction) → way < 2 → target items body n way ≡ Some to
       → pass n way (state items body forest.paths gone earlier) ≡ state items body forest.paths gone (earlier ++ (actions_in body n ++ actions_between body n to))
   one_way n way to earlier small there =
       let at = way-of items body n way to there in
-      ap (λ (z : List Row). all_switched z (way_switches (slice_get s.blocks n) way) (state items body forest.paths gone earlier)) are.below
+      ap (λ (z : List Bits). all_switched z (way_switches (slice_get s.blocks n) way) (state items body forest.paths gone earlier)) are.below
       ∙ step items body forest is gone n way to at.0 (way_switches (slice_get s.blocks n) way) earlier at.1 at.2 (are.ways.each n at.0 at.1 way small) (inside n way at.0 small at.1)
 
-  along : (path : List ℕ) (n : ℕ) (row end : Row) (earlier : List Action) → row ≡ state items body forest.paths gone earlier
+  along : (path : List ℕ) (n : ℕ) (row end : Bits) (earlier : List PathAction) → row ≡ state items body forest.paths gone earlier
       → Contains (rows_along (target items body) pass n row path) end → end ≡ state items body forest.paths gone (earlier ++ came body n path)
   along [] n row end earlier same (zero, within, e) = sym e ∙ same ∙ ap (state items body forest.paths gone) (sym (append-nil earlier))
   along [] n row end earlier same (suc k, within, e) = absurd (omega (within, arith))

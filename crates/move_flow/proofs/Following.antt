@@ -17,9 +17,9 @@ use Rattle.store_model.specs.Places.Place.{Place}
 use Rattle.cfg_graph.specs.declared.place.Place.{Place as GraphPlace}
 use Rattle.cfg_graph.specs.declared.graph.Body.{Body}
 use Rattle.cfg_graph.specs.Places.{named}
-use Rattle.cfg_graph.specs.Uses.{Use}
-use Rattle.cfg_graph.specs.Moves.Gone.{Action, leaves_gone, are_first, is_at_or_above, counts, left_by, last_left, is_param, is_gone_after}
-use Rattle.init_flow.specs.Carried.{Row}
+use Rattle.cfg_graph.specs.Uses.{PlaceUse}
+use Rattle.cfg_graph.specs.Moves.Gone.{PathAction, leaves_gone, are_first, is_at_or_above, counts, left_by, last_left, is_param, is_gone_after}
+use Rattle.init_flow.specs.Carried.{Bits}
 use Rattle.move_paths.specs.Forest.{PathForest, IsForest, is_local, is_above_change, names_any}
 use Rattle.move_paths.specs.Uses.{block_uses}
 use Rattle.move_paths.proofs.Naming.{either}
@@ -38,13 +38,13 @@ or-none (Some x) = refl
 or-none None = refl
 
 module _ (items : ItemTable) (body : Body) where
-  last-push : (q : Place) (xs : List Action) (a : Action) → last_left items body q (xs ++ a ∷ []) ≡ option_or (left_by items body q a) (last_left items body q xs)
+  last-push : (q : Place) (xs : List PathAction) (a : PathAction) → last_left items body q (xs ++ a ∷ []) ≡ option_or (left_by items body q a) (last_left items body q xs)
   last-push q [] a = or-none (left_by items body q a)
   last-push q (x ∷ xs) a =
       ap (λ (z : Option Bool). option_or z (left_by items body q x)) (last-push q xs a)
       ∙ or-last (left_by items body q a) (last_left items body q xs) (left_by items body q x)
 
-  pub gone-push : (q : Place) (xs : List Action) (a : Action) → is_gone_after items body (xs ++ a ∷ []) q ≡ unwrap_or (left_by items body q a) (is_gone_after items body xs q)
+  pub gone-push : (q : Place) (xs : List PathAction) (a : PathAction) → is_gone_after items body (xs ++ a ∷ []) q ≡ unwrap_or (left_by items body q a) (is_gone_after items body xs q)
   gone-push q xs a = ap (λ (z : Option Bool). unwrap_or z (not (is_param items body q.local))) (last-push q xs a) ∙ by (left_by items body q a)
     where
       by : (z : Option Bool) → unwrap_or (option_or z (last_left items body q xs)) (not (is_param items body q.local)) ≡ unwrap_or z (is_gone_after items body xs q)
@@ -60,25 +60,25 @@ zip-map f g h [] = refl
 zip-map f g h (x ∷ xs) = ap (λ z. f (g x) (h x) ∷ z) (zip-map f g h xs)
 
 -- a use as an action, wherever it stands
-abbrev pub act : Use × GraphPlace → Action
+abbrev pub act : PlaceUse × GraphPlace → PathAction
 act made = record { how = made.0; place = named made.1; block = 0; line = 0 }
 
-abbrev pub acts : List (Use × GraphPlace) → List Action
+abbrev pub acts : List (PlaceUse × GraphPlace) → List PathAction
 acts uses = map act uses
 
 -- what a row says of paths after actions
-abbrev pub state : ItemTable → Body → List Place → Bool → List Action → Row
+abbrev pub state : ItemTable → Body → List Place → Bool → List PathAction → Bits
 state items body paths gone earlier = map (λ q. says gone (is_gone_after items body earlier q)) paths
 
 -- a use that makes paths made its place one
-abbrev pub IsIn : ItemTable → Body → List Place → Use × GraphPlace → Type 0
+abbrev pub IsIn : ItemTable → Body → List Place → PlaceUse × GraphPlace → Type 0
 IsIn items body paths made = names_any items body made ≡ true → Contains paths (named made.1)
 
-abbrev pub AreIn : ItemTable → Body → List Place → List (Use × GraphPlace) → Type 0
+abbrev pub AreIn : ItemTable → Body → List Place → List (PlaceUse × GraphPlace) → Type 0
 AreIn items body paths [] = ⊤
 AreIn items body paths (made ∷ uses) = IsIn items body paths made × AreIn items body paths uses
 
-pub all-append : (below : List Row) (xs ys : List Switch) (row : Row) → all_switched below (xs ++ ys) row ≡ all_switched below ys (all_switched below xs row)
+pub all-append : (below : List Bits) (xs ys : List Switch) (row : Bits) → all_switched below (xs ++ ys) row ≡ all_switched below ys (all_switched below xs row)
 all-append below [] ys row = refl
 all-append below (x ∷ xs) ys row = all-append below xs ys (switch_by below x row)
 
@@ -95,7 +95,7 @@ module _ (items : ItemTable) (body : Body) (forest : PathForest) (is : IsForest 
       local-counts [] h = refl
       local-counts (step ∷ steps) h = absurd (false≢true h)
 
-      any-counts : (uses : List (Use × GraphPlace)) → list_any (is_above_change items body q) uses ≡ true → counts items body q ≡ true
+      any-counts : (uses : List (PlaceUse × GraphPlace)) → list_any (is_above_change items body q) uses ≡ true → counts items body q ≡ true
       any-counts [] h = absurd (false≢true h)
       any-counts (made ∷ uses) h = elim (either (is_above_change items body q made) (list_any (is_above_change items body q) uses) h) [
         | inl here ↦ counts-up items body q (named made.1) (second_so (is_some (leaves_gone made.0) && counts items body (named made.1)) (is_at_or_above q (named made.1)) here)
@@ -104,7 +104,7 @@ module _ (items : ItemTable) (body : Body) (forest : PathForest) (is : IsForest 
       ]
 
   -- a use that switches nothing
-  nothing : (gone : Bool) (made : Use × GraphPlace) → IsSwitch forest.paths gone made None → IsIn items body forest.paths made → (earlier : List Action)
+  nothing : (gone : Bool) (made : PlaceUse × GraphPlace) → IsSwitch forest.paths gone made None → IsIn items body forest.paths made → (earlier : List PathAction)
       → state items body forest.paths gone earlier ≡ state items body forest.paths gone (earlier ++ act made ∷ [])
   nothing gone made none inside earlier = map-same _ _ forest.paths (λ q has. ap (says gone) (sym (gone-push items body q earlier (act made) ∙ ap (λ (z : Option Bool). unwrap_or z (is_gone_after items body earlier q)) (left q has none))))
     where
@@ -127,10 +127,10 @@ module _ (items : ItemTable) (body : Body) (forest : PathForest) (is : IsForest 
               absurd (absent (inside (both_true (lt-ltb made.1.local (length body.locals) (omega (local, within, arith))) (both_true (ap is_some l) watched))))
 
   -- a use that switches a path
-  switches : (gone : Bool) (made : Use × GraphPlace) (switch : Switch) → IsSwitch forest.paths gone made (Some switch) → (earlier : List Action)
+  switches : (gone : Bool) (made : PlaceUse × GraphPlace) (switch : Switch) → IsSwitch forest.paths gone made (Some switch) → (earlier : List PathAction)
       → switch_by (masks_of forest.paths) switch (state items body forest.paths gone earlier) ≡ state items body forest.paths gone (earlier ++ act made ∷ [])
   switches gone made switch fits earlier =
-      ap (λ (z : Option Row). by_mask z switch.on (state items body forest.paths gone earlier)) (slice_get-map (mask_of forest.paths) forest.paths switch.path ∙ ap (option_map (mask_of forest.paths)) fits.2)
+      ap (λ (z : Option Bits). by_mask z switch.on (state items body forest.paths gone earlier)) (slice_get-map (mask_of forest.paths) forest.paths switch.path ∙ ap (option_map (mask_of forest.paths)) fits.2)
       ∙ ap (λ (b : Bool). if b then (if switch.on then union (mask_of forest.paths place) before else difference (mask_of forest.paths place) before) else before)
       (eq-eqb (length (mask_of forest.paths place)) (length before) (length-map forest.paths (is_at_or_above place) ∙ sym (length-map forest.paths (λ q. says gone (is_gone_after items body earlier q)))))
       ∙ by switch.on fits.3
@@ -138,7 +138,7 @@ module _ (items : ItemTable) (body : Body) (forest : PathForest) (is : IsForest 
       place : Place
       place = named made.1
 
-      before : Row
+      before : Bits
       before = state items body forest.paths gone earlier
 
       watched : counts items body place ≡ true
@@ -164,7 +164,7 @@ module _ (items : ItemTable) (body : Body) (forest : PathForest) (is : IsForest 
       by false e = zip-map (λ a b. not a && b) (is_at_or_above place) (λ q. says gone (is_gone_after items body earlier q)) forest.paths
           ∙ map-same _ _ forest.paths (λ q has. turned_off (is_at_or_above place q) (is_gone_after items body earlier q) e ∙ sym (after q))
 
-  pub follows : (gone : Bool) (uses : List (Use × GraphPlace)) (list : List Switch) → Fits forest.paths gone list uses → AreIn items body forest.paths uses → (earlier : List Action)
+  pub follows : (gone : Bool) (uses : List (PlaceUse × GraphPlace)) (list : List Switch) → Fits forest.paths gone list uses → AreIn items body forest.paths uses → (earlier : List PathAction)
       → all_switched (masks_of forest.paths) list (state items body forest.paths gone earlier) ≡ state items body forest.paths gone (earlier ++ acts uses)
   follows gone [] list fits inside earlier =
       ap (λ (z : List Switch). all_switched (masks_of forest.paths) z (state items body forest.paths gone earlier)) fits ∙ ap (state items body forest.paths gone) (sym (append-nil earlier))

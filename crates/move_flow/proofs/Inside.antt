@@ -12,7 +12,7 @@ use Rattle.cfg_graph.specs.declared.terminator.Term.{Term}
 use Rattle.cfg_graph.specs.declared.graph.Block.{Block}
 use Rattle.cfg_graph.specs.declared.graph.Body.{Body}
 use Rattle.cfg_graph.specs.Places.{named}
-use Rattle.cfg_graph.specs.Uses.{Use, Stores, stmt_uses, term_uses, stored_by_term}
+use Rattle.cfg_graph.specs.Uses.{PlaceUse, Stores, stmt_uses, term_uses, stored_by_term}
 use Rattle.cfg_graph.specs.Moves.Gone.{counts, leaves_gone}
 use Rattle.move_paths.specs.Forest.{PathForest, IsForest, is_local, is_above_change}
 use Rattle.move_paths.specs.Uses.{block_uses}
@@ -26,7 +26,7 @@ any-within f [] x after h = left-or (f x) (list_any f after) h
 any-within f (y ∷ before) x after h = right-or (f y) (list_any f (before ++ x ∷ after)) (any-within f before x after h)
 
 module _ (items : ItemTable) (body : Body) (forest : PathForest) (is : IsForest items body forest) where
-  one-in : (before after : List (Use × Place)) (made : Use × Place) → flat_map block_uses body.blocks ≡ before ++ made ∷ after → IsIn items body forest.paths made
+  one-in : (before after : List (PlaceUse × Place)) (made : PlaceUse × Place) → flat_map block_uses body.blocks ≡ before ++ made ∷ after → IsIn items body forest.paths made
   one-in before after made all any =
       let rest = second_so (nat_lt made.1.local (length body.locals)) (is_some (leaves_gone made.0) && counts items body (named made.1)) any in
       (is.each (named made.1)).1
@@ -35,22 +35,22 @@ module _ (items : ItemTable) (body : Body) (forest : PathForest) (is : IsForest 
       (ap (list_any (is_above_change items body (named made.1))) all
       ∙ any-within (is_above_change items body (named made.1)) before made after (both_true rest (above-refl (named made.1))))))
 
-  all-in : (before uses after : List (Use × Place)) → flat_map block_uses body.blocks ≡ before ++ (uses ++ after) → AreIn items body forest.paths uses
+  all-in : (before uses after : List (PlaceUse × Place)) → flat_map block_uses body.blocks ≡ before ++ (uses ++ after) → AreIn items body forest.paths uses
   all-in before [] after all = tt
   all-in before (made ∷ uses) after all = (
     one-in before (uses ++ after) made all,
     all-in (before ++ made ∷ []) uses after (all ∙ sym (append_assoc before (made ∷ []) (uses ++ after))),
   )
 
-  in-front : (uses more : List (Use × Place)) → AreIn items body forest.paths (uses ++ more) → AreIn items body forest.paths uses
+  in-front : (uses more : List (PlaceUse × Place)) → AreIn items body forest.paths (uses ++ more) → AreIn items body forest.paths uses
   in-front [] more h = tt
   in-front (made ∷ uses) more h = (h.0, in-front uses more h.1)
 
-  in-back : (uses more : List (Use × Place)) → AreIn items body forest.paths (uses ++ more) → AreIn items body forest.paths more
+  in-back : (uses more : List (PlaceUse × Place)) → AreIn items body forest.paths (uses ++ more) → AreIn items body forest.paths more
   in-back [] more h = h
   in-back (made ∷ uses) more h = in-back uses more h.1
 
-  in-both : (uses more : List (Use × Place)) → AreIn items body forest.paths uses → AreIn items body forest.paths more → AreIn items body forest.paths (uses ++ more)
+  in-both : (uses more : List (PlaceUse × Place)) → AreIn items body forest.paths uses → AreIn items body forest.paths more → AreIn items body forest.paths (uses ++ more)
   in-both [] more h k = k
   in-both (made ∷ uses) more h k = (h.0, in-both uses more h.1 k)
 
@@ -59,7 +59,7 @@ module _ (items : ItemTable) (body : Body) (forest : PathForest) (is : IsForest 
   of-block (first ∷ blocks) zero block at h = subst (λ (z : Block). AreIn items body forest.paths (block_uses z)) (same_Some first block at) (in-front (block_uses first) (flat_map block_uses blocks) h)
   of-block (first ∷ blocks) (suc n) block at h = of-block blocks n block at (in-back (block_uses first) (flat_map block_uses blocks) h)
 
-  abbrev stored : List Place → List (Use × Place)
+  abbrev stored : List Place → List (PlaceUse × Place)
   stored places = map (λ place. (Stores, place)) places
 
   if-in : (on : Bool) (to : Place) → AreIn items body forest.paths (stored (to ∷ [])) → AreIn items body forest.paths (stored (if_on on to))

@@ -13,7 +13,7 @@ use Rattle.cfg_graph.specs.Moves.Gone.{are_first, is_at_or_above, below}
 use Rattle.move_paths.specs.Trie.{AreOnce}
 use Rattle.move_paths.specs.Forest.{IsRoot, IsStepBelow}
 use Rattle.move_paths.proofs.Above.{above-refl, above-stays, above-pushed, above-local}
-use Rattle.init_flow.specs.Carried.{Row}
+use Rattle.init_flow.specs.Carried.{Bits}
 use Rattle.move_flow.specs.Marks.{cell, place_at, IsSquare, IsMarked, marked, masks_from, single}
 use Rattle.move_flow.specs.Moved.{mask_of, masks_of}
 use Rattle.move_flow.proofs.Masking.{alone-at, alone-long, length-single, single-at}
@@ -69,7 +69,7 @@ module _ (paths : List Place) where
   done (Some of) n = not (above_it n of)
 
   -- what the loop keeps
-  pub record Marking (old now : List Row) (path : ℕ) (at : Option ℕ) : Type 0 where
+  pub record Marking (old now : List Bits) (path : ℕ) (at : Option ℕ) : Type 0 where
     pub long : length now ≡ length old
     pub square : IsSquare now
     pub cells :
@@ -78,7 +78,7 @@ module _ (paths : List Place) where
     pub chain : (of : ℕ) → at ≡ Some of → (of < length paths) × (above_it of path ≡ true)
 
   -- how far all paths are marked
-  pub record Marked (masks : List Row) (count : ℕ) : Type 0 where
+  pub record Marked (masks : List Bits) (count : ℕ) : Type 0 where
     pub long : length masks ≡ length paths
     pub square : IsSquare masks
     pub cells : (n k : ℕ) → n < length paths → cell masks n k ≡ ((n == k) || (nat_lt k count && above_it n k))
@@ -141,7 +141,7 @@ module _ (paths : List Place) (once : AreOnce paths) where
       shorter (x ∷ xs) [] h = absurd (false≢true h)
       shorter (x ∷ xs) (y ∷ ys) h = let k = shorter xs ys (second_so (same_step x y) (are_first xs ys) h) in omega (k, arith)
 
-  pub begins : (old : List Row) (path : ℕ) → IsSquare old → path < length paths → Marking paths old old path (Some path)
+  pub begins : (old : List Bits) (path : ℕ) → IsSquare old → path < length paths → Marking paths old old path (Some path)
   begins old path square within = record {
     long = refl;
     square = square;
@@ -149,17 +149,17 @@ module _ (paths : List Place) (once : AreOnce paths) where
     chain = λ of is. (let e = same_Some path of is in omega (e, within, arith), ap (λ (z : ℕ). above z path) (sym (same_Some path of is)) ∙ above-refl (place_at paths path));
   }
 
-  pub ends : (old now : List Row) (path : ℕ) → Marking paths old now path None → IsMarked paths old now path
+  pub ends : (old now : List Bits) (path : ℕ) → Marking paths old now path None → IsMarked paths old now path
   ends old now path m = record {
     long = m.long;
     square = m.square;
     cells = λ n k here. m.cells n k here ∙ ap (λ (z : Bool). cell old n k || ((k == path) && z)) (and-true (above n path));
   }
 
-  marked-long : (masks : List Row) (of path : ℕ) → length (marked masks of path) ≡ length masks
+  marked-long : (masks : List Bits) (of path : ℕ) → length (marked masks of path) ≡ length masks
   marked-long masks of path = length-set masks of (slice_set (slice_index_or masks of []) path true)
 
-  marked-square : (masks : List Row) (of path : ℕ) → IsSquare masks → of < length masks → IsSquare (marked masks of path)
+  marked-square : (masks : List Bits) (of path : ℕ) → IsSquare masks → of < length masks → IsSquare (marked masks of path)
   marked-square masks of path square within n here = by (cases_eq n of)
     where
       by : (n ≡ of) ⊎ (n ≢ of) → length (slice_index_or (marked masks of path) n []) ≡ length (marked masks of path)
@@ -171,27 +171,27 @@ module _ (paths : List Place) (once : AreOnce paths) where
           ap length (get_or-set_other masks of n (slice_set (slice_index_or masks of []) path true) [] other)
           ∙ square n (let k = marked-long masks of path in omega (k, here, arith)) ∙ sym (marked-long masks of path)
 
-  marked-here : (masks : List Row) (of path : ℕ) → IsSquare masks → of < length masks → path < length masks → cell (marked masks of path) of path ≡ true
+  marked-here : (masks : List Bits) (of path : ℕ) → IsSquare masks → of < length masks → path < length masks → cell (marked masks of path) of path ≡ true
   marked-here masks of path square within there =
-      ap (λ (z : Row). slice_index_or z path false) (get_or-set_same masks of (slice_set (slice_index_or masks of []) path true) [] within)
+      ap (λ (z : Bits). slice_index_or z path false) (get_or-set_same masks of (slice_set (slice_index_or masks of []) path true) [] within)
       ∙ get_or-set_same (slice_index_or masks of []) path true false (let k = square of within in omega (k, there, arith))
 
-  marked-bit : (masks : List Row) (of path n k : ℕ) → of < length masks → k ≢ path → cell (marked masks of path) n k ≡ cell masks n k
+  marked-bit : (masks : List Bits) (of path n k : ℕ) → of < length masks → k ≢ path → cell (marked masks of path) n k ≡ cell masks n k
   marked-bit masks of path n k within other = by (cases_eq n of)
     where
       by : (n ≡ of) ⊎ (n ≢ of) → cell (marked masks of path) n k ≡ cell masks n k
       by (inl same) =
           ap (λ (z : ℕ). cell (marked masks of path) z k) same
-          ∙ ap (λ (z : Row). slice_index_or z k false) (get_or-set_same masks of (slice_set (slice_index_or masks of []) path true) [] within)
+          ∙ ap (λ (z : Bits). slice_index_or z k false) (get_or-set_same masks of (slice_set (slice_index_or masks of []) path true) [] within)
           ∙ get_or-set_other (slice_index_or masks of []) path k true false other
           ∙ ap (λ (z : ℕ). cell masks z k) (sym same)
-      by (inr apart) = ap (λ (z : Row). slice_index_or z k false) (get_or-set_other masks of n (slice_set (slice_index_or masks of []) path true) [] apart)
+      by (inr apart) = ap (λ (z : Bits). slice_index_or z k false) (get_or-set_other masks of n (slice_set (slice_index_or masks of []) path true) [] apart)
 
-  marked-row : (masks : List Row) (of path n k : ℕ) → n ≢ of → cell (marked masks of path) n k ≡ cell masks n k
-  marked-row masks of path n k apart = ap (λ (z : Row). slice_index_or z k false) (get_or-set_other masks of n (slice_set (slice_index_or masks of []) path true) [] apart)
+  marked-row : (masks : List Bits) (of path n k : ℕ) → n ≢ of → cell (marked masks of path) n k ≡ cell masks n k
+  marked-row masks of path n k apart = ap (λ (z : Bits). slice_index_or z k false) (get_or-set_other masks of n (slice_set (slice_index_or masks of []) path true) [] apart)
 
   -- one path more is marked
-  pub goes-on : (old now : List Row) (path of : ℕ) (up : Option ℕ) → length old ≡ length paths → path < length paths → Marking paths old now path (Some of)
+  pub goes-on : (old now : List Bits) (path of : ℕ) (up : Option ℕ) → length old ≡ length paths → path < length paths → Marking paths old now path (Some of)
       → MatchOption up (IsRoot paths of) (λ p. IsStepBelow paths p of) → Marking paths old (marked now of path) path up
   goes-on old now path of up size inside m parent = record {
     long = marked-long now of path ∙ m.long;
@@ -252,7 +252,7 @@ module _ (paths : List Place) (once : AreOnce paths) where
   marked-none bits size = record {
     long = alone-long bits 0 bits ∙ size;
     square = λ n here. ap length (own n (let k = alone-long bits 0 bits in omega (k, here, arith))) ∙ length-single bits n ∙ sym (alone-long bits 0 bits);
-    cells = λ n k here. ap (λ (z : Row). slice_index_or z k false) (own n (omega (size, here, arith))) ∙ single-at bits n k (omega (size, here, arith))
+    cells = λ n k here. ap (λ (z : Bits). slice_index_or z k false) (own n (omega (size, here, arith))) ∙ single-at bits n k (omega (size, here, arith))
         ∙ sym (ap (λ (z : Bool). (n == k) || (z && above n k)) (le-ltb k 0 (omega arith)) ∙ or-false (n == k));
   }
     where
@@ -263,7 +263,7 @@ module _ (paths : List Place) (once : AreOnce paths) where
   or-or true b c = refl
   or-or false b c = refl
 
-  pub marked-more : (old new : List Row) (count : ℕ) → Marked paths old count → IsMarked paths old new count → Marked paths new (count + 1)
+  pub marked-more : (old new : List Bits) (count : ℕ) → Marked paths old count → IsMarked paths old new count → Marked paths new (count + 1)
   marked-more old new count m more = record {
     long = more.long ∙ m.long;
     square = more.square;
@@ -286,14 +286,14 @@ module _ (paths : List Place) (once : AreOnce paths) where
             ∙ ap (λ (z : Bool). z && above n k) (sym (le-ltb k (count + 1) (omega (more, other, arith))))
       ]
 
-  pub marked-all : (masks : List Row) (count : ℕ) → Marked paths masks count → length paths ≤ count → masks ≡ masks_of paths
+  pub marked-all : (masks : List Bits) (count : ℕ) → Marked paths masks count → length paths ≤ count → masks ≡ masks_of paths
   marked-all masks count m all = same_lists masks (masks_of paths) (m.long ∙ sym (length-map paths (mask_of paths))) row
     where
       own : (n k : ℕ) → (n ≡ k) ⊎ (n ≢ k) → ((n == k) || above n k) ≡ above n k
       own n k (inl same) = ap (λ (z : Bool). z || above n k) (eq-eqb n k same) ∙ sym (ap (above n) (sym same) ∙ above-refl (place_at paths n))
       own n k (inr other) = ap (λ (z : Bool). z || above n k) (ne_eqb n k other)
 
-      row : (n : ℕ) (d : Row) → n < length masks → slice_index_or masks n d ≡ slice_index_or (masks_of paths) n d
+      row : (n : ℕ) (d : Bits) → n < length masks → slice_index_or masks n d ≡ slice_index_or (masks_of paths) n d
       row n d here =
           let inside : n < length paths = (let k = m.long in omega (k, here, arith)) in
           get_or_default masks n d [] here

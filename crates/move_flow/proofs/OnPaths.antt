@@ -14,12 +14,12 @@ use Rattle.cfg_graph.specs.declared.terminator.Term.{Term}
 use Rattle.cfg_graph.specs.declared.terminator.Unwind.{Unwind}
 use Rattle.cfg_graph.specs.declared.graph.Block.{Block}
 use Rattle.cfg_graph.specs.declared.graph.Body.{Body}
-use Rattle.cfg_graph.specs.Edges.{Exit, ToBlock, LeavesBody, unwind_exit, is_turn}
+use Rattle.cfg_graph.specs.Edges.{BlockExit, ToBlock, LeavesBody, unwind_exit, is_turn}
 use Rattle.cfg_graph.specs.Places.{place_id, ty_of_place}
 use Rattle.cfg_graph.specs.Moves.Actions.{actions_on}
-use Rattle.cfg_graph.specs.Moves.Gone.{Action, is_gone_after}
-use Rattle.cfg_graph.specs.Moves.Paths.{Way, ways}
-use Rattle.init_flow.specs.Carried.{Row, leads_to, rows_along}
+use Rattle.cfg_graph.specs.Moves.Gone.{PathAction, is_gone_after}
+use Rattle.cfg_graph.specs.Moves.Paths.{PathWay, ways}
+use Rattle.init_flow.specs.Carried.{Bits, leads_to, rows_along}
 use Rattle.init_flow.specs.Ways.{target, target_among, number_of, block_of}
 use Rattle.move_flow.specs.Moved.{says, LeadsTo, SolvedSays}
 
@@ -74,11 +74,11 @@ filled-both f (x ∷ xs) zs has = (
 
 -- The ways from a block to another.
 
-abbrev choices_to : ℕ → Way → List (List Bool)
+abbrev choices_to : ℕ → PathWay → List (List Bool)
 choices_to block way =
     elim way.exit [ ToBlock next ↦ if next == block then way.choices ∷ [] else [] | LeavesBody ↦ [] ]
 
-to-forth : (to : ℕ) (choices : List Bool) (exit : Exit) → Filled (choices_to to (record { choices = choices; exit = exit })) → block_of exit ≡ Some to
+to-forth : (to : ℕ) (choices : List Bool) (exit : BlockExit) → Filled (choices_to to (record { choices = choices; exit = exit })) → block_of exit ≡ Some to
 to-forth to choices (ToBlock next) has = by (next == to) refl has
   where
     by : (b : Bool) → (next == to) ≡ b → Filled (if b then choices ∷ [] else []) → Some next ≡ Some to
@@ -86,13 +86,13 @@ to-forth to choices (ToBlock next) has = by (next == to) refl has
     by false e has = absurd (not-filled has)
 to-forth to choices LeavesBody has = absurd (not-filled has)
 
-to-back : (to : ℕ) (choices : List Bool) (exit : Exit) → block_of exit ≡ Some to → Filled (choices_to to (record { choices = choices; exit = exit }))
+to-back : (to : ℕ) (choices : List Bool) (exit : BlockExit) → block_of exit ≡ Some to → Filled (choices_to to (record { choices = choices; exit = exit }))
 to-back to choices (ToBlock next) e =
     subst (λ (b : Bool). Filled (if b then choices ∷ [] else [])) (sym (eq-eqb next to (same_Some next to e))) (filled-first choices [])
 to-back to choices LeavesBody e = absurd (none-some to e)
 
 -- the ways lead to a block exactly where one of them does by its number
-abbrev Agree : List Way → ℕ → Type 0
+abbrev Agree : List PathWay → ℕ → Type 0
 Agree list to = Filled (flat_map (choices_to to) list) ↔ ((k : ℕ) × (k < 2) × (target_among k list ≡ Some to))
 
 agree-none : (to : ℕ) → Agree [] to
@@ -107,7 +107,7 @@ when : (b : Bool) (o : Option ℕ) (to : ℕ) → (if b then o else None) ≡ So
 when true o to e = e
 when false o to e = absurd (none-some to e)
 
-agree-one : (choices : List Bool) (exit : Exit) (to : ℕ) → Agree (record { choices = choices; exit = exit } ∷ []) to
+agree-one : (choices : List Bool) (exit : BlockExit) (to : ℕ) → Agree (record { choices = choices; exit = exit } ∷ []) to
 agree-one choices exit to = (
   λ has. (
     number_of choices,
@@ -119,13 +119,13 @@ agree-one choices exit to = (
       (to-back to choices exit (when (number_of choices == it.0) (block_of exit) to it.2)),
 )
 
-agree-two : (a b : Exit) (to : ℕ) → Agree (record { choices = false ∷ []; exit = a } ∷ record { choices = true ∷ []; exit = b } ∷ []) to
+agree-two : (a b : BlockExit) (to : ℕ) → Agree (record { choices = false ∷ []; exit = a } ∷ record { choices = true ∷ []; exit = b } ∷ []) to
 agree-two a b to = (forth, λ it. back it.0 it.1 it.2)
   where
-    none : Way
+    none : PathWay
     none = record { choices = false ∷ []; exit = a }
 
-    one : Way
+    one : PathWay
     one = record { choices = true ∷ []; exit = b }
 
     forth : Filled (choices_to to none ++ (choices_to to one ++ [])) → (k : ℕ) × (k < 2) × (target_among k (none ∷ one ∷ []) ≡ Some to)
@@ -166,7 +166,7 @@ module _ (items : ItemTable) (body : Body) where
   agree Term.Resume to = agree-none to
 
   -- the choices of paths, as the definition has them
-  abbrev ways_from : ℕ → List Way
+  abbrev ways_from : ℕ → List PathWay
   ways_from block = option_map_or (λ found. ways items body found.term) (slice_get body.blocks block) []
 
   abbrev zero_if : Bool → List Bool
@@ -199,7 +199,7 @@ module _ (items : ItemTable) (body : Body) where
       by None e = absurd (none-some to e)
       by (Some block) e = (agree block.term to).1 (k, below, e)
 
-  module _ (pass : ℕ → ℕ → Row → Row) where
+  module _ (pass : ℕ → ℕ → Bits → Bits) where
     led : (to : ℕ) (o : Option ℕ) → leads_to to o ≡ true → o ≡ Some to
     led to None h = absurd (false≢true h)
     led to (Some m) h = ap Some (eqb-true m to h)
@@ -207,14 +207,14 @@ module _ (items : ItemTable) (body : Body) where
     leads : (to : ℕ) (o : Option ℕ) → o ≡ Some to → leads_to to o ≡ true
     leads to o e = ap (leads_to to) e ∙ eq-eqb to to refl
 
-    abbrev by_way : ℕ → ℕ → Row → ℕ → List ℕ → List Row
+    abbrev by_way : ℕ → ℕ → Bits → ℕ → List ℕ → List Bits
     by_way n k row to path = if leads_to to (target items body n k) then rows_along (target items body) pass to (pass n k row) path else []
 
     filled-if : {X : Type 0} (b : Bool) (xs : List X) → Filled (if b then xs else []) → (b ≡ true) × Filled xs
     filled-if true xs has = (refl, has)
     filled-if false xs has = absurd (not-filled has)
 
-    rows-choices : (path : List ℕ) (n : ℕ) (row : Row) → Filled (rows_along (target items body) pass n row path) → Filled (choices_along (λ last. [] ∷ []) n path)
+    rows-choices : (path : List ℕ) (n : ℕ) (row : Bits) → Filled (rows_along (target items body) pass n row path) → Filled (choices_along (λ last. [] ∷ []) n path)
     rows-choices [] n row has = filled-first [] []
     rows-choices (to ∷ path) n row has =
         let one : (k : ℕ) → k < 2 → Filled (by_way n k row to path) → Filled (choices_along (λ last. [] ∷ []) n (to ∷ path)) =
@@ -227,7 +227,7 @@ module _ (items : ItemTable) (body : Body) where
           | inr here ↦ one 1 (omega arith) here
         ]
 
-    choices-rows : (path : List ℕ) (n : ℕ) (row : Row) → Filled (choices_along (λ last. [] ∷ []) n path) → Filled (rows_along (target items body) pass n row path)
+    choices-rows : (path : List ℕ) (n : ℕ) (row : Bits) → Filled (choices_along (λ last. [] ∷ []) n path) → Filled (rows_along (target items body) pass n row path)
     choices-rows [] n row has = filled-first row []
     choices-rows (to ∷ path) n row has =
         let both = filled-both (λ given rest. given ++ entry_choices to ++ rest) (choices_between n to) (choices_along (λ last. [] ∷ []) to path) has in
@@ -244,9 +244,9 @@ module _ (items : ItemTable) (body : Body) where
 pub solved-says : SolvedSays
 solved-says items body places gone pass first rows said carried n k place inside at = (forth, back)
   where
-    bit-is : (earlier : List Action) (row : Row) → row ≡ map (λ place. says gone (is_gone_after items body earlier place)) places → slice_index_or row k false ≡ says gone (is_gone_after items body earlier place)
+    bit-is : (earlier : List PathAction) (row : Bits) → row ≡ map (λ place. says gone (is_gone_after items body earlier place)) places → slice_index_or row k false ≡ says gone (is_gone_after items body earlier place)
     bit-is earlier row is =
-        ap (λ (z : Row). slice_index_or z k false) is
+        ap (λ (z : Bits). slice_index_or z k false) is
         ∙ get_or-map (λ place. says gone (is_gone_after items body earlier place)) places k (whole_local 0) false (slice_get_within places k place at)
         ∙ ap (λ (q : Place). says gone (is_gone_after items body earlier q)) (get_or_from_slice_get places k place (whole_local 0) at)
 
@@ -286,5 +286,5 @@ solved-says items body places gone pass first rows said carried n k place inside
         (carried n k inside).1 (
           row.0,
           (it.rest, it.ends, row.1),
-          bit-is told.0 row.0 told.2 ∙ ap (λ (z : List Action). says gone (is_gone_after items body z place)) same ∙ so-said gone (is_gone_after items body it.earlier place) it.is,
+          bit-is told.0 row.0 told.2 ∙ ap (λ (z : List PathAction). says gone (is_gone_after items body z place)) same ∙ so-said gone (is_gone_after items body it.earlier place) it.is,
         )

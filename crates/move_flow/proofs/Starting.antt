@@ -9,20 +9,20 @@ use Rattle.store_model.specs.Places.Place.{Place as Named, whole_local}
 use Rattle.cfg_graph.specs.declared.graph.Block.{Block}
 use Rattle.cfg_graph.specs.declared.graph.Body.{Body}
 use Rattle.cfg_graph.specs.Moves.Gone.{below}
-use Rattle.init_flow.specs.Carried.{Row}
+use Rattle.init_flow.specs.Carried.{Bits}
 use Rattle.move_paths.specs.Forest.{IsStepBelow}
 use Rattle.move_flow.specs.declared.switches.BlockSwitches.{BlockSwitches}
 use Rattle.move_flow.specs.Fits.{AreWays, FirstBit, FitsBlock, start_bit, start_row}
 use Rattle.move_flow.specs.Marks.{place_at}
 
 -- the bit of a path is that of the path above it
-pub bit-above : (paths : List Named) (body : Body) (row : Row) (path upper : ℕ) (gone : Bool) → IsStepBelow paths upper path → FirstBit paths body row path gone (slice_index_or row upper false)
+pub bit-above : (paths : List Named) (body : Body) (row : Bits) (path upper : ℕ) (gone : Bool) → IsStepBelow paths upper path → FirstBit paths body row path gone (slice_index_or row upper false)
 bit-above paths body row path upper gone up earlier =
     earlier upper up.earlier
     ∙ ap (start_bit body gone) (get_or_from_slice_get paths upper up.place (whole_local 0) up.above)
     ∙ ap (start_bit body gone) (sym (get_or_from_slice_get paths path (below up.place (up.step ∷ [])) (whole_local 0) up.here))
 
-pub start-more : (paths : List Named) (body : Body) (gone : Bool) (row : Row) (path : ℕ) (bit : Bool) → length row ≡ length paths → path < length paths
+pub start-more : (paths : List Named) (body : Body) (gone : Bool) (row : Bits) (path : ℕ) (bit : Bool) → length row ≡ length paths → path < length paths
     → ((n : ℕ) → n < path → slice_index_or row n false ≡ start_bit body gone (place_at paths n))
     → FirstBit paths body row path gone bit
     → (n : ℕ) → n < path + 1 → slice_index_or (slice_set row path bit) n false ≡ start_bit body gone (place_at paths n)
@@ -35,7 +35,7 @@ start-more paths body gone row path bit long inside earlier first n small = by (
         ∙ ap (λ (z : ℕ). start_bit body gone (place_at paths z)) (sym same)
     by (inr other) = get_or-set_other row path n bit false other ∙ earlier n (omega (small, other, arith))
 
-pub start-all : (paths : List Named) (body : Body) (gone : Bool) (row : Row) (count : ℕ) → length row ≡ length paths → length paths ≤ count
+pub start-all : (paths : List Named) (body : Body) (gone : Bool) (row : Bits) (count : ℕ) → length row ≡ length paths → length paths ≤ count
     → ((n : ℕ) → n < count → slice_index_or row n false ≡ start_bit body gone (place_at paths n)) → row ≡ start_row paths body gone
 start-all paths body gone row count long all bits =
     same_lists row (start_row paths body gone) (long ∙ sym (length-map paths (start_bit body gone))) (λ n d small.

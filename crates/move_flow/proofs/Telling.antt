@@ -11,7 +11,7 @@ use Rattle.mir_ty.specs.ItemTable.{ItemTable}
 use Rattle.store_model.specs.Places.Place.{Place, Step, same_step, ToPart, ToField, ToContent, ToElement, before_element}
 use Rattle.cfg_graph.specs.declared.graph.Body.{Body}
 use Rattle.cfg_graph.specs.Places.{named}
-use Rattle.cfg_graph.specs.Moves.Gone.{Action, leaves_gone, are_first, is_at_or_above, below, containers, has_index, counts, left_by, last_left, is_param, is_gone_after, is_whole_after, container_gone_after, array_broken_after}
+use Rattle.cfg_graph.specs.Moves.Gone.{PathAction, leaves_gone, are_first, is_at_or_above, below, containers, has_index, counts, left_by, last_left, is_param, is_gone_after, is_whole_after, container_gone_after, array_broken_after}
 use Rattle.cfg_graph.proofs.WholePlaces.{same_step-sound, same_step-refl, wholeness_is_tested}
 use Rattle.move_paths.specs.Trie.{upto}
 use Rattle.move_paths.specs.Forest.{PathForest, IsForest, is_path, is_local, is_above_change}
@@ -105,10 +105,10 @@ module _ (items : ItemTable) (body : Body) (forest : PathForest) (is : IsForest 
   abbrev paths : List Place
   paths = forest.paths
 
-  abbrev In : Action → Type 0
+  abbrev In : PathAction → Type 0
   In a = is_some (leaves_gone a.how) ≡ true → counts items body a.place ≡ true → a.place.local < length body.locals → Contains paths a.place
 
-  pub of-body : (earlier : List Action) → AreOfBody body earlier → (a : Action) → Contains earlier a → In a
+  pub of-body : (earlier : List PathAction) → AreOfBody body earlier → (a : PathAction) → Contains earlier a → In a
   of-body earlier are a has changes watched within =
       let it = are a has in
       let made = it.0 in
@@ -158,11 +158,11 @@ module _ (items : ItemTable) (body : Body) (forest : PathForest) (is : IsForest 
   pub last-path : (x : Place) → x.local < length body.locals → Last x
   last-path x within = from x within (length x.steps) (λ k more fits has. absurd (omega (more, fits, arith)))
 
-  module _ (earlier : List Action) (are : AreOfBody body earlier) where
+  module _ (earlier : List PathAction) (are : AreOfBody body earlier) where
     abbrev gone : Place → Bool
     gone x = is_gone_after items body earlier x
 
-    left-same : (x : Place) → x.local < length body.locals → (l : Last x) (a : Action) → In a → left_by items body x a ≡ left_by items body l.path a
+    left-same : (x : Place) → x.local < length body.locals → (l : Last x) (a : PathAction) → In a → left_by items body x a ≡ left_by items body l.path a
     left-same x within l a inside = by (leaves_gone a.how) refl (counts items body a.place) refl
       where
         none : (b : Bool) (o : Option Bool) → (if b then o else o) ≡ o
@@ -184,7 +184,7 @@ module _ (items : ItemTable) (body : Body) (forest : PathForest) (is : IsForest 
         ap (λ (o : Option Bool). unwrap_or o (not (is_param items body x.local))) (each earlier (of-body earlier are))
         ∙ ap (λ (n : ℕ). unwrap_or (last_left items body l.path earlier) (not (is_param items body n))) (sym (local-same l.path x l.above))
       where
-        each : (actions : List Action) → ((a : Action) → Contains actions a → In a) → last_left items body x actions ≡ last_left items body l.path actions
+        each : (actions : List PathAction) → ((a : PathAction) → Contains actions a → In a) → last_left items body x actions ≡ last_left items body l.path actions
         each [] inside = refl
         each (a ∷ actions) inside =
             λ i. option_or (each actions (λ b has. inside b (suc has.0, (let k = has.1 in omega (k, arith)), has.2)) i) (left-same x within l a (inside a (0, omega arith, refl)) i)
@@ -200,7 +200,7 @@ module _ (items : ItemTable) (body : Body) (forest : PathForest) (is : IsForest 
     broken-near : (x : Place) → x.local < length body.locals → not (is_whole_after items body earlier x) ≡ true → GoneNear x
     broken-near x within h = by (gone x) refl h
       where
-        below-it : (a : Action) × ((is_at_or_above x a.place && gone a.place) ≡ true) → GoneNear x
+        below-it : (a : PathAction) × ((is_at_or_above x a.place && gone a.place) ≡ true) → GoneNear x
         below-it it =
             let over = first_so (is_at_or_above x it.0.place) (gone it.0.place) it.1 in
             let g = gone-above it.0.place (let k = local-same x it.0.place over in omega (k, within, arith)) (second_so (is_at_or_above x it.0.place) (gone it.0.place) it.1) in
@@ -208,7 +208,7 @@ module _ (items : ItemTable) (body : Body) (forest : PathForest) (is : IsForest 
 
         by : (b : Bool) → gone x ≡ b → not (not b && list_all (λ action. not (is_at_or_above x action.place && gone action.place)) earlier) ≡ true → GoneNear x
         by true e k = let g = gone-above x within e in (g.0, g.1, g.2, inl g.3)
-        by false e k = below-it (not-all (λ (action : Action). is_at_or_above x action.place && gone action.place) earlier k)
+        by false e k = below-it (not-all (λ (action : PathAction). is_at_or_above x action.place && gone action.place) earlier k)
 
     -- and what has one below it is not whole
     broken-by : (x q : Place) → gone q ≡ true → is_at_or_above x q ≡ true → not (is_whole_after items body earlier x) ≡ true

@@ -6,9 +6,9 @@ use Rattle.cfg_graph.specs.declared.terminator.Term.{Term}
 use Rattle.cfg_graph.specs.declared.terminator.Unwind.{Unwind}
 use Rattle.cfg_graph.specs.declared.graph.Block.{Block}
 use Rattle.cfg_graph.specs.Places.{named}
-use Rattle.cfg_graph.specs.Uses.{Use, Stores, stmt_uses, term_uses}
+use Rattle.cfg_graph.specs.Uses.{PlaceUse, Stores, stmt_uses, term_uses}
 use Rattle.cfg_graph.specs.Moves.Gone.{leaves_gone}
-use Rattle.init_flow.specs.Carried.{Row}
+use Rattle.init_flow.specs.Carried.{Bits}
 use Rattle.cfg_graph.specs.declared.graph.Body.{Body}
 use Rattle.move_flow.specs.declared.switches.Switch.{Switch}
 use Rattle.move_flow.specs.declared.switches.BlockSwitches.{BlockSwitches}
@@ -18,21 +18,21 @@ use Rattle.move_flow.specs.Moved.{says, masks_of}
 use Rattle.move_flow.specs.Switches.{at_most_one, way_switches}
 
 -- what a use switches, if anything
-abbrev pub IsSwitch : (paths : List Named) (gone : Bool) → Use × Place → Option Switch → Type 0
+abbrev pub IsSwitch : (paths : List Named) (gone : Bool) → PlaceUse × Place → Option Switch → Type 0
 IsSwitch paths gone made None = (leaves_gone made.0 ≡ None) ⊎ (¬ Contains paths (named made.1))
 IsSwitch paths gone made (Some switch) =
     (takes : Bool) × (leaves_gone made.0 ≡ Some takes) × (slice_get paths switch.path ≡ Some (named made.1))
     × (switch.on ≡ says gone takes)
 
 -- switches of uses, one use after another
-abbrev pub Fits : (paths : List Named) (gone : Bool) → List Switch → List (Use × Place) → Type 0
+abbrev pub Fits : (paths : List Named) (gone : Bool) → List Switch → List (PlaceUse × Place) → Type 0
 Fits paths gone switches [] = switches ≡ []
 Fits paths gone switches (made ∷ uses) =
     (first : Option Switch) × (rest : List Switch) × (switches ≡ at_most_one first ++ rest)
     × IsSwitch paths gone made first × Fits paths gone rest uses
 
 -- what is added to switches for uses
-abbrev pub AreSwitched : (paths : List Named) (gone : Bool) (old new : List Switch) → List (Use × Place) → Type 0
+abbrev pub AreSwitched : (paths : List Named) (gone : Bool) (old new : List Switch) → List (PlaceUse × Place) → Type 0
 AreSwitched paths gone old new uses = (added : List Switch) × (new ≡ old ++ added) × Fits paths gone added uses
 
 -- the way with this number leads to the block in which the terminator goes on
@@ -58,7 +58,7 @@ way_result (Term.Ask to next unwind) way = if_on (leads_on next unwind way) to
 way_result term way = []
 
 -- the uses of a block, and the store of the result on a way out of it
-abbrev pub way_uses : Block → (way : ℕ) → List (Use × Place)
+abbrev pub way_uses : Block → (way : ℕ) → List (PlaceUse × Place)
 way_uses block way =
     flat_map stmt_uses block.stmts
     ++ (term_uses block.term ++ map (λ place. (Stores, place)) (way_result block.term way))
@@ -71,11 +71,11 @@ param_of body local = nat_lt 0 local && nat_le local body.params
 abbrev pub start_bit : Body → (gone : Bool) → Named → Bool
 start_bit body gone place = says gone (not (param_of body place.local))
 
-abbrev pub start_row : List Named → Body → (gone : Bool) → Row
+abbrev pub start_row : List Named → Body → (gone : Bool) → Bits
 start_row paths body gone = map (start_bit body gone) paths
 
 -- where the bits of earlier paths say it, so does this bit of its path
-abbrev pub FirstBit : List Named → Body → Row → (path : ℕ) → (gone bit : Bool) → Type 0
+abbrev pub FirstBit : List Named → Body → Bits → (path : ℕ) → (gone bit : Bool) → Type 0
 FirstBit paths body row path gone bit =
     ((n : ℕ) → n < path → slice_index_or row n false ≡ start_bit body gone (place_at paths n))
     → bit ≡ start_bit body gone (place_at paths path)

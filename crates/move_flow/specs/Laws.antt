@@ -3,18 +3,18 @@ use Rattle.std.specs.Prelude.{◌≡◌, ℕ, suc, nat_eq, Bool, true, false, no
 use Rattle.std.proofs.Common.{refl, ap, sym, ◌∙◌, arith}
 use Rattle.std.proofs.lemmas.Bool.{eqb-true}
 use Rattle.bit_rows.specs.Words.{union, difference}
-use Rattle.init_flow.specs.Carried.{Row}
+use Rattle.init_flow.specs.Carried.{Bits}
 use Rattle.move_flow.specs.declared.switches.Switch.{Switch}
 use Rattle.move_flow.specs.declared.switches.Switches.{Switches}
 use Rattle.move_flow.specs.Switches.{switched, by_mask, switch_by, all_switched, passed_by, way_switches}
 
-length-union : (a b : Row) → length a ≡ length b → length (union a b) ≡ length b
+length-union : (a b : Bits) → length a ≡ length b → length (union a b) ≡ length b
 length-union [] [] e = refl
 length-union [] (y ∷ ys) e = absurd (omega (e, arith))
 length-union (x ∷ xs) [] e = absurd (omega (e, arith))
 length-union (x ∷ xs) (y ∷ ys) e = ap suc (length-union xs ys (omega (e, arith)))
 
-length-difference : (a b : Row) → length a ≡ length b → length (difference a b) ≡ length b
+length-difference : (a b : Bits) → length a ≡ length b → length (difference a b) ≡ length b
 length-difference [] [] e = refl
 length-difference [] (y ∷ ys) e = absurd (omega (e, arith))
 length-difference (x ∷ xs) [] e = absurd (omega (e, arith))
@@ -28,7 +28,7 @@ without-or : (m a b : Bool) → (not m && (a || b)) ≡ ((not m && a) || (not m 
 without-or true a b = refl
 without-or false a b = refl
 
-union-union : (m a b : Row) → length m ≡ length a → length a ≡ length b
+union-union : (m a b : Bits) → length m ≡ length a → length a ≡ length b
     → union m (union a b) ≡ union (union m a) (union m b)
 union-union [] [] [] e d = refl
 union-union (m ∷ ms) (x ∷ xs) (y ∷ ys) e d =
@@ -38,7 +38,7 @@ union-union (m ∷ ms) [] ys e d = absurd (omega (e, arith))
 union-union [] [] (y ∷ ys) e d = absurd (omega (d, arith))
 union-union (m ∷ ms) (x ∷ xs) [] e d = absurd (omega (d, arith))
 
-difference-union : (m a b : Row) → length m ≡ length a → length a ≡ length b
+difference-union : (m a b : Bits) → length m ≡ length a → length a ≡ length b
     → difference m (union a b) ≡ union (difference m a) (difference m b)
 difference-union [] [] [] e d = refl
 difference-union (m ∷ ms) (x ∷ xs) (y ∷ ys) e d =
@@ -48,7 +48,7 @@ difference-union (m ∷ ms) [] ys e d = absurd (omega (e, arith))
 difference-union [] [] (y ∷ ys) e d = absurd (omega (d, arith))
 difference-union (m ∷ ms) (x ∷ xs) [] e d = absurd (omega (d, arith))
 
-length-switched : (mask : Row) (on : Bool) (row : Row) → length (switched mask on row) ≡ length row
+length-switched : (mask : Bits) (on : Bool) (row : Bits) → length (switched mask on row) ≡ length row
 length-switched mask on row = by (nat_eq (length mask) (length row)) on refl
   where
     by : (c on : Bool) → nat_eq (length mask) (length row) ≡ c
@@ -57,7 +57,7 @@ length-switched mask on row = by (nat_eq (length mask) (length row)) on refl
     by true false e = length-difference mask row (eqb-true (length mask) (length row) e)
     by false on e = refl
 
-switched-union : (mask : Row) (on : Bool) (a b : Row) → length a ≡ length b
+switched-union : (mask : Bits) (on : Bool) (a b : Bits) → length a ≡ length b
     → switched mask on (union a b) ≡ union (switched mask on a) (switched mask on b)
 switched-union mask on a b same =
     ap (λ (n : ℕ).
@@ -76,22 +76,22 @@ switched-union mask on a b same =
     by true false e = difference-union mask a b (eqb-true (length mask) (length a) e) same
     by false on e = refl
 
-length-mask : (mask : Option Row) (on : Bool) (row : Row) → length (by_mask mask on row) ≡ length row
+length-mask : (mask : Option Bits) (on : Bool) (row : Bits) → length (by_mask mask on row) ≡ length row
 length-mask None on row = refl
 length-mask (Some mask) on row = length-switched mask on row
 
-mask-union : (mask : Option Row) (on : Bool) (a b : Row) → length a ≡ length b
+mask-union : (mask : Option Bits) (on : Bool) (a b : Bits) → length a ≡ length b
     → by_mask mask on (union a b) ≡ union (by_mask mask on a) (by_mask mask on b)
 mask-union None on a b same = refl
 mask-union (Some mask) on a b same = switched-union mask on a b same
 
 pub length-all :
-    (below : List Row) (switches : List Switch) (row : Row) → length (all_switched below switches row) ≡ length row
+    (below : List Bits) (switches : List Switch) (row : Bits) → length (all_switched below switches row) ≡ length row
 length-all below [] row = refl
 length-all below (switch ∷ switches) row =
     length-all below switches (switch_by below switch row) ∙ length-mask (slice_get below switch.path) switch.on row
 
-all-union : (below : List Row) (switches : List Switch) (a b : Row) → length a ≡ length b
+all-union : (below : List Bits) (switches : List Switch) (a b : Bits) → length a ≡ length b
     → all_switched below switches (union a b) ≡ union (all_switched below switches a) (all_switched below switches b)
 all-union below [] a b same = refl
 all-union below (switch ∷ switches) a b same =
@@ -101,12 +101,12 @@ all-union below (switch ∷ switches) a b same =
     ∙ sym (length-mask (slice_get below switch.path) switch.on b))
 
 -- the laws of an analysis
-pub keeps : (s : Switches) (block way : ℕ) (row : Row) → length row ≡ length s.first
+pub keeps : (s : Switches) (block way : ℕ) (row : Bits) → length row ≡ length s.first
     → length (passed_by s block way row) ≡ length s.first
 keeps s block way row long = length-all s.below (way_switches (slice_get s.blocks block) way) row ∙ long
 
 pub distributes :
-    (s : Switches) (block way : ℕ) (a b : Row) → length a ≡ length s.first → length b ≡ length s.first
+    (s : Switches) (block way : ℕ) (a b : Bits) → length a ≡ length s.first → length b ≡ length s.first
     → passed_by s block way (union a b) ≡ union (passed_by s block way a) (passed_by s block way b)
 distributes s block way a b long other =
     all-union s.below (way_switches (slice_get s.blocks block) way) a b (long ∙ sym other)

@@ -4,8 +4,8 @@ use Rattle.mir_ty.specs.ItemTable.{ItemTable}
 use Rattle.store_model.specs.Places.Place.{Place}
 use Rattle.cfg_graph.specs.declared.graph.Body.{Body}
 use Rattle.cfg_graph.specs.Moves.Actions.{actions_on}
-use Rattle.cfg_graph.specs.Moves.Gone.{Action, is_at_or_above, is_gone_after}
-use Rattle.init_flow.specs.Carried.{Row, last_of, rows_along, AreCarried}
+use Rattle.cfg_graph.specs.Moves.Gone.{PathAction, is_at_or_above, is_gone_after}
+use Rattle.init_flow.specs.Carried.{Bits, last_of, rows_along, AreCarried}
 use Rattle.init_flow.specs.Ways.{target}
 use Rattle.cfg_graph.specs.Moves.Paths.{IsPath}
 
@@ -18,19 +18,19 @@ says false is_gone = not is_gone
 -- gone there, or whether it is present: after the actions of the path before those of that block, its last one.
 pub record Says
     (items : ItemTable) (body : Body) (places : List Place) (gone : Bool) (target : ℕ → ℕ → Option ℕ)
-    (pass : ℕ → ℕ → Row → Row) (first : Row) : Type 0 where
+    (pass : ℕ → ℕ → Bits → Bits) (first : Bits) : Type 0 where
   pub width : length first ≡ length places
   pub rows :
-      (rest : List ℕ) (row : Row) → Contains (rows_along target pass 0 first rest) row →
-      (earlier : List Action)
+      (rest : List ℕ) (row : Bits) → Contains (rows_along target pass 0 first rest) row →
+      (earlier : List PathAction)
       × (actions_on body (0 ∷ rest) ≡ earlier ++ actions_on body (last_of 0 rest ∷ []))
       × (row ≡ map (λ place. says gone (is_gone_after items body earlier place)) places)
 
 -- the paths at or below a path
-abbrev pub mask_of : List Place → Place → Row
+abbrev pub mask_of : List Place → Place → Bits
 mask_of paths upper = map (is_at_or_above upper) paths
 
-abbrev pub masks_of : List Place → List Row
+abbrev pub masks_of : List Place → List Bits
 masks_of paths = map (mask_of paths) paths
 
 -- A path of a body leads to a block with a place gone there, or present: after the actions of the path before those of
@@ -38,7 +38,7 @@ masks_of paths = map (mask_of paths) paths
 pub record LeadsTo (items : ItemTable) (body : Body) (block : ℕ) (place : Place) (gone : Bool) : Type 0 where
   pub rest : List ℕ
   pub choices : List Bool
-  pub earlier : List Action
+  pub earlier : List PathAction
   pub is_path : IsPath items body (0 ∷ rest) choices
   pub ends : last_of 0 rest ≡ block
   pub before : actions_on body (0 ∷ rest) ≡ earlier ++ actions_on body (block ∷ [])
@@ -48,8 +48,8 @@ pub record LeadsTo (items : ItemTable) (body : Body) (block : ℕ) (place : Plac
 -- exactly where some path of the body leads there with the place gone, or present.
 abbrev pub SolvedSays : Type 0
 SolvedSays =
-    (items : ItemTable) (body : Body) (places : List Place) (gone : Bool) (pass : ℕ → ℕ → Row → Row) (first : Row)
-    (rows : List Row) →
+    (items : ItemTable) (body : Body) (places : List Place) (gone : Bool) (pass : ℕ → ℕ → Bits → Bits) (first : Bits)
+    (rows : List Bits) →
     Says items body places gone (target items body) pass first →
     AreCarried (length body.blocks) (target items body) pass first rows →
     (block bit : ℕ) (place : Place) → block < length body.blocks → slice_get places bit ≡ Some place →

@@ -2,7 +2,7 @@
 ghost use Rattle.std.specs.Prelude.{◌≡◌, ◌<◌, ◌*◌, ℕ, length, replicate, slice_get, slice_set, slice_index_or, IfOk, OnOk, None, Some, true, []};
 ghost use Rattle.std.specs.Option.{is_some, option_map};
 ghost use Rattle.bit_rows.specs.Words.{any_both};
-ghost use Rattle.init_flow.specs.Carried.{Row};
+ghost use Rattle.init_flow.specs.Carried.{Bits};
 ghost use Rattle.move_paths.specs.Trie.{AreOnce};
 ghost use Rattle.move_flow.specs.Moved.{masks_of};
 ghost use Rattle.move_flow.specs.Marks.{IsMarked, IsSquare, marked, masks_from, single};
@@ -115,7 +115,7 @@ fn has_row(rows: &[Option<BitRow>], of: u32) -> bool
 /// Marks a path in the row of another one.
 fn mark_row(rows: &mut List<Option<BitRow>>, of: u32, path: u32)
     requires of { of < length rows.old }
-    requires path { (row : Row) → slice_index_or rows.old of None ≡ Some row → path < length row }
+    requires path { (row : Bits) → slice_index_or rows.old of None ≡ Some row → path < length row }
     ensures { rows.new ≡ slice_set rows.old of (option_map (λ row. slice_set row path true) (slice_index_or rows.old of None)) }
 {
     if let Some(row) = rows.element_mut(of as usize) {

@@ -12,7 +12,7 @@ use Rattle.store_model.specs.Places.Place.{Place, Step, ToPart, ToField, ToConte
 use Rattle.cfg_graph.specs.declared.place.Step.{Step as GraphStep}
 use Rattle.cfg_graph.specs.Places.{named_step}
 use Rattle.cfg_graph.specs.Moves.Gone.{below}
-use Rattle.move_paths.specs.declared.parts.Part.{Part}
+use Rattle.move_paths.specs.declared.parts.PathPart.{PathPart}
 use Rattle.move_paths.specs.Trie.{AreOnce, Adds, place_of, grown, roots, places, IsTrie, upto, Grows}
 use Rattle.move_paths.specs.Forest.{IsStepBelow}
 
@@ -29,32 +29,32 @@ once-push {X} xs x once absent i j u at_i at_j = by (slice_get-push_cases xs x i
 
 -- Places that grow.
 
-pub length-grown : (before : List Place) (parts : List Part) → length (grown before parts) ≡ length before + length parts
+pub length-grown : (before : List Place) (parts : List PathPart) → length (grown before parts) ≡ length before + length parts
 length-grown before [] = omega arith
 length-grown before (part ∷ parts) =
     let rest = length-grown (before ++ place_of before part ∷ []) parts in
     let more = length-append before (place_of before part ∷ []) in
     omega (rest, more, arith)
 
-pub grown-push : (before : List Place) (parts : List Part) (part : Part) → grown before (parts ++ part ∷ []) ≡ grown before parts ++ place_of (grown before parts) part ∷ []
+pub grown-push : (before : List Place) (parts : List PathPart) (part : PathPart) → grown before (parts ++ part ∷ []) ≡ grown before parts ++ place_of (grown before parts) part ∷ []
 grown-push before [] part = refl
 grown-push before (other ∷ parts) part = grown-push (before ++ place_of before other ∷ []) parts part
 
-pub grown-keeps : (before : List Place) (parts : List Part) (i : ℕ) (q : Place) → slice_get before i ≡ Some q → slice_get (grown before parts) i ≡ Some q
+pub grown-keeps : (before : List Place) (parts : List PathPart) (i : ℕ) (q : Place) → slice_get before i ≡ Some q → slice_get (grown before parts) i ≡ Some q
 grown-keeps before [] i q h = h
 grown-keeps before (part ∷ parts) i q h =
     grown-keeps (before ++ place_of before part ∷ []) parts i q (slice_get-append_left before (place_of before part ∷ []) i q h)
 
 -- the place of a part stays what it is
-place-stays : (before after : List Place) (part : Part) → ((i : ℕ) (q : Place) → slice_get before i ≡ Some q → slice_get after i ≡ Some q) → part.of < length before
+place-stays : (before after : List Place) (part : PathPart) → ((i : ℕ) (q : Place) → slice_get before i ≡ Some q → slice_get after i ≡ Some q) → part.of < length before
     → place_of after part ≡ place_of before part
 place-stays before after part keeps inside =
     let here = slice_get-get_or before part.of (whole_local 0) inside in
     ap (λ (q : Place). below q (named_step part.step ∷ [])) (get_or_from_slice_get after part.of _ (whole_local 0) (keeps part.of _ here))
 
 -- the place of a part of a list is that by the places after it
-pub part-at : (before : List Place) (parts : List Part) (i : ℕ) (part : Part) → slice_get parts i ≡ Some part → part.of < length before + i
-    → ((j : ℕ) (other : Part) → slice_get parts j ≡ Some other → other.of < length before + j)
+pub part-at : (before : List Place) (parts : List PathPart) (i : ℕ) (part : PathPart) → slice_get parts i ≡ Some part → part.of < length before + i
+    → ((j : ℕ) (other : PathPart) → slice_get parts j ≡ Some other → other.of < length before + j)
     → slice_get (grown before parts) (length before + i) ≡ Some (place_of (grown before parts) part)
 part-at before [] i part at earlier all = absurd (none-some part at)
 part-at before (first ∷ parts) zero part at earlier all =
@@ -65,7 +65,7 @@ part-at before (first ∷ parts) zero part at earlier all =
     let stays = place-stays before (grown more parts) part (λ j q h. grown-keeps before (first ∷ parts) j q h) inside in
     ap (λ (n : ℕ). slice_get (grown more parts) n) (let k : length before + zero ≡ length before = omega arith in k)
     ∙ grown-keeps more parts (length before) (place_of before first) there
-    ∙ ap (λ (p : Part). Some (place_of before p)) same
+    ∙ ap (λ (p : PathPart). Some (place_of before p)) same
     ∙ ap Some (sym stays)
 part-at before (first ∷ parts) (suc i) part at earlier all =
     let more : List Place = before ++ place_of before first ∷ [] in
@@ -74,8 +74,8 @@ part-at before (first ∷ parts) (suc i) part at earlier all =
     ∙ part-at more parts i part at (omega (earlier, longer, arith)) (λ j other h. let k = all (suc j) other h in omega (k, longer, arith))
 
 -- a path that is not one of the first is the place of a part
-pub part-of : (before : List Place) (parts : List Part) (n : ℕ) (q : Place) → slice_get (grown before parts) n ≡ Some q → length before ≤ n
-    → (i : ℕ) × (part : Part) × (n ≡ length before + i) × (slice_get parts i ≡ Some part)
+pub part-of : (before : List Place) (parts : List PathPart) (n : ℕ) (q : Place) → slice_get (grown before parts) n ≡ Some q → length before ≤ n
+    → (i : ℕ) × (part : PathPart) × (n ≡ length before + i) × (slice_get parts i ≡ Some part)
 part-of before [] n q h past = absurd (let k = slice_get_within before n q h in omega (k, past, arith))
 part-of before (first ∷ parts) n q h past =
     let more : List Place = before ++ place_of before first ∷ [] in
@@ -126,7 +126,7 @@ root-get locals n h =
     ∙ ap (option_map whole_local) (slice_get-get_or numbers n 0 (omega (h, long, arith)))
     ∙ ap (λ (k : ℕ). Some (whole_local k)) (get_or-range_with_len 0 locals n 0 h ∙ (let k : 0 + n ≡ n = omega arith in k))
 
-module _ (locals : ℕ) (parts : List Part) (trie : IsTrie locals parts) where
+module _ (locals : ℕ) (parts : List PathPart) (trie : IsTrie locals parts) where
   abbrev pub all : List Place
   all = places locals parts
 
@@ -137,7 +137,7 @@ module _ (locals : ℕ) (parts : List Part) (trie : IsTrie locals parts) where
   root-at n h = grown-keeps (roots locals) parts n (whole_local n) (root-get locals n h)
 
   -- the place of a part, by its number
-  pub part-here : (i : ℕ) (part : Part) → slice_get parts i ≡ Some part → slice_get all (locals + i) ≡ Some (place_of all part)
+  pub part-here : (i : ℕ) (part : PathPart) → slice_get parts i ≡ Some part → slice_get all (locals + i) ≡ Some (place_of all part)
   part-here i part at =
       ap (λ (n : ℕ). slice_get all (n + i)) (sym (length-roots locals))
       ∙ part-at (roots locals) parts i part at (let k = trie.earlier i part at in let l = length-roots locals in omega (k, l, arith))
@@ -146,10 +146,10 @@ module _ (locals : ℕ) (parts : List Part) (trie : IsTrie locals parts) where
   -- what a path is
   pub cases :
       (n : ℕ) (q : Place) → slice_get all n ≡ Some q
-      → ((n < locals) × (q ≡ whole_local n)) ⊎ ((i : ℕ) × (part : Part) × (n ≡ locals + i) × (slice_get parts i ≡ Some part) × (q ≡ place_of all part))
+      → ((n < locals) × (q ≡ whole_local n)) ⊎ ((i : ℕ) × (part : PathPart) × (n ≡ locals + i) × (slice_get parts i ≡ Some part) × (q ≡ place_of all part))
   cases n q h = by (cases_lt n locals)
     where
-      by : (n < locals) ⊎ (locals ≤ n) → ((n < locals) × (q ≡ whole_local n)) ⊎ ((i : ℕ) × (part : Part) × (n ≡ locals + i) × (slice_get parts i ≡ Some part) × (q ≡ place_of all part))
+      by : (n < locals) ⊎ (locals ≤ n) → ((n < locals) × (q ≡ whole_local n)) ⊎ ((i : ℕ) × (part : PathPart) × (n ≡ locals + i) × (slice_get parts i ≡ Some part) × (q ≡ place_of all part))
       by (inl early) = inl (early, same_Some q (whole_local n) (sym h ∙ root-at n early))
       by (inr late) =
           let l = length-roots locals in
@@ -158,7 +158,7 @@ module _ (locals : ℕ) (parts : List Part) (trie : IsTrie locals parts) where
           inr (it.0, it.1, at, it.3, same_Some q (place_of all it.1) (sym h ∙ ap (slice_get all) at ∙ part-here it.0 it.1 it.3))
 
   -- the path above a part
-  pub above-part : (i : ℕ) (part : Part) → slice_get parts i ≡ Some part → slice_get all part.of ≡ Some (slice_index_or all part.of (whole_local 0))
+  pub above-part : (i : ℕ) (part : PathPart) → slice_get parts i ≡ Some part → slice_get all part.of ≡ Some (slice_index_or all part.of (whole_local 0))
   above-part i part at =
       slice_get-get_or all part.of (whole_local 0)
       (let k = trie.earlier i part at in let l = slice_get_within parts i part at in let m = length-all in omega (k, l, m, arith))
@@ -169,8 +169,8 @@ module _ (locals : ℕ) (parts : List Part) (trie : IsTrie locals parts) where
     where
       by :
           ((i j : ℕ) (q : Place) → i < bound → slice_get all i ≡ Some q → slice_get all j ≡ Some q → i ≡ j)
-          → ((i < locals) × (q ≡ whole_local i)) ⊎ ((k : ℕ) × (part : Part) × (i ≡ locals + k) × (slice_get parts k ≡ Some part) × (q ≡ place_of all part))
-          → ((j < locals) × (q ≡ whole_local j)) ⊎ ((k : ℕ) × (part : Part) × (j ≡ locals + k) × (slice_get parts k ≡ Some part) × (q ≡ place_of all part))
+          → ((i < locals) × (q ≡ whole_local i)) ⊎ ((k : ℕ) × (part : PathPart) × (i ≡ locals + k) × (slice_get parts k ≡ Some part) × (q ≡ place_of all part))
+          → ((j < locals) × (q ≡ whole_local j)) ⊎ ((k : ℕ) × (part : PathPart) × (j ≡ locals + k) × (slice_get parts k ≡ Some part) × (q ≡ place_of all part))
           → i ≡ j
       by again (inl a) (inl b) = ap (λ (p : Place). p.local) (sym a.1 ∙ b.1)
       by again (inl a) (inr b) = absurd (not_pushed _ _ (ap (λ (p : Place). p.steps) (sym a.1 ∙ b.4)))
@@ -197,7 +197,7 @@ module _ (locals : ℕ) (parts : List Part) (trie : IsTrie locals parts) where
   step-known of p step at has = by (cases has.0 (below p (named_step step ∷ [])) (slice_get-Contains all (below p (named_step step ∷ [])) has))
     where
       by :
-          ((has.0 < locals) × (below p (named_step step ∷ []) ≡ whole_local has.0)) ⊎ ((k : ℕ) × (part : Part) × (has.0 ≡ locals + k) × (slice_get parts k ≡ Some part) × (below p (named_step step ∷ []) ≡ place_of all part))
+          ((has.0 < locals) × (below p (named_step step ∷ []) ≡ whole_local has.0)) ⊎ ((k : ℕ) × (part : PathPart) × (has.0 ≡ locals + k) × (slice_get parts k ≡ Some part) × (below p (named_step step ∷ []) ≡ place_of all part))
           → Contains parts (record { of = of; step = step })
       by (inl a) = absurd (not_pushed _ _ (ap (λ (p : Place). p.steps) (sym a.1)))
       by (inr a) =
@@ -229,7 +229,7 @@ module _ (locals : ℕ) (parts : List Part) (trie : IsTrie locals parts) where
       by :
           ((n : ℕ) (q : Place) (depth : ℕ) → n < bound → slice_get all n ≡ Some q → depth ≤ length q.steps → Contains all (upto depth q))
           → (depth < length q.steps) ⊎ (length q.steps ≤ depth)
-          → ((n < locals) × (q ≡ whole_local n)) ⊎ ((k : ℕ) × (part : Part) × (n ≡ locals + k) × (slice_get parts k ≡ Some part) × (q ≡ place_of all part))
+          → ((n < locals) × (q ≡ whole_local n)) ⊎ ((k : ℕ) × (part : PathPart) × (n ≡ locals + k) × (slice_get parts k ≡ Some part) × (q ≡ place_of all part))
           → Contains all (upto depth q)
       by again (inr past) is = whole past
       by again (inl early) (inl a) = absurd (let k = ap (λ (p : Place). length p.steps) a.1 in omega (k, early, arith))
@@ -248,7 +248,7 @@ module _ (locals : ℕ) (parts : List Part) (trie : IsTrie locals parts) where
   closed q depth has deep = closed-at (suc has.0) has.0 q depth (omega arith) (slice_get-Contains all q has) deep
 
   -- a path that is no local is a step below the path of its part
-  pub parent-is : (path : ℕ) (part : Part) → locals ≤ path → slice_get parts (path - locals) ≡ Some part → IsStepBelow all part.of path
+  pub parent-is : (path : ℕ) (part : PathPart) → locals ≤ path → slice_get parts (path - locals) ≡ Some part → IsStepBelow all part.of path
   parent-is path part late at =
       let number : locals + (path - locals) ≡ path = omega (late, arith) in
       record {
@@ -272,7 +272,7 @@ module _ (locals : ℕ) (parts : List Part) (trie : IsTrie locals parts) where
       absent (step-known of (upto depth place) step at (subst (Contains all) (same ∙ upto-more place depth (named_step step) next) one))
 
   -- with one more part, or one that was there
-  module _ (new : List Part) (part : Part) (adds : Adds parts new part) (inside : part.of < length all) (room : locals + length parts + 1 < 2 ^ 32) where
+  module _ (new : List PathPart) (part : PathPart) (adds : Adds parts new part) (inside : part.of < length all) (room : locals + length parts + 1 < 2 ^ 32) where
     pub trie-adds : IsTrie locals new
     trie-adds = by adds
       where
@@ -283,7 +283,7 @@ module _ (locals : ℕ) (parts : List Part) (trie : IsTrie locals parts) where
             (record {
               earlier = λ i other at. elim (slice_get-push_cases parts part i other at) [
                 | inl old ↦ trie.earlier i other old
-                | inr last ↦ (let of = ap (λ (p : Part). p.of) last.1 in let at_last = last.0 in let long = length-all in omega (of, at_last, long, inside, arith))
+                | inr last ↦ (let of = ap (λ (p : PathPart). p.of) last.1 in let at_last = last.0 in let long = length-all in omega (of, at_last, long, inside, arith))
               ];
               once = once-push parts part trie.once more.1;
               fits = (let long = length-append parts (part ∷ []) in omega (long, room, arith));
@@ -293,9 +293,9 @@ module _ (locals : ℕ) (parts : List Part) (trie : IsTrie locals parts) where
     keeps-adds i q at = by adds
       where
         by : Adds parts new part → slice_get (places locals new) i ≡ Some q
-        by (inl same) = ap (λ (z : List Part). slice_get (places locals z) i) same.0 ∙ at
+        by (inl same) = ap (λ (z : List PathPart). slice_get (places locals z) i) same.0 ∙ at
         by (inr more) =
-            ap (λ (z : List Part). slice_get (places locals z) i) more.0
+            ap (λ (z : List PathPart). slice_get (places locals z) i) more.0
             ∙ ap (λ (z : List Place). slice_get z i) (grown-push (roots locals) parts part)
             ∙ slice_get-append_left all (place_of all part ∷ []) i q at
 

@@ -14,7 +14,7 @@ use Rattle.store_model.specs.Places.Place.{Place, whole_local}
 use Rattle.cfg_graph.specs.declared.graph.Body.{Body}
 use Rattle.cfg_graph.specs.declared.place.Place.{Place as GraphPlace}
 use Rattle.cfg_graph.specs.Places.{named}
-use Rattle.cfg_graph.specs.Uses.{Use}
+use Rattle.cfg_graph.specs.Uses.{PlaceUse}
 use Rattle.cfg_graph.specs.Moves.Gone.{are_first, counts, is_at_or_above, leaves_gone}
 use Rattle.move_paths.specs.Forest.{HasLocals, Names, is_named, is_above_change, names_any}
 
@@ -45,7 +45,7 @@ module _ (items : ItemTable) (body : Body) where
   abbrev inside : Place → Bool
   inside place = nat_lt place.local (length body.locals)
 
-  named-append : (uses more : List (Use × GraphPlace)) (q : Place) → is_named items body (uses ++ more) q ≡ true ↔ ((is_named items body uses q ≡ true) ⊎ (is_named items body more q ≡ true))
+  named-append : (uses more : List (PlaceUse × GraphPlace)) (q : Place) → is_named items body (uses ++ more) q ≡ true ↔ ((is_named items body uses q ≡ true) ⊎ (is_named items body more q ≡ true))
   named-append uses more q = (forth, back)
     where
       forth : is_named items body (uses ++ more) q ≡ true → (is_named items body uses q ≡ true) ⊎ (is_named items body more q ≡ true)
@@ -71,7 +71,7 @@ module _ (items : ItemTable) (body : Body) where
   pub names-none : (old : List Place) → Names items body old old []
   names-none old = record { kept = λ n q h. h; paths = λ q. (λ has. inl has, λ e. elim e [ inl has ↦ has | inr h ↦ absurd (none-named q h) ]) }
 
-  pub names-more : (first old new : List Place) (uses more : List (Use × GraphPlace)) → Names items body first old uses → Names items body old new more → Names items body first new (uses ++ more)
+  pub names-more : (first old new : List Place) (uses more : List (PlaceUse × GraphPlace)) → Names items body first old uses → Names items body old new more → Names items body first new (uses ++ more)
   names-more first old new uses more one two = record {
     kept = λ n q h. two.kept n q (one.kept n q h);
     paths = λ q. (forth q, back q);
@@ -90,11 +90,11 @@ module _ (items : ItemTable) (body : Body) where
         | inr b ↦ (two.paths q).1 (inr b)
       ]
 
-  pub locals-kept : (old new : List Place) (uses : List (Use × GraphPlace)) → Names items body old new uses → HasLocals body old → HasLocals body new
+  pub locals-kept : (old new : List Place) (uses : List (PlaceUse × GraphPlace)) → Names items body old new uses → HasLocals body old → HasLocals body new
   locals-kept old new uses names had n within = names.kept n (whole_local n) (had n within)
 
   -- a use that changes a place that is watched
-  pub names-one : (old new : List Place) (made : Use × GraphPlace)
+  pub names-one : (old new : List Place) (made : PlaceUse × GraphPlace)
       → made.1.local < length body.locals → is_some (leaves_gone made.0) ≡ true → counts items body (named made.1) ≡ true
       → ((n : ℕ) (q : Place) → slice_get old n ≡ Some q → slice_get new n ≡ Some q)
       → ((q : Place) → Contains new q ↔ (Contains old q ⊎ (is_at_or_above q (named made.1) ≡ true)))
@@ -117,11 +117,11 @@ module _ (items : ItemTable) (body : Body) where
           ]
 
   -- a use that does not
-  pub names-nothing : (old : List Place) (made : Use × GraphPlace)
+  pub names-nothing : (old : List Place) (made : PlaceUse × GraphPlace)
       → ((q : Place) → is_named items body (made ∷ []) q ≡ true → ⊥) → Names items body old old (made ∷ [])
   names-nothing old made none = record { kept = λ n q h. h; paths = λ q. (λ has. inl has, λ e. elim e [ inl has ↦ has | inr h ↦ absurd (none q h) ]) }
 
-  pub names-if : (old new : List Place) (made : Use × GraphPlace) → names_any items body made ≡ true
+  pub names-if : (old new : List Place) (made : PlaceUse × GraphPlace) → names_any items body made ≡ true
       → ((n : ℕ) (q : Place) → slice_get old n ≡ Some q → slice_get new n ≡ Some q)
       → ((q : Place) → Contains new q ↔ (Contains old q ⊎ (is_at_or_above q (named made.1) ≡ true)))
       → Names items body old new (made ∷ [])
@@ -133,7 +133,7 @@ module _ (items : ItemTable) (body : Body) where
       (second_so (is_some (leaves_gone made.0)) (counts items body (named made.1)) rest)
       kept paths
 
-  pub names-else : (old : List Place) (made : Use × GraphPlace) → names_any items body made ≡ false → Names items body old old (made ∷ [])
+  pub names-else : (old : List Place) (made : PlaceUse × GraphPlace) → names_any items body made ≡ false → Names items body old old (made ∷ [])
   names-else old made none = names-nothing old made (λ q h.
       let any = second_so (inside q) (is_above_change items body q made || false) h in
       elim (either (is_above_change items body q made) false any) [

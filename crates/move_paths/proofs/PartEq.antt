@@ -12,9 +12,9 @@ use Rattle.std.specs.Cmp.{first_so, second_so}
 use Rattle.indexmap.specs.IndexSet.{insert_key}
 use Rattle.cfg_graph.specs.declared.place.Step.{Step}
 use Rattle.cfg_graph.specs.contracts.place.StepPartialEq.TheImpl as step
-use Rattle.move_paths.specs.declared.parts.Part.{Part}
-use Rattle.move_paths.specs.contracts.parts.PartPartialEq.TheImpl as part
-use Rattle.move_paths.specs.contracts.parts.PartEq.TheImpl.Laws as parts
+use Rattle.move_paths.specs.declared.parts.PathPart.{PathPart}
+use Rattle.move_paths.specs.contracts.parts.PathPartPartialEq.TheImpl as part
+use Rattle.move_paths.specs.contracts.parts.PathPartEq.TheImpl.Laws as parts
 
 same_step : (a b : Step) → step.ghosts.eq a b ≡ true → a ≡ b
 same_step (Step.Part m) (Step.Part n) h = ap Step.Part ((Decides-eqb m n).0 h)
@@ -26,14 +26,14 @@ same_step Step.Inside _ h = absurd (false≢true h)
 same_step (Step.Index m) (Step.Index n) h = ap Step.Index ((Decides-eqb m n).0 h)
 same_step (Step.Index m) _ h = absurd (false≢true h)
 
-same : (a b : Part) → part.ghosts.eq a b ≡ true → a ≡ b
+same : (a b : PathPart) → part.ghosts.eq a b ≡ true → a ≡ b
 same a b h =
     let of = (Decides-eqb a.of b.of).0 (first_so (eqb a.of b.of) (step.ghosts.eq a.step b.step) h) in
     let by = same_step a.step b.step (second_so (eqb a.of b.of) (step.ghosts.eq a.step b.step) h) in
     λ i. record { of = of i; step = by i }
 
 -- a part that is not in a list is equal to none of it
-no_other : (parts : List Part) (p : Part) → ¬ Contains parts p → All (λ x. part.ghosts.eq p x ≡ false) parts
+no_other : (parts : List PathPart) (p : PathPart) → ¬ Contains parts p → All (λ x. part.ghosts.eq p x ≡ false) parts
 no_other list p absent k d below = by (part.ghosts.eq p (get_or list k d)) refl
   where
     by : (b : Bool) → part.ghosts.eq p (get_or list k d) ≡ b → b ≡ false
@@ -48,7 +48,7 @@ none_below a b h = by (nat_lt a b) refl h
     by false is h = ltb-false a b is
 
 -- the first place at which a part stands is a place of it
-pub found : (list : List Part) (p : Part) (r : Option ℕ) → r ≡ position (part.ghosts.eq p) list → MatchOption r (¬ Contains list p) (λ n. slice_get list n ≡ Some p)
+pub found : (list : List PathPart) (p : PathPart) (r : Option ℕ) → r ≡ position (part.ghosts.eq p) list → MatchOption r (¬ Contains list p) (λ n. slice_get list n ≡ Some p)
 found list p None is = λ has.
     let first = position_or_len (part.ghosts.eq p) list in
     let passed : length list ≤ first = none_below first (length list) (sym is) in
@@ -59,5 +59,5 @@ found list p (Some n) is =
     slice_get-get_or list n p at.0 ∙ ap Some (sym (same p (get_or list n p) at.1))
 
 -- a part that is not in a list goes last
-pub insert_key-new : (list : List Part) (p : Part) → ¬ Contains list p → insert_key part.ghosts.eq list p ≡ list ++ p ∷ []
+pub insert_key-new : (list : List PathPart) (p : PathPart) → ¬ Contains list p → insert_key part.ghosts.eq list p ≡ list ++ p ∷ []
 insert_key-new list p absent = ap (λ b. if b then list else list ++ p ∷ []) (list_any_none (part.ghosts.eq p) list (no_other list p absent))

@@ -9,7 +9,7 @@ use Rattle.store_model.specs.Places.Place.{Place, Step, whole_local}
 use Rattle.cfg_graph.specs.declared.place.Place.{Place as GraphPlace}
 use Rattle.cfg_graph.specs.declared.graph.Body.{Body}
 use Rattle.cfg_graph.specs.Places.{named}
-use Rattle.cfg_graph.specs.Uses.{Use}
+use Rattle.cfg_graph.specs.Uses.{PlaceUse}
 use Rattle.cfg_graph.specs.Moves.Gone.{below, counts, is_at_or_above, leaves_gone}
 use Rattle.move_paths.specs.Uses.{block_uses}
 use Rattle.move_paths.specs.Trie.{AreOnce}
@@ -83,7 +83,7 @@ is_local (step ∷ steps) = false
 
 module _ (items : ItemTable) (body : Body) where
   -- a use moves, drops, frees or stores into a place at or below this one, neither behind a reference nor by an index
-  abbrev pub is_above_change : Place → Use × GraphPlace → Bool
+  abbrev pub is_above_change : Place → PlaceUse × GraphPlace → Bool
   is_above_change place made =
       is_some (leaves_gone made.0) && counts items body (named made.1) && is_at_or_above place (named made.1)
 
@@ -105,17 +105,17 @@ abbrev pub HasLocals : Body → List Place → Type 0
 HasLocals body paths = (n : ℕ) → n < length body.locals → slice_get paths n ≡ Some (whole_local n)
 
 -- a place that one of these uses makes a path
-abbrev pub is_named : ItemTable → Body → List (Use × GraphPlace) → Place → Bool
+abbrev pub is_named : ItemTable → Body → List (PlaceUse × GraphPlace) → Place → Bool
 is_named items body uses place =
     nat_lt place.local (length body.locals) && list_any (is_above_change items body place) uses
 
 -- paths, and then those that these uses make paths
 pub record Names
-    (items : ItemTable) (body : Body) (old new : List Place) (uses : List (Use × GraphPlace)) : Type 0 where
+    (items : ItemTable) (body : Body) (old new : List Place) (uses : List (PlaceUse × GraphPlace)) : Type 0 where
   pub kept : (n : ℕ) (place : Place) → slice_get old n ≡ Some place → slice_get new n ≡ Some place
   pub paths : (place : Place) → Contains new place ↔ (Contains old place ⊎ (is_named items body uses place ≡ true))
 
 -- a use makes paths: it changes a place of a local of the body that counts
-abbrev pub names_any : ItemTable → Body → Use × GraphPlace → Bool
+abbrev pub names_any : ItemTable → Body → PlaceUse × GraphPlace → Bool
 names_any items body made =
     nat_lt made.1.local (length body.locals) && (is_some (leaves_gone made.0) && counts items body (named made.1))

@@ -5,7 +5,7 @@ use Rattle.std.specs.List.{range_with_len}
 use Rattle.store_model.specs.Places.Place.{Place, whole_local}
 use Rattle.cfg_graph.specs.Places.{named_step}
 use Rattle.cfg_graph.specs.Moves.Gone.{below}
-use Rattle.move_paths.specs.declared.parts.Part.{Part}
+use Rattle.move_paths.specs.declared.parts.PathPart.{PathPart}
 use Rattle.move_paths.specs.declared.trie.Near.{Near}
 
 -- equal things have one number
@@ -13,27 +13,27 @@ abbrev pub AreOnce : {X : Type 0} → List X → Type 0
 AreOnce {X} xs = (i j : ℕ) (x : X) → slice_get xs i ≡ Some x → slice_get xs j ≡ Some x → i ≡ j
 
 -- a part is there now, and was or is the last one
-abbrev pub Adds : (old new : List Part) → Part → Type 0
+abbrev pub Adds : (old new : List PathPart) → PathPart → Type 0
 Adds old new part = ((new ≡ old) × Contains old part) ⊎ ((new ≡ old ++ part ∷ []) × ¬ Contains old part)
 
 -- the place of a part, by the places before it
-abbrev pub place_of : List Place → Part → Place
+abbrev pub place_of : List Place → PathPart → Place
 place_of before part = below (slice_index_or before part.of (whole_local 0)) (named_step part.step ∷ [])
 
 -- places, and then those of these parts
-abbrev pub grown : List Place → List Part → List Place
+abbrev pub grown : List Place → List PathPart → List Place
 grown before [] = before
 grown before (part ∷ parts) = grown (before ++ place_of before part ∷ []) parts
 
 abbrev pub roots : ℕ → List Place
 roots locals = map whole_local (range_with_len 0 locals)
 
-abbrev pub places : ℕ → List Part → List Place
+abbrev pub places : ℕ → List PathPart → List Place
 places locals parts = grown (roots locals) parts
 
 -- each part is below an earlier path, by no index
-pub record IsTrie (locals : ℕ) (parts : List Part) : Type 0 where
-  pub earlier : (i : ℕ) (part : Part) → slice_get parts i ≡ Some part → part.of < locals + i
+pub record IsTrie (locals : ℕ) (parts : List PathPart) : Type 0 where
+  pub earlier : (i : ℕ) (part : PathPart) → slice_get parts i ≡ Some part → part.of < locals + i
   pub once : AreOnce parts
   pub fits : locals + length parts < 2 ^ 32
 

@@ -11,5 +11,6 @@ mod uses;
 pub use forest::{Forest, Found, paths};
 pub use trie::Near;
 pub use uses::{
-    Use, Used, add_inner_uses, add_stmt_uses, add_term_uses, result_place, stmt_uses, term_uses,
+    PlaceUse, Used, add_inner_uses, add_stmt_uses, add_term_uses, result_place, stmt_uses,
+    term_uses,
 };

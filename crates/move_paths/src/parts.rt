@@ -11,7 +11,7 @@ use std::marker::Model;
 
 /// A path below another: the number of that one, and the step from it.
 #[derive(Clone, Copy, PartialEq, Eq, Hash)]
-pub struct Part {
+pub struct PathPart {
     pub of: u32,
     pub step: Step,
 }
@@ -19,15 +19,15 @@ pub struct Part {
 /// The parts in the order of their numbers, each of them once.
 #[derive(Drop)]
 pub struct Parts {
-    parts: IndexSet<Part>,
+    parts: IndexSet<PathPart>,
 }
 
 impl Model for Parts {
     ghost use Rattle.std.specs.Prelude.{List};
-    ghost use Rattle.move_paths.specs.declared.parts.Part.{Part};
+    ghost use Rattle.move_paths.specs.declared.parts.PathPart.{PathPart};
     ghost use Rattle.move_paths.specs.Trie.{AreOnce};
 
-    ghost Value = { List Part };
+    ghost Value = { List PathPart };
 
     ghost view = { λ parts. parts.parts.keys };
 
@@ -50,21 +50,21 @@ impl Parts {
     }
 
     /// The part with a number.
-    pub fn get(&self, n: usize) -> Option<&Part>
+    pub fn get(&self, n: usize) -> Option<&PathPart>
         ensures { option_copied result ≡ slice_get self.now n }
     {
         self.parts.get_index(n)
     }
 
     /// The number of a part, if it has one.
-    pub fn find(&self, part: &Part) -> Option<usize>
+    pub fn find(&self, part: &PathPart) -> Option<usize>
         ensures found { MatchOption result (¬ Contains self.now part.now) (λ n. slice_get self.now n ≡ Some part.now) }
         ensures once { AreOnce self.now }
     {
         self.parts.get_index_of(part)
     }
 
-    fn push(&mut self, part: Part) -> Result<(), NoMemory>
+    fn push(&mut self, part: PathPart) -> Result<(), NoMemory>
         requires { ¬ Contains self.old part }
         ensures pushed { OnOk result (self.new ≡ self.old ++ part ∷ []) }
         ensures refused { OnErr result (self.new ≡ self.old) }
@@ -74,7 +74,7 @@ impl Parts {
     }
 
     /// The number of a part, which is the next one where the part had none.
-    pub fn number(&mut self, part: Part) -> Result<usize, NoMemory>
+    pub fn number(&mut self, part: PathPart) -> Result<usize, NoMemory>
         ensures number { IfOk result (λ n. slice_get self.new n ≡ Some part) }
         ensures parts { OnOk result (Adds self.old self.new part) }
         ensures refused { OnErr result (self.new ≡ self.old) }

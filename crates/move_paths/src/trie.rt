@@ -6,7 +6,7 @@ ghost use Rattle.cfg_graph.specs.Moves.Gone.{is_at_or_above};
 ghost use Rattle.move_paths.specs.Trie.{AreOnce, Reaches, Grows, roots, place_of};
 ghost use Rattle.move_paths.specs.Forest.{IsRoot, IsStepBelow};
 
-use crate::parts::{Part, Parts};
+use crate::parts::{Parts, PathPart};
 use cfg_graph::{Place, Step};
 use mir_base::NoMemory;
 use std::alloc::Global;
@@ -77,7 +77,7 @@ impl Trie {
         let mut path = place.local;
         let mut depth = 0;
         for step in place.steps.as_slice() {
-            let part = Part {
+            let part = PathPart {
                 of: path,
                 step: *step,
             };
@@ -98,7 +98,7 @@ impl Trie {
         if self.locals as usize + self.parts.len() >= u32::MAX as usize {
             return Err(NoMemory);
         }
-        let n = self.parts.number(Part { of, step })?;
+        let n = self.parts.number(PathPart { of, step })?;
         Ok(self.locals + n as u32)
     }
 

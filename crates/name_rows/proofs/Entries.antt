@@ -8,14 +8,14 @@ use Rattle.type_env.specs.declared.variables.Variable.{Variable}
 use Rattle.type_rows.specs.Stand.{env_in}
 use Rattle.type_rows.specs.declared.surroundings.Surroundings.{Surroundings}
 use Rattle.type_rows.specs.declared.tables.Tables.{Tables}
-use Rattle.typing_rules.specs.Scope.{Entry, variable}
+use Rattle.typing_rules.specs.Scope.{NamedEntry, variable}
 
-name_is : (xs : List Entry) (name : Word) (e : Entry) → variable xs name ≡ Some e → e.name ≡ name
+name_is : (xs : List NamedEntry) (name : Word) (e : NamedEntry) → variable xs name ≡ Some e → e.name ≡ name
 name_is [] name e h = absurd (cc)
 name_is (x ∷ xs) name e h = by (name_is xs name e) (bytes_eq x.name name) refl h
   where
     by : (variable xs name ≡ Some e → e.name ≡ name) → (b : Bool) → bytes_eq x.name name ≡ b → (if b then Some x else variable xs name) ≡ Some e → e.name ≡ name
-    by older true is h = ap (λ (y : Entry). y.name) (let same : e ≡ x = cc in same) ∙ (bytes_eq-Decides x.name name).0 is
+    by older true is h = ap (λ (y : NamedEntry). y.name) (let same : e ≡ x = cc in same) ∙ (bytes_eq-Decides x.name name).0 is
     by older false is h = older h
 
 variables_are : (t : Tables) (s : Surroundings) → (env_in t s).variables ≡ s.variables

@@ -7,13 +7,13 @@ use Rattle.type_env.specs.declared.loops.LoopAround.{LoopAround}
 use Rattle.type_rows.specs.Stand.{env_in}
 use Rattle.type_rows.specs.declared.surroundings.Surroundings.{Surroundings}
 use Rattle.type_rows.specs.declared.tables.Tables.{Tables}
-use Rattle.typing_rules.specs.Scope.{Around, Env, within_loop}
+use Rattle.typing_rules.specs.Scope.{LabelledLoop, Env, within_loop}
 use Rattle.name_rows.specs.Scopes.{without_loop}
 
 turned : (loops : List LoopAround) (a : LoopAround) → reverse (map around_of (loops ++ a ∷ [])) ≡ around_of a ∷ reverse (map around_of loops)
 turned loops a = ap reverse (map_push around_of loops a) ∙ reverse-append (map around_of loops) (around_of a ∷ [])
 
-with_loops : List Around → Env → Env
+with_loops : List LabelledLoop → Env → Env
 with_loops loops e = record e { loops = loops }
 
 pub entered : (t : Tables) (s n : Surroundings) (a : LoopAround) → n.loops ≡ s.loops ++ a ∷ [] → n.self_adt ≡ s.self_adt → n.variables ≡ s.variables → n.answer ≡ s.answer →

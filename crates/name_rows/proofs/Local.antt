@@ -10,10 +10,10 @@ use Rattle.mir_ty.specs.declared.ty.Ty.{Ty}
 use Rattle.mir_ty.specs.declared.ty.TyId.{TyId}
 use Rattle.src_ast.specs.Syntax.{Syn, syn, Shape, Ident, LabelOf, Literal, TruthLiteral, Path, Minus, Bang, Star, Ampersand, Calculate, Compare, Both, Either, Store, CallOf, MethodOf, FieldOf, PartOf, ElementOf, StructOf, FieldInit, Parens, TupleOf, ArrayOf, Braces, IfElse, IfLetElse, MatchOn, ArmOf, LoopOf, WhileOf, WhileLetOf, BreakOf, ContinueOf, ReturnOf, MoveOf, PanicOf, LetOf, Empty, Semi, AnyPattern, BindPattern, LiteralPattern, TruthPattern, PathPattern, PartsPattern, FieldsPattern, FieldPattern, ParensPattern, TuplePattern, ArrayPattern, Alternatives, NamedType, GenericType, DynType, SelfType, ParensType, TupleType, ArrayType, NeverType, RefType, StructItem, EnumItem, FieldDecl, VariantDecl, TraitItem, ImplItem, FnItem, ParamOf, SelfParam, Odd, Syns, no_syn, a_syn}
 use Rattle.type_env.specs.Walked.{HasOnlyTypes}
-use Rattle.typing_rules.specs.Check.{Check, State, Broken, and_then, ◌>>=◌, pure, breaks, obeys, known, interned, interned_at}
+use Rattle.typing_rules.specs.Check.{Check, TypingState, Broken, and_then, ◌>>=◌, pure, breaks, obeys, known, interned, interned_at}
 use Rattle.typing_rules.specs.Collected.{starting_with}
 use Rattle.typing_rules.specs.Places.{never, unit}
-use Rattle.typing_rules.specs.Written.{Around, all_written, is_box, is_usize, length_shown, named_by, number_of, reference_to, scalar_named, tuple_by, written, written_form, written_param, written_param_form}
+use Rattle.typing_rules.specs.Written.{WrittenScope, all_written, is_box, is_usize, length_shown, named_by, number_of, reference_to, scalar_named, tuple_by, written, written_form, written_param, written_param_form}
 use Rattle.well_typed.specs.Items.{is_equal}
 use Rattle.name_rows.specs.Local.{lifted, Fixed, IsLocal}
 
@@ -39,7 +39,7 @@ known_local : {A : Type 0} (rule : Rule) (at : Pos) (o : Option A) → IsLocal (
 known_local rule at None = breaks_local rule at
 known_local rule at (Some a) = pure_local a
 
-interned_by : (ty : Ty) (o : Option ℕ) (s : State) →
+interned_by : (ty : Ty) (o : Option ℕ) (s : TypingState) →
     (interned_at ty o s ≡ lifted s (interned_at ty o (starting_with s.items))) × Fixed s.items (interned_at ty o (starting_with s.items))
 interned_by ty (Some n) s = (refl, (refl, fixed_self s.items))
 interned_by ty None s = (refl, (refl, (refl, refl, refl, refl)))
@@ -48,17 +48,17 @@ interned_local : (ty : Ty) → IsLocal (interned ty)
 interned_local ty s = interned_by ty (position_of (is_equal ty) s.items.types) s
 
 module _ {A B : Type 0} where
-  later : (f : A → Check B) (s : State) (a : A) (t : State) → t ≡ starting_with t.items → HasOnlyTypes s.items t.items → IsLocal (f a) →
+  later : (f : A → Check B) (s : TypingState) (a : A) (t : TypingState) → t ≡ starting_with t.items → HasOnlyTypes s.items t.items → IsLocal (f a) →
       (f a (record s { items = t.items }) ≡ lifted s (f a t)) × Fixed s.items (f a t)
   later f s a t start same h =
       let one = h (record s { items = t.items }) in
       (one.0 ∙ ap (λ u. lifted s (f a u)) (sym start), fixed_later (f a t) (subst (λ u. Fixed t.items (f a u)) (sym start) one.1))
     where
-      fixed_later : (o : Result (B × State) Broken) → Fixed t.items o → Fixed s.items o
+      fixed_later : (o : Result (B × TypingState) Broken) → Fixed t.items o → Fixed s.items o
       fixed_later (Ok p) k = (k.0, fixed_through s.items t.items p.1.items same k.1)
       fixed_later (Err e) k = tt
 
-  bind_by : (p o : Result (A × State) Broken) (f : A → Check B) (s : State) → p ≡ lifted s o → Fixed s.items o → ((a : A) → IsLocal (f a)) →
+  bind_by : (p o : Result (A × TypingState) Broken) (f : A → Check B) (s : TypingState) → p ≡ lifted s o → Fixed s.items o → ((a : A) → IsLocal (f a)) →
       (and_then p f ≡ lifted s (and_then o f)) × Fixed s.items (and_then o f)
   bind_by p (Ok q) f s is same h =
       let next = later f s q.0 q.1 same.0 same.1 (h q.0) in
@@ -70,7 +70,7 @@ module _ {A B : Type 0} where
 
 -- ---- what a call answers that begins with the items alone
 
-module _ {A : Type 0} (check : Check A) (is_local : IsLocal check) (s : State) where
+module _ {A : Type 0} (check : Check A) (is_local : IsLocal check) (s : TypingState) where
   pub gives_here : (a : A) (after : ItemTable) → check (starting_with s.items) ≡ Ok (a, starting_with after) →
       check s ≡ Ok (a, record s { items = after })
   gives_here a after h = (is_local s).0 ∙ ap (lifted s) h
@@ -80,7 +80,7 @@ module _ {A : Type 0} (check : Check A) (is_local : IsLocal check) (s : State) w
   refuses_here RuleError.Memory h = tt
 
   pub fixed_here : (a : A) (after : ItemTable) → check (starting_with s.items) ≡ Ok (a, starting_with after) → HasOnlyTypes s.items after
-  fixed_here a after h = (subst (λ (o : Result (A × State) Broken). Fixed s.items o) h (is_local s).1).1
+  fixed_here a after h = (subst (λ (o : Result (A × TypingState) Broken). Fixed s.items o) h (is_local s).1).1
 
 -- ---- types
 
@@ -96,10 +96,10 @@ boxed_local : (ty : TyId) → IsLocal (interned (Ty.Boxed ty))
 boxed_local ty = interned_local (Ty.Boxed ty)
 
 mutual
-  pub written_local : (w : Around) (x : Syn) → IsLocal (written w x)
+  pub written_local : (w : WrittenScope) (x : Syn) → IsLocal (written w x)
   written_local w (syn at form) = form_local w at form
 
-  form_local : (w : Around) (at : Pos) (form : Shape) → IsLocal (written_form w at form)
+  form_local : (w : WrittenScope) (at : Pos) (form : Shape) → IsLocal (written_form w at form)
   form_local w at (Ident a) = breaks_local Rule.T20 at
   form_local w at (LabelOf a) = breaks_local Rule.T20 at
   form_local w at (Literal a b) = breaks_local Rule.T20 at
@@ -180,17 +180,17 @@ mutual
   form_local w at (SelfParam a) = breaks_local Rule.T20 at
   form_local w at Odd = breaks_local Rule.T20 at
 
-  all_local : (w : Around) (xs : Syns) → IsLocal (all_written w xs)
+  all_local : (w : WrittenScope) (xs : Syns) → IsLocal (all_written w xs)
   all_local w no_syn = pure_local []
   all_local w (a_syn first rest) =
       bind_local (written w first) (λ ty. all_written w rest >>= (λ tys. pure (ty ∷ tys))) (written_local w first)
       (λ ty. bind_local (all_written w rest) (λ tys. pure (ty ∷ tys)) (all_local w rest) (λ tys. pure_local (ty ∷ tys)))
 
 mutual
-  pub param_local : (w : Around) (x : Syn) → IsLocal (written_param w x)
+  pub param_local : (w : WrittenScope) (x : Syn) → IsLocal (written_param w x)
   param_local w (syn at form) = param_form_local w at form
 
-  param_form_local : (w : Around) (at : Pos) (form : Shape) → IsLocal (written_param_form w at form)
+  param_form_local : (w : WrittenScope) (at : Pos) (form : Shape) → IsLocal (written_param_form w at form)
   param_form_local w at (Ident a) = form_local w at (Ident a)
   param_form_local w at (LabelOf a) = form_local w at (LabelOf a)
   param_form_local w at (Literal a b) = form_local w at (Literal a b)

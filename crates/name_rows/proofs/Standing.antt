@@ -5,21 +5,21 @@ use Rattle.type_env.specs.Coerced.{HasImpls}
 use Rattle.type_env.specs.Members.{all_names}
 use Rattle.type_env.specs.Walked.{HasOnlyTypes}
 use Rattle.type_rows.specs.Stand.{env_in}
-use Rattle.type_rows.specs.Tables.{IsReady, adt_words, body_words, method_words, trait_words}
+use Rattle.type_rows.specs.Tables.{AreTablesOf, adt_words, body_words, method_words, trait_words}
 use Rattle.type_rows.specs.declared.surroundings.Surroundings.{Surroundings}
 use Rattle.type_rows.specs.declared.tables.Tables.{Tables}
 use Rattle.typing_rules.specs.Bodies.{all_rules}
-use Rattle.typing_rules.specs.Written.{Around}
+use Rattle.typing_rules.specs.Written.{WrittenScope}
 use Rattle.well_typed.specs.Nodes.{is_drop_body}
 
-abbrev pub names_in : Tables → Surroundings → Around
+abbrev pub names_in : Tables → Surroundings → WrittenScope
 names_in t s = record { has_limits = true; self_adt = s.self_adt; adts = t.adts; traits = t.traits }
 
 pub names_are : (t : Tables) (s : Surroundings) → names_in t s ≡ all_rules (env_in t s)
 unfolding env_in
 names_are t s = refl
 
-pub ready_later : (old new : ItemTable) (t : Tables) → HasOnlyTypes old new → IsReady old t → IsReady new t
+pub ready_later : (old new : ItemTable) (t : Tables) → HasOnlyTypes old new → AreTablesOf old t → AreTablesOf new t
 ready_later old new t same ready =
     record {
       adts = ready.adts ∙ ap (λ xs. adt_words (record old { adts = xs })) (sym same.0);

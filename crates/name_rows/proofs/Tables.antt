@@ -10,10 +10,10 @@ use Rattle.mir_ty.specs.declared.adt.Adt.{Adt}
 use Rattle.mir_ty.specs.declared.def.Sig.{Sig}
 use Rattle.mir_ty.specs.ItemTable.{ItemTable}
 use Rattle.src_ast.specs.ItemForms.{kind_seen}
-use Rattle.src_ast.specs.Syntax.{Word, Kind, Unit_}
+use Rattle.src_ast.specs.Syntax.{Word, FieldsKind, Unit_}
 use Rattle.src_ast.specs.declared.item.FieldKind.{FieldKind}
 use Rattle.type_rows.specs.Stand.{env_in}
-use Rattle.type_rows.specs.Tables.{IsReady, all_kinds_of}
+use Rattle.type_rows.specs.Tables.{AreTablesOf, all_kinds_of}
 use Rattle.type_rows.specs.declared.surroundings.Surroundings.{Surroundings}
 use Rattle.type_rows.specs.declared.tables.Tables.{Tables}
 use Rattle.typing_rules.specs.Scope.{adt_named, body_named, kind_at}
@@ -25,12 +25,12 @@ prefix_mapped p f (x ∷ xs) = ap (λ n. if p (f x) then 1 + n else 0) (prefix_m
 position_mapped : {X Y : Type 0} (p : Y → Bool) (f : X → Y) (xs : List X) → position_of p (map f xs) ≡ position_of (λ x. p (f x)) xs
 position_mapped p f xs = λ i. cond (nat_lt (prefix_mapped (λ y. not (p y)) f xs i) (length-map xs f i)) (Some (prefix_mapped (λ y. not (p y)) f xs i)) None
 
-pub adt_found : (items : ItemTable) (t : Tables) (name : Word) → IsReady items t → position_of (bytes_eq name) t.adt_names ≡ adt_named items name
+pub adt_found : (items : ItemTable) (t : Tables) (name : Word) → AreTablesOf items t → position_of (bytes_eq name) t.adt_names ≡ adt_named items name
 adt_found items t name ready =
     ap (position_of (bytes_eq name)) ready.adts ∙ position_mapped (bytes_eq name) (λ (adt : Adt). adt.name) items.adts
     ∙ (λ i. position_of (λ (adt : Adt). nat_list_eq_equiv.symm name adt.name i) items.adts)
 
-pub body_found : (items : ItemTable) (t : Tables) (name : Word) → IsReady items t → position_of (bytes_eq name) t.body_names ≡ body_named items name
+pub body_found : (items : ItemTable) (t : Tables) (name : Word) → AreTablesOf items t → position_of (bytes_eq name) t.body_names ≡ body_named items name
 body_found items t name ready =
     ap (position_of (bytes_eq name)) ready.bodies ∙ position_mapped (bytes_eq name) (λ (sig : Sig). sig.name) items.bodies
     ∙ (λ i. position_of (λ (sig : Sig). nat_list_eq_equiv.symm name sig.name i) items.bodies)
@@ -43,13 +43,13 @@ kinds_are : (t : Tables) (s : Surroundings) → (env_in t s).kinds ≡ all_kinds
 unfolding env_in
 kinds_are t s = refl
 
-at_some : (kinds : List (List Kind)) (adt k : ℕ) (ks : List Kind) (kind : Kind) → slice_get kinds adt ≡ Some ks → slice_get ks k ≡ Some kind → kind_at kinds adt k ≡ kind
+at_some : (kinds : List (List FieldsKind)) (adt k : ℕ) (ks : List FieldsKind) (kind : FieldsKind) → slice_get kinds adt ≡ Some ks → slice_get ks k ≡ Some kind → kind_at kinds adt k ≡ kind
 at_some kinds adt k ks kind e f = search (rules, e, f)
 
-at_none : (kinds : List (List Kind)) (adt k : ℕ) (ks : List Kind) → slice_get kinds adt ≡ Some ks → slice_get ks k ≡ None → kind_at kinds adt k ≡ Unit_
+at_none : (kinds : List (List FieldsKind)) (adt k : ℕ) (ks : List FieldsKind) → slice_get kinds adt ≡ Some ks → slice_get ks k ≡ None → kind_at kinds adt k ≡ Unit_
 at_none kinds adt k ks e f = search (rules, e, f)
 
-at_nothing : (kinds : List (List Kind)) (adt k : ℕ) → slice_get kinds adt ≡ None → kind_at kinds adt k ≡ Unit_
+at_nothing : (kinds : List (List FieldsKind)) (adt k : ℕ) → slice_get kinds adt ≡ None → kind_at kinds adt k ≡ Unit_
 at_nothing kinds adt k e = search (rules, e)
 
 row_at : (t : Tables) (s : Surroundings) (adt : ℕ) → slice_get (env_in t s).kinds adt ≡ option_map (map kind_seen) (slice_get t.kinds adt)

@@ -8,7 +8,7 @@ ghost use Rattle.typing_rules.specs.Scope.{with_variables};
 
 use crate::scopes::{enter_around, leave_around};
 use mir_base::{NoMemory, RuleError};
-use type_env::{Meaning, Variable, Variables};
+use type_env::{Variable, VariableMeaning, Variables};
 use type_rows::Checker;
 
 /// A variable comes into scope, and hides those of its name.
@@ -67,13 +67,13 @@ fn again(checker: &Checker, variable: &Variable, within_guard: bool) -> Result<V
     }
 }
 
-fn guarded(meaning: Meaning, within_guard: bool) -> Meaning
+fn guarded(meaning: VariableMeaning, within_guard: bool) -> VariableMeaning
     ensures { meaning_of result ≡ meaning_in_guard within_guard (meaning_of meaning) }
 {
     match meaning {
-        Meaning::Local(key) => {
+        VariableMeaning::Local(key) => {
             if within_guard {
-                Meaning::InGuard(key)
+                VariableMeaning::InGuard(key)
             } else {
                 meaning
             }

@@ -13,4 +13,4 @@ pub use entered::{count, enter, enter_all, leave};
 pub use items::{adt_at_head, adt_named, body_named, kind_at, method_of, variant_of_enum};
 pub use loops::{enter_loop, leave_loop};
 pub use types::{answer_of, written, written_if, written_param};
-pub use variables::{Found, put_variable, variable};
+pub use variables::{FoundVariable, put_variable, variable};

@@ -1,12 +1,12 @@
 //! Variables around an expression that are entered and left, with the keys of those inside their own guard.
 ghost use Rattle.std.specs.Prelude.{◌≡◌, ◌∷◌, drop, false, OnOk};
 ghost use Rattle.type_env.specs.Scope.{entry_of, meaning_of};
-ghost use Rattle.type_env.specs.declared.variables.Meaning.{Meaning};
+ghost use Rattle.type_env.specs.declared.variables.VariableMeaning.{VariableMeaning};
 ghost use Rattle.name_rows.specs.Scopes.{OnlyVariables, begins_in_guard, is_in_guard};
 
 use mir_base::{Key, NoMemory};
 use std::alloc::Global;
-use type_env::{Meaning, Variable, Variables};
+use type_env::{Variable, VariableMeaning, Variables};
 use type_rows::Surroundings;
 
 /// A binding inside its own guard comes into scope.
@@ -17,7 +17,7 @@ fn enter_guarded(
     variable: Variable,
     key: Key,
 ) -> Result<(), NoMemory>
-    requires { variable.meaning ≡ Meaning.InGuard key }
+    requires { variable.meaning ≡ VariableMeaning.InGuard key }
     ensures entered { OnOk result (around.new.variables ≡ entry_of variable ∷ around.old.variables) }
     ensures others { OnlyVariables around.old around.new }
 {
@@ -53,7 +53,7 @@ pub fn enter_around(
     ensures others { OnlyVariables around.old around.new }
 {
     match variable.meaning {
-        Meaning::InGuard(key) => enter_guarded(around, alloc, variable, key),
+        VariableMeaning::InGuard(key) => enter_guarded(around, alloc, variable, key),
         _ => enter_plain(around, alloc, variable),
     }
 }
@@ -69,7 +69,7 @@ fn is_youngest_guarded(variables: &Variables) -> bool
     }
     match variables.at(count - 1) {
         Some(variable) => match variable.meaning {
-            Meaning::InGuard(_) => true,
+            VariableMeaning::InGuard(_) => true,
             _ => false,
         },
         None => false,

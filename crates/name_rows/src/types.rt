@@ -3,16 +3,16 @@ ghost use Rattle.std.specs.Prelude.{◌≡◌, ◌≤◌, length, true, OnOk};
 ghost use Rattle.mir_ty.specs.ItemTable.{no_items};
 ghost use Rattle.src_ast.specs.Seen.{maybe_of, syn_of};
 ghost use Rattle.type_rows.specs.Stand.{GivesValue, Same, env, state};
-ghost use Rattle.type_rows.specs.Tables.{IsReady};
+ghost use Rattle.type_rows.specs.Tables.{AreTablesOf};
 ghost use Rattle.typing_rules.specs.Bodies as bodies;
 ghost use Rattle.typing_rules.specs.Bodies.{all_rules};
 ghost use Rattle.typing_rules.specs.Typed as typed;
 ghost use Rattle.typing_rules.specs.Written as types;
 
-use item_heads::{NameTable, Scope};
+use item_heads::{NameTable, WrittenScope};
 use mir_base::{List, RuleError};
 use mir_ty::{Items, TyId};
-use src_tree::Node;
+use src_tree::SyntaxNode;
 use std::alloc::Global;
 use std::collections::HashSet;
 use std::mem;
@@ -20,7 +20,7 @@ use type_rows::{Checker, Tables};
 
 /// Tables of no names.
 fn no_tables(alloc: Global) -> Tables
-    ensures { IsReady no_items result }
+    ensures { AreTablesOf no_items result }
 {
     Tables {
         adts: NameTable::new(alloc),
@@ -39,7 +39,7 @@ fn no_tables(alloc: Global) -> Tables
 /// Behind an error there are no items, and tables of no names.
 fn clear(alloc: Global, items: &mut Items, tables: &mut Tables)
     ensures items { items.new ≡ no_items }
-    ensures tables { IsReady no_items tables.new }
+    ensures tables { AreTablesOf no_items tables.new }
 {
     drop(mem::replace(items, Items::new(alloc)));
     drop(mem::replace(tables, no_tables(alloc)));
@@ -53,14 +53,14 @@ fn has_scalars(items: &Items) -> bool
 }
 
 /// A type as it is written. Behind an error the checker knows no items any more.
-pub fn written(checker: &mut Checker, node: &Node) -> Result<TyId, RuleError>
+pub fn written(checker: &mut Checker, node: &SyntaxNode) -> Result<TyId, RuleError>
     ensures gives { GivesValue (λ id. id) (types.written (all_rules (env checker.old)) (syn_of node.now) (state checker.old)) result checker.new }
     ensures same { OnOk result (Same checker.old checker.new) }
 {
     if !has_scalars(&checker.walk.items) {
         return Err(RuleError::Memory);
     }
-    let scope = Scope {
+    let scope = WrittenScope {
         alloc: checker.alloc,
         has_limits: true,
         self_adt: checker.around.self_adt,
@@ -78,14 +78,14 @@ pub fn written(checker: &mut Checker, node: &Node) -> Result<TyId, RuleError>
 
 /// The type of a parameter as it is written, which may be a reference. Behind an error the checker knows no items any
 /// more.
-pub fn written_param(checker: &mut Checker, node: &Node) -> Result<TyId, RuleError>
+pub fn written_param(checker: &mut Checker, node: &SyntaxNode) -> Result<TyId, RuleError>
     ensures gives { GivesValue (λ id. id) (types.written_param (all_rules (env checker.old)) (syn_of node.now) (state checker.old)) result checker.new }
     ensures same { OnOk result (Same checker.old checker.new) }
 {
     if !has_scalars(&checker.walk.items) {
         return Err(RuleError::Memory);
     }
-    let scope = Scope {
+    let scope = WrittenScope {
         alloc: checker.alloc,
         has_limits: true,
         self_adt: checker.around.self_adt,
@@ -102,7 +102,7 @@ pub fn written_param(checker: &mut Checker, node: &Node) -> Result<TyId, RuleErr
 }
 
 /// The type that a `let` declares, if it does.
-pub fn written_if(checker: &mut Checker, ty: Option<&Node>) -> Result<Option<TyId>, RuleError>
+pub fn written_if(checker: &mut Checker, ty: Option<&SyntaxNode>) -> Result<Option<TyId>, RuleError>
     ensures gives { GivesValue (λ ty. ty) (typed.declared (env checker.old) (maybe_of ty.entry) (state checker.old)) result checker.new }
     ensures same { OnOk result (Same checker.old checker.new) }
 {
@@ -116,7 +116,7 @@ pub fn written_if(checker: &mut Checker, ty: Option<&Node>) -> Result<Option<TyI
 }
 
 /// The type of a body's result: the one that is written, or `()`.
-pub fn answer_of(checker: &mut Checker, ty: Option<&Node>) -> Result<TyId, RuleError>
+pub fn answer_of(checker: &mut Checker, ty: Option<&SyntaxNode>) -> Result<TyId, RuleError>
     ensures gives { GivesValue (λ ty. ty) (bodies.answer_of (env checker.old) (maybe_of ty.entry) (state checker.old)) result checker.new }
     ensures same { OnOk result (Same checker.old checker.new) }
 {

@@ -7,24 +7,24 @@ ghost use Rattle.type_rows.specs.Stand.{Gives, Keeps, env, stack, state};
 
 use mir_base::{Key, Name, Pos, RuleError};
 use mir_ty::TyId;
-use type_env::Meaning;
+use type_env::VariableMeaning;
 use type_rows::{Checker, Leaf};
 use typed_tree::Form;
 
 /// A variable that was found by its name.
 #[derive(Clone, Copy)]
-pub struct Found {
+pub struct FoundVariable {
     pub ty: TyId,
-    pub meaning: Meaning,
+    pub meaning: VariableMeaning,
 }
 
 /// The youngest variable of a name; `None` where there is none.
 #[tactic(auto, using(crate::proofs::Entries::found_some, crate::proofs::Entries::found_none))]
-pub fn variable(checker: &Checker, name: &str) -> Option<Found>
+pub fn variable(checker: &Checker, name: &str) -> Option<FoundVariable>
     ensures { option_map (found_as name.now) result ≡ scope.variable (env checker.now).variables name.now }
 {
     match checker.around.variables.find(name) {
-        Some(variable) => Some(Found {
+        Some(variable) => Some(FoundVariable {
             ty: variable.ty,
             meaning: variable.meaning,
         }),
@@ -72,14 +72,16 @@ pub fn put_variable(
     checker: &mut Checker,
     at: Pos,
     name: &str,
-    found: Found,
+    found: FoundVariable,
 ) -> Result<(), RuleError>
     ensures gives { Gives (variable_place at (found_as name.now found) (state checker.old)) result checker.new }
     ensures kept { Keeps (stack checker.old) checker.old result checker.new }
 {
     match found.meaning {
-        Meaning::Local(key) | Meaning::InGuard(key) => put_local(checker, at, found.ty, key),
-        Meaning::Capture { closure, part } => {
+        VariableMeaning::Local(key) | VariableMeaning::InGuard(key) => put_local(
+            checker, at, found.ty, key,
+        ),
+        VariableMeaning::Capture { closure, part } => {
             put_captured(checker, at, found.ty, closure, part, name)
         }
     }

@@ -1,12 +1,12 @@
 -- What is asked of an item, by its form.
 use Rattle.std.proofs.Common.{◌≡◌, Option, Result, refl, ap, sym, subst, ℕ, length, Some, ◌∙◌, List, []}
 use Rattle.mir_base.specs.declared.place_in_text.Pos.{Pos}
-use Rattle.src_tree.specs.declared.node.Node.{Node}
+use Rattle.src_tree.specs.declared.node.SyntaxNode.{SyntaxNode}
 use Rattle.src_ast.specs.Seen.{syn_of}
 use Rattle.src_ast.specs.Sorts.{item_part}
-use Rattle.src_ast.specs.Syntax.{Word, Named, Kind, Syns, Syn, syn, Shape, at_of, shape_of, Ident, LabelOf, Literal, TruthLiteral, Path, Minus, Bang, Star, Ampersand, Calculate, Compare, Both, Either, Store, CallOf, MethodOf, FieldOf, PartOf, ElementOf, StructOf, FieldInit, Parens, TupleOf, ArrayOf, Braces, IfElse, IfLetElse, MatchOn, ArmOf, LoopOf, WhileOf, WhileLetOf, BreakOf, ContinueOf, ReturnOf, MoveOf, PanicOf, LetOf, Empty, Semi, AnyPattern, BindPattern, LiteralPattern, TruthPattern, PathPattern, PartsPattern, FieldsPattern, FieldPattern, ParensPattern, TuplePattern, ArrayPattern, Alternatives, NamedType, GenericType, DynType, SelfType, ParensType, TupleType, ArrayType, NeverType, RefType, StructItem, EnumItem, FieldDecl, VariantDecl, TraitItem, ImplItem, FnItem, ParamOf, SelfParam, Odd}
+use Rattle.src_ast.specs.Syntax.{Word, Named, FieldsKind, Syns, Syn, syn, Shape, at_of, shape_of, Ident, LabelOf, Literal, TruthLiteral, Path, Minus, Bang, Star, Ampersand, Calculate, Compare, Both, Either, Store, CallOf, MethodOf, FieldOf, PartOf, ElementOf, StructOf, FieldInit, Parens, TupleOf, ArrayOf, Braces, IfElse, IfLetElse, MatchOn, ArmOf, LoopOf, WhileOf, WhileLetOf, BreakOf, ContinueOf, ReturnOf, MoveOf, PanicOf, LetOf, Empty, Semi, AnyPattern, BindPattern, LiteralPattern, TruthPattern, PathPattern, PartsPattern, FieldsPattern, FieldPattern, ParensPattern, TuplePattern, ArrayPattern, Alternatives, NamedType, GenericType, DynType, SelfType, ParensType, TupleType, ArrayType, NeverType, RefType, StructItem, EnumItem, FieldDecl, VariantDecl, TraitItem, ImplItem, FnItem, ParamOf, SelfParam, Odd}
 use Rattle.src_ast.proofs.Named.{seen_as}
-use Rattle.typing_rules.specs.Check.{State, Broken}
+use Rattle.typing_rules.specs.Check.{TypingState, Broken}
 use Rattle.typing_rules.specs.Collected as walk
 use Rattle.typing_rules.specs.Collected.{adt_item, item_head, impl_of, no_items, starting_with}
 use Rattle.typing_rules.specs.Items.{adt_name, trait_name, impl_owner, own_name, path_in}
@@ -17,20 +17,20 @@ use Rattle.item_heads.specs.Forms.{struct_by, enum_by}
 use Rattle.name_table.specs.Forms.{trait_at, adt_name_by, trait_name_by, owner_by, own_name_by, path_by, adt_item_by, head_by, impl_by}
 
 abbrev Outcome : Type 0
-Outcome = Result (Unit {0} × State) Broken
+Outcome = Result (Unit {0} × TypingState) Broken
 
 abbrev Asked : Type 0
 Asked = Option Word × (Option Word × (Option Word × (Option Word × ((Word → Word) × (Option (Pos × List Named) × (Outcome × Outcome))))))
 
-abbrev asked : walk.Known → Syn → State → Asked
+abbrev asked : walk.Known → Syn → TypingState → Asked
 asked k x s =
     (adt_name x, (trait_name x, (impl_owner x, (own_name x, (path_in x, (adt_item x, (item_head k x s, impl_of k x s)))))))
 
-abbrev asked_by : walk.Known → Pos → Option Shape → State → Asked
+abbrev asked_by : walk.Known → Pos → Option Shape → TypingState → Asked
 asked_by k at o s =
     (adt_name_by o, (trait_name_by o, (owner_by o, (own_name_by o, (path_by o, (adt_item_by at o, (head_by k o s, impl_by k o s)))))))
 
-asked_form : (k : walk.Known) (at : Pos) (form : Shape) (s : State) → asked k (syn at form) s ≡ asked_by k at (item_part form) s
+asked_form : (k : walk.Known) (at : Pos) (form : Shape) (s : TypingState) → asked k (syn at form) s ≡ asked_by k at (item_part form) s
 asked_form k at (Ident a) s = refl
 asked_form k at (LabelOf a) s = refl
 asked_form k at (Literal a b) s = refl
@@ -103,24 +103,24 @@ asked_form k at (ParamOf a b) s = refl
 asked_form k at (SelfParam a) s = refl
 asked_form k at Odd s = refl
 
-asked_as : (k : walk.Known) (x : Syn) (s : State) → asked k x s ≡ asked_by k (at_of x) (item_part (shape_of x)) s
+asked_as : (k : walk.Known) (x : Syn) (s : TypingState) → asked k x s ≡ asked_by k (at_of x) (item_part (shape_of x)) s
 asked_as k (syn at form) s = asked_form k at form s
 
-asked_seen : (k : walk.Known) (n : Node) (s : State) → asked k (syn_of n) s ≡ asked_by k n.at (item_part (shape_of (syn_of n))) s
+asked_seen : (k : walk.Known) (n : SyntaxNode) (s : TypingState) → asked k (syn_of n) s ≡ asked_by k n.at (item_part (shape_of (syn_of n))) s
 asked_seen k n s =
     asked_as k (syn_of n) s ∙ ap (λ (x : Syn). asked_by k (at_of x) (item_part (shape_of (syn_of n))) s) (seen_as n)
 
-pub head_seen : (k : walk.Known) (n : Node) (s : State) → item_head k (syn_of n) s ≡ head_by k (item_part (shape_of (syn_of n))) s
+pub head_seen : (k : walk.Known) (n : SyntaxNode) (s : TypingState) → item_head k (syn_of n) s ≡ head_by k (item_part (shape_of (syn_of n))) s
 head_seen k n s = ap (λ (a : Asked). a.1.1.1.1.1.1.0) (asked_seen k n s)
 
-pub impl_seen : (k : walk.Known) (n : Node) (s : State) → impl_of k (syn_of n) s ≡ impl_by k (item_part (shape_of (syn_of n))) s
+pub impl_seen : (k : walk.Known) (n : SyntaxNode) (s : TypingState) → impl_of k (syn_of n) s ≡ impl_by k (item_part (shape_of (syn_of n))) s
 impl_seen k n s = ap (λ (a : Asked). a.1.1.1.1.1.1.1) (asked_seen k n s)
 
-module _ (n : Node) where
+module _ (n : SyntaxNode) where
   no_names : walk.Known
   no_names = record { adts = []; traits = []; paths = [] }
 
-  no_state : State
+  no_state : TypingState
   no_state = starting_with no_items
 
   pub adt_name_seen : adt_name (syn_of n) ≡ adt_name_by (item_part (shape_of (syn_of n)))
@@ -143,11 +143,11 @@ module _ (n : Node) where
 
 -- ---- structs and enums, whose names are read from their nodes
 
-module _ (k : walk.Known) (n : Node) (s : State) (word : Word) (at : Pos) (name : Named) (same : (at, word) ≡ name) (r : Result (Unit {0}) RuleError) (after : ItemTable) where
+module _ (k : walk.Known) (n : SyntaxNode) (s : TypingState) (word : Word) (at : Pos) (name : Named) (same : (at, word) ≡ name) (r : Result (Unit {0}) RuleError) (after : ItemTable) where
   by_form : (o : Option Shape) → o ≡ item_part (shape_of (syn_of n)) → Answers (head_by k o s) r after → Answers (item_head k (syn_of n) s) r after
   by_form o is h = subst (λ z. Answers z r after) (sym (head_seen k n s ∙ ap (λ z. head_by k z s) (sym is))) h
 
-  pub struct_answers : (ds : List Named) (kind : Kind) (fields : Syns) → Some (StructItem ds name kind fields) ≡ item_part (shape_of (syn_of n)) →
+  pub struct_answers : (ds : List Named) (kind : FieldsKind) (fields : Syns) → Some (StructItem ds name kind fields) ≡ item_part (shape_of (syn_of n)) →
       Answers (struct_by k ds word fields s) r after → Answers (item_head k (syn_of n) s) r after
   struct_answers ds kind fields is h =
       by_form (Some (StructItem ds name kind fields)) is (subst (λ (z : Named). Answers (struct_by k ds z.1 fields s) r after) same h)

@@ -5,16 +5,16 @@ use Rattle.mir_base.specs.declared.place_in_text.Pos.{Pos}
 use Rattle.mir_base.specs.declared.rule.Rule.{Rule}
 use Rattle.mir_base.specs.declared.rule.RuleError.{RuleError}
 use Rattle.src_token.specs.declared.token.Token.{Token}
-use Rattle.src_tree.specs.declared.node.Node.{Node}
-use Rattle.src_tree.specs.declared.node.Piece
-use Rattle.src_tree.specs.declared.node.Piece.{Piece}
+use Rattle.src_tree.specs.declared.node.SyntaxNode.{SyntaxNode}
+use Rattle.src_tree.specs.declared.node.NodePiece
+use Rattle.src_tree.specs.declared.node.NodePiece.{NodePiece}
 use Rattle.src_tree.specs.View.{parts_from, piece_of, Single, a_token, a_node}
 use Rattle.src_tree.proofs.Pieces.{node_seen, token_seen}
 use Rattle.src_ast.specs.Seen.{syn_of}
 use Rattle.src_ast.specs.Sorts.{item_part}
 use Rattle.src_ast.specs.Syntax.{Word, Named, Syn, syn, Shape, shape_of, Ident, LabelOf, Literal, TruthLiteral, Path, Minus, Bang, Star, Ampersand, Calculate, Compare, Both, Either, Store, CallOf, MethodOf, FieldOf, PartOf, ElementOf, StructOf, FieldInit, Parens, TupleOf, ArrayOf, Braces, IfElse, IfLetElse, MatchOn, ArmOf, LoopOf, WhileOf, WhileLetOf, BreakOf, ContinueOf, ReturnOf, MoveOf, PanicOf, LetOf, Empty, Semi, AnyPattern, BindPattern, LiteralPattern, TruthPattern, PathPattern, PartsPattern, FieldsPattern, FieldPattern, ParensPattern, TuplePattern, ArrayPattern, Alternatives, NamedType, GenericType, DynType, SelfType, ParensType, TupleType, ArrayType, NeverType, RefType, StructItem, EnumItem, FieldDecl, VariantDecl, TraitItem, ImplItem, FnItem, ParamOf, SelfParam, Odd}
 use Rattle.src_ast.specs.View.{view}
-use Rattle.typing_rules.specs.Check.{State, Broken, and_then, obeys, pure}
+use Rattle.typing_rules.specs.Check.{TypingState, Broken, and_then, obeys, pure}
 use Rattle.typing_rules.specs.Collected.{item_name, names_differ}
 use Rattle.typing_rules.specs.Items.{items_of, item_syns}
 use Rattle.well_typed.specs.Names.{is_among, built_in}
@@ -103,13 +103,13 @@ item_name_form at Odd = refl
 item_name_as : (x : Syn) → item_name x ≡ item_name_by (item_part (shape_of x))
 item_name_as (syn at form) = item_name_form at form
 
-pub item_name_seen : (n : Node) → item_name (syn_of n) ≡ item_name_by (item_part (shape_of (syn_of n)))
+pub item_name_seen : (n : SyntaxNode) → item_name (syn_of n) ≡ item_name_by (item_part (shape_of (syn_of n)))
 item_name_seen n = item_name_as (syn_of n)
 
-pub at_token : (t : Token) → name_in_piece (piece_of (Piece.Token t)) ≡ None
+pub at_token : (t : Token) → name_in_piece (piece_of (NodePiece.Token t)) ≡ None
 at_token t = ap name_in_piece (token_seen t)
 
-pub at_node : (n : Node) → name_in_piece (piece_of (Piece.Node n)) ≡ item_name (syn_of n)
+pub at_node : (n : SyntaxNode) → name_in_piece (piece_of (NodePiece.Node n)) ≡ item_name (syn_of n)
 at_node n = ap name_in_piece (node_seen n)
 
 abbrev names_in : List Single → List Named
@@ -123,7 +123,7 @@ first_piece : (o : Single) (ys : List Single) → names_in (o ∷ ys) ≡ listed
 first_piece (a_token t) ys = refl
 first_piece (a_node g) ys = first_named (view g) (item_name (view g)) refl (item_syns (items_of (parts_from ys)))
 
-named_at : (ps : List Piece) (i : ℕ) (p : Piece) → i < length ps → p ≡ get_or ps i p →
+named_at : (ps : List NodePiece) (i : ℕ) (p : NodePiece) → i < length ps → p ≡ get_or ps i p →
     names_in (map piece_of (drop i ps)) ≡ listed (name_in_piece (piece_of p)) ++ names_in (map piece_of (drop (i + 1) ps))
 named_at ps i p h is =
     ap (λ z. names_in (map piece_of z)) (drop-cons ps i p h)
@@ -131,19 +131,19 @@ named_at ps i p h is =
     ∙ first_piece (piece_of p) (map piece_of (drop (suc i) ps))
     ∙ ap (λ z. listed (name_in_piece (piece_of p)) ++ names_in (map piece_of (drop z ps))) (sym (add-one i))
 
-one_name : (rule : Rule) (at : Pos) (b : Bool) (more : List Word) (rest : List Named) (s : State) →
+one_name : (rule : Rule) (at : Pos) (b : Bool) (more : List Word) (rest : List Named) (s : TypingState) →
     and_then (obeys rule at b s) (λ _. names_differ rest more)
     ≡ and_then (and_then (obeys rule at b s) (λ _. pure more)) (λ z. names_differ rest z)
 one_name rule at true more rest s = refl
 one_name rule at false more rest s = refl
 
-next_name : (o : Option Named) (seen : List Word) (rest : List Named) (s : State) →
+next_name : (o : Option Named) (seen : List Word) (rest : List Named) (s : TypingState) →
     names_differ (listed o ++ rest) seen s ≡ and_then (with_name_by o seen s) (λ more. names_differ rest more)
 next_name None seen rest s = refl
 next_name (Some n) seen rest s =
     one_name Rule.T02 n.0 (not (is_among n.1 seen || is_among n.1 built_in)) (seen ++ n.1 ∷ []) rest s
 
-pieces_named : (ps : List Piece) (i : ℕ) (p : Piece) (o : Option Named) (seen : List Word) (s : State) → i < length ps → p ≡ get_or ps i p →
+pieces_named : (ps : List NodePiece) (i : ℕ) (p : NodePiece) (o : Option Named) (seen : List Word) (s : TypingState) → i < length ps → p ≡ get_or ps i p →
     o ≡ name_in_piece (piece_of p) →
     names_differ (names_in (map piece_of (drop i ps))) seen s
     ≡ and_then (with_name_by o seen s) (λ more. names_differ (names_in (map piece_of (drop (i + 1) ps))) more)
@@ -152,7 +152,7 @@ pieces_named ps i p o seen s h is of_p =
     ∙ ap (λ z. names_differ (listed z ++ names_in (map piece_of (drop (i + 1) ps))) seen s) (sym of_p)
     ∙ next_name o seen (names_in (map piece_of (drop (i + 1) ps))) s
 
-pub on_names : (whole : Result (Unit {0} × State) Broken) (ps : List Piece) (i : ℕ) (p : Piece) (o : Option Named) (seen more : List Word) (s t : State) →
+pub on_names : (whole : Result (Unit {0} × TypingState) Broken) (ps : List NodePiece) (i : ℕ) (p : NodePiece) (o : Option Named) (seen more : List Word) (s t : TypingState) →
     i < length ps → p ≡ get_or ps i p → o ≡ name_in_piece (piece_of p) →
     whole ≡ names_differ (names_in (map piece_of (drop i ps))) seen s → with_name_by o seen s ≡ Ok (more, t) →
     whole ≡ names_differ (names_in (map piece_of (drop (i + 1) ps))) more t
@@ -160,19 +160,19 @@ on_names whole ps i p o seen more s t h is of_p so here =
     so ∙ pieces_named ps i p o seen s h is of_p
     ∙ ap (λ r. and_then r (λ z. names_differ (names_in (map piece_of (drop (i + 1) ps))) z)) here
 
-pub stopped_name : (whole : Result (Unit {0} × State) Broken) (ps : List Piece) (i : ℕ) (p : Piece) (o : Option Named) (seen : List Word) (s : State) (e : RuleError) →
+pub stopped_name : (whole : Result (Unit {0} × TypingState) Broken) (ps : List NodePiece) (i : ℕ) (p : NodePiece) (o : Option Named) (seen : List Word) (s : TypingState) (e : RuleError) →
     i < length ps → p ≡ get_or ps i p → o ≡ name_in_piece (piece_of p) →
     whole ≡ names_differ (names_in (map piece_of (drop i ps))) seen s → Refuses (with_name_by o seen s) e → Refuses whole e
 stopped_name whole ps i p o seen s e h is of_p so here =
     subst (λ r. Refuses r e) (sym (so ∙ pieces_named ps i p o seen s h is of_p))
     (stopped (with_name_by o seen s) (λ z. names_differ (names_in (map piece_of (drop (i + 1) ps))) z) e here)
 
-passes : (rule : Rule) (at : Pos) (b : Bool) (more : List Word) (s : State) → b ≡ false →
+passes : (rule : Rule) (at : Pos) (b : Bool) (more : List Word) (s : TypingState) → b ≡ false →
     and_then (obeys rule at (not b) s) (λ _. pure more) ≡ Ok (more, s)
 passes rule at true more s h = absurd (cc)
 passes rule at false more s h = refl
 
-pub fresh : (n : Named) (seen more : List Word) (s : State) (at : Pos) (word : Word) (b : Bool) → (at, word) ≡ n →
+pub fresh : (n : Named) (seen more : List Word) (s : TypingState) (at : Pos) (word : Word) (b : Bool) → (at, word) ≡ n →
     b ≡ (is_among word seen || is_among word built_in) → b ≡ false → more ≡ seen ++ word ∷ [] →
     with_name_by (Some n) seen s ≡ Ok (more, s)
 fresh n seen more s at word b same is free pushed =

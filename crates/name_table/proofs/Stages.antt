@@ -9,7 +9,7 @@ use Rattle.src_tree.specs.Layout.{Parts}
 use Rattle.name_table.specs.Collects.{Collects, stages, declared, tested, scalars}
 use Rattle.name_table.specs.Forms.{each_done}
 use Rattle.name_table.proofs.EachItem.{done_then}
-use Rattle.typing_rules.specs.Check.{Check, State, Broken, and_then, each_checked}
+use Rattle.typing_rules.specs.Check.{Check, TypingState, Broken, and_then, each_checked}
 use Rattle.typing_rules.specs.Collected as walk
 use Rattle.typing_rules.specs.Collected.{collected, collecting, items_in, heads_collected, impl_of, item_name, names_differ, starting_with}
 use Rattle.typing_rules.specs.Items.{ItemSyn, item_syns, items_of}
@@ -21,22 +21,22 @@ module _ (items : List ItemSyn) (end : Pos) where
   abbrev no_count : walk.Count
   no_count = record { outer = []; in_outer = 0; closures = 0 }
 
-  then_impls : (o : Result (Unit {0} × State) Broken) →
+  then_impls : (o : Result (Unit {0} × TypingState) Broken) →
       and_then o (λ _. λ s. and_then (each_checked (impl_of k) (item_syns items) s) (λ _. tested k items end))
       ≡ and_then (and_then o (λ _. each_done (impl_of k) (item_syns items))) (λ _. tested k items end)
   then_impls (Ok a) = done_then (impl_of k) (tested k items end) (item_syns items) a.1
   then_impls (Err e) = refl
 
-  then_heads : (o : Result (Unit {0} × State) Broken) →
+  then_heads : (o : Result (Unit {0} × TypingState) Broken) →
       and_then o (λ _. λ s. and_then (heads_collected k no_count items s) (λ _. λ s. and_then (each_checked (impl_of k) (item_syns items) s) (λ _. tested k items end)))
       ≡ and_then (and_then o (λ _. λ s. and_then (heads_collected k no_count items s) (λ _. each_done (impl_of k) (item_syns items)))) (λ _. tested k items end)
   then_heads (Ok a) = then_impls (heads_collected k no_count items a.1)
   then_heads (Err e) = refl
 
-  pub in_stages : (s : State) → collecting items end s ≡ and_then (declared k items s) (λ _. tested k items end)
+  pub in_stages : (s : TypingState) → collecting items end s ≡ and_then (declared k items s) (λ _. tested k items end)
   in_stages s = then_heads (names_differ (filter_map item_name (item_syns items)) [] s)
 
-pub stages_answer : (items : List ItemSyn) (end : Pos) (k : walk.Known) (s : State) (r : Result (Unit {0}) RuleError) (after : table.ItemTable) →
+pub stages_answer : (items : List ItemSyn) (end : Pos) (k : walk.Known) (s : TypingState) (r : Result (Unit {0}) RuleError) (after : table.ItemTable) →
     k ≡ walk.known_of items → Answers (stages k items end s) r after → Answers (collecting items end s) r after
 stages_answer items end k s r after is h =
     subst (λ o. Answers o r after) (sym (in_stages items end s)) (subst (λ z. Answers (stages z items end s) r after) is h)

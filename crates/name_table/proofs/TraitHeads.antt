@@ -12,49 +12,49 @@ use Rattle.mir_ty.specs.declared.ty.TyId.{TyId}
 use Rattle.mir_ty.proofs.ListLemmas.{slice_get-last}
 use Rattle.well_typed.specs.Items.{is_equal}
 use Rattle.src_ast.specs.Syntax.{Word, Syn, syn, Syns, no_syn, a_syn, list_of, MaybeSyn, nothing, just, FnItem, SelfParam, ByShared, ByUnique}
-use Rattle.typing_rules.specs.Check.{Check, State, Broken, and_then, pure, interned, interned_at, each_checked, ◌>>=◌}
+use Rattle.typing_rules.specs.Check.{Check, TypingState, Broken, and_then, pure, interned, interned_at, each_checked, ◌>>=◌}
 use Rattle.typing_rules.specs.Collected.{param_ty, answer_ty, sig_of, trait_head, has_receiver, is_by_reference, behind_self, with_receiver, starting_with}
 use Rattle.typing_rules.specs.Places.{unit}
-use Rattle.typing_rules.specs.Written.{Around}
+use Rattle.typing_rules.specs.Written.{WrittenScope}
 use Rattle.typing_rules.proofs.Sound.Interned.{found_at}
 use Rattle.item_heads.proofs.Kept.{Keeps, keeps_on, Kept, kept_bind, kept_pure, kept_breaks, kept_interned, kept_each, kept_written, kept_head_param, state_in}
 
-abbrev value_in : {A : Type 0} → A → Result (A × State) Broken → A
+abbrev value_in : {A : Type 0} → A → Result (A × TypingState) Broken → A
 value_in a (Ok b) = b.0
 value_in a (Err e) = a
 
 -- what comes first, where both come
-pub bound : {A B : Type 0} (o : Result (A × State) Broken) (f : A → Check B) (b : B) (t : State) → and_then o f ≡ Ok (b, t) →
-    (a : A) × (u : State) × (o ≡ Ok (a, u)) × (f a u ≡ Ok (b, t))
+pub bound : {A B : Type 0} (o : Result (A × TypingState) Broken) (f : A → Check B) (b : B) (t : TypingState) → and_then o f ≡ Ok (b, t) →
+    (a : A) × (u : TypingState) × (o ≡ Ok (a, u)) × (f a u ≡ Ok (b, t))
 bound (Ok p) f b t h = (p.0, p.1, refl, h)
 bound (Err e) f b t h = absurd (cc)
 
 -- a type that gets a number has it
-pub interned_there : (ty : Ty) (s t : State) (id : TyId) → interned ty s ≡ Ok (id, t) → slice_get t.items.types id.0 ≡ Some ty
+pub interned_there : (ty : Ty) (s t : TypingState) (id : TyId) → interned ty s ≡ Ok (id, t) → slice_get t.items.types id.0 ≡ Some ty
 interned_there ty s t id h = by (position_of (is_equal ty) s.items.types) refl h
   where
     by : (o : Option ℕ) → position_of (is_equal ty) s.items.types ≡ o → interned_at ty o s ≡ Ok (id, t) →
         slice_get t.items.types id.0 ≡ Some ty
     by (Some n) at h =
-        ap (λ (r : Result (TyId × State) Broken). slice_get (state_in s r).items.types (value_in id r).0) (sym h)
+        ap (λ (r : Result (TyId × TypingState) Broken). slice_get (state_in s r).items.types (value_in id r).0) (sym h)
         ∙ found_at ty s.items.types n at
     by None at h =
-        ap (λ (r : Result (TyId × State) Broken). slice_get (state_in s r).items.types (value_in id r).0) (sym h)
+        ap (λ (r : Result (TyId × TypingState) Broken). slice_get (state_in s r).items.types (value_in id r).0) (sym h)
         ∙ slice_get-last s.items.types ty
 
 -- ---- what a head keeps
 
-pub kept_answer : (w : Around) (answer : MaybeSyn) → Kept (answer_ty w answer)
+pub kept_answer : (w : WrittenScope) (answer : MaybeSyn) → Kept (answer_ty w answer)
 kept_answer w nothing = kept_pure unit
 kept_answer w (just ty) = kept_written w ty
 
-pub kept_sig : (w : Around) (self : Check TyId) → Kept self → (name : Word) (params : Syns) (answer : MaybeSyn) →
+pub kept_sig : (w : WrittenScope) (self : Check TyId) → Kept self → (name : Word) (params : Syns) (answer : MaybeSyn) →
     Kept (sig_of w self name params answer)
 kept_sig w self kept_self name params answer =
     kept_bind (each_checked (param_ty w self) (list_of params)) _ (kept_each (param_ty w self) (kept_head_param w self kept_self) (list_of params))
     (λ tys. kept_bind (answer_ty w answer) _ (kept_answer w answer) (λ ty. kept_pure _))
 
-module _ (w : Around) (own : TyId) where
+module _ (w : WrittenScope) (own : TyId) where
   kept_own : (name : Word) (params : Syns) (answer : MaybeSyn) → Kept (sig_of w (pure own) name params answer)
   kept_own name params answer = kept_sig w (pure own) (kept_pure own) name params answer
 
@@ -73,7 +73,7 @@ module _ (w : Around) (own : TyId) where
 
 -- ---- the first parameter
 
-still_self : (s t : State) (n : ℕ) (id : TyId) → Keeps s t → IsSelfTy s.items.types n (slice_get s.items.types id.0) →
+still_self : (s t : TypingState) (n : ℕ) (id : TyId) → Keeps s t → IsSelfTy s.items.types n (slice_get s.items.types id.0) →
     IsSelfTy t.items.types n (slice_get t.items.types id.0)
 still_self s t n id k h = by (slice_get s.items.types id.0) refl h
   where
@@ -82,7 +82,7 @@ still_self s t n id k h = by (slice_get s.items.types id.0) refl h
     by (Some (Ty.Unique to)) is h = subst (IsSelfTy t.items.types n) (sym (k.types id.0 (Ty.Unique to) is)) (k.types to.0 (Ty.Dyn n) h)
     by _ is h = absurd h
 
-still_begins : (s t : State) (n : ℕ) (sig : Sig) → Keeps s t → BeginsWithSelf s.items.types n sig → BeginsWithSelf t.items.types n sig
+still_begins : (s t : TypingState) (n : ℕ) (sig : Sig) → Keeps s t → BeginsWithSelf s.items.types n sig → BeginsWithSelf t.items.types n sig
 still_begins s t n sig k h = by (slice_get sig.params 0) h
   where
     by : (o : Option TyId) → IsSelfTy s.items.types n (option_and_then (λ id. slice_get s.items.types id.0) o) →
@@ -90,26 +90,26 @@ still_begins s t n sig k h = by (slice_get sig.params 0) h
     by (Some id) h = still_self s t n id k h
     by None h = absurd h
 
-module _ (w : Around) (own : TyId) (n : ℕ) where
+module _ (w : WrittenScope) (own : TyId) (n : ℕ) where
   -- the type of the trait itself is there
-  abbrev HasOwn : State → Type 0
+  abbrev HasOwn : TypingState → Type 0
   HasOwn s = slice_get s.items.types own.0 ≡ Some (Ty.Dyn n)
 
-  shared_there : (s t : State) (id : TyId) → HasOwn s → interned (Ty.Shared own) s ≡ Ok (id, t) → IsSelfTy t.items.types n (slice_get t.items.types id.0)
+  shared_there : (s t : TypingState) (id : TyId) → HasOwn s → interned (Ty.Shared own) s ≡ Ok (id, t) → IsSelfTy t.items.types n (slice_get t.items.types id.0)
   shared_there s t id has h =
       subst (IsSelfTy t.items.types n) (sym (interned_there (Ty.Shared own) s t id h)) ((kept_interned (Ty.Shared own) s t id h).types own.0 (Ty.Dyn n) has)
 
-  unique_there : (s t : State) (id : TyId) → HasOwn s → interned (Ty.Unique own) s ≡ Ok (id, t) → IsSelfTy t.items.types n (slice_get t.items.types id.0)
+  unique_there : (s t : TypingState) (id : TyId) → HasOwn s → interned (Ty.Unique own) s ≡ Ok (id, t) → IsSelfTy t.items.types n (slice_get t.items.types id.0)
   unique_there s t id has h =
       subst (IsSelfTy t.items.types n) (sym (interned_there (Ty.Unique own) s t id h)) ((kept_interned (Ty.Unique own) s t id h).types own.0 (Ty.Dyn n) has)
 
-  first_self : (first : Syn) (s t : State) (id : TyId) → HasOwn s → is_by_reference first ≡ true →
+  first_self : (first : Syn) (s t : TypingState) (id : TyId) → HasOwn s → is_by_reference first ≡ true →
       param_ty w (pure own) first s ≡ Ok (id, t) → IsSelfTy t.items.types n (slice_get t.items.types id.0)
   first_self (syn at (SelfParam ByShared)) s t id has is h = shared_there s t id has h
   first_self (syn at (SelfParam ByUnique)) s t id has is h = unique_there s t id has h
   first_self (syn at _) s t id has is h = absurd (cc)
 
-  own_begins : (name : Word) (params : Syns) (answer : MaybeSyn) (s t : State) (sig : Sig) → HasOwn s → has_receiver params ≡ true →
+  own_begins : (name : Word) (params : Syns) (answer : MaybeSyn) (s t : TypingState) (sig : Sig) → HasOwn s → has_receiver params ≡ true →
       sig_of w (pure own) name params answer s ≡ Ok (sig, t) → BeginsWithSelf t.items.types n sig
   own_begins name no_syn answer s t sig has is h = absurd (cc)
   own_begins name (a_syn first rest) answer s t sig has is h =
@@ -124,11 +124,11 @@ module _ (w : Around) (own : TyId) (n : ℕ) where
       let same_t : y ≡ t = ap (state_in y) whole in
       let kept_all : Keeps v t = keeps_on v u t (subst (λ z. Keeps v z) same_u kept_rest) (subst (λ z. Keeps u z) same_t kept_result) in
       let params_are : id ∷ ids ≡ tys = ap (value_in (id ∷ ids)) made in
-      let sig_is : id ∷ ids ≡ sig.params = params_are ∙ ap (λ (r : Result (Sig × State) Broken). (value_in sig r).params) whole in
+      let sig_is : id ∷ ids ≡ sig.params = params_are ∙ ap (λ (r : Result (Sig × TypingState) Broken). (value_in sig r).params) whole in
       subst (λ (ps : List TyId). IsSelfTy t.items.types n (option_and_then (λ id. slice_get t.items.types id.0) (slice_get ps 0))) sig_is
       (still_self v t n id kept_all first_)
 
-  other_begins : (name : Word) (params : Syns) (answer : MaybeSyn) (s t : State) (sig : Sig) → HasOwn s →
+  other_begins : (name : Word) (params : Syns) (answer : MaybeSyn) (s t : TypingState) (sig : Sig) → HasOwn s →
       (interned (Ty.Shared own) >>= (λ self. sig_of w (pure own) name (behind_self params) answer >>= (λ sig. pure (with_receiver self sig)))) s ≡ Ok (sig, t) →
       BeginsWithSelf t.items.types n sig
   other_begins name params answer s t sig has h =
@@ -136,11 +136,11 @@ module _ (w : Around) (own : TyId) (n : ℕ) where
       let (inner, v, head, made) = bound (sig_of w (pure own) name (behind_self params) answer u) _ sig t others in
       let same_t : v ≡ t = ap (state_in v) made in
       let kept_all : Keeps u t = subst (λ z. Keeps u z) same_t (kept_own w own name (behind_self params) answer u v inner head) in
-      let sig_is : id ∷ inner.params ≡ sig.params = ap (λ (r : Result (Sig × State) Broken). (value_in sig r).params) made in
+      let sig_is : id ∷ inner.params ≡ sig.params = ap (λ (r : Result (Sig × TypingState) Broken). (value_in sig r).params) made in
       subst (λ (ps : List TyId). IsSelfTy t.items.types n (option_and_then (λ id. slice_get t.items.types id.0) (slice_get ps 0))) sig_is
       (still_self u t n id kept_all (shared_there s u id has one))
 
-  head_begins : (x : Syn) (s t : State) (sig : Sig) → HasOwn s → trait_head w own x s ≡ Ok (sig, t) → BeginsWithSelf t.items.types n sig
+  head_begins : (x : Syn) (s t : TypingState) (sig : Sig) → HasOwn s → trait_head w own x s ≡ Ok (sig, t) → BeginsWithSelf t.items.types n sig
   head_begins (syn at (FnItem name params answer block)) s t sig has h = by (has_receiver params) refl h
     where
       by : (b : Bool) → has_receiver params ≡ b →
@@ -150,7 +150,7 @@ module _ (w : Around) (own : TyId) (n : ℕ) where
       by false is h = other_begins name.1 params answer s t sig has h
   head_begins (syn at _) s t sig has h = absurd (cc)
 
-  heads_begin : (xs : List Syn) (s t : State) (sigs : List Sig) → HasOwn s → each_checked (trait_head w own) xs s ≡ Ok (sigs, t) →
+  heads_begin : (xs : List Syn) (s t : TypingState) (sigs : List Sig) → HasOwn s → each_checked (trait_head w own) xs s ≡ Ok (sigs, t) →
       All (BeginsWithSelf t.items.types n) sigs
   heads_begin [] s t sigs has h = subst (λ z. All (BeginsWithSelf t.items.types n) z) (ap (value_in []) h) (All-nil (BeginsWithSelf t.items.types n))
   heads_begin (x ∷ xs) s t sigs has h =
@@ -164,7 +164,7 @@ module _ (w : Around) (own : TyId) (n : ℕ) where
       (All-cons (BeginsWithSelf t.items.types n) sig more (still_begins u t n sig kept_all (head_begins x s u sig has one)) (heads_begin xs u t more has_u rest_t))
 
 -- the heads of a trait that is the next one are those of methods
-pub are_methods : (w : Around) (own : TyId) (old mid new : ItemTable) (number : ℕ) (xs : List Syn) (sigs : List Sig) →
+pub are_methods : (w : WrittenScope) (own : TyId) (old mid new : ItemTable) (number : ℕ) (xs : List Syn) (sigs : List Sig) →
     number ≡ length old.traits → interned (Ty.Dyn number) (starting_with old) ≡ Ok (own, starting_with mid) →
     each_checked (trait_head w own) xs (starting_with mid) ≡ Ok (sigs, starting_with new) → All (IsSig new.types) sigs →
     All (IsMethod new.types (length new.traits)) sigs

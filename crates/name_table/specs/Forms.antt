@@ -15,8 +15,8 @@ use Rattle.name_table.specs.declared.known_names.NameSort.{NameSort}
 use Rattle.name_table.specs.declared.known_names.ImplNames.{ImplNames}
 use Rattle.src_ast.specs.Seen.{syn_of, word_of}
 use Rattle.src_tree.specs.View.{Single, a_token, a_node, layout_of}
-use Rattle.src_tree.specs.declared.node.Node.{Node}
-use Rattle.src_tree.specs.declared.row.Row.{Row}
+use Rattle.src_tree.specs.declared.node.SyntaxNode.{SyntaxNode}
+use Rattle.src_tree.specs.declared.row.GrammarRow.{GrammarRow}
 use Rattle.typing_rules.specs.Check.{Check, pure, obeys, known, interned, the_items, each_checked, ◌>>=◌, ◌>>◌}
 use Rattle.typing_rules.specs.Collected as walk
 use Rattle.typing_rules.specs.Collected.{item_name, impl_head, is_drop, impl_added, names_alone, trait_head, added, item_head, body_sigs, may_derive, is_finite}
@@ -97,7 +97,7 @@ told_by f (a_token t) = None
 told_by f (a_node g) = f (view g)
 
 -- a node as an item, with the bodies in it
-abbrev pub item_of_node : Node → ItemSyn
+abbrev pub item_of_node : SyntaxNode → ItemSyn
 item_of_node n = record { item = syn_of n; bodies = bodies_in (layout_of n) }
 
 -- an item with its own head, and the bodies in it
@@ -140,7 +140,7 @@ path_around None trait_ name = name
 abbrev pub path_within : ImplNames → Word → Word
 path_within names name = path_around (word_of names.owner) (word_of names.trait_) name
 
-abbrev pub trait_named : Option (Bor Node) → Option Word
+abbrev pub trait_named : Option (Bor SyntaxNode) → Option Word
 trait_named None = None
 trait_named (Some name) = Some (named (syn_of name.now)).1
 
@@ -156,7 +156,7 @@ own_name_by (Some (FnItem name params answer block)) = Some name.1
 own_name_by _ = None
 
 -- what is found of a node that is a body itself
-abbrev pub own_paths : (Syn → Word) → Row → Syn → List Word
+abbrev pub own_paths : (Syn → Word) → GrammarRow → Syn → List Word
 own_paths f row x = if is_body_row row then f x ∷ [] else []
 
 -- ---- one behind another

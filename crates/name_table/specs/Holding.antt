@@ -7,9 +7,9 @@ use Rattle.mir_ty.specs.Known.{known_by}
 use Rattle.mir_ty.specs.Parts.{held_by}
 use Rattle.mir_ty.specs.declared.ty.Ty.{Ty}
 use Rattle.mir_ty.specs.declared.ty.TyId.{TyId}
-use Rattle.name_table.specs.declared.holding.Question.{Question}
+use Rattle.name_table.specs.declared.holding.HoldingQuestion.{HoldingQuestion}
 use Rattle.name_table.specs.Forms.{Adt_, all_numbered}
-use Rattle.typing_rules.specs.Check.{State, interned}
+use Rattle.typing_rules.specs.Check.{TypingState, interned}
 use Rattle.typing_rules.specs.Collected.{starting_with}
 use Rattle.well_typed.specs.Types.{is_same}
 
@@ -17,10 +17,10 @@ use Rattle.well_typed.specs.Types.{is_same}
 abbrev pub place_of : List ℕ → TyId → ℕ
 place_of order id = slice_index_or order id.0 0
 
-abbrev pub meets : Question → TyId → Bool
-meets (Question.Holds part known) h = is_same h part || known_by known.now h
-meets (Question.Past order place) h = nat_lt place (place_of order.now h)
-meets (Question.NotBefore order place) h = not (nat_lt (place_of order.now h) place)
+abbrev pub meets : HoldingQuestion → TyId → Bool
+meets (HoldingQuestion.Holds part known) h = is_same h part || known_by known.now h
+meets (HoldingQuestion.Past order place) h = nat_lt place (place_of order.now h)
+meets (HoldingQuestion.NotBefore order place) h = not (nat_lt (place_of order.now h) place)
 
 -- what shows that a type holds a part
 abbrev pub hold_rule : ItemTable → TyId → Rule
@@ -45,9 +45,9 @@ IsBehind items order id =
 -- an order where this type is among the types
 abbrev pub IsOrderWith : ItemTable → List ℕ → Ty → Type 0
 IsOrderWith items order ty =
-    (id : TyId) (after : State) → interned ty (starting_with items) ≡ Ok (id, after) → IsOrder after.items order
+    (id : TyId) (after : TypingState) → interned ty (starting_with items) ≡ Ok (id, after) → IsOrder after.items order
 
 -- an order where structs and enums from this number on are among the types
 abbrev pub IsOrderOf : ItemTable → List ℕ → ℕ → List Adt_ → Type 0
 IsOrderOf items order n adts =
-    (after : State) → all_numbered n adts (starting_with items) ≡ Ok (tt, after) → IsOrder after.items order
+    (after : TypingState) → all_numbered n adts (starting_with items) ≡ Ok (tt, after) → IsOrder after.items order

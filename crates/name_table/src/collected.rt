@@ -22,7 +22,7 @@ use crate::known_names::known;
 use item_heads::{Known, interned, obeys};
 use mir_base::{IntKind, Pos, Rule, RuleError};
 use mir_ty::{Items, Ty};
-use src_tree::{Piece, Tree};
+use src_tree::{NodePiece, Tree};
 use std::alloc::Global;
 
 fn plain_scalars(items: &mut Items) -> Result<(), RuleError>
@@ -77,7 +77,7 @@ fn has_main(items: &Items, known: &Known, end: Pos) -> Result<(), RuleError>
 }
 
 /// Names, heads and impls.
-fn declared(items: &mut Items, known: &Known, pieces: &[Piece]) -> Result<(), RuleError>
+fn declared(items: &mut Items, known: &Known, pieces: &[NodePiece]) -> Result<(), RuleError>
     requires ready { 8 ≤ length items.old.types }
     requires first { items.old.traits ≡ [] }
     ensures { Answers (declared_by (known_of known.now) (items_of (parts_in pieces.now)) (starting_with items.old)) result items.new }
@@ -88,7 +88,7 @@ fn declared(items: &mut Items, known: &Known, pieces: &[Piece]) -> Result<(), Ru
 }
 
 /// What structs and enums hold and derive, and `main`.
-fn tested(items: &mut Items, known: &Known, pieces: &[Piece], end: Pos) -> Result<(), RuleError>
+fn tested(items: &mut Items, known: &Known, pieces: &[NodePiece], end: Pos) -> Result<(), RuleError>
     ensures { Answers (tested_by (known_of known.now) (items_of (parts_in pieces.now)) end (starting_with items.old)) result items.new }
 {
     finite(items, known.alloc, pieces)?;
@@ -97,7 +97,12 @@ fn tested(items: &mut Items, known: &Known, pieces: &[Piece], end: Pos) -> Resul
 }
 
 /// All stages, by what is known of all items.
-fn in_stages(items: &mut Items, known: &Known, pieces: &[Piece], end: Pos) -> Result<(), RuleError>
+fn in_stages(
+    items: &mut Items,
+    known: &Known,
+    pieces: &[NodePiece],
+    end: Pos,
+) -> Result<(), RuleError>
     requires ready { 8 ≤ length items.old.types }
     requires first { items.old.traits ≡ [] }
     ensures { Answers (stages_by (known_of known.now) (items_of (parts_in pieces.now)) end (starting_with items.old)) result items.new }
@@ -106,7 +111,12 @@ fn in_stages(items: &mut Items, known: &Known, pieces: &[Piece], end: Pos) -> Re
     tested(items, known, pieces, end)
 }
 
-fn collected(items: &mut Items, alloc: Global, pieces: &[Piece], end: Pos) -> Result<(), RuleError>
+fn collected(
+    items: &mut Items,
+    alloc: Global,
+    pieces: &[NodePiece],
+    end: Pos,
+) -> Result<(), RuleError>
     requires ready { 8 ≤ length items.old.types }
     requires first { items.old.traits ≡ [] }
     ensures { Answers (walk.collecting (items_of (parts_in pieces.now)) end (starting_with items.old)) result items.new }

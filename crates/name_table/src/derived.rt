@@ -16,7 +16,7 @@ use item_heads::{broken, derives};
 use mir_base::{List, Pos, Rule, RuleError};
 use mir_ty::{Adt, Items, TyId, Variant};
 use src_ast::{ItemForm, Nodes, item_form};
-use src_tree::{Node, Piece};
+use src_tree::{NodePiece, SyntaxNode};
 
 /// A struct or an enum as it is written.
 #[derive(Clone, Copy)]
@@ -28,7 +28,7 @@ pub struct AdtForm<'a> {
 
 /// The struct or enum that an item is.
 #[tactic(auto, using(crate::proofs::ItemForms::adt_item_seen))]
-pub fn adt_form(node: &Node) -> Option<AdtForm<'_>>
+pub fn adt_form(node: &SyntaxNode) -> Option<AdtForm<'_>>
     ensures { adt_seen result ≡ adt_item (syn_of node.now) }
 {
     match item_form(node) {
@@ -48,12 +48,12 @@ pub fn adt_form(node: &Node) -> Option<AdtForm<'_>>
 }
 
 #[tactic(auto, using(crate::proofs::ItemWalk::told_token, crate::proofs::ItemWalk::told_node))]
-pub fn adt_at(piece: &Piece) -> Option<AdtForm<'_>>
+pub fn adt_at(piece: &NodePiece) -> Option<AdtForm<'_>>
     ensures { adt_seen result ≡ told_by adt_item (piece_of piece.now) }
 {
     match piece {
-        Piece::Node(node) => adt_form(node),
-        Piece::Token(_) => None,
+        NodePiece::Node(node) => adt_form(node),
+        NodePiece::Token(_) => None,
     }
 }
 
@@ -117,7 +117,7 @@ fn derives_at(items: &Items, number: u32, adt: Option<AdtForm>) -> Result<u32, R
 }
 
 /// All structs and enums derive what they may.
-pub fn derive(items: &Items, pieces: &[Piece]) -> Result<(), RuleError>
+pub fn derive(items: &Items, pieces: &[NodePiece]) -> Result<(), RuleError>
     ensures { Answers (all_derive 0 (filter_map adt_item (item_syns (items_of (parts_in pieces.now)))) (starting_with items.now)) result items.now }
 {
     let mut number = 0;

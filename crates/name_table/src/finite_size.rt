@@ -18,7 +18,7 @@ use crate::order::order_of;
 use item_heads::{interned, obeys};
 use mir_base::{Pos, Rule, RuleError};
 use mir_ty::{Items, Ty};
-use src_tree::Piece;
+use src_tree::NodePiece;
 use std::alloc::Global;
 
 /// The struct or enum with this number does not hold itself.
@@ -75,7 +75,7 @@ fn one_by_one(
     items: &mut Items,
     alloc: Global,
     order: &[u32],
-    pieces: &[Piece],
+    pieces: &[NodePiece],
 ) -> Result<(), RuleError>
     requires { IsOrderOf items.old order.now 0 (filter_map adt_item (item_syns (items_of (parts_in pieces.now)))) }
     ensures { Answers (walk.all_finite 0 (filter_map adt_item (item_syns (items_of (parts_in pieces.now)))) (starting_with items.old)) result items.new }
@@ -107,7 +107,7 @@ fn numbered_at(items: &mut Items, number: u32, adt: Option<AdtForm>) -> Result<u
 }
 
 /// All structs and enums get numbers as types.
-fn numbered(items: &mut Items, pieces: &[Piece]) -> Result<(), RuleError>
+fn numbered(items: &mut Items, pieces: &[NodePiece]) -> Result<(), RuleError>
     ensures { Answers (all_numbered 0 (filter_map adt_item (item_syns (items_of (parts_in pieces.now)))) (starting_with items.old)) result items.new }
 {
     let mut number = 0;
@@ -118,7 +118,7 @@ fn numbered(items: &mut Items, pieces: &[Piece]) -> Result<(), RuleError>
 }
 
 /// An order of the types with all structs and enums among them.
-fn order_with_all(items: &Items, alloc: Global, pieces: &[Piece]) -> Result<Vec<u32>, RuleError>
+fn order_with_all(items: &Items, alloc: Global, pieces: &[NodePiece]) -> Result<Vec<u32>, RuleError>
     ensures order { IfOk result (λ order. IsOrderOf items.now order.items 0 (filter_map adt_item (item_syns (items_of (parts_in pieces.now))))) }
     ensures short { IfErr result (λ e. e ≡ RuleError.Memory) }
 {
@@ -134,7 +134,7 @@ fn order_with_all(items: &Items, alloc: Global, pieces: &[Piece]) -> Result<Vec<
 }
 
 /// No struct or enum holds itself.
-pub fn finite(items: &mut Items, alloc: Global, pieces: &[Piece]) -> Result<(), RuleError>
+pub fn finite(items: &mut Items, alloc: Global, pieces: &[NodePiece]) -> Result<(), RuleError>
     ensures { Answers (walk.all_finite 0 (filter_map adt_item (item_syns (items_of (parts_in pieces.now)))) (starting_with items.old)) result items.new }
 {
     let order = order_with_all(items, alloc, pieces)?;

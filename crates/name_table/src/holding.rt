@@ -15,7 +15,7 @@ use std::alloc::Global;
 
 /// What is asked of a type that another one holds.
 #[derive(Clone, Copy)]
-pub enum Question<'a> {
+pub enum HoldingQuestion<'a> {
     /// It is this type, or known to hold it.
     Holds { part: TyId, known: &'a [bool] },
     /// Its place in an order is past this one.
@@ -43,23 +43,23 @@ fn place_of(order: &[u32], id: TyId) -> u32
     }
 }
 
-fn meets(question: &Question, id: TyId) -> bool
+fn meets(question: &HoldingQuestion, id: TyId) -> bool
     ensures { result ≡ met_by question.now id }
 {
     match question {
-        Question::Holds { part, known } => id.0 == part.0 || is_known(known, id),
-        Question::Past { order, place } => *place < place_of(order, id),
-        Question::NotBefore { order, place } => !(place_of(order, id) < *place),
+        HoldingQuestion::Holds { part, known } => id.0 == part.0 || is_known(known, id),
+        HoldingQuestion::Past { order, place } => *place < place_of(order, id),
+        HoldingQuestion::NotBefore { order, place } => !(place_of(order, id) < *place),
     }
 }
 
-fn any_meets(question: &Question, ids: &List<TyId>) -> bool
+fn any_meets(question: &HoldingQuestion, ids: &List<TyId>) -> bool
     ensures { result ≡ list_any (met_by question.now) ids.now }
 {
     ids.iter().any(|id| meets(question, *id))
 }
 
-fn any_field_meets(question: &Question, variants: &List<Variant>) -> bool
+fn any_field_meets(question: &HoldingQuestion, variants: &List<Variant>) -> bool
     ensures { result ≡ list_any (λ variant. list_any (met_by question.now) variant.fields) variants.now }
 {
     variants
@@ -68,7 +68,7 @@ fn any_field_meets(question: &Question, variants: &List<Variant>) -> bool
 }
 
 /// Whether any type that a type holds at once meets a question.
-fn any_held(items: &Items, question: &Question, ty: &Ty) -> bool
+fn any_held(items: &Items, question: &HoldingQuestion, ty: &Ty) -> bool
     ensures { result ≡ list_any (met_by question.now) (held_by items.now ty.now) }
 {
     match ty {
@@ -96,7 +96,7 @@ fn is_news(items: &Items, part: TyId, known: &[bool], n: usize) -> bool
         return false;
     }
     match items.ty(TyId(n as u32)) {
-        Some(ty) => any_held(items, &Question::Holds { part, known }, ty),
+        Some(ty) => any_held(items, &HoldingQuestion::Holds { part, known }, ty),
         None => false,
     }
 }
@@ -161,7 +161,7 @@ fn is_behind(items: &Items, order: &[u32], id: TyId) -> bool
 {
     let place = place_of(order, id);
     match items.ty(id) {
-        Some(ty) => !any_held(items, &Question::NotBefore { order, place }, ty),
+        Some(ty) => !any_held(items, &HoldingQuestion::NotBefore { order, place }, ty),
         None => false,
     }
 }
@@ -188,7 +188,7 @@ fn is_placed(items: &Items, order: &[u32], id: TyId, ty: &Ty) -> bool
     ensures { result ≡ not (list_any (λ h. nat_lt (placed_at order.now id) (placed_at order.now h)) (held_by items.now ty.now)) }
 {
     let place = place_of(order, id);
-    !any_held(items, &Question::Past { order, place }, ty)
+    !any_held(items, &HoldingQuestion::Past { order, place }, ty)
 }
 
 /// Whether no type stands before what it holds.

@@ -15,7 +15,7 @@ use item_heads::{Known, add_impl, broken};
 use mir_base::{Rule, RuleError};
 use mir_ty::Items;
 use src_ast::{ItemForm, item_form, name_of};
-use src_tree::{Node, Piece};
+use src_tree::{NodePiece, SyntaxNode};
 
 fn is_drop(name: &str) -> bool
     ensures { result ≡ walk.is_drop name.now }
@@ -24,7 +24,12 @@ fn is_drop(name: &str) -> bool
 }
 
 /// An impl of a trait, added; one of `Drop` is a body of its struct or enum alone.
-fn trait_impl(items: &mut Items, known: &Known, trait_: &Node, name: &Node) -> Result<(), RuleError>
+fn trait_impl(
+    items: &mut Items,
+    known: &Known,
+    trait_: &SyntaxNode,
+    name: &SyntaxNode,
+) -> Result<(), RuleError>
     ensures answers { Answers (impl_named (known_of known.now) (named (syn_of trait_.now)) (named (syn_of name.now)) (starting_with items.old)) result items.new }
     ensures grows { length items.old.types ≤ length items.new.types }
 {
@@ -45,8 +50,8 @@ fn trait_impl(items: &mut Items, known: &Known, trait_: &Node, name: &Node) -> R
 fn maybe_impl(
     items: &mut Items,
     known: &Known,
-    trait_: Option<&Node>,
-    name: &Node,
+    trait_: Option<&SyntaxNode>,
+    name: &SyntaxNode,
 ) -> Result<(), RuleError>
     ensures answers { Answers (impl_of_names (known_of known.now) (name_seen trait_.entry) (named (syn_of name.now)) (starting_with items.old)) result items.new }
     ensures grows { length items.old.types ≤ length items.new.types }
@@ -58,7 +63,7 @@ fn maybe_impl(
 }
 
 #[tactic(auto, using(crate::proofs::ItemForms::impl_seen))]
-fn impl_item(items: &mut Items, known: &Known, node: &Node) -> Result<(), RuleError>
+fn impl_item(items: &mut Items, known: &Known, node: &SyntaxNode) -> Result<(), RuleError>
     ensures answers { Answers (walk.impl_of (known_of known.now) (syn_of node.now) (starting_with items.old)) result items.new }
     ensures grows { length items.old.types ≤ length items.new.types }
 {
@@ -73,18 +78,18 @@ fn impl_item(items: &mut Items, known: &Known, node: &Node) -> Result<(), RuleEr
 }
 
 #[tactic(auto, using(crate::proofs::EachItem::done_token, crate::proofs::EachItem::done_node))]
-fn impl_at(items: &mut Items, known: &Known, piece: &Piece) -> Result<(), RuleError>
+fn impl_at(items: &mut Items, known: &Known, piece: &NodePiece) -> Result<(), RuleError>
     ensures answers { Answers (done_in (walk.impl_of (known_of known.now)) (piece_of piece.now) (starting_with items.old)) result items.new }
     ensures grows { length items.old.types ≤ length items.new.types }
 {
     match piece {
-        Piece::Node(node) => impl_item(items, known, node),
-        Piece::Token(_) => Ok(()),
+        NodePiece::Node(node) => impl_item(items, known, node),
+        NodePiece::Token(_) => Ok(()),
     }
 }
 
 /// All impls of traits, added in text order.
-pub fn impls(items: &mut Items, known: &Known, pieces: &[Piece]) -> Result<(), RuleError>
+pub fn impls(items: &mut Items, known: &Known, pieces: &[NodePiece]) -> Result<(), RuleError>
     ensures answers { Answers (each_done (walk.impl_of (known_of known.now)) (item_syns (items_of (parts_in pieces.now))) (starting_with items.old)) result items.new }
     ensures grows { length items.old.types ≤ length items.new.types }
 {

@@ -16,7 +16,7 @@ use item_heads::{NameTable, broken};
 use mir_base::{NoMemory, Rule, RuleError};
 use mir_ty::Items;
 use src_ast::{ItemForm, item_form, name_of};
-use src_tree::{Node, Piece};
+use src_tree::{NodePiece, SyntaxNode};
 use std::alloc::Global;
 
 /// Whether a name is one of the language, which no item may have.
@@ -46,7 +46,7 @@ fn is_built_in(name: &str) -> bool
 
 /// The name of an item; an impl has none.
 #[tactic(auto, using(crate::proofs::ItemNames::item_name_seen))]
-fn own_name(node: &Node) -> Option<&Node>
+fn own_name(node: &SyntaxNode) -> Option<&SyntaxNode>
     ensures { name_seen result ≡ item_name (syn_of node.now) }
 {
     match item_form(node) {
@@ -60,12 +60,12 @@ fn own_name(node: &Node) -> Option<&Node>
 }
 
 #[tactic(auto, using(crate::proofs::ItemNames::at_token, crate::proofs::ItemNames::at_node))]
-fn name_at(piece: &Piece) -> Option<&Node>
+fn name_at(piece: &NodePiece) -> Option<&SyntaxNode>
     ensures { name_seen result ≡ name_in_piece (piece_of piece.now) }
 {
     match piece {
-        Piece::Node(node) => own_name(node),
-        Piece::Token(_) => None,
+        NodePiece::Node(node) => own_name(node),
+        NodePiece::Token(_) => None,
     }
 }
 
@@ -95,7 +95,7 @@ fn with_one(
     items: &Items,
     alloc: Global,
     seen: NameTable,
-    name: &Node,
+    name: &SyntaxNode,
 ) -> Result<NameTable, RuleError>
     ensures { Answers (with_name_by (Some (named (syn_of name.now))) seen (starting_with items.now)) result items.now }
 {
@@ -114,7 +114,7 @@ fn with_name(
     items: &Items,
     alloc: Global,
     seen: NameTable,
-    name: Option<&Node>,
+    name: Option<&SyntaxNode>,
 ) -> Result<NameTable, RuleError>
     ensures { Answers (with_name_by (name_seen name.entry) seen (starting_with items.now)) result items.now }
 {
@@ -125,7 +125,7 @@ fn with_name(
 }
 
 /// The names of structs, enums, traits and functions differ, and none is one of the language.
-pub fn names_differ(items: &Items, alloc: Global, pieces: &[Piece]) -> Result<(), RuleError>
+pub fn names_differ(items: &Items, alloc: Global, pieces: &[NodePiece]) -> Result<(), RuleError>
     ensures { Answers (walk.names_differ (filter_map item_name (item_syns (items_of (parts_in pieces.now)))) [] (starting_with items.now)) result items.now }
 {
     let mut seen = NameTable::new(alloc);

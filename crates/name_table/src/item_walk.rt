@@ -17,7 +17,7 @@ use item_heads::{Count, Known, name_from, node_bodies};
 use mir_base::RuleError;
 use mir_ty::Items;
 use src_ast::{ItemForm, item_form, name_of};
-use src_tree::{Node, Piece};
+use src_tree::{NodePiece, SyntaxNode};
 
 /// How far a walk over items has come.
 #[derive(Drop)]
@@ -29,7 +29,7 @@ pub struct Walked {
 
 /// The struct or enum whose impl an item is.
 #[tactic(auto, using(crate::proofs::ItemForms::owner_seen))]
-fn owner(node: &Node) -> Option<&str>
+fn owner(node: &SyntaxNode) -> Option<&str>
     ensures { word_of result ≡ impl_owner (syn_of node.now) }
 {
     match item_form(node) {
@@ -43,7 +43,7 @@ fn owner(node: &Node) -> Option<&str>
 }
 
 #[tactic(auto, using(crate::proofs::ItemForms::trait_name_seen))]
-fn is_trait(node: &Node) -> bool
+fn is_trait(node: &SyntaxNode) -> bool
     ensures { result ≡ is_some (trait_name (syn_of node.now)) }
 {
     match item_form(node) {
@@ -57,7 +57,7 @@ fn is_trait(node: &Node) -> bool
 }
 
 /// How many traits there are behind an item.
-fn traits_behind(traits: u32, node: &Node) -> Result<u32, RuleError>
+fn traits_behind(traits: u32, node: &SyntaxNode) -> Result<u32, RuleError>
     ensures more { IfOk result (λ n. n ≡ one_more (trait_name (syn_of node.now)) traits) }
     ensures short { IfErr result (λ e. e ≡ RuleError.Memory) }
 {
@@ -76,7 +76,7 @@ fn item_and_bodies(
     known: &Known,
     traits: u32,
     count: Count,
-    node: &Node,
+    node: &SyntaxNode,
 ) -> Result<Count, RuleError>
     requires ready { 8 ≤ length items.old.types }
     requires next { traits ≡ length items.old.traits }
@@ -91,7 +91,7 @@ fn node_added(
     items: &mut Items,
     known: &Known,
     walked: Walked,
-    node: &Node,
+    node: &SyntaxNode,
 ) -> Result<Walked, RuleError>
     requires ready { 8 ≤ length items.old.types }
     requires next { walked.traits ≡ length items.old.traits }
@@ -113,7 +113,7 @@ fn piece_added(
     items: &mut Items,
     known: &Known,
     walked: Walked,
-    piece: &Piece,
+    piece: &NodePiece,
 ) -> Result<Walked, RuleError>
     requires ready { 8 ≤ length items.old.types }
     requires next { walked.traits ≡ length items.old.traits }
@@ -122,8 +122,8 @@ fn piece_added(
     ensures next { IfOk result (λ walked. walked.traits ≡ length items.new.traits) }
 {
     match piece {
-        Piece::Node(node) => node_added(items, known, walked, node),
-        Piece::Token(_) => Ok(walked),
+        NodePiece::Node(node) => node_added(items, known, walked, node),
+        NodePiece::Token(_) => Ok(walked),
     }
 }
 
@@ -131,7 +131,7 @@ fn heads_from(
     items: &mut Items,
     known: &Known,
     walked: Walked,
-    pieces: &[Piece],
+    pieces: &[NodePiece],
 ) -> Result<(), RuleError>
     requires ready { 8 ≤ length items.old.types }
     requires next { walked.traits ≡ length items.old.traits }
@@ -146,7 +146,7 @@ fn heads_from(
 }
 
 /// All items with their heads, added in text order to items without a trait.
-pub fn heads(items: &mut Items, known: &Known, pieces: &[Piece]) -> Result<(), RuleError>
+pub fn heads(items: &mut Items, known: &Known, pieces: &[NodePiece]) -> Result<(), RuleError>
     requires ready { 8 ≤ length items.old.types }
     requires first { items.old.traits ≡ [] }
     ensures answers { Answers (walk.heads_collected (known_of known.now) (record { outer = []; in_outer = 0; closures = 0 }) (items_of (parts_in pieces.now)) (starting_with items.old)) result items.new }

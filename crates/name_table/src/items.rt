@@ -15,7 +15,7 @@ use item_heads::{Known, enum_item, impl_head, interned, name_from, struct_item, 
 use mir_base::{List, NoMemory, RuleError};
 use mir_ty::{Items, Sig, TraitDef, Ty, TyId};
 use src_ast::{ItemForm, Nodes, item_form, name_of};
-use src_tree::Node;
+use src_tree::SyntaxNode;
 
 /// A trait with these methods, added.
 fn add_trait(
@@ -72,7 +72,12 @@ fn trait_item(
 
 /// An item with its own head, added; `traits` is how many traits there are.
 #[tactic(auto, using(crate::proofs::ItemForms::head_seen))]
-pub fn item(items: &mut Items, known: &Known, traits: u32, node: &Node) -> Result<(), RuleError>
+pub fn item(
+    items: &mut Items,
+    known: &Known,
+    traits: u32,
+    node: &SyntaxNode,
+) -> Result<(), RuleError>
     requires ready { 8 ≤ length items.old.types }
     requires next { traits ≡ length items.old.traits }
     ensures answers { Answers (walk.item_head (known_of known.now) (syn_of node.now) (starting_with items.old)) result items.new }

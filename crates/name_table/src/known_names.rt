@@ -14,7 +14,7 @@ ghost use Rattle.typing_rules.specs.Items.{bodies_among, bodies_in, is_body_row,
 use item_heads::{Known, NameTable, path_of_method};
 use mir_base::{NoMemory, RuleError};
 use src_ast::{ItemForm, item_form, name_of};
-use src_tree::{Node, Piece, Row};
+use src_tree::{GrammarRow, NodePiece, SyntaxNode};
 use std::alloc::{AllocError, Global};
 use std::mem;
 
@@ -34,7 +34,7 @@ pub struct ImplNames<'a> {
 }
 
 #[tactic(auto, using(crate::proofs::ItemForms::adt_name_seen))]
-fn adt_name(node: &Node) -> Option<&str>
+fn adt_name(node: &SyntaxNode) -> Option<&str>
     ensures { word_of result ≡ told.adt_name (syn_of node.now) }
 {
     match item_form(node) {
@@ -48,7 +48,7 @@ fn adt_name(node: &Node) -> Option<&str>
 }
 
 #[tactic(auto, using(crate::proofs::ItemForms::trait_name_seen))]
-fn trait_name(node: &Node) -> Option<&str>
+fn trait_name(node: &SyntaxNode) -> Option<&str>
     ensures { word_of result ≡ told.trait_name (syn_of node.now) }
 {
     match item_form(node) {
@@ -61,7 +61,7 @@ fn trait_name(node: &Node) -> Option<&str>
     }
 }
 
-fn sought(sort: NameSort, node: &Node) -> Option<&str>
+fn sought(sort: NameSort, node: &SyntaxNode) -> Option<&str>
     ensures { word_of result ≡ sought_by sort (syn_of node.now) }
 {
     match sort {
@@ -71,12 +71,12 @@ fn sought(sort: NameSort, node: &Node) -> Option<&str>
 }
 
 #[tactic(auto, using(crate::proofs::ItemWalk::told_token, crate::proofs::ItemWalk::told_node))]
-fn sought_at(sort: NameSort, piece: &Piece) -> Option<&str>
+fn sought_at(sort: NameSort, piece: &NodePiece) -> Option<&str>
     ensures { word_of result ≡ told_by (sought_by sort) (piece_of piece.now) }
 {
     match piece {
-        Piece::Node(node) => sought(sort, node),
-        Piece::Token(_) => None,
+        NodePiece::Node(node) => sought(sort, node),
+        NodePiece::Token(_) => None,
     }
 }
 
@@ -117,7 +117,7 @@ fn with_found(alloc: Global, table: NameTable, name: Option<&str>) -> Result<Nam
 /// # Errors
 ///
 /// [`RuleError::Memory`] alone, where memory is wanted.
-pub fn names_of(alloc: Global, sort: NameSort, pieces: &[Piece]) -> Result<NameTable, RuleError>
+pub fn names_of(alloc: Global, sort: NameSort, pieces: &[NodePiece]) -> Result<NameTable, RuleError>
     ensures names { IfOk result (λ names. names ≡ filter_map (sought_by sort) (item_syns (items_of (parts_in pieces.now)))) }
     ensures short { IfErr result (λ e. e ≡ RuleError.Memory) }
 {
@@ -152,7 +152,7 @@ fn path(alloc: Global, names: ImplNames, name: &str) -> Result<String, AllocErro
     }
 }
 
-fn trait_word(trait_: Option<&Node>) -> Option<&str>
+fn trait_word(trait_: Option<&SyntaxNode>) -> Option<&str>
     ensures { word_of result ≡ trait_named trait_.entry }
 {
     match trait_ {
@@ -163,7 +163,7 @@ fn trait_word(trait_: Option<&Node>) -> Option<&str>
 
 /// The names of an impl; none where an item is no impl.
 #[tactic(auto, using(crate::proofs::ItemForms::path_seen))]
-fn impl_names(node: &Node) -> ImplNames<'_>
+fn impl_names(node: &SyntaxNode) -> ImplNames<'_>
     ensures { (name : Listed ℕ) → path_within result name ≡ path_in (syn_of node.now) name }
 {
     match item_form(node) {
@@ -180,7 +180,7 @@ fn impl_names(node: &Node) -> ImplNames<'_>
 
 /// The name of a function or a method; a closure has none.
 #[tactic(auto, using(crate::proofs::ItemForms::own_name_seen))]
-fn own_name(node: &Node) -> Option<&str>
+fn own_name(node: &SyntaxNode) -> Option<&str>
     ensures { word_of result ≡ told.own_name (syn_of node.now) }
 {
     match item_form(node) {
@@ -194,7 +194,7 @@ fn own_name(node: &Node) -> Option<&str>
 }
 
 /// The path of a body; an empty one of a closure.
-fn body_path(alloc: Global, names: ImplNames, node: &Node) -> Result<String, AllocError>
+fn body_path(alloc: Global, names: ImplNames, node: &SyntaxNode) -> Result<String, AllocError>
     ensures { IfOk result (λ path. string_bytes path ≡ path_of_body names.entry (syn_of node.now)) }
 {
     match own_name(node) {
@@ -207,7 +207,7 @@ fn add_body(
     alloc: Global,
     table: &mut NameTable,
     names: ImplNames,
-    node: &Node,
+    node: &SyntaxNode,
 ) -> Result<(), RuleError>
     ensures found { OnOk result (table.new ≡ table.old ++ path_of_body names.entry (syn_of node.now) ∷ []) }
     ensures short { IfErr result (λ e. e ≡ RuleError.Memory) }
@@ -218,11 +218,11 @@ fn add_body(
     }
 }
 
-fn is_body(row: Row) -> bool
+fn is_body(row: GrammarRow) -> bool
     ensures { result ≡ is_body_row row }
 {
     match row {
-        Row::Fn | Row::Method | Row::Closure => true,
+        GrammarRow::Fn | GrammarRow::Method | GrammarRow::Closure => true,
         _ => false,
     }
 }
@@ -232,7 +232,7 @@ fn add_own(
     alloc: Global,
     table: &mut NameTable,
     names: ImplNames,
-    node: &Node,
+    node: &SyntaxNode,
 ) -> Result<(), RuleError>
     ensures found { OnOk result (table.new ≡ table.old ++ own_paths (path_of_body names.entry) node.now.row (syn_of node.now)) }
     ensures short { IfErr result (λ e. e ≡ RuleError.Memory) }
@@ -250,7 +250,7 @@ fn add_inner(
     alloc: Global,
     table: &mut NameTable,
     names: ImplNames,
-    pieces: &[Piece],
+    pieces: &[NodePiece],
 ) -> Result<(), RuleError>
     ensures found { OnOk result (table.new ≡ table.old ++ map (path_of_body names.entry) (bodies_among (parts_in pieces.now))) }
     ensures short { IfErr result (λ e. e ≡ RuleError.Memory) }
@@ -267,14 +267,14 @@ fn add_piece(
     alloc: Global,
     table: &mut NameTable,
     names: ImplNames,
-    piece: &Piece,
+    piece: &NodePiece,
 ) -> Result<(), RuleError>
     ensures found { OnOk result (table.new ≡ table.old ++ map (path_of_body names.entry) (bodies_in_piece (piece_of piece.now))) }
     ensures short { IfErr result (λ e. e ≡ RuleError.Memory) }
 {
     match piece {
-        Piece::Node(node) => add_node(alloc, table, names, node),
-        Piece::Token(_) => Ok(()),
+        NodePiece::Node(node) => add_node(alloc, table, names, node),
+        NodePiece::Token(_) => Ok(()),
     }
 }
 
@@ -285,7 +285,7 @@ fn add_node(
     alloc: Global,
     table: &mut NameTable,
     names: ImplNames,
-    node: &Node,
+    node: &SyntaxNode,
 ) -> Result<(), RuleError>
     ensures found { OnOk result (table.new ≡ table.old ++ map (path_of_body names.entry) (bodies_in (layout_of node.now))) }
     ensures short { IfErr result (λ e. e ≡ RuleError.Memory) }
@@ -295,7 +295,7 @@ fn add_node(
 }
 
 /// The paths of the bodies of an item are put behind the others.
-fn add_item(alloc: Global, table: &mut NameTable, node: &Node) -> Result<(), RuleError>
+fn add_item(alloc: Global, table: &mut NameTable, node: &SyntaxNode) -> Result<(), RuleError>
     ensures found { OnOk result (table.new ≡ table.old ++ map (told.body_path (syn_of node.now)) (bodies_in (layout_of node.now))) }
     ensures short { IfErr result (λ e. e ≡ RuleError.Memory) }
 {
@@ -303,18 +303,18 @@ fn add_item(alloc: Global, table: &mut NameTable, node: &Node) -> Result<(), Rul
 }
 
 #[tactic(auto, using(crate::proofs::ItemWalk::paths_token, crate::proofs::ItemWalk::paths_node))]
-fn add_item_at(alloc: Global, table: &mut NameTable, piece: &Piece) -> Result<(), RuleError>
+fn add_item_at(alloc: Global, table: &mut NameTable, piece: &NodePiece) -> Result<(), RuleError>
     ensures found { OnOk result (table.new ≡ table.old ++ paths_in_piece (piece_of piece.now)) }
     ensures short { IfErr result (λ e. e ≡ RuleError.Memory) }
 {
     match piece {
-        Piece::Node(node) => add_item(alloc, table, node),
-        Piece::Token(_) => Ok(()),
+        NodePiece::Node(node) => add_item(alloc, table, node),
+        NodePiece::Token(_) => Ok(()),
     }
 }
 
 /// The paths of all bodies, in their order.
-fn body_paths(alloc: Global, pieces: &[Piece]) -> Result<NameTable, RuleError>
+fn body_paths(alloc: Global, pieces: &[NodePiece]) -> Result<NameTable, RuleError>
     ensures paths { IfOk result (λ paths. paths ≡ told.body_paths (items_of (parts_in pieces.now))) }
     ensures short { IfErr result (λ e. e ≡ RuleError.Memory) }
 {
@@ -326,7 +326,7 @@ fn body_paths(alloc: Global, pieces: &[Piece]) -> Result<NameTable, RuleError>
 }
 
 /// What is known of all items by their names alone.
-pub fn known(alloc: Global, pieces: &[Piece]) -> Result<Known, RuleError>
+pub fn known(alloc: Global, pieces: &[NodePiece]) -> Result<Known, RuleError>
     ensures known { IfOk result (λ known. known_of known ≡ walk.known_of (items_of (parts_in pieces.now))) }
     ensures short { IfErr result (λ e. e ≡ RuleError.Memory) }
 {

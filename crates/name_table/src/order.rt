@@ -12,7 +12,7 @@ use std::alloc::Global;
 
 /// What is left to do in a search.
 #[derive(Clone, Copy, Drop)]
-enum Visit {
+enum TypeVisit {
     Enter(TyId),
     /// What is reached from a type is reached from the one that holds it.
     Reach { from: TyId, to: TyId },
@@ -22,7 +22,7 @@ enum Visit {
 
 /// How far a search has come, with a number or a place for each type.
 #[derive(Drop)]
-struct Search {
+struct TypeSearch {
     /// The numbers of types in the order in which they were entered, from 1; 0 for one that was not.
     entered: Vec<u32>,
     /// The least number that is known to be reached, among types without a place.
@@ -30,7 +30,7 @@ struct Search {
     places: Vec<u32>,
     /// Types that were entered and have no place yet.
     open: Vec<TyId>,
-    left: Vec<Visit>,
+    left: Vec<TypeVisit>,
     next_number: u32,
     next_place: u32,
 }
@@ -48,7 +48,7 @@ fn put(numbers: &mut [u32], id: TyId, number: u32) {
     }
 }
 
-fn later(left: &mut Vec<Visit>, visit: Visit) -> Result<(), RuleError>
+fn later(left: &mut Vec<TypeVisit>, visit: TypeVisit) -> Result<(), RuleError>
     ensures { IfErr result (λ e. e ≡ RuleError.Memory) }
 {
     match left.push(visit) {
@@ -58,14 +58,14 @@ fn later(left: &mut Vec<Visit>, visit: Visit) -> Result<(), RuleError>
 }
 
 /// A type that another holds is entered next, and then gone back from.
-fn part_later(left: &mut Vec<Visit>, from: TyId, to: TyId) -> Result<(), RuleError>
+fn part_later(left: &mut Vec<TypeVisit>, from: TyId, to: TyId) -> Result<(), RuleError>
     ensures { IfErr result (λ e. e ≡ RuleError.Memory) }
 {
-    later(left, Visit::Reach { from, to })?;
-    later(left, Visit::Enter(to))
+    later(left, TypeVisit::Reach { from, to })?;
+    later(left, TypeVisit::Enter(to))
 }
 
-fn parts_later(left: &mut Vec<Visit>, from: TyId, parts: &List<TyId>) -> Result<(), RuleError>
+fn parts_later(left: &mut Vec<TypeVisit>, from: TyId, parts: &List<TyId>) -> Result<(), RuleError>
     ensures { IfErr result (λ e. e ≡ RuleError.Memory) }
 {
     for part in parts.as_slice() {
@@ -76,7 +76,7 @@ fn parts_later(left: &mut Vec<Visit>, from: TyId, parts: &List<TyId>) -> Result<
 
 fn fields_later(
     items: &Items,
-    left: &mut Vec<Visit>,
+    left: &mut Vec<TypeVisit>,
     from: TyId,
     number: u32,
 ) -> Result<(), RuleError>
@@ -92,7 +92,7 @@ fn fields_later(
 }
 
 /// What a type holds comes next.
-fn held_later(items: &Items, left: &mut Vec<Visit>, id: TyId) -> Result<(), RuleError>
+fn held_later(items: &Items, left: &mut Vec<TypeVisit>, id: TyId) -> Result<(), RuleError>
     ensures { IfErr result (λ e. e ≡ RuleError.Memory) }
 {
     match items.ty(id) {
@@ -104,7 +104,7 @@ fn held_later(items: &Items, left: &mut Vec<Visit>, id: TyId) -> Result<(), Rule
 }
 
 /// A type gets the next number, and what it holds comes next.
-fn open(items: &Items, search: &mut Search, id: TyId) -> Result<(), RuleError>
+fn open(items: &Items, search: &mut TypeSearch, id: TyId) -> Result<(), RuleError>
     ensures { IfErr result (λ e. e ≡ RuleError.Memory) }
 {
     search.next_number = search.next_number.saturating_add(1);
@@ -113,11 +113,11 @@ fn open(items: &Items, search: &mut Search, id: TyId) -> Result<(), RuleError>
     let Ok(()) = search.open.push(id) else {
         return Err(RuleError::Memory);
     };
-    later(&mut search.left, Visit::Leave(id))?;
+    later(&mut search.left, TypeVisit::Leave(id))?;
     held_later(items, &mut search.left, id)
 }
 
-fn enter(items: &Items, search: &mut Search, id: TyId) -> Result<(), RuleError>
+fn enter(items: &Items, search: &mut TypeSearch, id: TyId) -> Result<(), RuleError>
     ensures { IfErr result (λ e. e ≡ RuleError.Memory) }
 {
     if at(search.entered.as_slice(), id) == 0 {
@@ -127,7 +127,7 @@ fn enter(items: &Items, search: &mut Search, id: TyId) -> Result<(), RuleError>
     }
 }
 
-fn reach(search: &mut Search, from: TyId, to: TyId) {
+fn reach(search: &mut TypeSearch, from: TyId, to: TyId) {
     let number = at(search.reached.as_slice(), to);
     if number < at(search.reached.as_slice(), from) {
         put(search.reached.as_mut_slice(), from, number);
@@ -135,7 +135,7 @@ fn reach(search: &mut Search, from: TyId, to: TyId) {
 }
 
 /// The types that were opened from this one on share the next place.
-fn close(search: &mut Search, id: TyId) {
+fn close(search: &mut TypeSearch, id: TyId) {
     let place = search.next_place;
     search.next_place = place.saturating_add(1);
     while let Some(member) = search.open.pop() {
@@ -147,21 +147,21 @@ fn close(search: &mut Search, id: TyId) {
     }
 }
 
-fn leave(search: &mut Search, id: TyId) {
+fn leave(search: &mut TypeSearch, id: TyId) {
     if at(search.reached.as_slice(), id) == at(search.entered.as_slice(), id) {
         close(search, id);
     }
 }
 
 /// Goes on until nothing is left to do.
-fn search_all(items: &Items, search: &mut Search) -> Result<(), RuleError>
+fn search_all(items: &Items, search: &mut TypeSearch) -> Result<(), RuleError>
     ensures { IfErr result (λ e. e ≡ RuleError.Memory) }
 {
     for _ in 0..u64::MAX {
         match search.left.pop() {
-            Some(Visit::Enter(id)) => enter(items, search, id)?,
-            Some(Visit::Reach { from, to }) => reach(search, from, to),
-            Some(Visit::Leave(id)) => leave(search, id),
+            Some(TypeVisit::Enter(id)) => enter(items, search, id)?,
+            Some(TypeVisit::Reach { from, to }) => reach(search, from, to),
+            Some(TypeVisit::Leave(id)) => leave(search, id),
             None => return Ok(()),
         }
     }
@@ -178,11 +178,11 @@ fn zeros(alloc: Global, count: usize) -> Result<Vec<u32>, RuleError>
 }
 
 /// A search with all types to be entered.
-fn search_for(alloc: Global, count: usize) -> Result<Search, RuleError>
+fn search_for(alloc: Global, count: usize) -> Result<TypeSearch, RuleError>
     requires { count < 2 ^ 32 }
     ensures { IfErr result (λ e. e ≡ RuleError.Memory) }
 {
-    let mut search = Search {
+    let mut search = TypeSearch {
         entered: zeros(alloc, count)?,
         reached: zeros(alloc, count)?,
         places: zeros(alloc, count)?,
@@ -192,7 +192,7 @@ fn search_for(alloc: Global, count: usize) -> Result<Search, RuleError>
         next_place: 0,
     };
     for n in 0..count {
-        later(&mut search.left, Visit::Enter(TyId(n as u32)))?;
+        later(&mut search.left, TypeVisit::Enter(TyId(n as u32)))?;
     }
     Ok(search)
 }

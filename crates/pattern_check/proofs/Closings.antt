@@ -20,28 +20,28 @@ use Rattle.type_rows.specs.Stand.{Gives, below, top}
 use Rattle.type_rows.specs.declared.checker.Checker.{Checker}
 use Rattle.typed_tree.specs.Tree as tree
 use Rattle.typed_tree.specs.Tree.{Node, Nodes, a_node, Fields, no_field, a_field, Form}
-use Rattle.typing_rules.specs.Check.{Check, State, Broken, and_then, ◌>>=◌, ◌>>◌, known, number, pure, obeys, the_items}
-use Rattle.typing_rules.specs.Patterns.{Bound, Target, are_given_once, count_of, field_patterns, fields_from, fields_of, inside_of, is_count, of_target, part_patterns, pattern, pattern_form, tuple_types}
+use Rattle.typing_rules.specs.Check.{Check, TypingState, Broken, and_then, ◌>>=◌, ◌>>◌, known, number, pure, obeys, the_items}
+use Rattle.typing_rules.specs.Patterns.{BoundPattern, PatternTarget, are_given_once, count_of, field_patterns, fields_from, fields_of, inside_of, is_count, of_target, part_patterns, pattern, pattern_form, tuple_types}
 use Rattle.typing_rules.specs.Places.{a_node_of}
 use Rattle.typing_rules.specs.Rows.{Expected, Given, all_given, are_known}
-use Rattle.typing_rules.specs.Scope.{Env, Entry}
+use Rattle.typing_rules.specs.Scope.{Env, NamedEntry}
 use Rattle.pattern_check.specs.Numbers.{numbers_below}
 use Rattle.pattern_check.specs.Rests.{counted_rest, is_tuple_count, order_rest, parts_by_name, parts_in_order}
 
 -- ---- structs and variants
 
 abbrev Parts : Type 0
-Parts = Fields × List Entry × Bool × Bool
+Parts = Fields × List NamedEntry × Bool × Bool
 
-module _ (w : Env) (id : ℕ) (at : Pos) (e : Expected) (ty : TyId) (t : Target) where
-  abbrev closed : Parts → Check Bound
+module _ (w : Env) (id : ℕ) (at : Pos) (e : Expected) (ty : TyId) (t : PatternTarget) where
+  abbrev closed : Parts → Check BoundPattern
   closed qs = target_bound id at e.takes_all ty t qs.0 qs.2 qs.3 qs.1
 
-  abbrev in_order : Syns → Bool → List TyId → Result ((Nodes × List Entry) × State) Broken → Result (Bound × State) Broken
+  abbrev in_order : Syns → Bool → List TyId → Result ((Nodes × List NamedEntry) × TypingState) Broken → Result (BoundPattern × TypingState) Broken
   in_order parts dots tys o =
       and_then {A = Parts} (and_then o (λ ps. pure {A = Parts} (fields_from 0 ps.0, ps.1, is_tuple_count w t (count_of parts) (length tys) dots, true))) closed
 
-  pub parts_close : (parts : Syns) (dots : Bool) (xs ys : List Entry) (s u : State) (k : ℕ) (ns : List Node) (b : Bool) (r : Result (Unit {0}) RuleError) (c : Checker) →
+  pub parts_close : (parts : Syns) (dots : Bool) (xs ys : List NamedEntry) (s u : TypingState) (k : ℕ) (ns : List Node) (b : Bool) (r : Result (Unit {0}) RuleError) (c : Checker) →
       part_patterns w (inside_of s.items ty e) (fields_of s.items t) parts xs s ≡ Ok ((last_nodes k ns, ys), u) →
       b ≡ is_tuple_count w t (count_of parts) (length (fields_of s.items t)) dots →
       Gives (target_rest id at e.takes_all ty t (fields_from 0 (last_nodes k ns)) b true u) r c →
@@ -53,17 +53,17 @@ module _ (w : Env) (id : ℕ) (at : Pos) (e : Expected) (ty : TyId) (t : Target)
       ∙ ends_beside id at e.takes_all ty t (fields_from 0 (last_nodes k ns)) b true ys u))
       (beside (target_rest id at e.takes_all ty t (fields_from 0 (last_nodes k ns)) b true u) r ys c gives)
 
-  pub parts_stop : (parts : Syns) (dots : Bool) (xs : List Entry) (s : State) (err : RuleError) →
+  pub parts_stop : (parts : Syns) (dots : Bool) (xs : List NamedEntry) (s : TypingState) (err : RuleError) →
       Refuses (part_patterns w (inside_of s.items ty e) (fields_of s.items t) parts xs s) err →
       Refuses (target_tail id at e ty t (parts_in_order w t parts dots xs) s) err
   parts_stop parts dots xs s (RuleError.Broken rule p) h = ap (in_order parts dots (fields_of s.items t)) h
   parts_stop parts dots xs s RuleError.Memory h = tt
 
-  abbrev by_name : Bool → List TyId → Result ((Fields × List Entry × Given) × State) Broken → Result (Bound × State) Broken
+  abbrev by_name : Bool → List TyId → Result ((Fields × List NamedEntry × Given) × TypingState) Broken → Result (BoundPattern × TypingState) Broken
   by_name dots tys o =
       and_then {A = Parts} (and_then o (λ ps. pure {A = Parts} (ps.0, ps.1, are_given_once ps.2 && (dots || all_given (length tys) ps.2), are_known ps.2))) closed
 
-  pub fields_close : (v : Variant) (fields : Syns) (dots : Bool) (xs ys : List Entry) (s u : State) (given : Given) (ns : List Node) (n : ℕ) (r : Result (Unit {0}) RuleError) (c : Checker) →
+  pub fields_close : (v : Variant) (fields : Syns) (dots : Bool) (xs ys : List NamedEntry) (s u : TypingState) (given : Given) (ns : List Node) (n : ℕ) (r : Result (Unit {0}) RuleError) (c : Checker) →
       field_patterns w (inside_of s.items ty e) v fields xs s ≡ Ok ((last_fields given ns, ys, given), u) →
       n ≡ length (fields_of s.items t) →
       Gives (target_rest id at e.takes_all ty t (last_fields given ns) (are_given_once given && (dots || all_given n given)) (are_known given) u) r c →
@@ -75,24 +75,24 @@ module _ (w : Env) (id : ℕ) (at : Pos) (e : Expected) (ty : TyId) (t : Target)
       ∙ ends_beside id at e.takes_all ty t (last_fields given ns) (are_given_once given && (dots || all_given n given)) (are_known given) ys u))
       (beside (target_rest id at e.takes_all ty t (last_fields given ns) (are_given_once given && (dots || all_given n given)) (are_known given) u) r ys c gives)
 
-  pub fields_stop : (v : Variant) (fields : Syns) (dots : Bool) (xs : List Entry) (s : State) (err : RuleError) →
+  pub fields_stop : (v : Variant) (fields : Syns) (dots : Bool) (xs : List NamedEntry) (s : TypingState) (err : RuleError) →
       Refuses (field_patterns w (inside_of s.items ty e) v fields xs s) err →
       Refuses (target_tail id at e ty t (parts_by_name w v fields dots xs) s) err
   fields_stop v fields dots xs s (RuleError.Broken rule p) h = ap (by_name dots (fields_of s.items t)) h
   fields_stop v fields dots xs s RuleError.Memory h = tt
 
   -- once the type is known to be that of the place
-  pub target_begun : (parts : Expected → List TyId → Check Parts) (s u : State) → begin_of at ty t s ≡ Ok (id, u) →
+  pub target_begun : (parts : Expected → List TyId → Check Parts) (s u : TypingState) → begin_of at ty t s ≡ Ok (id, u) →
       of_target at e ty t parts s ≡ target_tail id at e ty t parts u
   target_begun parts s u h = begins at e ty t parts s ∙ ap (λ o. and_then o (λ id. target_tail id at e ty t parts)) h
 
 -- ---- types of as many parts as there are patterns are enough
 
-then_same : {A B : Type 0} (o : Result (A × State) Broken) (f g : A → Check B) → ((a : A) (u : State) → f a u ≡ g a u) → and_then o f ≡ and_then o g
+then_same : {A B : Type 0} (o : Result (A × TypingState) Broken) (f g : A → Check B) → ((a : A) (u : TypingState) → f a u ≡ g a u) → and_then o f ≡ and_then o g
 then_same (Ok p) f g h = h p.0 p.1
 then_same (Err e) f g h = refl
 
-pub first_parts : (w : Env) (e : Expected) (tys : List TyId) (ps : Syns) (xs : List Entry) (s : State) →
+pub first_parts : (w : Env) (e : Expected) (tys : List TyId) (ps : Syns) (xs : List NamedEntry) (s : TypingState) →
     part_patterns w e (take (count_of ps) tys) ps xs s ≡ part_patterns w e tys ps xs s
 first_parts w e [] no_syn xs s = refl
 first_parts w e (ty ∷ tys) no_syn xs s = refl
@@ -122,18 +122,18 @@ first_below (suc n) ns =
 
 -- ---- parts in their order
 
-counted_beside : (id : ℕ) (at : Pos) (ty : TyId) (form : Form) (ys : List Entry) (b : Bool) (u : State) →
-    (obeys Rule.T04 at b >> pure {A = Bound} (a_node_of id at ty form, ys)) u ≡ and_then (counted_rest id at ty form b u) (λ n. pure {A = Bound} (n, ys))
+counted_beside : (id : ℕ) (at : Pos) (ty : TyId) (form : Form) (ys : List NamedEntry) (b : Bool) (u : TypingState) →
+    (obeys Rule.T04 at b >> pure {A = BoundPattern} (a_node_of id at ty form, ys)) u ≡ and_then (counted_rest id at ty form b u) (λ n. pure {A = BoundPattern} (n, ys))
 counted_beside id at ty form ys true u = refl
 counted_beside id at ty form ys false u = refl
 
-pub order_close : (w : Env) (id : ℕ) (at : Pos) (e : Expected) (ty : TyId) (tys : List TyId) (n : ℕ) (form : Nodes → Form) (parts : Syns) (dots : Bool) (xs ys : List Entry) (s u : State) (ns : Nodes) (b : Bool) (r : Result (Unit {0}) RuleError) (c : Checker) →
+pub order_close : (w : Env) (id : ℕ) (at : Pos) (e : Expected) (ty : TyId) (tys : List TyId) (n : ℕ) (form : Nodes → Form) (parts : Syns) (dots : Bool) (xs ys : List NamedEntry) (s u : TypingState) (ns : Nodes) (b : Bool) (r : Result (Unit {0}) RuleError) (c : Checker) →
     part_patterns w e tys parts xs s ≡ Ok ((ns, ys), u) → b ≡ is_count dots (count_of parts) n → Gives (counted_rest id at ty (form ns) b u) r c →
     GivesBeside (order_rest w id at e ty tys n form parts dots xs s) r ys c
 order_close w id at e ty tys n form parts dots xs ys s u ns b r c here is gives =
     subst (λ o. GivesBeside o r ys c)
-    (sym (ap (λ o. and_then {B = Bound} o (λ ps. obeys Rule.T04 at (is_count dots (count_of parts) n) >> pure {A = Bound} (a_node_of id at ty (form ps.0), ps.1))) here
-    ∙ ap (λ (z : Bool). (obeys Rule.T04 at z >> pure {A = Bound} (a_node_of id at ty (form ns), ys)) u) (sym is)
+    (sym (ap (λ o. and_then {B = BoundPattern} o (λ ps. obeys Rule.T04 at (is_count dots (count_of parts) n) >> pure {A = BoundPattern} (a_node_of id at ty (form ps.0), ps.1))) here
+    ∙ ap (λ (z : Bool). (obeys Rule.T04 at z >> pure {A = BoundPattern} (a_node_of id at ty (form ns), ys)) u) (sym is)
     ∙ counted_beside id at ty (form ns) ys b u))
     (beside (counted_rest id at ty (form ns) b u) r ys c gives)
 
@@ -145,9 +145,9 @@ first_if given (Some tys) None types h is = absurd h
 first_if given None (Some p) types h is = absurd h
 first_if given None None types h is = absurd (cc)
 
-pub tuple_is : (w : Env) (at : Pos) (e : Expected) (ty : TyId) (parts : Syns) (dots : Bool) (xs : List Entry) (s t : State) (id : ℕ) (tys : List TyId) →
+pub tuple_is : (w : Env) (at : Pos) (e : Expected) (ty : TyId) (parts : Syns) (dots : Bool) (xs : List NamedEntry) (s t : TypingState) (id : ℕ) (tys : List TyId) →
     number s ≡ Ok (id, t) → tuple_types t.items ty ≡ Some tys →
     pattern_form w e ty at (TuplePattern parts dots) xs s ≡ order_rest w id at e ty tys (length tys) tree.TuplePattern parts dots xs t
 tuple_is w at e ty parts dots xs s t id tys here is =
     numbered (λ id. the_items >>= (λ items. known Rule.T03 at (tuple_types items ty) >>= (λ tys. order_rest w id at e ty tys (length tys) tree.TuplePattern parts dots xs))) s t id here
-    ∙ ap (λ o. and_then {B = Bound} (known {A = List TyId} Rule.T03 at o t) (λ tys. order_rest w id at e ty tys (length tys) tree.TuplePattern parts dots xs)) is
+    ∙ ap (λ o. and_then {B = BoundPattern} (known {A = List TyId} Rule.T03 at o t) (λ tys. order_rest w id at e ty tys (length tys) tree.TuplePattern parts dots xs)) is

@@ -1,12 +1,12 @@
 -- Bindings of a pattern, inside the guard of their arm and behind it.
 use Rattle.std.proofs.Common.{◌≡◌, true, false, List, [], ◌∷◌, refl, ap}
-use Rattle.typing_rules.specs.Scope.{Entry, guarded, in_guard}
+use Rattle.typing_rules.specs.Scope.{NamedEntry, guarded, in_guard}
 use Rattle.name_rows.specs.Scopes.{bound_in}
 
-pub plain_same : (xs : List Entry) → bound_in false xs ≡ xs
+pub plain_same : (xs : List NamedEntry) → bound_in false xs ≡ xs
 plain_same [] = refl
-plain_same (x ∷ xs) = ap (λ (ys : List Entry). x ∷ ys) (plain_same xs)
+plain_same (x ∷ xs) = ap (λ (ys : List NamedEntry). x ∷ ys) (plain_same xs)
 
-pub guarded_same : (xs : List Entry) → bound_in true xs ≡ in_guard xs
+pub guarded_same : (xs : List NamedEntry) → bound_in true xs ≡ in_guard xs
 guarded_same [] = refl
-guarded_same (x ∷ xs) = ap (λ (ys : List Entry). record x { meaning = guarded x.meaning } ∷ ys) (guarded_same xs)
+guarded_same (x ∷ xs) = ap (λ (ys : List NamedEntry). record x { meaning = guarded x.meaning } ∷ ys) (guarded_same xs)

@@ -4,7 +4,7 @@ use Rattle.std.specs.Prelude.{is_none}
 use Rattle.mir_base.specs.declared.place_in_text.Pos.{Pos}
 use Rattle.mir_ty.specs.ItemTable.{ItemTable}
 use Rattle.mir_ty.specs.declared.ty.TyId.{TyId}
-use Rattle.src_tree.specs.declared.node.Node.{Node}
+use Rattle.src_tree.specs.declared.node.SyntaxNode.{SyntaxNode}
 use Rattle.src_ast.specs.Seen.{syn_of}
 use Rattle.src_ast.specs.Sorts.{pattern_part}
 use Rattle.src_ast.specs.Syntax.{Syn, syn, Shape, shape_of, Ident, LabelOf, Literal, TruthLiteral, Path, Minus, Bang, Star, Ampersand, Calculate, Compare, Both, Either, Store, CallOf, MethodOf, FieldOf, PartOf, ElementOf, StructOf, FieldInit, Parens, TupleOf, ArrayOf, Braces, IfElse, IfLetElse, MatchOn, ArmOf, LoopOf, WhileOf, WhileLetOf, BreakOf, ContinueOf, ReturnOf, MoveOf, PanicOf, LetOf, Empty, Semi, AnyPattern, BindPattern, LiteralPattern, TruthPattern, PathPattern, PartsPattern, FieldsPattern, FieldPattern, ParensPattern, TuplePattern, ArrayPattern, Alternatives, NamedType, GenericType, DynType, SelfType, ParensType, TupleType, ArrayType, NeverType, RefType, StructItem, EnumItem, FieldDecl, VariantDecl, TraitItem, ImplItem, FnItem, ParamOf, SelfParam, Odd}
@@ -12,7 +12,7 @@ use Rattle.type_rows.proofs.Nodes.{shape}
 use Rattle.typed_tree.specs.Tree.{absent}
 use Rattle.typed_tree.specs.View as view
 use Rattle.typed_tree.specs.declared.node.Node as made
-use Rattle.typing_rules.specs.Check.{State}
+use Rattle.typing_rules.specs.Check.{TypingState}
 use Rattle.typing_rules.specs.Rows.{is_unused_place}
 use Rattle.typing_rules.specs.Scope.{Env}
 use Rattle.typing_rules.specs.Typed.{is_one_name, is_one_name_form}
@@ -96,13 +96,13 @@ form_seen w Odd = refl
 as_form : (items : ItemTable) (x : Syn) → is_one_name items x ≡ one_name_as items (pattern_part (shape_of x))
 as_form items (syn at form) = form_seen items form
 
-pub name_seen : (items : ItemTable) (n : Node) → is_one_name items (syn_of n) ≡ one_name_as items (pattern_part (shape_of (syn_of n)))
+pub name_seen : (items : ItemTable) (n : SyntaxNode) → is_one_name items (syn_of n) ≡ one_name_as items (pattern_part (shape_of (syn_of n)))
 name_seen items n = as_form items (syn_of n)
 
 pub unused_same : (n : made.Node) → is_unused_place (view.tree_of n) ≡ (is_place (view.form_of n.form) && is_none n.by)
 unused_same n = ap is_unused_place (shape n)
 
-pub alone_same : (env : Env) (id : ℕ) (at : Pos) (b : Bool) (declared : Option TyId) (p : Syn) (s : State) →
+pub alone_same : (env : Env) (id : ℕ) (at : Pos) (b : Bool) (declared : Option TyId) (p : Syn) (s : TypingState) →
     let_rest env id at b declared absent p s ≡ let_alone_rest env id at declared p s
 alone_same env id at true (Some ty) p s = refl
 alone_same env id at false (Some ty) p s = refl

@@ -6,7 +6,7 @@ use Rattle.mir_base.specs.declared.place_in_text.Pos.{Pos}
 use Rattle.mir_base.specs.declared.rule.Rule.{Rule}
 use Rattle.mir_ty.specs.declared.adt.Variant.{Variant}
 use Rattle.mir_ty.specs.declared.ty.TyId.{TyId}
-use Rattle.src_tree.specs.declared.node.Node.{Node}
+use Rattle.src_tree.specs.declared.node.SyntaxNode.{SyntaxNode}
 use Rattle.src_ast.specs.Patterns.{field_pattern_of, pattern_of}
 use Rattle.src_ast.specs.Seen.{maybe_of, syn_of}
 use Rattle.src_ast.specs.declared.pattern.FieldPatternForm.{FieldPatternForm}
@@ -14,17 +14,17 @@ use Rattle.src_ast.specs.declared.pattern.PatternForm.{PatternForm}
 use Rattle.src_ast.specs.Sorts.{sort_of, some_if, pattern_part, field_pattern_part}
 use Rattle.src_ast.specs.Syntax.{Word, MaybeSyn, Syn, syn, Shape, at_of, shape_of, Ident, LabelOf, Literal, TruthLiteral, Path, Minus, Bang, Star, Ampersand, Calculate, Compare, Both, Either, Store, CallOf, MethodOf, FieldOf, PartOf, ElementOf, StructOf, FieldInit, Parens, TupleOf, ArrayOf, Braces, IfElse, IfLetElse, MatchOn, ArmOf, LoopOf, WhileOf, WhileLetOf, BreakOf, ContinueOf, ReturnOf, MoveOf, PanicOf, LetOf, Empty, Semi, AnyPattern, BindPattern, LiteralPattern, TruthPattern, PathPattern, PartsPattern, FieldsPattern, FieldPattern, ParensPattern, TuplePattern, ArrayPattern, Alternatives, NamedType, GenericType, DynType, SelfType, ParensType, TupleType, ArrayType, NeverType, RefType, StructItem, EnumItem, FieldDecl, VariantDecl, TraitItem, ImplItem, FnItem, ParamOf, SelfParam, Odd, nothing, just}
 use Rattle.src_ast.proofs.Named.{seen_as}
-use Rattle.typing_rules.specs.Check.{State}
+use Rattle.typing_rules.specs.Check.{TypingState}
 use Rattle.typing_rules.specs.Patterns.{field_at, field_pattern, pattern, pattern_form}
 use Rattle.typing_rules.specs.Rows.{Expected}
-use Rattle.typing_rules.specs.Scope.{Env, Entry}
+use Rattle.typing_rules.specs.Scope.{Env, NamedEntry}
 use Rattle.pattern_rows.specs.Members.{part_by, part_named}
 use Rattle.pattern_check.specs.Forms.{pattern_as, field_as, inside_as}
 use Rattle.pattern_check.specs.Sizes.{size, form_size, seen_size}
 
 -- ---- patterns
 
-form_seen : (w : Env) (e : Expected) (ty : TyId) (at : Pos) (form : Shape) (xs : List Entry) (s : State) →
+form_seen : (w : Env) (e : Expected) (ty : TyId) (at : Pos) (form : Shape) (xs : List NamedEntry) (s : TypingState) →
     pattern_form w e ty at form xs s ≡ pattern_as w e ty at (pattern_part form) xs s
 form_seen w e ty at (Ident a) xs s = refl
 form_seen w e ty at (LabelOf a) xs s = refl
@@ -98,11 +98,11 @@ form_seen w e ty at (ParamOf a b) xs s = refl
 form_seen w e ty at (SelfParam a) xs s = refl
 form_seen w e ty at Odd xs s = refl
 
-as_form : (w : Env) (e : Expected) (ty : TyId) (x : Syn) (xs : List Entry) (s : State) →
+as_form : (w : Env) (e : Expected) (ty : TyId) (x : Syn) (xs : List NamedEntry) (s : TypingState) →
     pattern w e ty x xs s ≡ pattern_as w e ty (at_of x) (pattern_part (shape_of x)) xs s
 as_form w e ty (syn at form) xs s = form_seen w e ty at form xs s
 
-pub pattern_seen : (w : Env) (e : Expected) (ty : TyId) (n : Node) (xs : List Entry) (s : State) →
+pub pattern_seen : (w : Env) (e : Expected) (ty : TyId) (n : SyntaxNode) (xs : List NamedEntry) (s : TypingState) →
     pattern w e ty (syn_of n) xs s ≡ pattern_as w e ty n.at (pattern_part (shape_of (syn_of n))) xs s
 pattern_seen w e ty n xs s =
     as_form w e ty (syn_of n) xs s
@@ -115,12 +115,12 @@ part_size false form = omega arith
 syn_size : (x : Syn) → seen_size (pattern_part (shape_of x)) < size x
 syn_size (syn at form) = part_size (sort_of form == 12) form
 
-pub pattern_size : (n : Node) → seen_size (pattern_part (shape_of (syn_of n))) < size (syn_of n)
+pub pattern_size : (n : SyntaxNode) → seen_size (pattern_part (shape_of (syn_of n))) < size (syn_of n)
 pattern_size n = syn_size (syn_of n)
 
 -- ---- patterns of fields
 
-field_form_seen : (w : Env) (e : Expected) (v : Variant) (at : Pos) (form : Shape) (xs : List Entry) (s : State) →
+field_form_seen : (w : Env) (e : Expected) (v : Variant) (at : Pos) (form : Shape) (xs : List NamedEntry) (s : TypingState) →
     field_pattern w e v (syn at form) xs s ≡ field_as w e v at (field_pattern_part form) xs s
 field_form_seen w e v at (Ident a) xs s = refl
 field_form_seen w e v at (LabelOf a) xs s = refl
@@ -195,11 +195,11 @@ field_form_seen w e v at (ParamOf a b) xs s = refl
 field_form_seen w e v at (SelfParam a) xs s = refl
 field_form_seen w e v at Odd xs s = refl
 
-as_field : (w : Env) (e : Expected) (v : Variant) (x : Syn) (xs : List Entry) (s : State) →
+as_field : (w : Env) (e : Expected) (v : Variant) (x : Syn) (xs : List NamedEntry) (s : TypingState) →
     field_pattern w e v x xs s ≡ field_as w e v (at_of x) (field_pattern_part (shape_of x)) xs s
 as_field w e v (syn at form) xs s = field_form_seen w e v at form xs s
 
-pub field_seen : (w : Env) (e : Expected) (v : Variant) (n : Node) (xs : List Entry) (s : State) →
+pub field_seen : (w : Env) (e : Expected) (v : Variant) (n : SyntaxNode) (xs : List NamedEntry) (s : TypingState) →
     field_pattern w e v (syn_of n) xs s ≡ field_as w e v n.at (field_pattern_part (shape_of (syn_of n))) xs s
 field_seen w e v n xs s =
     as_field w e v (syn_of n) xs s
@@ -208,22 +208,22 @@ field_seen w e v n xs s =
 field_size_of : (x : Syn) → seen_size (field_pattern_part (shape_of x)) < size x
 field_size_of (syn at form) = part_size (sort_of form == 10) form
 
-pub field_size : (n : Node) → seen_size (field_pattern_part (shape_of (syn_of n))) < size (syn_of n)
+pub field_size : (n : SyntaxNode) → seen_size (field_pattern_part (shape_of (syn_of n))) < size (syn_of n)
 field_size n = field_size_of (syn_of n)
 
 -- ---- nodes by their forms
 
-pub seen_by : (w : Env) (e : Expected) (ty : TyId) (n : Node) (xs : List Entry) (s : State) (f g : PatternForm) →
+pub seen_by : (w : Env) (e : Expected) (ty : TyId) (n : SyntaxNode) (xs : List NamedEntry) (s : TypingState) (f g : PatternForm) →
     pattern_of f ≡ pattern_part (shape_of (syn_of n)) → f ≡ g → pattern w e ty (syn_of n) xs s ≡ pattern_as w e ty n.at (pattern_of g) xs s
 seen_by w e ty n xs s f g h is =
     pattern_seen w e ty n xs s ∙ ap (λ o. pattern_as w e ty n.at o xs s) (sym h) ∙ ap (λ (z : PatternForm). pattern_as w e ty n.at (pattern_of z) xs s) is
 
-inside_seen : (w : Env) (e : Expected) (v : Variant) (at : Pos) (name : Word) (m : MaybeSyn) (xs : List Entry) (s : State) →
+inside_seen : (w : Env) (e : Expected) (v : Variant) (at : Pos) (name : Word) (m : MaybeSyn) (xs : List NamedEntry) (s : TypingState) →
     field_pattern w e v (syn at (FieldPattern name m)) xs s ≡ field_at xs (part_by v name) (λ ty. inside_as w at e ty name m xs) s
 inside_seen w e v at name nothing xs s = refl
 inside_seen w e v at name (just x) xs s = refl
 
-pub field_some : (w : Env) (e : Expected) (v : Variant) (n : Node) (xs : List Entry) (s : State) (o : Option FieldPatternForm) (form : FieldPatternForm) (p : Option (ℕ × TyId)) →
+pub field_some : (w : Env) (e : Expected) (v : Variant) (n : SyntaxNode) (xs : List NamedEntry) (s : TypingState) (o : Option FieldPatternForm) (form : FieldPatternForm) (p : Option (ℕ × TyId)) →
     option_map field_pattern_of o ≡ field_pattern_part (shape_of (syn_of n)) → o ≡ Some form → p ≡ part_named v (field_pattern_part (shape_of (syn_of n))) →
     field_pattern w e v (syn_of n) xs s ≡ field_at xs p (λ ty. inside_as w n.at e ty form.name.now (maybe_of form.pattern) xs) s
 field_some w e v n xs s o form p h is part =
@@ -231,7 +231,7 @@ field_some w e v n xs s o form p h is part =
     field_seen w e v n xs s ∙ ap (λ z. field_as w e v n.at z xs s) seen ∙ inside_seen w e v n.at form.name.now (maybe_of form.pattern) xs s
     ∙ ap (λ (z : Option (ℕ × TyId)). field_at xs z (λ ty. inside_as w n.at e ty form.name.now (maybe_of form.pattern) xs) s) (sym (part ∙ ap (part_named v) seen))
 
-pub field_none : (w : Env) (e : Expected) (v : Variant) (n : Node) (xs : List Entry) (s : State) (o : Option FieldPatternForm) →
+pub field_none : (w : Env) (e : Expected) (v : Variant) (n : SyntaxNode) (xs : List NamedEntry) (s : TypingState) (o : Option FieldPatternForm) →
     option_map field_pattern_of o ≡ field_pattern_part (shape_of (syn_of n)) → o ≡ None →
     field_pattern w e v (syn_of n) xs s ≡ Err (record { rule = Rule.T20; at = n.at })
 field_none w e v n xs s o h is =

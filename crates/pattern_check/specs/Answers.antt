@@ -7,12 +7,13 @@ use Rattle.pattern_rows.specs.Fields.{below_given, below_if, last_fields}
 use Rattle.type_rows.specs.Stand.{Stays, stack, state, top}
 use Rattle.type_rows.specs.declared.checker.Checker.{Checker}
 use Rattle.typed_tree.specs.Tree.{Node, Nodes, Fields}
-use Rattle.typing_rules.specs.Check.{State, Broken}
+use Rattle.typing_rules.specs.Check.{TypingState, Broken}
 use Rattle.typing_rules.specs.Rows.{Given}
-use Rattle.typing_rules.specs.Scope.{Entry}
+use Rattle.typing_rules.specs.Scope.{NamedEntry}
 
 -- the last nodes, so many, and the bindings so far are what a check of some patterns gives
-abbrev pub GivesNodes : Result ((Nodes × List Entry) × State) Broken → Result ℕ RuleError → List Entry → Checker → Type 0
+abbrev pub GivesNodes : Result ((Nodes × List NamedEntry) × TypingState) Broken → Result ℕ RuleError → List NamedEntry →
+    Checker → Type 0
 GivesNodes outcome (Ok count) bound after = outcome ≡ Ok ((last_nodes count (stack after), reverse bound), state after)
 GivesNodes outcome (Err e) bound after = Refuses outcome e
 
@@ -21,7 +22,8 @@ KeepsBelow others before (Ok count) after = (below_all count (stack after) ≡ o
 KeepsBelow others before (Err e) after = ⊤
 
 -- the fields of these numbers, whose nodes are the last ones
-abbrev pub GivesFields : Result ((Fields × List Entry × Given) × State) Broken → Result Given RuleError → List Entry → Checker →
+abbrev pub GivesFields : Result ((Fields × List NamedEntry × Given) × TypingState) Broken → Result Given RuleError →
+    List NamedEntry → Checker →
     Type 0
 GivesFields outcome (Ok given) bound after =
     outcome ≡ Ok ((last_fields given (stack after), reverse bound, given), state after)
@@ -36,8 +38,9 @@ abbrev pub field_if : Option ℕ → List Node → Option (ℕ × Node)
 field_if None ns = None
 field_if (Some n) ns = Some (n, top ns)
 
-abbrev pub GivesField : Result ((Option (ℕ × Node) × List Entry × Option ℕ) × State) Broken → Result (Option ℕ) RuleError →
-    List Entry → Checker → Type 0
+abbrev pub GivesField : Result ((Option (ℕ × Node) × List NamedEntry × Option ℕ) × TypingState) Broken →
+    Result (Option ℕ) RuleError →
+    List NamedEntry → Checker → Type 0
 GivesField outcome (Ok number) bound after =
     outcome ≡ Ok ((field_if number (stack after), reverse bound, number), state after)
 GivesField outcome (Err e) bound after = Refuses outcome e

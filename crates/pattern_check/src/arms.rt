@@ -6,7 +6,7 @@ ghost use Rattle.typing_rules.specs.Places.{place_in_text};
 ghost use Rattle.pattern_check.specs.BindingRests.{arm_rest};
 
 use mir_base::{NodeId, Pos, RuleError};
-use type_rows::{Checker, Three, Two};
+use type_rows::{Checker, Three, TwoParts};
 
 /// An arm without a guard, whose pattern and body are the last nodes.
 pub fn arm_end(checker: &mut Checker, id: NodeId) -> Result<(), RuleError>
@@ -15,7 +15,7 @@ pub fn arm_end(checker: &mut Checker, id: NodeId) -> Result<(), RuleError>
 {
     let at = checker.second_at();
     let ty = checker.last_ty();
-    checker.wrap_two(id, at, ty, Two::Arm)
+    checker.wrap_two(id, at, ty, TwoParts::Arm)
 }
 
 /// Where the last node but two stands.

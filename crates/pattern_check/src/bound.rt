@@ -15,7 +15,7 @@ use mir_base::RuleError;
 use mir_ty::TyId;
 use name_rows::enter_all;
 use pattern_rows::Expected;
-use src_tree::Node;
+use src_tree::SyntaxNode;
 use type_env::Variables;
 use type_rows::Checker;
 
@@ -24,7 +24,7 @@ pub fn bindings(
     checker: &mut Checker,
     e: Expected,
     ty: TyId,
-    node: &Node,
+    node: &SyntaxNode,
 ) -> Result<Variables, RuleError>
     ensures gives { GivesValue (λ bound. (top (stack checker.new), reverse bound))
         (patterns.pattern (env checker.old) (expected_of e) ty (syn_of node.now) [] (state checker.old)) result checker.new }
@@ -36,7 +36,11 @@ pub fn bindings(
 }
 
 /// The pattern that the last node is matched with; answers its bindings, the youngest first.
-pub fn matched(checker: &mut Checker, takes_all: bool, node: &Node) -> Result<Variables, RuleError>
+pub fn matched(
+    checker: &mut Checker,
+    takes_all: bool,
+    node: &SyntaxNode,
+) -> Result<Variables, RuleError>
     ensures gives { GivesValue (λ bound. (top (stack checker.new), reverse bound))
         (matched_rest (env checker.old) takes_all (top (stack checker.old)) (syn_of node.now) (state checker.old)) result checker.new }
     ensures kept { Keeps (stack checker.old) checker.old result checker.new }

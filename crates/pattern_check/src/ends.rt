@@ -19,7 +19,7 @@ use item_heads::{obeys, pushed};
 use mir_base::{List, NodeId, Pos, Rule, RuleError};
 use mir_ty::TyId;
 use name_rows::kind_at;
-use pattern_rows::{Target, are_known, is_whole, target_end};
+use pattern_rows::{PatternTarget, are_known, is_whole, target_end};
 use src_ast::FieldKind;
 use std::alloc::Global;
 use type_rows::Checker;
@@ -33,7 +33,7 @@ fn is_named_kind(kind: FieldKind) -> bool
     }
 }
 
-fn has_named_parts(checker: &Checker, target: Target) -> bool
+fn has_named_parts(checker: &Checker, target: PatternTarget) -> bool
     ensures { result ≡ rules.has_named_parts (env checker.now) (target_in target) }
 {
     is_named_kind(kind_at(checker, target.adt, target.variant))
@@ -60,7 +60,7 @@ pub fn counted_end(
 /// Whether a struct or a variant with so many fields has a pattern with so many parts in parentheses.
 pub fn is_tuple_count(
     checker: &Checker,
-    target: Target,
+    target: PatternTarget,
     given: u32,
     count: usize,
     dots: bool,
@@ -89,7 +89,7 @@ pub fn ordered_end(
     at: Pos,
     takes_all: bool,
     ty: TyId,
-    target: Target,
+    target: PatternTarget,
     count: u32,
     is_count: bool,
 ) -> Result<(), RuleError>
@@ -109,7 +109,7 @@ pub fn named_end(
     at: Pos,
     takes_all: bool,
     ty: TyId,
-    target: Target,
+    target: PatternTarget,
     given: List<Option<u32>>,
     count: usize,
     dots: bool,

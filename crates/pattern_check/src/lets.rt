@@ -24,9 +24,9 @@ use mir_ty::TyId;
 use name_rows::adt_named;
 use pattern_rows::Expected;
 use src_ast::{PatternForm, pattern_form};
-use src_tree::Node;
+use src_tree::SyntaxNode;
 use type_env::{Fit, Variables, how_it_fits, is_enum, is_never, is_place};
-use type_rows::{Checker, One, Two};
+use type_rows::{Checker, One, TwoParts};
 use typed_tree::Node as TypedNode;
 
 fn names_struct(checker: &Checker, name: &str) -> bool
@@ -40,7 +40,7 @@ fn names_struct(checker: &Checker, name: &str) -> bool
 
 /// Whether a pattern is one name that binds, in parentheses or not; a lone name of a struct is none.
 #[tactic(auto, using(crate::proofs::OneName::name_seen))]
-pub fn is_one_name(checker: &Checker, node: &Node) -> bool
+pub fn is_one_name(checker: &Checker, node: &SyntaxNode) -> bool
     ensures { result ≡ typed.is_one_name checker.now.walk.items (syn_of node.now) }
 {
     match pattern_form(node) {
@@ -113,7 +113,7 @@ fn put_let(checker: &mut Checker, id: NodeId, at: Pos, bound: &Variables) -> Res
     ensures tables { OnOk result (checker.new.tables ≡ checker.old.tables) }
     ensures short { IfErr result (λ e. e ≡ RuleError.Memory) }
 {
-    checker.wrap_two(id, at, TyId(0), Two::Let)?;
+    checker.wrap_two(id, at, TyId(0), TwoParts::Let)?;
     enter_bound(checker, bound)
 }
 
@@ -139,7 +139,7 @@ fn let_typed_end(
     at: Pos,
     e: Expected,
     ty: TyId,
-    pattern: &Node,
+    pattern: &SyntaxNode,
 ) -> Result<bool, RuleError>
     ensures gives { GivesValue (λ ends. (top (stack checker.new), ends, env checker.new))
         (let_typed (env checker.old) id.0 at (expected_of e) ty (present (top (stack checker.old))) (syn_of pattern.now) (state checker.old)) result checker.new }
@@ -156,7 +156,7 @@ fn let_untyped_end(
     id: NodeId,
     at: Pos,
     ty: TyId,
-    pattern: &Node,
+    pattern: &SyntaxNode,
 ) -> Result<bool, RuleError>
     ensures gives { GivesValue (λ ends. (top (stack checker.new), ends, env checker.new))
         (let_typed (env checker.old) id.0 at (record { is_fixed = false; takes_all = true }) ty tree.absent (syn_of pattern.now) (state checker.old)) result checker.new }
@@ -176,7 +176,7 @@ fn let_alone_end(
     id: NodeId,
     at: Pos,
     declared: Option<TyId>,
-    pattern: &Node,
+    pattern: &SyntaxNode,
 ) -> Result<bool, RuleError>
     ensures gives { GivesValue (λ ends. (top (stack checker.new), ends, env checker.new))
         (let_alone_rest (env checker.old) id.0 at declared (syn_of pattern.now) (state checker.old)) result checker.new }
@@ -208,7 +208,7 @@ fn let_value_end(
     at: Pos,
     is_one_name: bool,
     declared: Option<TyId>,
-    pattern: &Node,
+    pattern: &SyntaxNode,
 ) -> Result<bool, RuleError>
     ensures gives { GivesValue (λ ends. (top (stack checker.new), ends, env checker.new))
         (let_rest (env checker.old) id.0 at is_one_name declared (present (top (stack checker.old))) (syn_of pattern.now) (state checker.old)) result checker.new }
@@ -231,7 +231,7 @@ pub fn let_end(
     is_one_name: bool,
     declared: Option<TyId>,
     has_value: bool,
-    pattern: &Node,
+    pattern: &SyntaxNode,
 ) -> Result<bool, RuleError>
     ensures gives { GivesValue (λ ends. (top (stack checker.new), ends, env checker.new))
         (let_rest (env checker.old) id.0 at is_one_name declared (value_if has_value (stack checker.old)) (syn_of pattern.now) (state checker.old)) result checker.new }

@@ -26,12 +26,12 @@ use item_heads::{broken, obeys, pushed};
 use mir_base::{List, NodeId, Pos, Rule, RuleError};
 use mir_ty::TyId;
 use pattern_rows::{
-    Expected, FieldPart, PartTypes, Target, bind, element_types, field_count, field_parts,
+    Expected, FieldPart, PartTypes, PatternTarget, bind, element_types, field_count, field_parts,
     field_types, inside_of, literal_pattern, lone_name, path_alone, target_begin, target_of,
     truth_pattern, tuple_types, wildcard,
 };
 use src_ast::{Nodes, PathForm, PatternForm, field_pattern_form, pattern_form};
-use src_tree::Node;
+use src_tree::SyntaxNode;
 use type_env::{Variables, array_of};
 use type_rows::Checker;
 
@@ -108,7 +108,7 @@ fn inside_field(
     e: Expected,
     ty: TyId,
     name: &str,
-    inside: Option<&Node>,
+    inside: Option<&SyntaxNode>,
 ) -> Result<(), RuleError>
     ensures gives { GivesBound (inside_as (env checker.old) at (expected_of e) ty name.now (maybe_of inside.entry) (reverse bound.old) (state checker.old)) result bound.new checker.new }
     ensures kept { Keeps (stack checker.old) checker.old result checker.new }
@@ -127,7 +127,7 @@ fn known_field(
     e: Expected,
     part: Option<FieldPart>,
     name: &str,
-    inside: Option<&Node>,
+    inside: Option<&SyntaxNode>,
 ) -> Result<Option<u32>, RuleError>
     ensures gives { GivesField (rules.field_at (reverse bound.old) (option_map part_of part)
         (λ ty. inside_as (env checker.old) at (expected_of e) ty name.now (maybe_of inside.entry) (reverse bound.old)) (state checker.old)) result bound.new checker.new }
@@ -149,7 +149,7 @@ fn field_pattern(
     bound: &mut Variables,
     e: Expected,
     part: Option<FieldPart>,
-    node: &Node,
+    node: &SyntaxNode,
 ) -> Result<Option<u32>, RuleError>
     ensures gives { (v : Variant) → option_map part_of part ≡ part_named v (field_pattern_part (shape_of (syn_of node.now))) →
         GivesField (rules.field_pattern (env checker.old) (expected_of e) v (syn_of node.now) (reverse bound.old) (state checker.old)) result bound.new checker.new }
@@ -351,7 +351,7 @@ fn ordered_parts(
     at: Pos,
     e: Expected,
     ty: TyId,
-    target: Target,
+    target: PatternTarget,
     types: &PartTypes,
     parts: Nodes,
     given: u32,
@@ -376,7 +376,7 @@ fn parts_behind(
     at: Pos,
     e: Expected,
     ty: TyId,
-    target: Target,
+    target: PatternTarget,
     parts: Nodes,
     dots: bool,
 ) -> Result<(), RuleError>
@@ -397,7 +397,7 @@ fn parts_of_target(
     at: Pos,
     e: Expected,
     ty: TyId,
-    target: Target,
+    target: PatternTarget,
     parts: Nodes,
     dots: bool,
 ) -> Result<(), RuleError>
@@ -437,7 +437,7 @@ fn named_parts(
     at: Pos,
     e: Expected,
     ty: TyId,
-    target: Target,
+    target: PatternTarget,
     parts: &[Option<FieldPart>],
     fields: Nodes,
     dots: bool,
@@ -459,7 +459,7 @@ fn fields_of_target(
     at: Pos,
     e: Expected,
     ty: TyId,
-    target: Target,
+    target: PatternTarget,
     fields: Nodes,
     dots: bool,
 ) -> Result<(), RuleError>
@@ -511,7 +511,7 @@ pub fn pattern(
     bound: &mut Variables,
     e: Expected,
     ty: TyId,
-    node: &Node,
+    node: &SyntaxNode,
 ) -> Result<(), RuleError>
     ensures gives { GivesBound (rules.pattern (env checker.old) (expected_of e) ty (syn_of node.now) (reverse bound.old) (state checker.old)) result bound.new checker.new }
     ensures kept { Keeps (stack checker.old) checker.old result checker.new }

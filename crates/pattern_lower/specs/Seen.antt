@@ -1,7 +1,7 @@
 -- What a contract sees of tests and bindings: those of the rules of evaluation, which a pattern makes for a place.
 use Rattle.std.specs.Prelude.{ℕ, List, [], ◌∷◌, Option, Some, None, map}
 use Rattle.cfg_graph.specs.Places.{named}
-use Rattle.src_meaning.specs.Shape.{PatternTest, IsVariant, IsNumber, IsTruth, AnyOf, PatternTests, no_test, a_test, Alternatives, no_alternative, an_alternative, Bound, moves}
+use Rattle.src_meaning.specs.Shape.{PatternTest, IsVariant, IsNumber, IsTruth, AnyOf, PatternTests, no_test, a_test, Alternatives, no_alternative, an_alternative, BoundName, moves}
 use Rattle.store_model.specs.Places.Place.{Step, ToPart, ToField}
 use Rattle.pattern_lower.specs.declared.found.Test.{Test, Test-F, fold-Test}
 use Rattle.pattern_lower.specs.declared.found.Binding.{Binding}
@@ -44,7 +44,7 @@ listed_alternatives no_alternative = []
 listed_alternatives (an_alternative first rest) = first ∷ listed_alternatives rest
 
 -- the entry that a name makes, and what it takes
-abbrev pub bound_of : Binding → Bound
+abbrev pub bound_of : Binding → BoundName
 bound_of b = record {
   key = b.key.0;
   ty = b.ty;

@@ -7,18 +7,18 @@ use Rattle.mir_ty.specs.declared.adt.Adt.{Adt}
 use Rattle.mir_ty.specs.declared.adt.Variant.{Variant}
 use Rattle.mir_ty.specs.ItemTable.{ItemTable}
 use Rattle.type_env.specs.Members.{adt_names}
-use Rattle.type_rows.specs.Tables.{IsReady}
+use Rattle.type_rows.specs.Tables.{AreTablesOf}
 use Rattle.type_rows.specs.declared.tables.Tables.{Tables}
 use Rattle.typing_rules.specs.Patterns.{no_variant}
 use Rattle.pattern_rows.specs.Members.{names_in, variant_of}
-use Rattle.pattern_rows.specs.declared.targets.Target.{Target}
+use Rattle.pattern_rows.specs.declared.targets.PatternTarget.{PatternTarget}
 
 seen_variant : (o : Option Variant) →
     option_map_or (λ names. names) (option_map (λ (v : Variant). v.field_names) o) [] ≡ (option_map_or (λ v. v) o no_variant).field_names
 seen_variant None = refl
 seen_variant (Some v) = refl
 
-seen_adt : (o : Option Adt) (t : Target) →
+seen_adt : (o : Option Adt) (t : PatternTarget) →
     option_map_or (λ names. names) (option_and_then (λ names. slice_get names.fields t.variant) (option_map adt_names o)) []
     ≡ (option_map_or (λ v. v) (option_and_then (λ def. slice_get def.variants t.variant) o) no_variant).field_names
 seen_adt None t = refl
@@ -27,7 +27,7 @@ seen_adt (Some def) t =
     ∙ seen_variant (slice_get def.variants t.variant)
 
 -- the names of the fields of a variant are those that the tables of names have
-pub names_are : (items : ItemTable) (tables : Tables) (t : Target) → IsReady items tables →
+pub names_are : (items : ItemTable) (tables : Tables) (t : PatternTarget) → AreTablesOf items tables →
     names_in tables.members t ≡ (variant_of items t).field_names
 names_are items tables t ready =
     ap (λ members. names_in members t) ready.members

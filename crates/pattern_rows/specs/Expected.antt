@@ -4,24 +4,27 @@ use Rattle.mir_base.specs.declared.rule.RuleError.{RuleError}
 use Rattle.item_heads.specs.Answers.{Refuses}
 use Rattle.type_rows.specs.Stand.{stack, state, top}
 use Rattle.type_rows.specs.declared.checker.Checker.{Checker}
-use Rattle.typing_rules.specs.Check.{State, Broken}
-use Rattle.typing_rules.specs.Patterns.{Bound}
+use Rattle.typing_rules.specs.Check.{TypingState, Broken}
+use Rattle.typing_rules.specs.Patterns.{BoundPattern}
 use Rattle.typing_rules.specs.Rows as rows
-use Rattle.typing_rules.specs.Scope.{Entry}
+use Rattle.typing_rules.specs.Scope.{NamedEntry}
 use Rattle.pattern_rows.specs.declared.expected.Expected.{Expected}
 
 abbrev pub expected_of : Expected → rows.Expected
 expected_of e = record { is_fixed = e.is_fixed; takes_all = e.takes_all }
 
 -- the last node and these bindings are what a pattern gives
-abbrev pub GivesBeside : Result (Bound × State) Broken → Result (Unit {0}) RuleError → List Entry → Checker → Type 0
+abbrev pub GivesBeside : Result (BoundPattern × TypingState) Broken → Result (Unit {0}) RuleError → List NamedEntry →
+    Checker → Type 0
 GivesBeside outcome (Ok u) bound after = outcome ≡ Ok ((top (stack after), bound), state after)
 GivesBeside outcome (Err e) bound after = Refuses outcome e
 
 -- the bindings so far, of which the youngest is the first here and the last there
-abbrev pub GivesBound : Result (Bound × State) Broken → Result (Unit {0}) RuleError → List Entry → Checker → Type 0
+abbrev pub GivesBound : Result (BoundPattern × TypingState) Broken → Result (Unit {0}) RuleError → List NamedEntry →
+    Checker → Type 0
 GivesBound outcome result bound after = GivesBeside outcome result (reverse bound) after
 
 -- a pattern that binds nothing, after any bindings
-abbrev pub GivesAnyhow : (List Entry → Result (Bound × State) Broken) → Result (Unit {0}) RuleError → Checker → Type 0
-GivesAnyhow outcome result after = (earlier : List Entry) → GivesBeside (outcome earlier) result earlier after
+abbrev pub GivesAnyhow : (List NamedEntry → Result (BoundPattern × TypingState) Broken) → Result (Unit {0}) RuleError →
+    Checker → Type 0
+GivesAnyhow outcome result after = (earlier : List NamedEntry) → GivesBeside (outcome earlier) result earlier after

@@ -11,20 +11,20 @@ use Rattle.typing_rules.specs.Patterns.{field_ty, no_variant}
 use Rattle.typing_rules.specs.Scope.{field_named}
 use Rattle.well_typed.specs.Types.{variant_at}
 use Rattle.pattern_rows.specs.declared.members.FieldPart.{FieldPart}
-use Rattle.pattern_rows.specs.declared.targets.Target.{Target}
+use Rattle.pattern_rows.specs.declared.targets.PatternTarget.{PatternTarget}
 
 abbrev pub part_of : FieldPart → ℕ × TyId
 part_of f = (f.number, f.ty)
 
 -- the names of the fields of a variant, as the tables of names have them
-abbrev pub names_at : List AdtNames → Target → Option (List Word)
+abbrev pub names_at : List AdtNames → PatternTarget → Option (List Word)
 names_at members t = option_and_then (λ names. slice_get names.fields t.variant) (slice_get members t.adt)
 
-abbrev pub names_in : List AdtNames → Target → List Word
+abbrev pub names_in : List AdtNames → PatternTarget → List Word
 names_in members t = option_map_or (λ names. names) (names_at members t) []
 
 -- the variant that a path names
-abbrev pub variant_of : ItemTable → Target → Variant
+abbrev pub variant_of : ItemTable → PatternTarget → Variant
 variant_of items t = option_map_or (λ v. v) (variant_at items t.adt t.variant) no_variant
 
 abbrev pub field_in : Variant → ℕ → Option (ℕ × TyId)

@@ -10,10 +10,10 @@ use Rattle.typed_tree.specs.declared.node.Use.{Use}
 use Rattle.typed_tree.specs.Tree as tree
 use Rattle.typed_tree.specs.Tree.{Node, Fields, no_field}
 use Rattle.typing_rules.specs.Check.{Check, ◌>>=◌, ◌>>◌, pure, obeys, known, the_items, number, interned}
-use Rattle.typing_rules.specs.Patterns.{Bound, Target, agrees_kind, fields_of, inside_of, is_test, parts_form, tested_if}
+use Rattle.typing_rules.specs.Patterns.{BoundPattern, PatternTarget, agrees_kind, fields_of, inside_of, is_test, parts_form, tested_if}
 use Rattle.typing_rules.specs.Places.{used, a_node_of}
 use Rattle.typing_rules.specs.Rows.{Expected, taking, literal_value, is_signed_kind, most}
-use Rattle.typing_rules.specs.Scope.{Entry, Local}
+use Rattle.typing_rules.specs.Scope.{NamedEntry, Local}
 use Rattle.src_ast.specs.Syntax.{Word}
 use Rattle.well_typed.specs.Types.{is_bool, is_dyn, is_same, kind_of}
 
@@ -53,42 +53,43 @@ truth_rest id at takes_all ty value = do
   obeys Rule.T03 at (is_bool items ty)
   tested_rest id at takes_all ty (tree.TruthPattern value)
 
-abbrev pub bind_rest : ℕ → Pos → Bool → TyId → Word → List Entry → Check Bound
+abbrev pub bind_rest : ℕ → Pos → Bool → TyId → Word → List NamedEntry → Check BoundPattern
 bind_rest id at is_fixed ty name earlier = do
   items ← the_items
   obeys Rule.T07 at (is_copy items ty || not (is_fixed || is_dyn items ty))
-  let entry : Entry = record { name = name; ty = ty; meaning = Local id }
+  let entry : NamedEntry = record { name = name; ty = ty; meaning = Local id }
   pure (used (taking items ty) (a_node_of id at ty (tree.Binding name)), earlier ++ entry ∷ [])
 
 -- ---- structs and variants
 
-abbrev pub begin_of : Pos → TyId → Target → Check ℕ
+abbrev pub begin_of : Pos → TyId → PatternTarget → Check ℕ
 begin_of at ty t = do
   id ← number
   self ← interned (Ty.Adt t.adt)
   obeys Rule.T03 at (is_same ty self)
   pure id
 
-abbrev pub test_rest : ℕ → Pos → Bool → TyId → Target → Fields → Check Node
+abbrev pub test_rest : ℕ → Pos → Bool → TyId → PatternTarget → Fields → Check Node
 test_rest id at takes_all ty t fields = do
   items ← the_items
   obeys Rule.T18 at (not (takes_all && is_test items t))
   pure (tested_if (is_test items t) (a_node_of id at ty (parts_form items t fields)))
 
-abbrev pub known_rest : ℕ → Pos → Bool → TyId → Target → Fields → Bool → Check Node
+abbrev pub known_rest : ℕ → Pos → Bool → TyId → PatternTarget → Fields → Bool → Check Node
 known_rest id at takes_all ty t fields is_known = do
   obeys Rule.T12 at is_known
   test_rest id at takes_all ty t fields
 
 -- once the parts are checked
-abbrev pub target_rest : ℕ → Pos → Bool → TyId → Target → Fields → Bool → Bool → Check Node
+abbrev pub target_rest : ℕ → Pos → Bool → TyId → PatternTarget → Fields → Bool → Bool → Check Node
 target_rest id at takes_all ty t fields is_count is_known = do
   obeys Rule.T04 at is_count
   known_rest id at takes_all ty t fields is_known
 
 -- once the place is known to be of the type that the path names
-abbrev pub target_tail : ℕ → Pos → Expected → TyId → Target → (Expected → List TyId → Check (Fields × List Entry × Bool ×
-    Bool)) → Check Bound
+abbrev pub target_tail : ℕ → Pos → Expected → TyId → PatternTarget →
+    (Expected → List TyId → Check (Fields × List NamedEntry × Bool ×
+    Bool)) → Check BoundPattern
 target_tail id at e ty t parts = do
   before ← the_items
   ps ← parts (inside_of before ty e) (fields_of before t)
@@ -99,7 +100,7 @@ target_tail id at e ty t parts = do
   pure (tested_if (is_test items t) (a_node_of id at ty (parts_form items t ps.0)), ps.1)
 
 -- a pattern without parts
-abbrev pub unit_rest : Pos → Bool → TyId → Target → Bool → Check Node
+abbrev pub unit_rest : Pos → Bool → TyId → PatternTarget → Bool → Check Node
 unit_rest at takes_all ty t is_whole = do
   id ← begin_of at ty t
   target_rest id at takes_all ty t no_field is_whole true

@@ -10,7 +10,7 @@ ghost use Rattle.pattern_rows.specs.Rests.{known_rest, target_rest, test_rest};
 ghost use Rattle.pattern_rows.specs.Targets.{target_of as target_in};
 ghost use Rattle.type_rows.specs.Stand.{Gives, Keeps, Stays, below, stack, state, top};
 
-use crate::targets::{Target, is_test};
+use crate::targets::{PatternTarget, is_test};
 use item_heads::obeys;
 use mir_base::{List, NoMemory, NodeId, Pos, Rule, RuleError};
 use mir_ty::{Items, TyId};
@@ -104,7 +104,7 @@ fn take_fields(
     }
 }
 
-fn form_of_target(items: &Items, target: Target, fields: List<NumberedField>) -> Form
+fn form_of_target(items: &Items, target: PatternTarget, fields: List<NumberedField>) -> Form
     ensures { form_of result ≡ rules.parts_form items.now (target_in target) (fields_from (map field_of fields)) }
 {
     if is_enum(items, target.adt) {
@@ -123,7 +123,7 @@ fn put_target(
     id: NodeId,
     at: Pos,
     ty: TyId,
-    target: Target,
+    target: PatternTarget,
     given: List<Option<u32>>,
 ) -> Result<(), RuleError>
     ensures made { OnOk result (stack checker.new ≡
@@ -143,7 +143,7 @@ fn put_tested(
     id: NodeId,
     at: Pos,
     ty: TyId,
-    target: Target,
+    target: PatternTarget,
     given: List<Option<u32>>,
 ) -> Result<(), RuleError>
     ensures made { OnOk result (stack checker.new ≡
@@ -169,7 +169,7 @@ fn test_end(
     at: Pos,
     takes_all: bool,
     ty: TyId,
-    target: Target,
+    target: PatternTarget,
     given: List<Option<u32>>,
 ) -> Result<(), RuleError>
     ensures gives { Gives (test_rest id.0 at takes_all ty (target_in target) (last_fields given (stack checker.old)) (state checker.old)) result checker.new }
@@ -186,7 +186,7 @@ fn known_end(
     at: Pos,
     takes_all: bool,
     ty: TyId,
-    target: Target,
+    target: PatternTarget,
     given: List<Option<u32>>,
     is_known: bool,
 ) -> Result<(), RuleError>
@@ -205,7 +205,7 @@ pub fn target_end(
     at: Pos,
     takes_all: bool,
     ty: TyId,
-    target: Target,
+    target: PatternTarget,
     given: List<Option<u32>>,
     is_count: bool,
     is_known: bool,

@@ -17,7 +17,7 @@ use crate::expected::Expected;
 use item_heads::{broken, obeys};
 use mir_base::{IntKind, Key, Name, NoMemory, NodeId, Pos, Rule, RuleError};
 use mir_ty::TyId;
-use type_env::{Meaning, Variable, Variables, is_bool, is_dyn, kind_of, taking};
+use type_env::{Variable, VariableMeaning, Variables, is_bool, is_dyn, kind_of, taking};
 use type_rows::{Checker, Leaf, int, is_signed, literal_value, most};
 use typed_tree::{Form, Use};
 
@@ -230,7 +230,7 @@ fn note(
     let variable = Variable {
         name,
         ty,
-        meaning: Meaning::Local(Key(id.0)),
+        meaning: VariableMeaning::Local(Key(id.0)),
     };
     match bound.enter(checker.alloc, variable) {
         Ok(()) => Ok(()),

@@ -17,4 +17,4 @@ pub use leaves::{bind, literal_pattern, truth_pattern, wildcard};
 pub use members::{FieldPart, field_parts};
 pub use named::{lone_name, path_alone, target_begin};
 pub use parts::{PartTypes, element_types, field_count, field_types, tuple_types};
-pub use targets::{Target, is_test, target_of};
+pub use targets::{PatternTarget, is_test, target_of};

@@ -10,12 +10,12 @@ ghost use Rattle.src_ast.specs.Syntax.{shape_of};
 ghost use Rattle.pattern_rows.specs.Members.{field_in, names_at, names_in, part_by, part_named, part_of, parts_named, variant_of};
 
 use crate::parts::variant_at;
-use crate::targets::Target;
+use crate::targets::PatternTarget;
 use item_heads::{NameTable, pushed};
 use mir_base::{List, RuleError};
 use mir_ty::{Items, TyId};
 use src_ast::{Nodes, field_pattern_form};
-use src_tree::Node;
+use src_tree::SyntaxNode;
 use type_env::AdtNames;
 use type_rows::Checker;
 
@@ -26,7 +26,7 @@ pub struct FieldPart {
     pub ty: TyId,
 }
 
-fn names_of(members: &List<AdtNames>, target: Target) -> Option<&NameTable>
+fn names_of(members: &List<AdtNames>, target: PatternTarget) -> Option<&NameTable>
     ensures { option_copied result ≡ names_at members.now target }
 {
     members
@@ -35,7 +35,7 @@ fn names_of(members: &List<AdtNames>, target: Target) -> Option<&NameTable>
         .get(target.variant as usize)
 }
 
-fn field_number(members: &List<AdtNames>, target: Target, name: &str) -> Option<u32>
+fn field_number(members: &List<AdtNames>, target: PatternTarget, name: &str) -> Option<u32>
     ensures { result ≡ position_of (bytes_eq name.now) (names_in members.now target) }
 {
     match names_of(members, target) {
@@ -44,7 +44,7 @@ fn field_number(members: &List<AdtNames>, target: Target, name: &str) -> Option<
     }
 }
 
-fn field_at(items: &Items, target: Target, number: u32) -> Option<FieldPart>
+fn field_at(items: &Items, target: PatternTarget, number: u32) -> Option<FieldPart>
     ensures { option_map part_of result ≡ field_in (variant_of items.now target) number }
 {
     match variant_at(items, target) {
@@ -56,14 +56,14 @@ fn field_at(items: &Items, target: Target, number: u32) -> Option<FieldPart>
     }
 }
 
-fn field_named(checker: &Checker, target: Target, name: &str) -> Option<FieldPart>
+fn field_named(checker: &Checker, target: PatternTarget, name: &str) -> Option<FieldPart>
     ensures { option_map part_of result ≡ part_by (variant_of checker.now.walk.items target) name.now }
 {
     let number = field_number(&checker.tables.members, target, name)?;
     field_at(&checker.walk.items, target, number)
 }
 
-fn part_of_node(checker: &Checker, target: Target, node: &Node) -> Option<FieldPart>
+fn part_of_node(checker: &Checker, target: PatternTarget, node: &SyntaxNode) -> Option<FieldPart>
     ensures { option_map part_of result ≡ part_named (variant_of checker.now.walk.items target) (field_pattern_part (shape_of (syn_of node.now))) }
 {
     match field_pattern_form(node) {
@@ -75,7 +75,7 @@ fn part_of_node(checker: &Checker, target: Target, node: &Node) -> Option<FieldP
 /// The fields of a struct or a variant that the patterns of fields name, `None` where there is none of a name.
 pub fn field_parts(
     checker: &Checker,
-    target: Target,
+    target: PatternTarget,
     fields: Nodes,
 ) -> Result<List<Option<FieldPart>>, RuleError>
     ensures named { IfOk result (λ parts. map (option_map part_of) parts ≡ parts_named (variant_of checker.now.walk.items target) (nodes_of fields.entry)) }

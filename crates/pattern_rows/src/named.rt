@@ -13,7 +13,7 @@ ghost use Rattle.type_rows.specs.Stand.{Gives, GivesValue, Keeps, Same, env, sta
 use crate::expected::Expected;
 use crate::fields::target_end;
 use crate::leaves::bind;
-use crate::targets::{Target, target_of};
+use crate::targets::{PatternTarget, target_of};
 use item_heads::{broken, obeys};
 use mir_base::{List, NodeId, Pos, Rule, RuleError};
 use mir_ty::{Ty, TyId};
@@ -27,7 +27,7 @@ pub fn target_begin(
     checker: &mut Checker,
     at: Pos,
     ty: TyId,
-    target: Target,
+    target: PatternTarget,
 ) -> Result<NodeId, RuleError>
     ensures gives { GivesValue node_no (begin_of at ty (target_in target) (state checker.old)) result checker.new }
     ensures same { Same checker.old checker.new }
@@ -43,7 +43,7 @@ fn unit_node(
     at: Pos,
     takes_all: bool,
     ty: TyId,
-    target: Target,
+    target: PatternTarget,
     is_whole: bool,
 ) -> Result<(), RuleError>
     ensures gives { Gives (unit_rest at takes_all ty (target_in target) is_whole (state checker.old)) result checker.new }
@@ -62,7 +62,7 @@ fn unit_target(
     at: Pos,
     e: Expected,
     ty: TyId,
-    target: Target,
+    target: PatternTarget,
     is_whole: bool,
 ) -> Result<(), RuleError>
     ensures gives { GivesAnyhow (λ earlier. rules.of_target at (expected_of e) ty (target_in target) (rules.no_parts earlier is_whole) (state checker.old)) result checker.new }
@@ -91,7 +91,7 @@ fn lone_struct(
     ensures kept { Keeps (stack checker.old) checker.old result checker.new }
 {
     if is_unit_kind(kind_at(checker, adt, 0)) {
-        unit_target(checker, at, e, ty, Target { adt, variant: 0 }, true)
+        unit_target(checker, at, e, ty, PatternTarget { adt, variant: 0 }, true)
     } else {
         Err(broken(Rule::T18, at))
     }

@@ -7,7 +7,7 @@ ghost use Rattle.well_typed.specs.Types as types;
 ghost use Rattle.pattern_rows.specs.Parts.{AreFirst, AreFirstIf};
 ghost use Rattle.pattern_rows.specs.Targets.{target_of as target_in};
 
-use crate::targets::Target;
+use crate::targets::PatternTarget;
 use item_heads::pushed;
 use mir_base::{List, RuleError};
 use mir_ty::{Items, Ty, TyId, Variant};
@@ -102,7 +102,7 @@ pub fn element_types(
 }
 
 /// A variant of a struct or an enum; `None` where there is none.
-pub fn variant_at(items: &Items, target: Target) -> Option<&Variant>
+pub fn variant_at(items: &Items, target: PatternTarget) -> Option<&Variant>
     ensures { option_copied result ≡ types.variant_at items.now target.adt target.variant }
 {
     items.adt(target.adt)?.variants.get(target.variant as usize)
@@ -112,7 +112,7 @@ pub fn variant_at(items: &Items, target: Target) -> Option<&Variant>
 pub fn field_types(
     alloc: Global,
     items: &Items,
-    target: Target,
+    target: PatternTarget,
     given: usize,
 ) -> Result<PartTypes, RuleError>
     ensures found { IfOk result (λ parts. AreFirst given (rules.fields_of items.now (target_in target)) parts) }
@@ -125,7 +125,7 @@ pub fn field_types(
 }
 
 /// How many fields a struct or a variant has.
-pub fn field_count(items: &Items, target: Target) -> usize
+pub fn field_count(items: &Items, target: PatternTarget) -> usize
     ensures { result ≡ length (rules.fields_of items.now (target_in target)) }
 {
     match variant_at(items, target) {

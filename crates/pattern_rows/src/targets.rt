@@ -12,23 +12,23 @@ use type_rows::Checker;
 
 /// The variant of a struct or an enum that a path names; that of a struct is 0.
 #[derive(Clone, Copy)]
-pub struct Target {
+pub struct PatternTarget {
     pub adt: u32,
     pub variant: u32,
 }
 
-fn struct_target(checker: &Checker, first: Option<&str>) -> Option<Target>
+fn struct_target(checker: &Checker, first: Option<&str>) -> Option<PatternTarget>
     ensures { option_map target_in result ≡ rules.target_of checker.now.walk.items (env checker.now) (word_of first.entry) None }
 {
     let adt = adt_at_head(checker, first)?;
     if is_enum(&checker.walk.items, adt) {
         None
     } else {
-        Some(Target { adt, variant: 0 })
+        Some(PatternTarget { adt, variant: 0 })
     }
 }
 
-fn variant_target(checker: &Checker, first: Option<&str>, name: &str) -> Option<Target>
+fn variant_target(checker: &Checker, first: Option<&str>, name: &str) -> Option<PatternTarget>
     ensures { option_map target_in result ≡ rules.target_of checker.now.walk.items (env checker.now) (word_of first.entry) (Some name.now) }
 {
     let adt = adt_at_head(checker, first)?;
@@ -36,11 +36,15 @@ fn variant_target(checker: &Checker, first: Option<&str>, name: &str) -> Option<
         return None;
     }
     let variant = variant_named(&checker.tables.members, &checker.walk.items, adt, name)?;
-    Some(Target { adt, variant })
+    Some(PatternTarget { adt, variant })
 }
 
 /// The struct, or the variant of an enum, that a path names; `None` where it names none.
-pub fn target_of(checker: &Checker, first: Option<&str>, second: Option<&str>) -> Option<Target>
+pub fn target_of(
+    checker: &Checker,
+    first: Option<&str>,
+    second: Option<&str>,
+) -> Option<PatternTarget>
     ensures { option_map target_in result ≡ rules.target_of checker.now.walk.items (env checker.now) (word_of first.entry) (word_of second.entry) }
 {
     match second {
@@ -59,7 +63,7 @@ fn variants_of(items: &Items, adt: u32) -> usize
 }
 
 /// Whether a path names one of several variants, which is a test.
-pub fn is_test(items: &Items, target: Target) -> bool
+pub fn is_test(items: &Items, target: PatternTarget) -> bool
     ensures { result ≡ rules.is_test items.now (target_in target) }
 {
     is_enum(items, target.adt) && variants_of(items, target.adt) > 1

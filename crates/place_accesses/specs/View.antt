@@ -4,25 +4,25 @@ use Rattle.mir_base.specs.declared.place_in_text.Key.{Key}
 use Rattle.mir_base.specs.declared.place_in_text.Pos.{Pos}
 use Rattle.place_accesses.specs.declared.access.Access as rust
 use Rattle.place_accesses.specs.declared.access.Accessed.{Accessed}
-use Rattle.place_accesses.specs.declared.access.Told.{Told}
+use Rattle.place_accesses.specs.declared.access.ToldAccesses.{ToldAccesses}
 use Rattle.place_accesses.specs.declared.arguments.Argument.{Argument}
 use Rattle.place_accesses.specs.declared.arguments.Referring.{Referring}
-use Rattle.place_accesses.specs.declared.bindings.Bound.{Bound}
+use Rattle.place_accesses.specs.declared.bindings.BoundPart.{BoundPart}
 use Rattle.place_accesses.specs.declared.place.Alias.{Alias}
-use Rattle.place_accesses.specs.declared.place.Place.{Place}
-use Rattle.place_accesses.specs.declared.place.Step as steps
+use Rattle.place_accesses.specs.declared.place.AccessPlace.{AccessPlace}
+use Rattle.place_accesses.specs.declared.place.AccessStep as steps
 use Rattle.typed_tree.specs.declared.node.Use.{Use}
 use Rattle.typing_rules.specs.Accesses as rules
 use Rattle.typing_rules.specs.Accesses.{ToPart, ToContent, Reads, Moves, Stores, Borrows, BorrowsUniquely}
 
-abbrev pub step_in : steps.Step → rules.Step
-step_in (steps.Step.Part number) = ToPart number
-step_in steps.Step.Content = ToContent
+abbrev pub step_in : steps.AccessStep → rules.AccessStep
+step_in (steps.AccessStep.Part number) = ToPart number
+step_in steps.AccessStep.Content = ToContent
 
-abbrev pub place_in : Place → rules.Place
+abbrev pub place_in : AccessPlace → rules.AccessPlace
 place_in p = record { key = p.key.0; steps = map step_in p.steps; has_ended = p.has_ended }
 
-abbrev pub place_if_any : Option Place → Option rules.Place
+abbrev pub place_if_any : Option AccessPlace → Option rules.AccessPlace
 place_if_any place = option_map place_in place
 
 abbrev pub key_no : Key → ℕ
@@ -31,7 +31,7 @@ key_no key = key.0
 abbrev pub key_if_any : Option Key → Option ℕ
 key_if_any key = option_map key_no key
 
-abbrev pub alias_in : Alias → ℕ × Option rules.Place
+abbrev pub alias_in : Alias → ℕ × Option rules.AccessPlace
 alias_in a = (a.key.0, place_if_any a.place)
 
 abbrev pub aliases_in : List Alias → rules.Aliases
@@ -56,10 +56,10 @@ accessed_in a =
       at = a.at;
     }
 
-abbrev pub told_in : Told → rules.Told
+abbrev pub told_in : ToldAccesses → rules.ToldAccesses
 told_in t = record { accesses = map accessed_in t.accesses.items; conflicts = t.conflicts.items }
 
-abbrev pub bound_in : Bound → ℕ × rules.Accessed
+abbrev pub bound_in : BoundPart → ℕ × rules.Accessed
 bound_in b = (b.key.0, accessed_in b.taken)
 
 abbrev pub referring_in : Referring → rules.Referring
@@ -78,6 +78,6 @@ argument_in a =
     }
 
 -- the part that one name takes
-abbrev pub bound_name : Option rules.Place → ℕ → Pos → Option Use → List (ℕ × rules.Accessed)
+abbrev pub bound_name : Option rules.AccessPlace → ℕ → Pos → Option Use → List (ℕ × rules.Accessed)
 bound_name place id at by =
     (id, record { access = rules.access_of_binding by; place = place; root = None; at = at }) ∷ []

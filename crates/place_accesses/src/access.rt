@@ -4,8 +4,8 @@ ghost use Rattle.typing_rules.specs.Accesses as rules;
 ghost use Rattle.typing_rules.specs.Accesses.{◌⊕◌};
 ghost use Rattle.place_accesses.specs.View.{access_if_any, access_in, bound_in, key_if_any, place_if_any, told_in};
 
-use crate::Place;
-use crate::bindings::Bound;
+use crate::AccessPlace;
+use crate::bindings::BoundPart;
 use crate::place::copied;
 use mir_base::{Key, NoMemory, Pos};
 use std::alloc::Global;
@@ -25,14 +25,14 @@ pub enum Access {
 #[derive(Drop)]
 pub struct Accessed {
     pub access: Access,
-    pub place: Option<Place>,
+    pub place: Option<AccessPlace>,
     pub root: Option<Key>,
     pub at: Pos,
 }
 
 /// What an expression does to places, in order, and where it conflicts within itself.
 #[derive(Drop)]
-pub struct Told {
+pub struct ToldAccesses {
     pub accesses: Vec<Accessed>,
     pub conflicts: Vec<Pos>,
 }
@@ -70,12 +70,12 @@ pub fn access_by(by: Option<Use>) -> Option<Access>
     }
 }
 
-impl Told {
+impl ToldAccesses {
     /// Nothing so far.
-    pub fn quiet(alloc: Global) -> Told
+    pub fn quiet(alloc: Global) -> ToldAccesses
         ensures { told_in result ≡ rules.quiet }
     {
-        Told {
+        ToldAccesses {
             accesses: Vec::new(alloc),
             conflicts: Vec::new(alloc),
         }
@@ -85,7 +85,7 @@ impl Told {
     pub fn push(
         &mut self,
         access: Access,
-        place: Option<Place>,
+        place: Option<AccessPlace>,
         root: Option<Key>,
         at: Pos,
     ) -> Result<(), NoMemory>
@@ -102,7 +102,7 @@ impl Told {
     }
 
     /// What else is told.
-    pub fn append(&mut self, mut told: Told) -> Result<(), NoMemory>
+    pub fn append(&mut self, mut told: ToldAccesses) -> Result<(), NoMemory>
         ensures { OnOk result (told_in self.new ≡ told_in self.old ⊕ told_in told) }
     {
         self.accesses.append(&mut told.accesses)?;
@@ -119,7 +119,7 @@ impl Told {
     }
 
     /// What bindings take.
-    pub fn append_bound(&mut self, alloc: Global, bounds: &[Bound]) -> Result<(), NoMemory>
+    pub fn append_bound(&mut self, alloc: Global, bounds: &[BoundPart]) -> Result<(), NoMemory>
         ensures { OnOk result (told_in self.new ≡ told_in self.old ⊕ rules.accesses_of (map bound_in bounds.now)) }
     {
         for bound in bounds {

@@ -9,7 +9,7 @@ ghost use Rattle.place_accesses.specs.View.{accessed_in, aliases_in, argument_in
 
 use crate::access::changes;
 use crate::place::{overlap_if_any, place_of};
-use crate::{Accessed, Alias, Place, Told};
+use crate::{AccessPlace, Accessed, Alias, ToldAccesses};
 use mir_base::{List, NoMemory, Pos};
 use std::alloc::Global;
 use typed_tree::Form;
@@ -17,7 +17,7 @@ use typed_tree::Form;
 /// What a reference argument names: a place or a temporary.
 #[derive(Drop)]
 pub struct Referring {
-    pub place: Option<Place>,
+    pub place: Option<AccessPlace>,
     pub is_unique: bool,
 }
 
@@ -27,7 +27,7 @@ pub struct Argument {
     pub refers: Option<Referring>,
     pub is_receiver: bool,
     pub at: Pos,
-    pub told: Told,
+    pub told: ToldAccesses,
 }
 
 /// What an argument of this form refers to, if it is a borrow.
@@ -61,7 +61,7 @@ fn overlap_together(r: &Referring, other: &Option<Referring>) -> bool
 }
 
 /// Whether a reference before an access does not allow it.
-fn is_against(allows_none: bool, place: &Option<Place>, accessed: &Accessed) -> bool
+fn is_against(allows_none: bool, place: &Option<AccessPlace>, accessed: &Accessed) -> bool
     ensures { result ≡ rules.is_against allows_none (place_if_any place.now) (accessed_in accessed.now) }
 {
     (allows_none || changes(accessed.access)) && overlap_if_any(place, &accessed.place)
@@ -70,7 +70,7 @@ fn is_against(allows_none: bool, place: &Option<Place>, accessed: &Accessed) -> 
 /// The accesses that a reference before them does not allow.
 fn against(
     allows_none: bool,
-    place: &Option<Place>,
+    place: &Option<AccessPlace>,
     accesses: &[Accessed],
     conflicts: &mut Vec<Pos>,
 ) -> Result<(), NoMemory>
@@ -137,7 +137,7 @@ fn conflicts_among(alloc: Global, args: &[Argument]) -> Result<Vec<Pos>, NoMemor
 }
 
 /// What is told of arguments by themselves.
-fn append_all(args: List<Argument>, out: &mut Told) -> Result<(), NoMemory>
+fn append_all(args: List<Argument>, out: &mut ToldAccesses) -> Result<(), NoMemory>
     ensures { OnOk result (told_in out.new ≡ told_in out.old ⊕ rules.all_told (map argument_in args)) }
 {
     for argument in args {
@@ -147,7 +147,11 @@ fn append_all(args: List<Argument>, out: &mut Told) -> Result<(), NoMemory>
 }
 
 /// What is told of arguments that are passed together.
-pub fn passed_together(alloc: Global, args: List<Argument>, out: &mut Told) -> Result<(), NoMemory>
+pub fn passed_together(
+    alloc: Global,
+    args: List<Argument>,
+    out: &mut ToldAccesses,
+) -> Result<(), NoMemory>
     ensures { OnOk result (told_in out.new ≡ told_in out.old ⊕ rules.passed_together (map argument_in args)) }
 {
     let conflicts = conflicts_among(alloc, args.as_slice())?;

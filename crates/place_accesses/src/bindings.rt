@@ -5,14 +5,14 @@ ghost use Rattle.typing_rules.specs.Accesses as rules;
 ghost use Rattle.place_accesses.specs.View.{access_in, bound_in, bound_name, place_if_any};
 
 use crate::place::{copied, with_step};
-use crate::{Access, Accessed, Place, Step};
+use crate::{Access, AccessPlace, AccessStep, Accessed};
 use mir_base::{Key, List, NoMemory};
 use std::alloc::Global;
 use typed_tree::{Form, Node, NumberedField, Use};
 
 /// A part that a binding takes, with the binding's key.
 #[derive(Drop)]
-pub struct Bound {
+pub struct BoundPart {
     pub key: Key,
     pub taken: Accessed,
 }
@@ -29,9 +29,9 @@ fn access_of_binding(by: Option<Use>) -> Access
 /// The part that one name takes: all of what stands there.
 fn add_name(
     alloc: Global,
-    place: &Option<Place>,
+    place: &Option<AccessPlace>,
     pattern: &Node,
-    bounds: &mut List<Bound>,
+    bounds: &mut List<BoundPart>,
 ) -> Result<(), NoMemory>
     ensures { OnOk result (map bound_in bounds.new ≡ map bound_in bounds.old ++ bound_name (place_if_any place.now) pattern.now.id.0 pattern.now.at pattern.now.by) }
 {
@@ -41,7 +41,7 @@ fn add_name(
         root: None,
         at: pattern.at,
     };
-    bounds.push(Bound {
+    bounds.push(BoundPart {
         key: Key(pattern.id.0),
         taken,
     })
@@ -51,9 +51,9 @@ fn add_name(
 #[cycle(bindings)]
 pub fn add_bound(
     alloc: Global,
-    place: &Option<Place>,
+    place: &Option<AccessPlace>,
     pattern: &Node,
-    bounds: &mut List<Bound>,
+    bounds: &mut List<BoundPart>,
 ) -> Result<(), NoMemory>
     ensures { OnOk result (map bound_in bounds.new ≡
         map bound_in bounds.old ++ rules.bound (place_if_any place.now) (tree_of pattern.now)) }
@@ -73,15 +73,15 @@ pub fn add_bound(
 #[cycle(bindings)]
 fn add_fields(
     alloc: Global,
-    place: &Option<Place>,
+    place: &Option<AccessPlace>,
     fields: &[NumberedField],
-    bounds: &mut List<Bound>,
+    bounds: &mut List<BoundPart>,
 ) -> Result<(), NoMemory>
     ensures { OnOk result (map bound_in bounds.new ≡
         map bound_in bounds.old ++ rules.bound_fields (place_if_any place.now) (fields_from (map field_of fields.now))) }
 {
     for field in fields {
-        let part = with_step(copied(alloc, place)?, Step::Part(field.number))?;
+        let part = with_step(copied(alloc, place)?, AccessStep::Part(field.number))?;
         add_bound(alloc, &part, &field.value, bounds)?;
     }
     Ok(())
@@ -90,16 +90,16 @@ fn add_fields(
 #[cycle(bindings)]
 fn add_parts(
     alloc: Global,
-    place: &Option<Place>,
+    place: &Option<AccessPlace>,
     parts: &[Node],
-    bounds: &mut List<Bound>,
+    bounds: &mut List<BoundPart>,
 ) -> Result<(), NoMemory>
     ensures { OnOk result (map bound_in bounds.new ≡
         map bound_in bounds.old ++ rules.bound_parts (place_if_any place.now) 0 (nodes_from (map tree_of parts.now))) }
 {
     let mut number: u32 = 0;
     for pattern in parts {
-        let part = with_step(copied(alloc, place)?, Step::Part(number))?;
+        let part = with_step(copied(alloc, place)?, AccessStep::Part(number))?;
         add_bound(alloc, &part, pattern, bounds)?;
         let Some(next) = number.checked_add(1) else {
             return Err(NoMemory);

@@ -8,16 +8,21 @@ ghost use Rattle.place_accesses.specs.View.{access_in, aliases_in, argument_in, 
 
 use crate::access::access_by;
 use crate::arguments::{Argument, passed_together, refers_by};
-use crate::bindings::{Bound, add_bound};
+use crate::bindings::{BoundPart, add_bound};
 use crate::guards::{aliases_with, of_guard};
 use crate::place::{place_of, root_of, with_end};
-use crate::{Access, Alias, Place, Told};
+use crate::{Access, AccessPlace, Alias, ToldAccesses};
 use mir_base::{List, NoMemory, Pos};
 use std::alloc::Global;
 use typed_tree::{Form, Node, NumberedField};
 
 /// The use of a place by itself.
-fn own_access(alloc: Global, aliases: &[Alias], node: &Node, out: &mut Told) -> Result<(), NoMemory>
+fn own_access(
+    alloc: Global,
+    aliases: &[Alias],
+    node: &Node,
+    out: &mut ToldAccesses,
+) -> Result<(), NoMemory>
     ensures { OnOk result (told_in out.new ≡ told_in out.old ⊕
         rules.own_access (rules.access_by node.now.by) (rules.place_of (aliases_in aliases.now) (tree_of node.now)) (rules.root_of (tree_of node.now)) node.now.at) }
 {
@@ -36,7 +41,7 @@ fn of_scrutinee(
     aliases: &[Alias],
     pattern: &Node,
     value: &Node,
-    out: &mut Told,
+    out: &mut ToldAccesses,
 ) -> Result<(), NoMemory>
     ensures { OnOk result (told_in out.new ≡ told_in out.old ⊕
         rules.of_scrutinee (aliases_in aliases.now) (tree_of pattern.now) (tree_of value.now)) }
@@ -53,7 +58,7 @@ fn of_let(
     aliases: &[Alias],
     pattern: &Node,
     value: &Node,
-    out: &mut Told,
+    out: &mut ToldAccesses,
 ) -> Result<(), NoMemory>
     ensures { OnOk result (told_in out.new ≡ told_in out.old ⊕
         rules.of_let (aliases_in aliases.now) (tree_of pattern.now) (tree_of value.now)) }
@@ -78,7 +83,12 @@ fn borrowing(is_unique: bool) -> Access
 /// What an expression does to places, and where it conflicts within itself, behind what was told before. Inside a
 /// guard, aliases say what its bindings stand for.
 #[cycle(told)]
-pub fn tell(alloc: Global, aliases: &[Alias], node: &Node, out: &mut Told) -> Result<(), NoMemory>
+pub fn tell(
+    alloc: Global,
+    aliases: &[Alias],
+    node: &Node,
+    out: &mut ToldAccesses,
+) -> Result<(), NoMemory>
     ensures { OnOk result (told_in out.new ≡ told_in out.old ⊕ rules.told (aliases_in aliases.now) (tree_of node.now)) }
 {
     tell_inside(alloc, aliases, node, out)?;
@@ -91,7 +101,7 @@ fn tell_inside(
     alloc: Global,
     aliases: &[Alias],
     node: &Node,
-    out: &mut Told,
+    out: &mut ToldAccesses,
 ) -> Result<(), NoMemory>
     ensures { OnOk result (told_in out.new ≡ told_in out.old ⊕ rules.inside (aliases_in aliases.now) (tree_of node.now)) }
 {
@@ -104,7 +114,7 @@ fn tell_form(
     aliases: &[Alias],
     at: Pos,
     form: &Form,
-    out: &mut Told,
+    out: &mut ToldAccesses,
 ) -> Result<(), NoMemory>
     ensures { OnOk result (told_in out.new ≡ told_in out.old ⊕ rules.told_form (aliases_in aliases.now) at (form_of form.now)) }
 {
@@ -174,7 +184,7 @@ fn tell_reaching(
     aliases: &[Alias],
     at: Pos,
     form: &Form,
-    out: &mut Told,
+    out: &mut ToldAccesses,
 ) -> Result<(), NoMemory>
     ensures { OnOk result (told_in out.new ≡ told_in out.old ⊕ reaching_told (aliases_in aliases.now) at (form_of form.now)) }
 {
@@ -205,7 +215,12 @@ fn tell_reaching(
 
 /// Of a call, whose arguments are passed together, a receiver among them.
 #[cycle(told)]
-fn tell_call(alloc: Global, aliases: &[Alias], form: &Form, out: &mut Told) -> Result<(), NoMemory>
+fn tell_call(
+    alloc: Global,
+    aliases: &[Alias],
+    form: &Form,
+    out: &mut ToldAccesses,
+) -> Result<(), NoMemory>
     ensures { OnOk result (told_in out.new ≡ told_in out.old ⊕ call_told (aliases_in aliases.now) (form_of form.now)) }
 {
     let mut args = List::new(alloc);
@@ -252,7 +267,7 @@ fn tell_branches(
     alloc: Global,
     aliases: &[Alias],
     form: &Form,
-    out: &mut Told,
+    out: &mut ToldAccesses,
 ) -> Result<(), NoMemory>
     ensures { OnOk result (told_in out.new ≡ told_in out.old ⊕ branch_told (aliases_in aliases.now) (form_of form.now)) }
 {
@@ -312,7 +327,7 @@ fn tell_parts(
     aliases: &[Alias],
     at: Pos,
     form: &Form,
-    out: &mut Told,
+    out: &mut ToldAccesses,
 ) -> Result<(), NoMemory>
     ensures { OnOk result (told_in out.new ≡ told_in out.old ⊕ parts_told (aliases_in aliases.now) at (form_of form.now)) }
 {
@@ -352,7 +367,7 @@ fn tell_if_any(
     alloc: Global,
     aliases: &[Alias],
     node: &Option<Box<Node, Global>>,
-    out: &mut Told,
+    out: &mut ToldAccesses,
 ) -> Result<(), NoMemory>
     ensures { OnOk result (told_in out.new ≡ told_in out.old ⊕ rules.told_maybe (aliases_in aliases.now) (maybe_of node.now)) }
 {
@@ -367,7 +382,7 @@ fn tell_all(
     alloc: Global,
     aliases: &[Alias],
     nodes: &[Node],
-    out: &mut Told,
+    out: &mut ToldAccesses,
 ) -> Result<(), NoMemory>
     ensures { OnOk result (told_in out.new ≡ told_in out.old ⊕ rules.told_all (aliases_in aliases.now) (nodes_from (map tree_of nodes.now))) }
 {
@@ -382,7 +397,7 @@ fn tell_fields(
     alloc: Global,
     aliases: &[Alias],
     fields: &[NumberedField],
-    out: &mut Told,
+    out: &mut ToldAccesses,
 ) -> Result<(), NoMemory>
     ensures { OnOk result (told_in out.new ≡ told_in out.old ⊕ rules.told_fields (aliases_in aliases.now) (fields_from (map field_of fields.now))) }
 {
@@ -405,7 +420,7 @@ fn tell_argument(
         map argument_in args.old ++ argument_told (aliases_in aliases.now) is_receiver (tree_of node.now) ∷ []) }
 {
     let refers = refers_by(alloc, aliases, &node.form)?;
-    let mut own = Told::quiet(alloc);
+    let mut own = ToldAccesses::quiet(alloc);
     tell(alloc, aliases, node, &mut own)?;
     args.push(Argument {
         refers,
@@ -435,9 +450,9 @@ fn tell_arguments(
 fn tell_arms(
     alloc: Global,
     aliases: &[Alias],
-    place: &Option<Place>,
+    place: &Option<AccessPlace>,
     arms: &[Node],
-    out: &mut Told,
+    out: &mut ToldAccesses,
 ) -> Result<(), NoMemory>
     ensures { OnOk result (told_in out.new ≡ told_in out.old ⊕
         rules.told_arms (aliases_in aliases.now) (place_if_any place.now) (nodes_from (map tree_of arms.now))) }
@@ -453,9 +468,9 @@ fn tell_arms(
 fn tell_arm(
     alloc: Global,
     aliases: &[Alias],
-    place: &Option<Place>,
+    place: &Option<AccessPlace>,
     arm: &Node,
-    out: &mut Told,
+    out: &mut ToldAccesses,
 ) -> Result<(), NoMemory>
     ensures { OnOk result (told_in out.new ≡ told_in out.old ⊕
         rules.told_arm (aliases_in aliases.now) (place_if_any place.now) (tree_of arm.now)) }
@@ -468,9 +483,9 @@ fn tell_arm(
 fn tell_guarded(
     alloc: Global,
     aliases: &[Alias],
-    place: &Option<Place>,
+    place: &Option<AccessPlace>,
     form: &Form,
-    out: &mut Told,
+    out: &mut ToldAccesses,
 ) -> Result<(), NoMemory>
     ensures { OnOk result (told_in out.new ≡ told_in out.old ⊕
         arm_told (aliases_in aliases.now) (place_if_any place.now) (form_of form.now)) }
@@ -498,10 +513,10 @@ fn tell_guarded(
 fn tell_guard(
     alloc: Global,
     aliases: &[Alias],
-    place: &Option<Place>,
-    bounds: &[Bound],
+    place: &Option<AccessPlace>,
+    bounds: &[BoundPart],
     guard: &Option<Box<Node, Global>>,
-    out: &mut Told,
+    out: &mut ToldAccesses,
 ) -> Result<(), NoMemory>
     ensures { OnOk result (told_in out.new ≡ told_in out.old ⊕
         rules.told_guard (aliases_in aliases.now) (place_if_any place.now) (map bound_in bounds.now) (maybe_of guard.now)) }
@@ -510,7 +525,7 @@ fn tell_guard(
         Some(guard) => {
             let guard: &Node = guard;
             let aliases = aliases_with(alloc, bounds, aliases)?;
-            let mut own = Told::quiet(alloc);
+            let mut own = ToldAccesses::quiet(alloc);
             tell(alloc, aliases.as_slice(), guard, &mut own)?;
             of_guard(alloc, place, bounds, own, out)
         }

@@ -7,20 +7,20 @@ ghost use Rattle.typing_rules.specs.Accesses.{◌⊕◌};
 ghost use Rattle.place_accesses.specs.View.{accessed_in, aliases_in, bound_in, key_if_any, place_if_any, told_in};
 
 use crate::access::{changes, replaces};
-use crate::bindings::Bound;
+use crate::bindings::BoundPart;
 use crate::place::{copied, overlap_if_any};
-use crate::{Accessed, Alias, Place, Told};
+use crate::{AccessPlace, Accessed, Alias, ToldAccesses};
 use mir_base::{Key, List, NoMemory, Pos};
 use std::alloc::Global;
 
-fn has_key(key: Key, bounds: &[Bound]) -> bool
+fn has_key(key: Key, bounds: &[BoundPart]) -> bool
     ensures { result ≡ list_any (λ bound. bound.key.0 == key.0) bounds.now }
 {
     bounds.iter().any(|bound| bound.key.0 == key.0)
 }
 
 /// Whether a key is that of a binding.
-fn is_bound(root: Option<Key>, bounds: &[Bound]) -> bool
+fn is_bound(root: Option<Key>, bounds: &[BoundPart]) -> bool
     ensures { result ≡ rules.is_bound (key_if_any root) (map bound_in bounds.now) }
 {
     match root {
@@ -29,7 +29,11 @@ fn is_bound(root: Option<Key>, bounds: &[Bound]) -> bool
     }
 }
 
-fn is_against_guard(scrutinee: &Option<Place>, bounds: &[Bound], accessed: &Accessed) -> bool
+fn is_against_guard(
+    scrutinee: &Option<AccessPlace>,
+    bounds: &[BoundPart],
+    accessed: &Accessed,
+) -> bool
     ensures { result ≡ ((rules.changes (accessed_in accessed.now).access && rules.overlap_if_any (place_if_any scrutinee.now) (accessed_in accessed.now).place) || (rules.replaces (accessed_in accessed.now).access && rules.is_bound (accessed_in accessed.now).root (map bound_in bounds.now))) }
 {
     (changes(accessed.access) && overlap_if_any(scrutinee, &accessed.place))
@@ -39,8 +43,8 @@ fn is_against_guard(scrutinee: &Option<Place>, bounds: &[Bound], accessed: &Acce
 /// Where a guard does what it may not.
 fn against_guard(
     alloc: Global,
-    scrutinee: &Option<Place>,
-    bounds: &[Bound],
+    scrutinee: &Option<AccessPlace>,
+    bounds: &[BoundPart],
     accesses: &[Accessed],
 ) -> Result<Vec<Pos>, NoMemory>
     ensures { IfOk result (λ conflicts. conflicts.items ≡
@@ -58,10 +62,10 @@ fn against_guard(
 /// What is told of a guard, and where it does what it may not.
 pub fn of_guard(
     alloc: Global,
-    scrutinee: &Option<Place>,
-    bounds: &[Bound],
-    told: Told,
-    out: &mut Told,
+    scrutinee: &Option<AccessPlace>,
+    bounds: &[BoundPart],
+    told: ToldAccesses,
+    out: &mut ToldAccesses,
 ) -> Result<(), NoMemory>
     ensures { OnOk result (told_in out.new ≡ told_in out.old ⊕
         rules.of_guard (place_if_any scrutinee.now) (map bound_in bounds.now) (told_in told)) }
@@ -74,7 +78,7 @@ pub fn of_guard(
 /// The aliases inside a guard: the bindings of its arm, before those around it.
 pub fn aliases_with(
     alloc: Global,
-    bounds: &[Bound],
+    bounds: &[BoundPart],
     aliases: &[Alias],
 ) -> Result<List<Alias>, NoMemory>
     ensures { IfOk result (λ all. aliases_in all ≡ rules.aliases_with (map bound_in bounds.now) (aliases_in aliases.now)) }

@@ -10,6 +10,6 @@ mod expressions;
 mod guards;
 mod place;
 
-pub use access::{Access, Accessed, Told};
+pub use access::{Access, Accessed, ToldAccesses};
 pub use expressions::tell;
-pub use place::{Alias, Place, Step};
+pub use place::{AccessPlace, AccessStep, Alias};

@@ -10,7 +10,7 @@ use typed_tree::{Form, Node};
 
 /// A step inwards.
 #[derive(Clone, Copy)]
-pub enum Step {
+pub enum AccessStep {
     /// A part, by its number.
     Part(u32),
     /// The content of a box, or what a reference names.
@@ -19,9 +19,9 @@ pub enum Step {
 
 /// A variable by its key, and steps inwards. An index ends the steps: the whole array is meant, and nothing behind it.
 #[derive(Drop)]
-pub struct Place {
+pub struct AccessPlace {
     pub key: Key,
-    pub steps: List<Step>,
+    pub steps: List<AccessStep>,
     pub has_ended: bool,
 }
 
@@ -29,11 +29,11 @@ pub struct Place {
 #[derive(Drop)]
 pub struct Alias {
     pub key: Key,
-    pub place: Option<Place>,
+    pub place: Option<AccessPlace>,
 }
 
 /// The same steps once more.
-fn copied_steps(alloc: Global, steps: &[Step]) -> Result<List<Step>, NoMemory>
+fn copied_steps(alloc: Global, steps: &[AccessStep]) -> Result<List<AccessStep>, NoMemory>
     ensures { IfOk result (λ copy. copy ≡ steps.now) }
 {
     let mut copy = List::new(alloc);
@@ -44,13 +44,13 @@ fn copied_steps(alloc: Global, steps: &[Step]) -> Result<List<Step>, NoMemory>
 }
 
 /// The same place once more, if it is one.
-pub fn copied(alloc: Global, place: &Option<Place>) -> Result<Option<Place>, NoMemory>
+pub fn copied(alloc: Global, place: &Option<AccessPlace>) -> Result<Option<AccessPlace>, NoMemory>
     ensures { IfOk result (λ copy. copy ≡ place.now) }
 {
     match place {
         Some(place) => {
             let steps = copied_steps(alloc, place.steps.as_slice())?;
-            Ok(Some(Place {
+            Ok(Some(AccessPlace {
                 key: place.key,
                 steps,
                 has_ended: place.has_ended,
@@ -61,7 +61,7 @@ pub fn copied(alloc: Global, place: &Option<Place>) -> Result<Option<Place>, NoM
 }
 
 /// What a key stands for: the youngest alias of it, and else the variable.
-fn place_of_key(alloc: Global, aliases: &[Alias], key: Key) -> Result<Option<Place>, NoMemory>
+fn place_of_key(alloc: Global, aliases: &[Alias], key: Key) -> Result<Option<AccessPlace>, NoMemory>
     ensures { IfOk result (λ place. place_if_any place ≡ rules.place_of_key (aliases_in aliases.now) key.0) }
 {
     for alias in aliases {
@@ -69,7 +69,7 @@ fn place_of_key(alloc: Global, aliases: &[Alias], key: Key) -> Result<Option<Pla
             return copied(alloc, &alias.place);
         }
     }
-    Ok(Some(Place {
+    Ok(Some(AccessPlace {
         key,
         steps: List::new(alloc),
         has_ended: false,
@@ -77,7 +77,10 @@ fn place_of_key(alloc: Global, aliases: &[Alias], key: Key) -> Result<Option<Pla
 }
 
 /// One step further inwards, where the steps have not ended.
-pub fn with_step(place: Option<Place>, step: Step) -> Result<Option<Place>, NoMemory>
+pub fn with_step(
+    place: Option<AccessPlace>,
+    step: AccessStep,
+) -> Result<Option<AccessPlace>, NoMemory>
     ensures { IfOk result (λ further. place_if_any further ≡ option_map (rules.with_step (step_in step)) (place_if_any place)) }
 {
     let Some(mut place) = place else {
@@ -90,11 +93,11 @@ pub fn with_step(place: Option<Place>, step: Step) -> Result<Option<Place>, NoMe
 }
 
 /// The place with its steps ended.
-pub fn with_end(place: Option<Place>) -> Option<Place>
+pub fn with_end(place: Option<AccessPlace>) -> Option<AccessPlace>
     ensures { place_if_any result ≡ option_map rules.with_end (place_if_any place) }
 {
     match place {
-        Some(place) => Some(Place {
+        Some(place) => Some(AccessPlace {
             key: place.key,
             steps: place.steps,
             has_ended: true,
@@ -103,18 +106,18 @@ pub fn with_end(place: Option<Place>) -> Option<Place>
     }
 }
 
-fn is_same_step(a: Step, b: Step) -> bool
+fn is_same_step(a: AccessStep, b: AccessStep) -> bool
     ensures { result ≡ rules.is_same_step (step_in a) (step_in b) }
 {
     match (a, b) {
-        (Step::Part(a), Step::Part(b)) => a == b,
-        (Step::Content, Step::Content) => true,
+        (AccessStep::Part(a), AccessStep::Part(b)) => a == b,
+        (AccessStep::Content, AccessStep::Content) => true,
         _ => false,
     }
 }
 
 /// Whether the one begins with the other.
-fn begin_alike(a: &[Step], b: &[Step]) -> bool
+fn begin_alike(a: &[AccessStep], b: &[AccessStep]) -> bool
     ensures { result ≡ rules.begin_alike (map step_in a.now) (map step_in b.now) }
 {
     for n in 0..a.len().min(b.len()) {
@@ -126,14 +129,14 @@ fn begin_alike(a: &[Step], b: &[Step]) -> bool
 }
 
 /// Whether one of two places is in the other.
-fn overlap(a: &Place, b: &Place) -> bool
+fn overlap(a: &AccessPlace, b: &AccessPlace) -> bool
     ensures { result ≡ rules.overlap (place_in a.now) (place_in b.now) }
 {
     a.key.0 == b.key.0 && begin_alike(a.steps.as_slice(), b.steps.as_slice())
 }
 
 /// The same of what may be a temporary, which overlaps nothing.
-pub fn overlap_if_any(a: &Option<Place>, b: &Option<Place>) -> bool
+pub fn overlap_if_any(a: &Option<AccessPlace>, b: &Option<AccessPlace>) -> bool
     ensures { result ≡ rules.overlap_if_any (place_if_any a.now) (place_if_any b.now) }
 {
     match (a, b) {
@@ -143,19 +146,26 @@ pub fn overlap_if_any(a: &Option<Place>, b: &Option<Place>) -> bool
 }
 
 /// The place that a node is, if it is one of a variable.
-pub fn place_of(alloc: Global, aliases: &[Alias], node: &Node) -> Result<Option<Place>, NoMemory>
+pub fn place_of(
+    alloc: Global,
+    aliases: &[Alias],
+    node: &Node,
+) -> Result<Option<AccessPlace>, NoMemory>
     ensures { IfOk result (λ place. place_if_any place ≡ rules.place_of (aliases_in aliases.now) (tree_of node.now)) }
 {
     match &node.form {
         Form::Variable(key) => place_of_key(alloc, aliases, *key),
         Form::Captured { closure, part, .. } => {
-            with_step(place_of_key(alloc, aliases, *closure)?, Step::Part(*part))
+            with_step(
+                place_of_key(alloc, aliases, *closure)?,
+                AccessStep::Part(*part),
+            )
         }
         Form::Field { base, part } => {
-            with_step(place_of(alloc, aliases, base)?, Step::Part(*part))
+            with_step(place_of(alloc, aliases, base)?, AccessStep::Part(*part))
         }
         Form::Index { base, .. } => Ok(with_end(place_of(alloc, aliases, base)?)),
-        Form::Deref(base) => with_step(place_of(alloc, aliases, base)?, Step::Content),
+        Form::Deref(base) => with_step(place_of(alloc, aliases, base)?, AccessStep::Content),
         _ => Ok(None),
     }
 }

@@ -2,7 +2,7 @@
 use Rattle.std.proofs.Common.{◌≡◌, ◌∷◌, ℕ, Bool, true, false, List, [], refl, ap}
 use Rattle.mir_ty.specs.Facts.{needs_drop}
 use Rattle.mir_ty.specs.ItemTable.{ItemTable}
-use Rattle.src_meaning.specs.Shape.{Bound, shape}
+use Rattle.src_meaning.specs.Shape.{BoundName, shape}
 use Rattle.src_meaning.specs.Locals.OfBody.{param_key}
 use Rattle.src_meaning.specs.Scopes.{Entry}
 use Rattle.store_model.specs.Places.Place.{whole_local}
@@ -12,21 +12,21 @@ use Rattle.src_meaning.specs.Forms.{bound_entry}
 use Rattle.scope_code.specs.Forms.{takes, bind, emptied, declared, names_of_param, params_entered, in_own_scope, from_pending}
 use Rattle.scope_code.specs.Ops.{Op, onto, entered_onto, params_onto, own_scope_onto, pending_onto, Then, From}
 
-abbrev pub taken_onto : List Bound → List Op → List Op
+abbrev pub taken_onto : List BoundName → List Op → List Op
 taken_onto [] before = before
 taken_onto (b ∷ bounds) before = taken_onto bounds (onto (takes b) before)
 
-pub bound_onto : (at : ScopeAt) (bounds : List Bound) (before : List Op) → entered_onto at bounds (taken_onto bounds before) ≡ onto (bind at bounds) before
+pub bound_onto : (at : ScopeAt) (bounds : List BoundName) (before : List Op) → entered_onto at bounds (taken_onto bounds before) ≡ onto (bind at bounds) before
 bound_onto at [] before = refl
 bound_onto at (b ∷ bounds) before =
     ap (λ inner. Then ∷ From (Enters at (bound_entry b)) ∷ inner) (bound_onto at bounds (onto (takes b) before))
 
 module _ (items : ItemTable) where
-  abbrev pub emptied_onto : List Bound → List Op → List Op
+  abbrev pub emptied_onto : List BoundName → List Op → List Op
   emptied_onto [] before = before
   emptied_onto (b ∷ bounds) before = emptied_onto bounds (onto (emptied (needs_drop items b.ty) b.key) before)
 
-  pub declared_onto : (bounds : List Bound) (before : List Op) → entered_onto Innermost bounds (emptied_onto bounds before) ≡ onto (declared items bounds) before
+  pub declared_onto : (bounds : List BoundName) (before : List Op) → entered_onto Innermost bounds (emptied_onto bounds before) ≡ onto (declared items bounds) before
   declared_onto [] before = refl
   declared_onto (b ∷ bounds) before =
       ap (λ inner. Then ∷ From (Enters Innermost (bound_entry b)) ∷ inner) (declared_onto bounds (onto (emptied (needs_drop items b.ty) b.key) before))

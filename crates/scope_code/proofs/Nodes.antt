@@ -13,24 +13,24 @@ use Rattle.typed_tree.specs.Tree.{Fields, no_field, a_field}
 use Rattle.typed_tree.specs.Nodes.{number_of}
 use Rattle.typed_tree.specs.View.{tree_of, nodes_from, field_of, fields_from}
 use Rattle.scope_code.specs.Code.{Code}
-use Rattle.scope_code.specs.Forms.{NodeCode, CodeIfAny, no_code, a_code, operands, operand, statements, keys_of, code, codes, codes_of_fields, branch, value_of_jump, put_unit}
+use Rattle.scope_code.specs.Forms.{NodeWords, WordsIfAny, no_code, a_code, operands, operand, statements, keys_of, code, codes, codes_of_fields, branch, value_of_jump, put_unit}
 use Rattle.scope_code.specs.Ops as ops
 use Rattle.scope_code.specs.Ops.{Op, onto, thens, Then}
-use Rattle.scope_code.specs.Wanted.{Wanted, AsOperand, UnderOwnKey, Alone, Value, code_for, codes_for, code_if_any_or}
+use Rattle.scope_code.specs.Wanted.{WantedCode, AsOperand, UnderOwnKey, Alone, Value, code_for, codes_for, code_if_any_or}
 
-abbrev pub each_onto : Wanted → Around → List NodeCode → List Op → List Op
+abbrev pub each_onto : WantedCode → Around → List NodeWords → List Op → List Op
 each_onto wanted around [] before = before
 each_onto wanted around (m ∷ ms) before = each_onto wanted around ms (onto (code_for wanted m around) before)
 
-pub codes_onto : (wanted : Wanted) (around : Around) (ms : List NodeCode) (before : List Op) → thens (length ms) (ops.Nothing ∷ each_onto wanted around ms before) ≡ onto (codes_for wanted ms around) before
+pub codes_onto : (wanted : WantedCode) (around : Around) (ms : List NodeWords) (before : List Op) → thens (length ms) (ops.Nothing ∷ each_onto wanted around ms before) ≡ onto (codes_for wanted ms around) before
 codes_onto wanted around [] before = refl
 codes_onto wanted around (m ∷ ms) before = ap (λ inner. Then ∷ inner) (codes_onto wanted around ms (onto (code_for wanted m around) before))
 
-pub as_operands : (ms : List NodeCode) (around : Around) → codes_for AsOperand ms around ≡ operands around ms
+pub as_operands : (ms : List NodeWords) (around : Around) → codes_for AsOperand ms around ≡ operands around ms
 as_operands [] around = refl
 as_operands (m ∷ ms) around = ap (Rattle.scope_code.specs.Code.Then (operand around m)) (as_operands ms around)
 
-pub as_statements : (ms : List NodeCode) (around : Around) → codes_for UnderOwnKey ms around ≡ statements around ms
+pub as_statements : (ms : List NodeWords) (around : Around) → codes_for UnderOwnKey ms around ≡ statements around ms
 as_statements [] around = refl
 as_statements (m ∷ ms) around =
     ap (Rattle.scope_code.specs.Code.Then (m.evaluates around false (Into m.head.id))) (as_statements ms around)
@@ -58,11 +58,11 @@ field_keys_are items no_field = refl
 field_keys_are items (a_field number value rest) = λ i. number_is items value i ∷ field_keys_are items rest i
 
 -- a part that may be missing
-pub branch_is : (m : CodeIfAny) (around : Around) (to : Destination) (without : Code) → code_if_any_or (Alone to) m around without ≡ branch around to m without
+pub branch_is : (m : WordsIfAny) (around : Around) (to : Destination) (without : Code) → code_if_any_or (Alone to) m around without ≡ branch around to m without
 branch_is no_code around to without = refl
 branch_is (a_code m) around to without = refl
 
-pub jump_is : (id : ℕ) (m : CodeIfAny) (around : Around) (to : Destination) → code_if_any_or (Value false to) m around (put_unit id to) ≡ value_of_jump id m around to
+pub jump_is : (id : ℕ) (m : WordsIfAny) (around : Around) (to : Destination) → code_if_any_or (Value false to) m around (put_unit id to) ≡ value_of_jump id m around to
 jump_is id no_code around to = refl
 jump_is id (a_code m) around to = refl
 

@@ -3,7 +3,7 @@
 -- here the tree says where each begins and ends.
 use Rattle.std.specs.Prelude.{ℕ, Bool, List}
 use Rattle.mir_base.specs.declared.trace.Why.{Why}
-use Rattle.store_model.specs.Effects.{Site, Action}
+use Rattle.store_model.specs.Effects.{EffectSite, Action}
 use Rattle.src_meaning.specs.Scopes.{Entry, Scope, Scopes, with_scope, innermost, around_innermost, nearest_temporary, with_entry, with_pending, without_pending, becomes_entry, without_operands, Exit}
 use Rattle.src_meaning.specs.Shape.{PatternTests}
 
@@ -63,7 +63,7 @@ mutual
     Exits : (node : ℕ) (exit : Exit) → Code
     Panics : (node : ℕ) (why : Why) → Code
     -- what a place holds is dropped, and what stands under the key is stored there
-    Replaces : (site : Site) (key : ℕ) → Code
+    Replaces : (site : EffectSite) (key : ℕ) → Code
     -- what stands under a key is dropped
     Drops : (key : ℕ) → Code
     -- the arms of a match in order

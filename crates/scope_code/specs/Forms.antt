@@ -5,7 +5,7 @@ use Rattle.mir_base.specs.declared.trace.Why.{Why}
 use Rattle.mir_ty.specs.Facts.{needs_drop}
 use Rattle.mir_ty.specs.ItemTable.{ItemTable}
 use Rattle.store_model.specs.Effects as effects
-use Rattle.store_model.specs.Effects.{Site, Operand, Action, OfTuple, OfArray, OfVariant, OfClosure}
+use Rattle.store_model.specs.Effects.{EffectSite, Operand, Action, OfTuple, OfArray, OfVariant, OfClosure}
 use Rattle.store_model.specs.Places.Place.{Place, whole_local, before_element}
 use Rattle.typed_tree.specs.Tree as tree
 use Rattle.typed_tree.specs.Tree.{Node, node, Form, Nodes, no_node, a_node, Fields, no_field, a_field, MaybeNode, absent, present, ParamTree, BodyTree}
@@ -13,7 +13,7 @@ use Rattle.src_meaning.specs.Evaluation.{in_number_order, to_own_key}
 use Rattle.src_meaning.specs.Forms.{Destination, Into, Coerced, coerced, Around, in_loop, loop_destination, in_guard, entry_of, bound_entry, site_in, site_of_key, moved, is_never}
 use Rattle.src_meaning.specs.Locals.OfBody.{param_key, answer_key}
 use Rattle.src_meaning.specs.Scopes.{Entry, Breaks, Continues, Returns}
-use Rattle.src_meaning.specs.Shape.{Head, head, Shape, PatternTests, Bound, kind_of, shape, shape_of, site_at, operand_of_bound, operand_at}
+use Rattle.src_meaning.specs.Shape.{NodeHead, head, Shape, PatternTests, BoundName, kind_of, shape, shape_of, site_at, operand_of_bound, operand_at}
 use Rattle.cfg_code.specs.Code.{field_keys, moved_fields}
 use Rattle.scope_code.specs.Code.{ScopeAt, Innermost, AroundInnermost, NearestTemporary, NewScope, Pends, Completes, Enters, Names, Takes, IsTrue, Passes, Code, Nothing, Changes, From, Then, BackIn, Acts, InScope, Leaves, Branches, Loops, Exits, Panics, Replaces, Drops, Matches, Arms, no_arm, an_arm, Arm, Taken, Empty, Guard, no_guard, a_guard}
 
@@ -31,28 +31,28 @@ abbrev pub ArmOf : Type 0
 ArmOf = Place → Around → Destination → Arm
 
 -- a node: its code as it is evaluated, as its place is reached, as an arm
-pub record NodeCode : Type 0 where
-  pub head : Head
+pub record NodeWords : Type 0 where
+  pub head : NodeHead
   pub shape : Shape
   pub evaluates : Evaluates
   pub reaches : Reaches
   pub arm : ArmOf
 
-pub data CodeIfAny : Type 0 where
-  no_code : CodeIfAny
-  a_code : (one : NodeCode) → CodeIfAny
+pub data WordsIfAny : Type 0 where
+  no_code : WordsIfAny
+  a_code : (one : NodeWords) → WordsIfAny
 
-abbrev pub keys_of : List NodeCode → List ℕ
+abbrev pub keys_of : List NodeWords → List ℕ
 keys_of [] = []
 keys_of (m ∷ ms) = m.head.id ∷ keys_of ms
 
-abbrev pub all_moved : ℕ → List NodeCode → List Operand
+abbrev pub all_moved : ℕ → List NodeWords → List Operand
 all_moved number ms = map (moved number) (keys_of ms)
 
-abbrev pub place_in : NodeCode → Around → Place
+abbrev pub place_in : NodeWords → Around → Place
 place_in m around = m.shape.place around.aliases
 
-abbrev pub site_of : NodeCode → Around → Site
+abbrev pub site_of : NodeWords → Around → EffectSite
 site_of m around = site_at m.head (place_in m around)
 
 -- Values and destinations.
@@ -69,10 +69,10 @@ delivers number id action (Coerced key trait_no to) =
     Then (Acts number action) (Acts id (effects.Unsize (site_in id to) trait_no (moved id key)))
 
 -- an effect at a node, given where its answer goes
-abbrev pub deliver_at : (number id : ℕ) → (Site → Action) → Destination → Code
+abbrev pub deliver_at : (number id : ℕ) → (EffectSite → Action) → Destination → Code
 deliver_at number id action to = delivers number id (action (site_in id (key_in to))) to
 
-abbrev pub deliver : ℕ → (Site → Action) → Destination → Code
+abbrev pub deliver : ℕ → (EffectSite → Action) → Destination → Code
 deliver id action to = deliver_at id id action to
 
 abbrev pub put_unit : ℕ → Destination → Code
@@ -86,7 +86,7 @@ abbrev pub in_own_scope : ℕ → Bool → Code → Code
 in_own_scope id true code = InScope id true code
 in_own_scope id false code = code
 
-abbrev pub alone : Around → NodeCode → Destination → Code
+abbrev pub alone : Around → NodeWords → Destination → Code
 alone around m to = BackIn (m.evaluates around true to)
 
 -- code before which a destination is pending, if it is
@@ -98,11 +98,11 @@ from_pending false at e code = code
 abbrev pub made_entry : Bool → ScopeAt → Entry → Code → Code
 made_entry pends at e code = from_pending pends at e (Then code (Changes (Completes at e)))
 
-abbrev pub operand : Around → NodeCode → Code
+abbrev pub operand : Around → NodeWords → Code
 operand around m =
     made_entry m.shape.in_destination Innermost (entry_of m.head) (m.evaluates around false (Into m.head.id))
 
-abbrev pub operands : Around → List NodeCode → Code
+abbrev pub operands : Around → List NodeWords → Code
 operands around [] = Nothing
 operands around (m ∷ ms) = Then (operand around m) (operands around ms)
 
@@ -110,19 +110,19 @@ operands around (m ∷ ms) = Then (operand around m) (operands around ms)
 abbrev pub behind_operands : ℕ → Bool → Code → List ℕ → Code → Code
 behind_operands id own made keys code = InScope id own (Then made (From (Takes keys) code))
 
-abbrev pub acting : ℕ → Around → Bool → List NodeCode → Code → Code
+abbrev pub acting : ℕ → Around → Bool → List NodeWords → Code → Code
 acting id around own ms code = behind_operands id own (operands around ms) (keys_of ms) code
 
-abbrev pub dropping : ℕ → Around → Bool → NodeCode → Code → Code
+abbrev pub dropping : ℕ → Around → Bool → NodeWords → Code → Code
 dropping id around own m code = InScope id own (Then (operand around m) code)
 
 -- Places.
 
-abbrev pub temporary : Head → Shape → Evaluates → Reaches
+abbrev pub temporary : NodeHead → Shape → Evaluates → Reaches
 temporary h s evaluates around =
     made_entry s.in_destination NearestTemporary (entry_of h) (evaluates around false (Into h.id))
 
-abbrev pub use_of_place : Head → Shape → Reaches → Evaluates
+abbrev pub use_of_place : NodeHead → Shape → Reaches → Evaluates
 use_of_place h s reaches around own to =
     in_own_scope h.id own (Then (reaches around)
     (deliver h.id (λ site. effects.Put site (operand_at h (s.place around.aliases))) to))
@@ -130,7 +130,7 @@ use_of_place h s reaches around own to =
 abbrev pub array_around : Place → Place
 array_around place = record place { steps = before_element place.steps }
 
-abbrev pub reach_element : Head → Shape → NodeCode → NodeCode → ℕ → Reaches
+abbrev pub reach_element : NodeHead → Shape → NodeWords → NodeWords → ℕ → Reaches
 reach_element h s base index count around =
     Then (base.reaches around)
     (Then (index.evaluates around false (Into index.head.id))
@@ -138,7 +138,7 @@ reach_element h s base index count around =
     (Acts index.head.id (effects.Bounds (effects.Copied (site_of_key index.head.id)) count))))
 
 -- all of a borrow stands at the node of its base
-abbrev pub borrowing : Head → Bool → NodeCode → Evaluates
+abbrev pub borrowing : NodeHead → Bool → NodeWords → Evaluates
 borrowing h unique base around own to =
     in_own_scope h.id own (Then (base.reaches around)
     (deliver_at base.head.id h.id
@@ -148,12 +148,12 @@ abbrev pub unit_after : ℕ → Action → Destination → Code
 unit_after id action to = Then (Acts id action) (put_unit id to)
 
 -- what stands under the key is stored at a place, whose old value is dropped first where it needs it
-abbrev pub replaces : Bool → Site → ℕ → Code
+abbrev pub replaces : Bool → EffectSite → ℕ → Code
 replaces true site key = Replaces site key
 replaces false site key = From (Takes (key ∷ [])) (Acts site.node (effects.Put site (moved site.node key)))
 
 module _ (items : ItemTable) where
-  abbrev pub assigning : Head → NodeCode → NodeCode → Evaluates
+  abbrev pub assigning : NodeHead → NodeWords → NodeWords → Evaluates
   assigning h place value around own to =
       InScope h.id own (Then (operand around value)
       (Then (place.reaches around)
@@ -162,86 +162,86 @@ module _ (items : ItemTable) where
 
 -- Conditions, branches, patterns.
 
-abbrev pub condition : Around → NodeCode → Code → Code → Code
+abbrev pub condition : Around → NodeWords → Code → Code → Code
 condition around m held otherwise =
     Then (alone around m (Into m.head.id)) (Branches m.head.id (IsTrue m.head.id) held otherwise)
 
-abbrev pub branch : Around → Destination → CodeIfAny → Code → Code
+abbrev pub branch : Around → Destination → WordsIfAny → Code → Code
 branch around to no_code without = without
 branch around to (a_code m) without = alone around m to
 
 -- a name takes its part
-abbrev pub takes : Bound → Code
+abbrev pub takes : BoundName → Code
 takes b = Acts b.key (effects.Put (site_of_key b.key) (operand_of_bound b))
 
-abbrev pub bind : ScopeAt → List Bound → Code
+abbrev pub bind : ScopeAt → List BoundName → Code
 bind at [] = Nothing
 bind at (b ∷ bounds) = Then (takes b) (From (Enters at (bound_entry b)) (bind at bounds))
 
-abbrev pub touched : Bool → Site → Code
+abbrev pub touched : Bool → EffectSite → Code
 touched true site = Acts site.node (effects.Touch site)
 touched false site = Nothing
 
-abbrev pub scrutinised : Around → NodeCode → Code
+abbrev pub scrutinised : Around → NodeWords → Code
 scrutinised around m = Then (m.reaches around) (touched m.shape.is_place (site_of m around))
 
 -- a scrutinee is reached, in the scope of the names that it gives to a pattern
-abbrev pub taken_if : ℕ → Code → PatternTests → List Bound → Code → Code → Code
+abbrev pub taken_if : ℕ → Code → PatternTests → List BoundName → Code → Code → Code
 taken_if id reached tests bounds held otherwise =
     From (NewScope id true) (Then reached
     (Branches id (Passes tests) (Then (Then (bind Innermost bounds) held) Leaves) (Then Leaves otherwise)))
 
-abbrev pub if_taken : Head → Around → NodeCode → NodeCode → Code → Code → Code
+abbrev pub if_taken : NodeHead → Around → NodeWords → NodeWords → Code → Code → Code
 if_taken h around pattern scrutinee held otherwise =
     taken_if h.id (scrutinised around scrutinee) (pattern.shape.tests (place_in scrutinee around))
     (pattern.shape.bindings (place_in scrutinee around)) held otherwise
 
-abbrev pub taken_arm : Head → Around → List Bound → NodeCode → Destination → Code
+abbrev pub taken_arm : NodeHead → Around → List BoundName → NodeWords → Destination → Code
 taken_arm h around bounds m to = InScope h.id false (Then (bind Innermost bounds) (alone around m to))
 
-abbrev pub guard : Around → List Bound → CodeIfAny → Guard
+abbrev pub guard : Around → List BoundName → WordsIfAny → Guard
 guard around bounds no_code = no_guard
 guard around bounds (a_code m) = a_guard m.head.id (alone (in_guard bounds around) m (Into m.head.id))
 
-abbrev pub arm : Head → NodeCode → CodeIfAny → NodeCode → ArmOf
+abbrev pub arm : NodeHead → NodeWords → WordsIfAny → NodeWords → ArmOf
 arm h pattern guarded m matched around to =
     let bounds = pattern.shape.bindings matched in
     Taken (pattern.shape.tests matched) (guard around bounds guarded) (taken_arm h around bounds m to)
 
-abbrev pub arms : List NodeCode → Place → Around → Destination → Arms
+abbrev pub arms : List NodeWords → Place → Around → Destination → Arms
 arms [] matched around to = no_arm
 arms (m ∷ ms) matched around to = an_arm (m.arm matched around to) (arms ms matched around to)
 
-abbrev pub matching : Head → NodeCode → List NodeCode → Evaluates
+abbrev pub matching : NodeHead → NodeWords → List NodeWords → Evaluates
 matching h scrutinee ms around own to =
     in_own_scope h.id own (Then (scrutinised around scrutinee)
     (Matches h.id (arms ms (place_in scrutinee around) around to)))
 
 -- Blocks and statements.
 
-abbrev pub statements : Around → List NodeCode → Code
+abbrev pub statements : Around → List NodeWords → Code
 statements around [] = Nothing
 statements around (m ∷ ms) = Then (m.evaluates around false (Into m.head.id)) (statements around ms)
 
 module _ (items : ItemTable) where
-  abbrev pub tail_of : Head → CodeIfAny → Around → Destination → Code
+  abbrev pub tail_of : NodeHead → WordsIfAny → Around → Destination → Code
   tail_of h no_code around to = put_unit_if (is_never items h.ty) h.id to
   tail_of h (a_code m) around to = alone around m to
 
-  abbrev pub block : Head → List NodeCode → CodeIfAny → Evaluates
+  abbrev pub block : NodeHead → List NodeWords → WordsIfAny → Evaluates
   block h ms tail around own to =
       InScope h.id own (Then (statements around ms) (tail_of h tail around to))
 
-abbrev pub evaluating : Head → NodeCode → Reaches
+abbrev pub evaluating : NodeHead → NodeWords → Reaches
 evaluating h m around =
     InScope h.id true (made_entry true Innermost (entry_of m.head) (m.evaluates around false (Into m.head.id)))
 
-abbrev pub let_name : Head → Head → NodeCode → Reaches
+abbrev pub let_name : NodeHead → NodeHead → NodeWords → Reaches
 let_name h x m around =
     InScope h.id true (From (Pends Innermost (entry_of x))
     (Then (m.evaluates around false (Into x.id)) (Changes (Names (entry_of x)))))
 
-abbrev pub let_parts : Head → NodeCode → NodeCode → Reaches
+abbrev pub let_parts : NodeHead → NodeWords → NodeWords → Reaches
 let_parts h pattern m around =
     InScope h.id true
     (from_pending (not (m.shape.is_place || m.shape.in_destination)) Innermost (entry_of m.head)
@@ -252,29 +252,29 @@ emptied true key = Nothing
 emptied false key = Drops key
 
 module _ (items : ItemTable) where
-  abbrev pub declared : List Bound → Code
+  abbrev pub declared : List BoundName → Code
   declared [] = Nothing
   declared (b ∷ bounds) =
       Then (emptied (needs_drop items b.ty) b.key) (From (Enters Innermost (bound_entry b)) (declared bounds))
 
-  abbrev pub let_value : Bool → Head → NodeCode → NodeCode → Reaches
+  abbrev pub let_value : Bool → NodeHead → NodeWords → NodeWords → Reaches
   let_value true h pattern m = let_name h pattern.head m
   let_value false h pattern m = let_parts h pattern m
 
-  abbrev pub letting : Head → NodeCode → CodeIfAny → Reaches
+  abbrev pub letting : NodeHead → NodeWords → WordsIfAny → Reaches
   letting h pattern no_code around = declared (pattern.shape.bindings (whole_local 0))
   letting h pattern (a_code m) around = let_value pattern.shape.is_binding h pattern m around
 
 -- Jumps.
 
-abbrev pub value_of_jump : ℕ → CodeIfAny → Around → Destination → Code
+abbrev pub value_of_jump : ℕ → WordsIfAny → Around → Destination → Code
 value_of_jump id no_code around to = put_unit id to
 value_of_jump id (a_code m) around to = m.evaluates around false to
 
 abbrev pub ends_loop : ℕ → Destination → Code
 ends_loop id to = Then (put_unit id to) (Exits id (Breaks id))
 
-abbrev pub body_in : NodeCode → Around → Code
+abbrev pub body_in : NodeWords → Around → Code
 body_in m around = alone around m (Into m.head.id)
 
 -- The forms.
@@ -299,58 +299,58 @@ does reaches = Makes (λ around own to. reaches around)
 abbrev pub does_nothing : FormCode
 does_nothing = does (λ around. Nothing)
 
-abbrev pub a_scope : Head → MakesInto → FormCode
+abbrev pub a_scope : NodeHead → MakesInto → FormCode
 a_scope h makes = Makes (λ around own to. in_own_scope h.id own (makes around to))
 
-abbrev pub effect : Head → (Site → Action) → FormCode
+abbrev pub effect : NodeHead → (EffectSite → Action) → FormCode
 effect h action = a_scope h (λ around. deliver h.id action)
 
-abbrev pub on_operands : Head → List NodeCode → (Site → Action) → FormCode
+abbrev pub on_operands : NodeHead → List NodeWords → (EffectSite → Action) → FormCode
 on_operands h ms action = Makes (λ around own to. acting h.id around own ms (deliver h.id action to))
 
-abbrev pub on_one : Head → NodeCode → (Site → Operand → Action) → FormCode
+abbrev pub on_one : NodeHead → NodeWords → (EffectSite → Operand → Action) → FormCode
 on_one h m action = on_operands h (m ∷ []) (λ site. action site (moved h.id m.head.id))
 
-abbrev pub on_two : Head → NodeCode → NodeCode → (Site → Operand → Operand → Action) → FormCode
+abbrev pub on_two : NodeHead → NodeWords → NodeWords → (EffectSite → Operand → Operand → Action) → FormCode
 on_two h m m' action =
     on_operands h (m ∷ m' ∷ []) (λ site. action site (moved h.id m.head.id) (moved h.id m'.head.id))
 
-abbrev pub on_all : Head → List NodeCode → (Site → List Operand → Action) → FormCode
+abbrev pub on_all : NodeHead → List NodeWords → (EffectSite → List Operand → Action) → FormCode
 on_all h ms action = on_operands h ms (λ site. action site (all_moved h.id ms))
 
-abbrev pub gives_unit : Head → NodeCode → (Operand → Action) → FormCode
+abbrev pub gives_unit : NodeHead → NodeWords → (Operand → Action) → FormCode
 gives_unit h m action =
     Makes (λ around own to.
     acting h.id around own (m ∷ []) (unit_after h.id (action (moved h.id m.head.id)) to))
 
-abbrev pub shortcut : Head → Bool → Destination → Code
+abbrev pub shortcut : NodeHead → Bool → Destination → Code
 shortcut h truth to = deliver h.id (λ site. effects.Put site (effects.Truth truth)) to
 
-abbrev pub conjunction : Head → NodeCode → NodeCode → MakesInto
+abbrev pub conjunction : NodeHead → NodeWords → NodeWords → MakesInto
 conjunction h left right around to = condition around left (alone around right to) (shortcut h false to)
 
-abbrev pub disjunction : Head → NodeCode → NodeCode → MakesInto
+abbrev pub disjunction : NodeHead → NodeWords → NodeWords → MakesInto
 disjunction h left right around to = condition around left (shortcut h true to) (alone around right to)
 
-abbrev pub otherwise_unit : Head → CodeIfAny → MakesInto
+abbrev pub otherwise_unit : NodeHead → WordsIfAny → MakesInto
 otherwise_unit h otherwise around to = branch around to otherwise (put_unit h.id to)
 
 module _ (items : ItemTable) where
   -- what is made by a node of type `!` is made nowhere, and so under its own key
-  abbrev pub made_in : Head → Evaluates → Evaluates
+  abbrev pub made_in : NodeHead → Evaluates → Evaluates
   made_in h e around own to = e around own (to_own_key (is_never items h.ty) h.id to)
 
-  abbrev pub evaluates_by : Head → Shape → FormCode → Evaluates
+  abbrev pub evaluates_by : NodeHead → Shape → FormCode → Evaluates
   evaluates_by h s (Makes evaluates) = made_in h evaluates
   evaluates_by h s (IsPlace reaches) = made_in h (use_of_place h s reaches)
   evaluates_by h s (IsArm arm) = λ around own to. Nothing
 
-  abbrev pub reaches_by : Head → Shape → FormCode → Reaches
+  abbrev pub reaches_by : NodeHead → Shape → FormCode → Reaches
   reaches_by h s (IsPlace reaches) = reaches
   reaches_by h s does = temporary h s (evaluates_by h s does)
 
   -- a node, by what its form does
-  abbrev pub node_code : Head → Shape → FormCode → NodeCode
+  abbrev pub node_code : NodeHead → Shape → FormCode → NodeWords
   node_code h s does = record {
     head = h;
     shape = s;
@@ -360,12 +360,12 @@ module _ (items : ItemTable) where
   }
 
   abbrev mutual
-    pub code : Node → NodeCode
+    pub code : Node → NodeWords
     code (node id at ty by form) =
         node_code (head id ty by) (shape_of items form (head id ty by))
         (code_of_form form (head id ty by) (shape_of items form (head id ty by)))
 
-    pub code_of_form : Form → Head → Shape → FormCode
+    pub code_of_form : Form → NodeHead → Shape → FormCode
     code_of_form (tree.Number value) h s =
         effect h (λ site. effects.Put site (effects.Number value (kind_of items h.ty)))
     code_of_form (tree.Truth value) h s = effect h (λ site. effects.Put site (effects.Truth value))
@@ -449,21 +449,21 @@ module _ (items : ItemTable) where
     code_of_form (tree.ArrayPattern elements) h s = does_nothing
     code_of_form (tree.OrPattern alternatives) h s = does_nothing
 
-    pub codes : Nodes → List NodeCode
+    pub codes : Nodes → List NodeWords
     codes no_node = []
     codes (a_node first rest) = code first ∷ codes rest
 
-    pub codes_of_fields : Fields → List NodeCode
+    pub codes_of_fields : Fields → List NodeWords
     codes_of_fields no_field = []
     codes_of_fields (a_field number value rest) = code value ∷ codes_of_fields rest
 
-    pub code_if_any : MaybeNode → CodeIfAny
+    pub code_if_any : MaybeNode → WordsIfAny
     code_if_any absent = no_code
     code_if_any (present value) = a_code (code value)
 
   -- Bodies.
 
-  abbrev pub names_of_param : Bool → List Bound → Code
+  abbrev pub names_of_param : Bool → List BoundName → Code
   names_of_param true bounds = Nothing
   names_of_param false bounds = bind Innermost bounds
 

@@ -1,9 +1,10 @@
--- Code in postfix order: what it is made of stands before it. So it can be built, and read from its end, without a tree.
+-- Code in postfix order: what it is made of stands before it. So it can be built, and read from its end, without a
+-- tree.
 use Rattle.std.specs.Prelude.{ℕ, zero, suc, Bool, true, false, List, [], ◌∷◌, Option, Some, None}
 use Rattle.mir_base.specs.declared.trace.Why.{Why}
-use Rattle.store_model.specs.Effects.{Site, Action}
+use Rattle.store_model.specs.Effects.{EffectSite, Action}
 use Rattle.src_meaning.specs.Scopes.{Entry, Exit}
-use Rattle.src_meaning.specs.Shape.{PatternTests, Bound}
+use Rattle.src_meaning.specs.Shape.{PatternTests, BoundName}
 use Rattle.scope_code.specs.Code as code
 use Rattle.src_meaning.specs.Forms.{bound_entry}
 use Rattle.src_meaning.specs.Locals.OfBody.{param_key}
@@ -24,7 +25,7 @@ pub data Op : Type 0 where
   Loops : (id : ℕ) → Op
   Exits : (node : ℕ) (exit : Exit) → Op
   Panics : (node : ℕ) (why : Why) → Op
-  Replaces : (site : Site) (key : ℕ) → Op
+  Replaces : (site : EffectSite) (key : ℕ) → Op
   Drops : (key : ℕ) → Op
   BeforeArms : Op
   IsArm : (tests : PatternTests) (guard : Option ℕ) → Op
@@ -89,7 +90,7 @@ abbrev pub operated_onto : ℕ → Bool → List ℕ → List Op → List Op
 operated_onto id own keys before = InScope id own ∷ Then ∷ From (Takes keys) ∷ before
 
 -- names that are entries each from where it takes its part
-abbrev pub entered_onto : ScopeAt → List Bound → List Op → List Op
+abbrev pub entered_onto : ScopeAt → List BoundName → List Op → List Op
 entered_onto at [] before = Nothing ∷ before
 entered_onto at (b ∷ bounds) before = Then ∷ From (Enters at (bound_entry b)) ∷ entered_onto at bounds before
 

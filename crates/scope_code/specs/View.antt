@@ -21,8 +21,8 @@ use Rattle.scope_code.specs.declared.around.Alias.{Alias}
 use Rattle.scope_code.specs.declared.around.Around.{Around}
 use Rattle.scope_code.specs.declared.around.LoopAround.{LoopAround}
 use Rattle.scope_code.specs.declared.context.Context.{Context}
-use Rattle.scope_code.specs.declared.context.Head.{Head}
-use Rattle.scope_code.specs.declared.context.Wanted.{Wanted}
+use Rattle.scope_code.specs.declared.context.NodeHead.{NodeHead}
+use Rattle.scope_code.specs.declared.context.WantedCode.{WantedCode}
 use Rattle.scope_code.specs.declared.operating.Built.{Built}
 use Rattle.scope_code.specs.declared.ordering.FieldNode.{FieldNode}
 use Rattle.scope_code.specs.declared.code.Action.{Action}
@@ -123,16 +123,16 @@ around_of around = record {
 }
 
 -- a node whose code is made
-abbrev pub head_of : Head → shape.Head
+abbrev pub head_of : NodeHead → shape.NodeHead
 head_of h = record { id = h.id.0; ty = h.ty; by = h.by }
 
-abbrev pub wanted_of : Wanted → wanted.Wanted
-wanted_of (Wanted.Value own to) = wanted.Value own (destination_of to)
-wanted_of Wanted.UnderOwnKey = wanted.UnderOwnKey
-wanted_of Wanted.AsOperand = wanted.AsOperand
-wanted_of (Wanted.Alone to) = wanted.Alone (destination_of to)
-wanted_of Wanted.AloneUnderOwnKey = wanted.AloneUnderOwnKey
-wanted_of Wanted.AsPlace = wanted.AsPlace
+abbrev pub wanted_of : WantedCode → wanted.WantedCode
+wanted_of (WantedCode.Value own to) = wanted.Value own (destination_of to)
+wanted_of WantedCode.UnderOwnKey = wanted.UnderOwnKey
+wanted_of WantedCode.AsOperand = wanted.AsOperand
+wanted_of (WantedCode.Alone to) = wanted.Alone (destination_of to)
+wanted_of WantedCode.AloneUnderOwnKey = wanted.AloneUnderOwnKey
+wanted_of WantedCode.AsPlace = wanted.AsPlace
 
 -- what a form does, in a context
 abbrev pub done : FormCode → source.Around → Bool → source.Destination → plain.Code
@@ -146,7 +146,7 @@ form_code items form c =
     (around_of c.around) c.own (destination_of c.to)
 
 -- what is made of operands
-abbrev pub built_of : Built → effects.Kind
+abbrev pub built_of : Built → effects.AggregateKind
 built_of Built.Tuple = effects.OfTuple
 built_of Built.Array = effects.OfArray
 built_of (Built.Closure closure) = effects.OfClosure closure

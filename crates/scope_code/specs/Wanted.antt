@@ -4,23 +4,23 @@ use Rattle.mir_ty.specs.ItemTable.{ItemTable}
 use Rattle.store_model.specs.Effects as effects
 use Rattle.src_meaning.specs.Evaluation.{to_own_key}
 use Rattle.src_meaning.specs.Forms.{Destination, Into, Around, entry_of, is_never}
-use Rattle.src_meaning.specs.Shape.{Head, Shape, operand_at}
+use Rattle.src_meaning.specs.Shape.{NodeHead, Shape, operand_at}
 use Rattle.scope_code.specs.Code.{Code, Nothing, Then, Innermost, NearestTemporary}
-use Rattle.scope_code.specs.Forms.{NodeCode, CodeIfAny, no_code, a_code, alone, operand, deliver}
+use Rattle.scope_code.specs.Forms.{NodeWords, WordsIfAny, no_code, a_code, alone, operand, deliver}
 use Rattle.scope_code.specs.Ops as ops
 use Rattle.scope_code.specs.Ops.{Op, onto, own_scope_onto, made_entry_onto}
 
 -- A value in a destination, or under the node's own key; an operand, which is an entry; a value alone, behind which the
 -- scopes are those before it; a place.
-pub data Wanted : Type 0 where
-  Value : (own : Bool) (to : Destination) → Wanted
-  UnderOwnKey : Wanted
-  AsOperand : Wanted
-  Alone : (to : Destination) → Wanted
-  AloneUnderOwnKey : Wanted
-  AsPlace : Wanted
+pub data WantedCode : Type 0 where
+  Value : (own : Bool) (to : Destination) → WantedCode
+  UnderOwnKey : WantedCode
+  AsOperand : WantedCode
+  Alone : (to : Destination) → WantedCode
+  AloneUnderOwnKey : WantedCode
+  AsPlace : WantedCode
 
-abbrev pub code_for : Wanted → NodeCode → Around → Code
+abbrev pub code_for : WantedCode → NodeWords → Around → Code
 code_for (Value own to) m around = m.evaluates around own to
 code_for UnderOwnKey m around = m.evaluates around false (Into m.head.id)
 code_for AsOperand m around = operand around m
@@ -28,17 +28,17 @@ code_for (Alone to) m around = alone around m to
 code_for AloneUnderOwnKey m around = alone around m (Into m.head.id)
 code_for AsPlace m around = m.reaches around
 
-abbrev pub code_if_any_or : Wanted → CodeIfAny → Around → Code → Code
+abbrev pub code_if_any_or : WantedCode → WordsIfAny → Around → Code → Code
 code_if_any_or wanted no_code around without = without
 code_if_any_or wanted (a_code m) around without = code_for wanted m around
 
 -- nodes, one after the other
-abbrev pub codes_for : Wanted → List NodeCode → Around → Code
+abbrev pub codes_for : WantedCode → List NodeWords → Around → Code
 codes_for wanted [] around = Nothing
 codes_for wanted (m ∷ ms) around = Then (code_for wanted m around) (codes_for wanted ms around)
 
 -- whether the node is a scope for temporaries of its own, and where its value is made
-abbrev pub own_in : Wanted → Bool
+abbrev pub own_in : WantedCode → Bool
 own_in (Value own to) = own
 own_in UnderOwnKey = false
 own_in AsOperand = false
@@ -46,7 +46,7 @@ own_in (Alone to) = true
 own_in AloneUnderOwnKey = true
 own_in AsPlace = false
 
-abbrev pub made_into : Wanted → ℕ → Destination
+abbrev pub made_into : WantedCode → ℕ → Destination
 made_into (Value own to) id = to
 made_into UnderOwnKey id = Into id
 made_into AsOperand id = Into id
@@ -57,7 +57,7 @@ made_into AsPlace id = Into id
 -- What comes behind the code of a form, for what is wanted.
 
 -- how what was made is taken
-abbrev pub taken_onto : Wanted → Head → Shape → List Op → List Op
+abbrev pub taken_onto : WantedCode → NodeHead → Shape → List Op → List Op
 taken_onto (Value own to) h s before = before
 taken_onto UnderOwnKey h s before = before
 taken_onto AsOperand h s before = made_entry_onto s.in_destination Innermost (entry_of h) before
@@ -67,13 +67,13 @@ taken_onto AsPlace h s before = made_entry_onto s.in_destination NearestTemporar
 
 module _ (items : ItemTable) where
   -- the use of a place
-  abbrev pub used_onto : Wanted → Head → Shape → Around → List Op → List Op
+  abbrev pub used_onto : WantedCode → NodeHead → Shape → Around → List Op → List Op
   used_onto wanted h s around before =
       own_scope_onto h.id (own_in wanted)
       (ops.Then ∷ onto (deliver h.id (λ site. effects.Put site (operand_at h (s.place around.aliases)))
       (to_own_key (is_never items h.ty) h.id (made_into wanted h.id))) before)
 
-  abbrev pub finished_onto : Wanted → (is_place : Bool) → Head → Shape → Around → List Op → List Op
+  abbrev pub finished_onto : WantedCode → (is_place : Bool) → NodeHead → Shape → Around → List Op → List Op
   finished_onto AsPlace true h s around before = before
   finished_onto wanted true h s around before = taken_onto wanted h s (used_onto wanted h s around before)
   finished_onto wanted false h s around before = taken_onto wanted h s before

@@ -11,7 +11,7 @@ ghost use Rattle.scope_code.specs.Ops as ops;
 ghost use Rattle.scope_code.specs.Ops.{onto, made_entry_onto, pending_onto};
 ghost use Rattle.scope_code.specs.View.{ops_of, destination_of};
 
-use crate::context::Head;
+use crate::context::NodeHead;
 use crate::making::{from_pending, made_entry};
 use crate::naming::{bind, entered};
 use crate::parts::{entry_at, is_never_ty, put_unit};
@@ -28,7 +28,7 @@ use typed_tree::Node;
 pub fn unit_unless_never(
     alloc: Global,
     items: &Items,
-    head: Head,
+    head: NodeHead,
     to: Destination,
     code: &mut Code,
 ) -> Result<(), NoMemory>

@@ -18,7 +18,7 @@ use typed_tree::{Node, Use};
 
 /// A node's number, type and use.
 #[derive(Clone, Copy)]
-pub struct Head {
+pub struct NodeHead {
     pub id: NodeId,
     pub ty: TyId,
     pub by: Option<Use>,
@@ -26,7 +26,7 @@ pub struct Head {
 
 /// What the code of a node is wanted for.
 #[derive(Clone, Copy)]
-pub enum Wanted {
+pub enum WantedCode {
     /// A value in a destination; in a scope for temporaries of its own, or in the innermost scope.
     Value { own: bool, to: Destination },
     /// A value under the node's own key.
@@ -45,17 +45,17 @@ pub enum Wanted {
 /// made.
 #[derive(Clone, Copy)]
 pub struct Context<'a> {
-    pub head: Head,
+    pub head: NodeHead,
     pub around: Around<'a>,
     pub own: bool,
     pub to: Destination,
 }
 
 /// The head of a node.
-pub fn head_at(node: &Node) -> Head
+pub fn head_at(node: &Node) -> NodeHead
     ensures { head_of result ≡ head node.now.id.0 node.now.ty node.now.by }
 {
-    Head {
+    NodeHead {
         id: node.id,
         ty: node.ty,
         by: node.by,
@@ -63,22 +63,22 @@ pub fn head_at(node: &Node) -> Head
 }
 
 /// Whether a node is a scope for temporaries of its own.
-pub fn is_own_scope(wanted: Wanted) -> bool
+pub fn is_own_scope(wanted: WantedCode) -> bool
     ensures { result ≡ own_in (wanted_of wanted) }
 {
     match wanted {
-        Wanted::Value { own, .. } => own,
-        Wanted::Alone(_) | Wanted::AloneUnderOwnKey => true,
-        Wanted::UnderOwnKey | Wanted::AsOperand | Wanted::AsPlace => false,
+        WantedCode::Value { own, .. } => own,
+        WantedCode::Alone(_) | WantedCode::AloneUnderOwnKey => true,
+        WantedCode::UnderOwnKey | WantedCode::AsOperand | WantedCode::AsPlace => false,
     }
 }
 
 /// Where the value of a node is made.
-pub fn destination_in(wanted: Wanted, id: NodeId) -> Destination
+pub fn destination_in(wanted: WantedCode, id: NodeId) -> Destination
     ensures { destination_of result ≡ made_into (wanted_of wanted) id.0 }
 {
     match wanted {
-        Wanted::Value { to, .. } | Wanted::Alone(to) => to,
+        WantedCode::Value { to, .. } | WantedCode::Alone(to) => to,
         _ => Destination::Into(Key(id.0)),
     }
 }

@@ -6,7 +6,7 @@ ghost use Rattle.scope_code.specs.Groups.{IsCodeIn, is_leaf};
 ghost use Rattle.scope_code.specs.View.{ops_of, around_of, wanted_of};
 ghost use Rattle.scope_code.specs.Wanted.{finished_onto, used_onto, taken_onto};
 
-use crate::context::{Context, Wanted, destination_in, is_own_scope, result_place};
+use crate::context::{Context, WantedCode, destination_in, is_own_scope, result_place};
 use crate::making::made_entry;
 use crate::parts::{entry_at, own_destination};
 use crate::placing::{is_made_in_destination, is_place, place_of};
@@ -69,7 +69,7 @@ fn used(
     items: &Items,
     node: &Node,
     around: Around,
-    wanted: Wanted,
+    wanted: WantedCode,
     code: &mut Code,
 ) -> Result<(), NoMemory>
     ensures { OnOk result (ops_of code.new ≡ used_onto items.now (wanted_of wanted)
@@ -82,15 +82,20 @@ fn used(
 }
 
 /// What was made is taken for what it is wanted.
-fn taken_for(items: &Items, node: &Node, wanted: Wanted, code: &mut Code) -> Result<(), NoMemory>
+fn taken_for(
+    items: &Items,
+    node: &Node,
+    wanted: WantedCode,
+    code: &mut Code,
+) -> Result<(), NoMemory>
     ensures { OnOk result (ops_of code.new ≡ taken_onto (wanted_of wanted)
         (head node.now.id.0 node.now.ty node.now.by) (shape items.now (tree_of node.now)) (ops_of code.old)) }
 {
     match wanted {
-        Wanted::Value { .. } | Wanted::UnderOwnKey => Ok(()),
-        Wanted::AsOperand => as_operand(items, node, code),
-        Wanted::Alone(_) | Wanted::AloneUnderOwnKey => code.push(Op::BackIn),
-        Wanted::AsPlace => {
+        WantedCode::Value { .. } | WantedCode::UnderOwnKey => Ok(()),
+        WantedCode::AsOperand => as_operand(items, node, code),
+        WantedCode::Alone(_) | WantedCode::AloneUnderOwnKey => code.push(Op::BackIn),
+        WantedCode::AsPlace => {
             let pends = is_made_in_destination(items, node);
             made_entry(pends, ScopeAt::NearestTemporary, entry_at(node), code)
         }
@@ -103,7 +108,7 @@ pub fn finished(
     items: &Items,
     node: &Node,
     around: Around,
-    wanted: Wanted,
+    wanted: WantedCode,
     code: &mut Code,
 ) -> Result<(), NoMemory>
     ensures { OnOk result (ops_of code.new ≡ finished_onto items.now (wanted_of wanted)
@@ -111,7 +116,7 @@ pub fn finished(
         (shape items.now (tree_of node.now)) (around_of around.entry) (ops_of code.old)) }
 {
     let place = is_place(items, node);
-    if place && matches!(wanted, Wanted::AsPlace) {
+    if place && matches!(wanted, WantedCode::AsPlace) {
         return Ok(());
     }
     if place {

@@ -25,7 +25,9 @@ pub use branching::{
     conditional, names_taken, otherwise_leaves, scrutinised, shortcut, taken_arm, taken_if,
 };
 pub use code::{Action, Change, Code, Condition, Destination, Entry, Exit, Op, ScopeAt};
-pub use context::{Context, Head, Wanted, destination_in, head_at, is_own_scope, result_place};
+pub use context::{
+    Context, NodeHead, WantedCode, destination_in, head_at, is_own_scope, result_place,
+};
 pub use leaves::{finished, leaf_code};
 pub use making::{delivers, in_own_scope, joined, made_entry};
 pub use naming::bind;

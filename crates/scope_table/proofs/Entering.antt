@@ -4,7 +4,7 @@ use Rattle.std.specs.Prelude.{◌≢◌}
 use Rattle.std.proofs.lemmas.Bool.{eq-eqb, ne_eqb}
 use Rattle.std.proofs.lemmas.Bool.Decides.{eqb_tells}
 use Rattle.mir_base.specs.declared.place_in_text.NodeId.{NodeId}
-use Rattle.scope_table.specs.declared.row.Row.{Row}
+use Rattle.scope_table.specs.declared.row.ScopeRow.{ScopeRow}
 use Rattle.scope_table.specs.Law.{ScopeHead, head_of, Held, held, enter, enter_if_any, entered}
 use Rattle.src_meaning.specs.Scopes.{Scopes}
 
@@ -27,11 +27,11 @@ pub if_any_heads : (scope : Option NodeId) (key : NodeId) (H : Held) → heads_i
 if_any_heads None key H = refl
 if_any_heads (Some scope) key H = enter_heads scope.0 key.0 H
 
-pub entered_heads : (rows : List Row) (H : Held) → heads_in (entered rows H) ≡ heads_in H
+pub entered_heads : (rows : List ScopeRow) (H : Held) → heads_in (entered rows H) ≡ heads_in H
 entered_heads [] H = refl
 entered_heads (row ∷ rows) H = entered_heads rows (enter_if_any row.entry row.node H) ∙ if_any_heads row.entry row.node H
 
-pub entered_append : (A B : List Row) (H : Held) → entered (A ++ B) H ≡ entered B (entered A H)
+pub entered_append : (A B : List ScopeRow) (H : Held) → entered (A ++ B) H ≡ entered B (entered A H)
 entered_append [] B H = refl
 entered_append (row ∷ A) B H = entered_append A B (enter_if_any row.entry row.node H)
 
@@ -45,11 +45,11 @@ OfEntry P None = Unit {0}
 OfEntry P (Some scope) = P scope.0
 
 -- each entry of some rows goes to such a scope
-abbrev pub AllEntries : (ℕ → Type 0) → List Row → Type 0
+abbrev pub AllEntries : (ℕ → Type 0) → List ScopeRow → Type 0
 AllEntries P [] = Unit {0}
 AllEntries P (row ∷ rows) = OfEntry P row.entry × AllEntries P rows
 
-pub entries_append : (P : ℕ → Type 0) (A B : List Row) → AllEntries P A → AllEntries P B → AllEntries P (A ++ B)
+pub entries_append : (P : ℕ → Type 0) (A B : List ScopeRow) → AllEntries P A → AllEntries P B → AllEntries P (A ++ B)
 entries_append P [] B a b = b
 entries_append P (row ∷ A) B a b = (a.0, entries_append P A B a.1 b)
 
@@ -59,7 +59,7 @@ enter_missing scope key (h ∷ H) m =
     ap (λ (b : Bool). if b then (h.0, key ∷ h.1) ∷ H else h ∷ enter scope key H) (ne_eqb h.0.node scope m.0)
     ∙ ap (λ (rest : Held). h ∷ rest) (enter_missing scope key H m.1)
 
-pub entered_missing : (heads : List ScopeHead) (rows : List Row) (H : Held) → heads_in H ≡ heads → AllEntries (Missing heads) rows → entered rows H ≡ H
+pub entered_missing : (heads : List ScopeHead) (rows : List ScopeRow) (H : Held) → heads_in H ≡ heads → AllEntries (Missing heads) rows → entered rows H ≡ H
 entered_missing heads [] H is all = refl
 entered_missing heads (row ∷ rows) H is all =
     ap (entered rows) (first row.entry all.0) ∙ entered_missing heads rows H is all.1
@@ -83,7 +83,7 @@ pub if_any_around : (scope : Option NodeId) (key : NodeId) (h : ScopeHead × Lis
 if_any_around None key h H m = (h.1, refl)
 if_any_around (Some scope) key h H m = enter_around scope.0 key.0 h H m
 
-pub entered_around : (rows : List Row) (h : ScopeHead × List ℕ) (H : Held) → Missing (heads_in H) h.0.node → (keys : List ℕ) × (entered rows (h ∷ H) ≡ (h.0, keys) ∷ entered rows H)
+pub entered_around : (rows : List ScopeRow) (h : ScopeHead × List ℕ) (H : Held) → Missing (heads_in H) h.0.node → (keys : List ℕ) × (entered rows (h ∷ H) ≡ (h.0, keys) ∷ entered rows H)
 entered_around [] h H m = (h.1, refl)
 entered_around (row ∷ rows) h H m =
     let one = if_any_around row.entry row.node h H m in
@@ -96,7 +96,7 @@ abbrev pub rest : Held → Held
 rest [] = []
 rest (h ∷ H) = H
 
-pub rest_entered : (rows : List Row) (h : ScopeHead × List ℕ) (H : Held) → Missing (heads_in H) h.0.node → rest (entered rows (h ∷ H)) ≡ entered rows H
+pub rest_entered : (rows : List ScopeRow) (h : ScopeHead × List ℕ) (H : Held) → Missing (heads_in H) h.0.node → rest (entered rows (h ∷ H)) ≡ entered rows H
 rest_entered rows h H m = ap rest (entered_around rows h H m).1
 
 pub enter_first : (scope key : ℕ) (h : ScopeHead × List ℕ) (H : Held) → h.0.node ≡ scope → enter scope key (h ∷ H) ≡ (h.0, key ∷ h.1) ∷ H

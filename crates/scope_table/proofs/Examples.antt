@@ -2,7 +2,7 @@
 use Rattle.std.proofs.Common.{◌≡◌, refl, ℕ, [], ◌∷◌, Some, None, pos, true, false}
 use Rattle.std.specs.Prelude.{codes}
 use Rattle.typed_tree.specs.Tree.{Node, node, Form, no_node, a_node, no_field, a_field, absent, present, Number, Variable, Make, Call, Borrow, Assign, Block, Let, Evaluate, IfLet, Match, Arm, Binding, VariantPattern, BodyTree}
-use Rattle.scope_table.specs.declared.row.Row.{Row}
+use Rattle.scope_table.specs.declared.row.ScopeRow.{ScopeRow}
 use Rattle.scope_table.specs.Table.{named, scope_rows}
 
 -- the examples have no text and no types
@@ -18,16 +18,16 @@ one x = Make 0 0 (a_field 0 x no_field)
 abbrev number : ℕ → Node
 number id = n id (Number (pos 1))
 
-abbrev at : (id temporary : ℕ) → Row
+abbrev at : (id temporary : ℕ) → ScopeRow
 at id t = record { node = named id; temporary = named t; destination = None; entry = None }
 
-abbrev in_ : (id temporary scope : ℕ) → Row
+abbrev in_ : (id temporary scope : ℕ) → ScopeRow
 in_ id t s = record { node = named id; temporary = named t; destination = None; entry = Some (named s) }
 
-abbrev pending : (id temporary waits scope : ℕ) → Row
+abbrev pending : (id temporary waits scope : ℕ) → ScopeRow
 pending id t d s = record { node = named id; temporary = named t; destination = Some (named d); entry = Some (named s) }
 
-abbrev answer : ℕ → Row
+abbrev answer : ℕ → ScopeRow
 answer id = record { node = named id; temporary = named id; destination = Some (named id); entry = None }
 
 -- { let x = D(1); g(&D(2)) }: the temporary of the tail goes with the tail, before the locals of the block

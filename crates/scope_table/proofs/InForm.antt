@@ -6,8 +6,8 @@ use Rattle.mir_base.specs.declared.operator.Cmp.{Cmp}
 use Rattle.mir_base.specs.declared.operator.Math.{Math}
 use Rattle.mir_base.specs.declared.place_in_text.NodeId.{NodeId}
 use Rattle.scope_table.specs.Table.{rows, rows_in, rows_of_arms, arm_rows_of, alone_rows, alone_if_any, operand_rows, statement_rows, matched_rows, let_rows, pattern_rows, pattern_rows_in, arm_rows, where_true, where_false, idle, is_idle, is_arm, temporary_of, by_name, inner, both_in, entry_in, reached_in, initial, let_name, nothing, name_in, row}
-use Rattle.scope_table.specs.declared.row.Made.{Made}
-use Rattle.scope_table.specs.declared.row.Row.{Row}
+use Rattle.scope_table.specs.declared.row.MadeAround.{MadeAround}
+use Rattle.scope_table.specs.declared.row.ScopeRow.{ScopeRow}
 use Rattle.scope_table.specs.declared.row.Within.{Within}
 use Rattle.typed_tree.specs.declared.node.Form.{Form, Index, Arithmetic, Comparison, And, Or, Assign, MethodCall, VirtualCall, ClosureCall, Block, If, IfLet, Match, Arm, While, WhileLet, the_lemmas}
 use Rattle.typed_tree.specs.declared.node.Node.{Node}
@@ -19,7 +19,7 @@ use Rattle.typed_tree.specs.View.{tree_of, form_of, maybe_of, nodes_from}
 -- `a` and `b` are what two boxes of the form hold
 module _ (w : Within) (id : NodeId) (form : Form) (first second : Box Node Global) (a b : Node)
     (is_a : a ≡ first.value) (is_b : b ≡ second.value) where
-  pub in_index : (made : Made) (length : ℕ) → made ≡ nothing → form ≡ Index first second length →
+  pub in_index : (made : MadeAround) (length : ℕ) → made ≡ nothing → form ≡ Index first second length →
       rows_in w id (form_of form) ≡ rows w (reached_in w.temporary (tree_of a)) (tree_of a) ++ rows w made (tree_of b)
   in_index made length is_made is = rw (is, is_a, is_b, is_made) (search (rules, the_lemmas))
 
@@ -97,19 +97,19 @@ form_of-Arm : (pattern body : Box Node Global) (guard : Option (Box Node Global)
 form_of-Arm pattern body guard = search (rules, the_lemmas)
 
 pub in_arm : (t id : NodeId) (form : Form) (pattern body : Box Node Global) (guard : Option (Box Node Global))
-    (a b : Node) (own : Row) (made name : Made) → a ≡ pattern.value → b ≡ body.value → made ≡ nothing →
+    (a b : Node) (own : ScopeRow) (made name : MadeAround) → a ≡ pattern.value → b ≡ body.value → made ≡ nothing →
     own ≡ row id t made → name ≡ name_in id → form ≡ Arm pattern guard body → arm_rows_of t id (form_of form)
     ≡ (own ∷ []) ++ alone_if_any (maybe_of guard) ++ pattern_rows t name (tree_of a) ++ alone_rows (tree_of b)
 in_arm t id form pattern body guard a b own made name is_a is_b is_made is_own is_name is =
     rw (is, is_a, is_b, is_own, is_made, is_name) (ap (arm_rows_of t id) (form_of-Arm pattern body guard))
 
-pub of_value : (id scope : NodeId) (value pattern : Node) (name : Made) →
+pub of_value : (id scope : NodeId) (value pattern : Node) (name : MadeAround) →
     name ≡ let_name id scope (form_of pattern.form) → let_rows id scope (tree_of pattern) (present (tree_of value))
     ≡ rows (both_in id) (initial id (form_of pattern.form) (tree_of value))
     (tree_of value) ++ pattern_rows id name (tree_of pattern)
 of_value id scope value pattern name is_name = rw is_name (search (rules, the_lemmas))
 
-pub of_matched : (within : Within) (id : NodeId) (scrutinee pattern : tree.Node) (name : Made) → within ≡ both_in id →
+pub of_matched : (within : Within) (id : NodeId) (scrutinee pattern : tree.Node) (name : MadeAround) → within ≡ both_in id →
     name ≡ name_in id → matched_rows id scrutinee pattern
     ≡ rows within (reached_in within.temporary scrutinee) scrutinee ++ pattern_rows id name pattern
 of_matched within id scrutinee pattern name is_within is_name = rw (is_within, is_name) refl
@@ -117,7 +117,7 @@ of_matched within id scrutinee pattern name is_within is_name = rw (is_within, i
 tree_of-node : (n : Node) → tree_of n ≡ node n.id.0 n.at n.ty n.by (form_of n.form)
 tree_of-node n = search (rules, the_lemmas)
 
-pub of_node : (w : Within) (made : Made) (n : Node) (asked : Bool) (temporary : NodeId) (own : Row) →
+pub of_node : (w : Within) (made : MadeAround) (n : Node) (asked : Bool) (temporary : NodeId) (own : ScopeRow) →
     asked ≡ is_idle (form_of n.form) → temporary ≡ temporary_of n.id (form_of n.form) w.temporary →
     own ≡ row n.id temporary made → rows w made (tree_of n) ≡ rows_in w n.id (form_of n.form)
     ++ where_true asked (idle w.temporary (nodes_in (form_of n.form))) ++ (own ∷ [])
@@ -133,6 +133,6 @@ of_arm t n done is_done =
     ++ where_false (is_arm (form_of n.form)) (idle t (nodes_of x))) (sym (tree_of-node n)) refl in
     rw is_done all
 
-pub of_pattern : (t : NodeId) (name made : Made) (n : Node) (own : Row) → made ≡ by_name name (form_of n.form) →
+pub of_pattern : (t : NodeId) (name made : MadeAround) (n : Node) (own : ScopeRow) → made ≡ by_name name (form_of n.form) →
     own ≡ row n.id t made → pattern_rows t name (tree_of n) ≡ (own ∷ []) ++ pattern_rows_in t name (form_of n.form)
 of_pattern t name made n own is_made is_own = rw (is_own, is_made) (ap (pattern_rows t name) (tree_of-node n))

@@ -3,21 +3,21 @@ use Rattle.std.proofs.Common.{◌≡◌, ◌∙◌, ℕ, suc, Bool, true, false,
 use Rattle.mir_base.specs.declared.place_in_text.NodeId.{NodeId}
 use Rattle.mir_ty.specs.ItemTable.{ItemTable}
 use Rattle.scope_table.proofs.Entering.{entered_append}
-use Rattle.scope_table.specs.declared.row.Made.{Made}
-use Rattle.scope_table.specs.declared.row.Row.{Row}
+use Rattle.scope_table.specs.declared.row.MadeAround.{MadeAround}
+use Rattle.scope_table.specs.declared.row.ScopeRow.{ScopeRow}
 use Rattle.scope_table.specs.Law.{Held, enter, enter_if_any, entered}
 use Rattle.scope_table.specs.Table.{named, row, idle, by_name, has_parts, where_true, where_false, pattern_rows, part_rows, pattern_rows_of_fields, pattern_rows_among}
-use Rattle.src_meaning.specs.Shape.{Head, head, Bound, extended, shape, shape_of, in_fields, in_parts}
+use Rattle.src_meaning.specs.Shape.{NodeHead, head, BoundName, extended, shape, shape_of, in_fields, in_parts}
 use Rattle.store_model.specs.Places.Place.{Step, ToPart, ToField, Place}
 use Rattle.typed_tree.specs.Nodes.{nodes_in}
 use Rattle.typed_tree.specs.Tree.{Node, node, Form, Nodes, no_node, a_node, Fields, no_field, a_field, Number, Truth, UnitValue, Variable, Captured, Field, Index, Deref, Not, Negate, Arithmetic, Comparison, And, Or, Assign, Call, MethodCall, VirtualCall, ClosureCall, Make, Tuple, Array, Closure, NewBox, Print, Ask, DropValue, Forget, Panic, Borrow, Unsize, Block, Let, Evaluate, If, IfLet, Match, Arm, Loop, While, WhileLet, Break, Continue, Return, Wildcard, Binding, NumberPattern, TruthPattern, StructPattern, VariantPattern, TuplePattern, ArrayPattern, OrPattern}
 
 -- the entries of names, one after the other
-abbrev pub named_in : (scope : ℕ) → List Bound → Held → Held
+abbrev pub named_in : (scope : ℕ) → List BoundName → Held → Held
 named_in scope [] H = H
 named_in scope (b ∷ bounds) H = named_in scope bounds (enter scope b.key H)
 
-pub named_append : (scope : ℕ) (A B : List Bound) (H : Held) → named_in scope (A ++ B) H ≡ named_in scope B (named_in scope A H)
+pub named_append : (scope : ℕ) (A B : List BoundName) (H : Held) → named_in scope (A ++ B) H ≡ named_in scope B (named_in scope A H)
 named_append scope [] B H = refl
 named_append scope (b ∷ A) B H = named_append scope A B (enter scope b.key H)
 
@@ -33,8 +33,8 @@ unless_same : (b : Bool) (t : NodeId) (nodes : List Node) (H : Held) → entered
 unless_same true t nodes H = refl
 unless_same false t nodes H = idle_same t nodes H
 
-module _ (items : ItemTable) (t : NodeId) (name : Made) (scope : NodeId) (is : name.entry ≡ Some scope) where
-  abbrev Names : List Row → List Bound → Type 0
+module _ (items : ItemTable) (t : NodeId) (name : MadeAround) (scope : NodeId) (is : name.entry ≡ Some scope) where
+  abbrev Names : List ScopeRow → List BoundName → Type 0
   Names A bounds = (H : Held) → entered A H ≡ named_in scope.0 bounds H
 
   mutual
@@ -44,7 +44,7 @@ module _ (items : ItemTable) (t : NodeId) (name : Made) (scope : NodeId) (is : n
         ∙ unless_same (has_parts form) t (nodes_in form) (entered (part_rows t name form) (enter_if_any (by_name name form).entry (named id) H))
         ∙ in_form form (head id ty by) place H
 
-    in_form : (form : Form) (h : Head) (place : Place) (H : Held) → entered (part_rows t name form) (enter_if_any (by_name name form).entry (named h.id) H) ≡ named_in scope.0 ((shape_of items form h).bindings place) H
+    in_form : (form : Form) (h : NodeHead) (place : Place) (H : Held) → entered (part_rows t name form) (enter_if_any (by_name name form).entry (named h.id) H) ≡ named_in scope.0 ((shape_of items form h).bindings place) H
     in_form (Number value) h place H = refl
     in_form (Truth value) h place H = refl
     in_form UnitValue h place H = refl

@@ -2,8 +2,8 @@
 use Rattle.std.proofs.Common.{ℕ, Bool, true, false, List, [], ◌∷◌, ◌++◌}
 use Rattle.mir_base.specs.declared.place_in_text.NodeId.{NodeId}
 use Rattle.scope_table.proofs.Entering.{OfEntry, AllEntries, entries_append}
-use Rattle.scope_table.specs.declared.row.Made.{Made}
-use Rattle.scope_table.specs.declared.row.Row.{Row}
+use Rattle.scope_table.specs.declared.row.MadeAround.{MadeAround}
+use Rattle.scope_table.specs.declared.row.ScopeRow.{ScopeRow}
 use Rattle.scope_table.specs.declared.row.Within.{Within}
 use Rattle.scope_table.specs.Table.{nothing, named, both_in, inner, row, entry_in, made_if_value, reached_in, pending_in, own_scope, own_scope_of, temporary_of, idle, alone, by_name, has_parts, is_arm, is_idle, where_true, where_false, pattern_rows, part_rows, pattern_rows_of_fields, pattern_rows_among, name_in, let_name, initial, rows, rows_in, alone_if_any, rows_if_any, operand_rows, field_rows, statement_rows, let_rows, arm_rows, arm_rows_of, rows_of_arms, form_of}
 use Rattle.src_meaning.specs.Locals.OfBody.{is_place_form}
@@ -35,14 +35,14 @@ module _ (P : ℕ → Type 0) where
   idle_unless true t nodes = tt
   idle_unless false t nodes = idle_rows t nodes
 
-  if_value : (b : Bool) (made : Made) → OfEntry P made.entry → OfEntry P (made_if_value b made).entry
+  if_value : (b : Bool) (made : MadeAround) → OfEntry P made.entry → OfEntry P (made_if_value b made).entry
   if_value true made h = tt
   if_value false made h = h
 
   pub of_reached : (scope : NodeId) (n : Node) → P scope.0 → OfEntry P (reached_in scope n).entry
   of_reached scope n h = if_value (is_place_form (form_of n)) (entry_in scope n) h
 
-  both : (A B : List Row) → AllEntries P A → AllEntries P B → AllEntries P (A ++ B)
+  both : (A B : List ScopeRow) → AllEntries P A → AllEntries P B → AllEntries P (A ++ B)
   both A B a b = entries_append P A B a b
 
   mutual
@@ -105,7 +105,7 @@ module _ (P : ℕ → Type 0) where
     own_of id (OrPattern alternatives) all = all.0
 
   -- the names of a pattern
-  module _ (t : NodeId) (name : Made) (h : OfEntry P name.entry) where
+  module _ (t : NodeId) (name : MadeAround) (h : OfEntry P name.entry) where
     mutual
       pub in_pattern : (n : Node) → AllEntries P (pattern_rows t name n)
       in_pattern (node id at ty by form) =
@@ -341,7 +341,7 @@ module _ (P : ℕ → Type 0) where
 
   mutual
     -- of a node, in scopes of which this holds
-    pub in_node : (w : Within) (made : Made) (n : Node) → P w.temporary.0 → P w.innermost.0 → OfEntry P made.entry → AllNumbers (nodes_of n) → AllEntries P (rows w made n)
+    pub in_node : (w : Within) (made : MadeAround) (n : Node) → P w.temporary.0 → P w.innermost.0 → OfEntry P made.entry → AllNumbers (nodes_of n) → AllEntries P (rows w made n)
     in_node w made (node id at ty by form) t i m all =
         let own = row (named id) (temporary_of (named id) form w.temporary) made in
         both (rows_in w (named id) form ++ where_true (is_idle form) (idle w.temporary (nodes_in form))) (own ∷ [])

@@ -4,13 +4,13 @@ use Rattle.std.specs.List.{position, position_from}
 use Rattle.std.proofs.lemmas.Iterator.Adapters.{position_from-zero}
 use Rattle.std.proofs.lemmas.List.{at_drop_more}
 use Rattle.scope_table.specs.Lookup.{node_of}
-use Rattle.scope_table.specs.declared.row.Row.{Row}
+use Rattle.scope_table.specs.declared.row.ScopeRow.{ScopeRow}
 
 pub position_is : {X : Type 0} (p : X → Bool) (xs : List X) → position p xs ≡ position_from p 0 xs
 position_is p xs = position_from-zero p xs
 
 -- a node's first place, one row earlier
-pub one_earlier : (rows : List Row) (n m : ℕ) (d : Row) (id : ℕ) (before : Option ℕ) → m + 1 ≡ n → m < length rows →
+pub one_earlier : (rows : List ScopeRow) (n m : ℕ) (d : ScopeRow) (id : ℕ) (before : Option ℕ) → m + 1 ≡ n → m < length rows →
     before ≡ position_from (λ k. k == id) n (map node_of (drop n rows)) →
     cond (nat_eq (node_of (get_or rows m d)) id) (Some m) before
     ≡ position_from (λ k. k == id) m (map node_of (drop m rows))

@@ -13,8 +13,8 @@ use Rattle.scope_table.proofs.Naming.{named_in, names}
 use Rattle.scope_table.proofs.Passing.{AllNumbers, of_reached, in_node, in_form, of_alone, arms_in}
 use Rattle.scope_table.proofs.Rules.{innermost_puts, innermost_keeps, around_puts, innermost_apart, stands_inside, stands_alone, ends_with, Nothing, acts_nothing, panics_nothing, both_nothing, deliver_nothing, unit_nothing, unit_if_nothing, alone_nothing, pending_nothing, pending_nearest, complete_enters, complete_nearest, acting_enters, dropping_enters, assigning_enters, condition_nothing, branch_nothing, bind_enters, put_innermost, declared_enters, touched_nothing, arm_nothing, taken_enters, then_stops, ends_nothing, turns_nothing}
 use Rattle.scope_table.proofs.Runs.{then_enters, then_nothing, alike, of_missing, at_value, changing_enters, around_of, scope_enters}
-use Rattle.scope_table.specs.declared.row.Made.{Made}
-use Rattle.scope_table.specs.declared.row.Row.{Row}
+use Rattle.scope_table.specs.declared.row.MadeAround.{MadeAround}
+use Rattle.scope_table.specs.declared.row.ScopeRow.{ScopeRow}
 use Rattle.scope_table.specs.declared.row.Within.{Within}
 use Rattle.scope_table.specs.Law.{ScopeHead, head_of, Held, held, enter, enter_if_any, entered, in_scope_of, waiting, IsInnermost, IsOr, IsNearest, StandsIn, IsNew, Enters, made_in, Puts, PutsWhereTheTableSays}
 use Rattle.scope_table.specs.Table.{nothing, named, both_in, inner, row, entry_in, made_if_value, reached_in, pending_in, temporary_of, alone, is_idle, if_true, has_destination, by_name, param_rows, pattern_rows_in, rows_of_params, pattern_rows, name_in, let_name, pending_if_value, initial, rows, rows_in, alone_if_any, operand_rows, field_rows, statement_rows, rows_if_any, let_rows, rows_of_arms, form_of}
@@ -25,9 +25,9 @@ use Rattle.src_meaning.specs.Forms.{Destination, Into, coerced, Around, in_loop,
 use Rattle.src_meaning.specs.Locals.OfBody.{is_place_form}
 use Rattle.src_meaning.specs.Programs.{names_of_param, params_entered}
 use Rattle.src_meaning.specs.Scopes.{Entry, Scope, Scopes, innermost, around_innermost, nearest_from, nearest_temporary, with_entry, with_pending, without_pending, Value, Breaks, Returns, At, Does, ◌>>◌, changing}
-use Rattle.src_meaning.specs.Shape.{Head, head, Shape, site_at, kind_of, operand_at, shape, shape_of}
+use Rattle.src_meaning.specs.Shape.{NodeHead, head, Shape, site_at, kind_of, operand_at, shape, shape_of}
 use Rattle.store_model.specs.Effects as effects
-use Rattle.store_model.specs.Effects.{Site, Action, Effects}
+use Rattle.store_model.specs.Effects.{EffectSite, Action, Effects}
 use Rattle.store_model.specs.Places.Place.{Place, whole_local}
 use Rattle.typed_tree.specs.declared.node.Use.{Use}
 use Rattle.typed_tree.specs.Nodes.{number_of, nodes_of, nodes_in, nodes_among, nodes_of_fields, nodes_if_any}
@@ -86,8 +86,8 @@ fresh_of heads (n ∷ nodes) pairs none = (
 -- whether a pattern is one name
 data Kind : Form → Type 0 where
   one_name : (text : List ℕ) → Kind (Binding text)
-  no_name : (form : Form) → ((items : ItemTable) (h : Head) → (shape_of items form h).is_binding ≡ false) →
-      ((id : NodeId) (n : Node) → initial id form n ≡ pending_if_value id n) → ((id scope : NodeId) → (let_name id scope form).entry ≡ Some scope) → ((name : Made) → (by_name name form).entry ≡ None) → Kind form
+  no_name : (form : Form) → ((items : ItemTable) (h : NodeHead) → (shape_of items form h).is_binding ≡ false) →
+      ((id : NodeId) (n : Node) → initial id form n ≡ pending_if_value id n) → ((id scope : NodeId) → (let_name id scope form).entry ≡ Some scope) → ((name : MadeAround) → (by_name name form).entry ≡ None) → Kind form
 
 kind_in : (form : Form) → Kind form
 kind_in (Number value) = no_name (Number value) (λ items h. refl) (λ id n. refl) (λ id scope. refl) (λ name. refl)
@@ -232,9 +232,9 @@ module _ {W : Type 0} (items : ItemTable) (p : Effects W) (fuel : ℕ) where
     pub shaped : m.shape ≡ shape items n
     pub evaluated : (heads : List ScopeHead) (w : Within) → StandsIn w heads → Fresh heads (nodes_of n) → (around : Around) (to : Destination) →
         Enters heads (rows w nothing n) (m.evaluate around false to)
-    pub completed : (heads : List ScopeHead) (w : Within) → StandsIn w heads → Fresh heads (nodes_of n) → (made : Made) → made.entry ≡ Some w.innermost → (b : Bool) (around : Around) →
+    pub completed : (heads : List ScopeHead) (w : Within) → StandsIn w heads → Fresh heads (nodes_of n) → (made : MadeAround) → made.entry ≡ Some w.innermost → (b : Bool) (around : Around) →
         Enters heads (rows w made n) (pending_if items p b innermost m.head >> (m.evaluate around false (Into m.head.id) >> complete items p innermost m.head))
-    pub reached : (heads : List ScopeHead) (w : Within) → StandsIn w heads → Fresh heads (nodes_of n) → (made : Made) → made.entry ≡ (reached_in w.temporary n).entry → (around : Around) →
+    pub reached : (heads : List ScopeHead) (w : Within) → StandsIn w heads → Fresh heads (nodes_of n) → (made : MadeAround) → made.entry ≡ (reached_in w.temporary n).entry → (around : Around) →
         Enters heads (rows w made n) (m.reach around)
     pub waited : is_place_form (form_of n) ≡ false → m.reach ≡ forms.temporary items p m.head m.shape m.evaluate
     pub taken : (matched : Place) (otherwise : Does W) → Nothing items p otherwise → (around : Around) (to : Destination) → Nothing items p (m.arm matched otherwise around to)
@@ -246,19 +246,19 @@ module _ {W : Type 0} (items : ItemTable) (p : Effects W) (fuel : ℕ) where
     abbrev Inside : (Around → Does W) → Type 0
     Inside f = (heads : List ScopeHead) (w : Within) → StandsIn w heads → Fresh heads (nodes_of (node id at ty by form)) → (around : Around) → Enters heads (rows_in w (named id) form) (f around)
 
-    with_own : (heads : List ScopeHead) (w : Within) (made : Made) (f : Does W) → Enters heads (rows_in w (named id) form ++ row (named id) (temporary_of (named id) form w.temporary) made ∷ []) f → Enters heads (rows w made (node id at ty by form)) f
+    with_own : (heads : List ScopeHead) (w : Within) (made : MadeAround) (f : Does W) → Enters heads (rows_in w (named id) form ++ row (named id) (temporary_of (named id) form w.temporary) made ∷ []) f → Enters heads (rows w made (node id at ty by form)) f
     with_own heads w made f enters =
         let own = row (named id) (temporary_of (named id) form w.temporary) made in
         alike heads (rows_in w (named id) form ++ own ∷ []) (rows w made (node id at ty by form)) f
         (λ H is. entered_append (rows_in w (named id) form) (own ∷ []) H ∙ sym (ends_with (rows_in w (named id) form) (is_idle form) w.temporary (nodes_in form) own H)) enters
 
-    without_own : (heads : List ScopeHead) (w : Within) (made : Made) (f : Does W) → made.entry ≡ None → Enters heads (rows_in w (named id) form) f → Enters heads (rows w made (node id at ty by form)) f
+    without_own : (heads : List ScopeHead) (w : Within) (made : MadeAround) (f : Does W) → made.entry ≡ None → Enters heads (rows_in w (named id) form) f → Enters heads (rows w made (node id at ty by form)) f
     without_own heads w made f none enters =
         let own = row (named id) (temporary_of (named id) form w.temporary) made in
         alike heads (rows_in w (named id) form) (rows w made (node id at ty by form)) f
         (λ H is. sym (ends_with (rows_in w (named id) form) (is_idle form) w.temporary (nodes_in form) own H ∙ ap (λ (o : Option NodeId). enter_if_any o (named id) (entered (rows_in w (named id) form) H)) none)) enters
 
-    completes : (e : Evaluates items p fuel) → ((to : Destination) → Inside (λ around. e around false to)) → (heads : List ScopeHead) (w : Within) → StandsIn w heads → Fresh heads (nodes_of (node id at ty by form)) → (made : Made) → made.entry ≡ Some w.innermost → (b : Bool) (around : Around) →
+    completes : (e : Evaluates items p fuel) → ((to : Destination) → Inside (λ around. e around false to)) → (heads : List ScopeHead) (w : Within) → StandsIn w heads → Fresh heads (nodes_of (node id at ty by form)) → (made : MadeAround) → made.entry ≡ Some w.innermost → (b : Bool) (around : Around) →
         Enters heads (rows w made (node id at ty by form)) (pending_if items p b innermost (head id ty by) >> (e around false (Into id) >> complete items p innermost (head id ty by)))
     completes e inside heads w st g made is b around =
         let h = head id ty by in
@@ -276,15 +276,15 @@ module _ {W : Type 0} (items : ItemTable) (p : Effects W) (fuel : ℕ) where
     TakenAsArm = (matched : Place) (otherwise : Does W) → Nothing items p otherwise → (around : Around) (to : Destination) → Nothing items p (own_meaning.arm matched otherwise around to)
 
     all_roles : own_meaning.head ≡ head id ty by → own_meaning.shape ≡ shape_of items form (head id ty by) → TakenAsArm → ((to : Destination) → Inside (λ around. own_meaning.evaluate around false to)) →
-        ((heads : List ScopeHead) (w : Within) → StandsIn w heads → Fresh heads (nodes_of (node id at ty by form)) → (made : Made) → made.entry ≡ (reached_in w.temporary (node id at ty by form)).entry → (around : Around) → Enters heads (rows w made (node id at ty by form)) (own_meaning.reach around)) →
+        ((heads : List ScopeHead) (w : Within) → StandsIn w heads → Fresh heads (nodes_of (node id at ty by form)) → (made : MadeAround) → made.entry ≡ (reached_in w.temporary (node id at ty by form)).entry → (around : Around) → Enters heads (rows w made (node id at ty by form)) (own_meaning.reach around)) →
         (is_place_form form ≡ false → own_meaning.reach ≡ forms.temporary items p own_meaning.head own_meaning.shape own_meaning.evaluate) →
         Placed (node id at ty by form) own_meaning
     all_roles is_head shaped arms inside reach waited = record {
-      number = ap (λ (h : Head). h.id) is_head;
+      number = ap (λ (h : NodeHead). h.id) is_head;
       shaped = shaped;
       evaluated = λ heads w st g around to. without_own heads w nothing (own_meaning.evaluate around false to) refl (inside to heads w st g around);
       completed = λ heads w st g made is b around.
-          subst (λ (h : Head). Enters heads (rows w made (node id at ty by form)) (pending_if items p b innermost h >> (own_meaning.evaluate around false (Into h.id) >> complete items p innermost h)))
+          subst (λ (h : NodeHead). Enters heads (rows w made (node id at ty by form)) (pending_if items p b innermost h >> (own_meaning.evaluate around false (Into h.id) >> complete items p innermost h)))
           (sym is_head) (completes own_meaning.evaluate inside heads w st g made is b around);
       reached = reach;
       waited = waited;
@@ -308,7 +308,7 @@ module _ {W : Type 0} (items : ItemTable) (p : Effects W) (fuel : ℕ) where
         (then_enters heads [] (A ++ own ∷ []) (pending_if items p b nearest_temporary h) (e around false (Into id) >> complete items p nearest_temporary h) (pending_nearest items p b h heads)
         (then_enters heads A (own ∷ []) (e around false (Into id)) (complete items p nearest_temporary h) (inside (Into id) heads w st g around)
         (complete_nearest items p heads w.temporary own h st.nearest entry refl)))))
-        (λ no_place. is_reach ∙ ap (λ (h : Head). forms.temporary items p h own_meaning.shape own_meaning.evaluate) (sym is_head))
+        (λ no_place. is_reach ∙ ap (λ (h : NodeHead). forms.temporary items p h own_meaning.shape own_meaning.evaluate) (sym is_head))
 
     of_place : own_meaning.head ≡ head id ty by → own_meaning.shape ≡ shape_of items form (head id ty by) →
         own_meaning.evaluate ≡ evaluation.made_in items p fuel (head id ty by) (forms.use_of_place items p (head id ty by) own_meaning.shape own_meaning.reach) → is_place_form form ≡ true → TakenAsArm → Inside own_meaning.reach →
@@ -317,7 +317,7 @@ module _ {W : Type 0} (items : ItemTable) (p : Effects W) (fuel : ℕ) where
         all_roles is_head shaped arms
         (λ to heads w st g around.
         let last = to_own_key (is_never items ty) id to in
-        let used = λ (around : Around) (site : Site). effects.Put site (operand_at (head id ty by) (own_meaning.shape.place around.aliases)) in
+        let used = λ (around : Around) (site : EffectSite). effects.Put site (operand_at (head id ty by) (own_meaning.shape.place around.aliases)) in
         subst (λ (e : Evaluates items p fuel). Enters heads (rows_in w (named id) form) (e around false to)) (sym is_use)
         (then_nothing heads (rows_in w (named id) form) (own_meaning.reach around) (deliver items p (head id ty by) (used around) last) (inside heads w st g around) (deliver_nothing items p (head id ty by) (used around) last heads)))
         (λ heads w st g made is around.
@@ -328,7 +328,7 @@ module _ {W : Type 0} (items : ItemTable) (p : Effects W) (fuel : ℕ) where
     of_closed : (f : Around → Does W) → ((heads : List ScopeHead) → Missing heads id × (Differs id (nodes_in form) × Fresh heads (nodes_in form)) → (around : Around) → Enters heads [] (f around)) →
         ((w : Within) → rows_in w (named id) form ≡ rows_in (both_in (named id)) (named id) form) → Inside f
     of_closed f made same heads w st g around =
-        subst (λ (A : List Row). Enters heads A (f around)) (sym (same w))
+        subst (λ (A : List ScopeRow). Enters heads A (f around)) (sym (same w))
         (of_missing heads (rows_in (both_in (named id)) (named id) form) (f around)
         (in_form (Missing heads) (both_in (named id)) id form g.0 g.0 g.0 (fresh_missing heads (nodes_in form) g.1.1))
         (made heads g around))
@@ -356,7 +356,7 @@ module _ {W : Type 0} (items : ItemTable) (p : Effects W) (fuel : ℕ) where
       then_nothing heads (rows w (reached_in w.temporary n) n) (m.reach around) (touched items p m.shape.is_place (site_of m around)) (placed.reached heads w st g (reached_in w.temporary n) refl around)
       (touched_nothing items p m.shape.is_place (site_of m around) heads)
 
-  taken_closed : (h : Head) (n : Node) (m : Meaning W) → Placed n m → (pattern : Meaning W) (body otherwise : Does W) → Nothing items p body → Nothing items p otherwise → (heads : List ScopeHead) → Missing heads h.id → Fresh heads (nodes_of n) → Fresh (record { node = h.id; for_temporaries = true } ∷ heads) (nodes_of n) → (around : Around) → Enters heads [] (forms.if_taken items p h around pattern m body otherwise)
+  taken_closed : (h : NodeHead) (n : Node) (m : Meaning W) → Placed n m → (pattern : Meaning W) (body otherwise : Does W) → Nothing items p body → Nothing items p otherwise → (heads : List ScopeHead) → Missing heads h.id → Fresh heads (nodes_of n) → Fresh (record { node = h.id; for_temporaries = true } ∷ heads) (nodes_of n) → (around : Around) → Enters heads [] (forms.if_taken items p h around pattern m body otherwise)
   taken_closed h n m placed pattern body otherwise one another heads missing g inner_g around =
       let own = named h.id in
       let A = rows (both_in own) (reached_in own n) n in
@@ -365,7 +365,7 @@ module _ {W : Type 0} (items : ItemTable) (p : Effects W) (fuel : ℕ) where
       (taken_enters items p heads A h around pattern m body otherwise missing
       (placed.reached (record { node = h.id; for_temporaries = true } ∷ heads) (both_in own) (stands_alone heads h.id) inner_g (reached_in own n) refl around) one another)
 
-  tail_in : (h : Head) (o : MaybeNode) (heads : List ScopeHead) → Fresh heads (nodes_if_any o) → (around : Around) (to : Destination) → Enters heads (alone_if_any o) (tail_of items p h (any o) around to)
+  tail_in : (h : NodeHead) (o : MaybeNode) (heads : List ScopeHead) → Fresh heads (nodes_if_any o) → (around : Around) (to : Destination) → Enters heads (alone_if_any o) (tail_of items p h (any o) around to)
   tail_in h absent heads g around to = unit_if_nothing items p (is_never items h.ty) h to heads
   tail_in h (present n) heads g around to =
       of_missing heads (rows (alone n) nothing n) (forms.alone items p around (mean n) to) (of_alone (Missing heads) n (fresh_missing heads (nodes_of n) g)) (alone_nothing items p around (mean n) to heads)
@@ -387,11 +387,11 @@ module _ {W : Type 0} (items : ItemTable) (p : Effects W) (fuel : ℕ) where
       (λ same. innermost_apart i id heads in_i missing (sym (ap first_node is) ∙ same))
       (subst (IsInnermost i) (sym (ap later is)) in_i)
 
-  names_of : (t : NodeId) (name : Made) (scope : NodeId) → name.entry ≡ Some scope → (n : Node) (m : Meaning W) → m.shape ≡ shape items n → (place : Place) (H : Held) → entered (pattern_rows t name n) H ≡ named_in scope.0 (m.shape.bindings place) H
+  names_of : (t : NodeId) (name : MadeAround) (scope : NodeId) → name.entry ≡ Some scope → (n : Node) (m : Meaning W) → m.shape ≡ shape items n → (place : Place) (H : Held) → entered (pattern_rows t name n) H ≡ named_in scope.0 (m.shape.bindings place) H
   names_of t name scope is n m shaped place H =
       names items t name scope is n place H ∙ ap (λ (s : Shape). named_in scope.0 (s.bindings place) H) (sym shaped)
 
-  module _ (h : Head) (value : Node) (pm m : Meaning W) (placed : Placed value m) (heads : List ScopeHead) (w : Within) (st : StandsIn w heads) (missing : Missing heads h.id) (g : Fresh (record { node = h.id; for_temporaries = true } ∷ heads) (nodes_of value)) (around : Around) where
+  module _ (h : NodeHead) (value : Node) (pm m : Meaning W) (placed : Placed value m) (heads : List ScopeHead) (w : Within) (st : StandsIn w heads) (missing : Missing heads h.id) (g : Fresh (record { node = h.id; for_temporaries = true } ∷ heads) (nodes_of value)) (around : Around) where
     abbrev within_let : List ScopeHead
     within_let = record { node = h.id; for_temporaries = true } ∷ heads
 
@@ -420,7 +420,7 @@ module _ {W : Type 0} (items : ItemTable) (p : Effects W) (fuel : ℕ) where
         let bounds = pm.shape.bindings (place_of m around) in
         let b = not (m.shape.is_place || m.shape.in_destination) in
         let bound : Does W = forms.bind items p around_innermost bounds in
-        let entry : made.entry ≡ (reached_in own value).entry = ap (λ (made : Made). made.entry) first ∙ entry_either (is_place_form (form_of value)) own value in
+        let entry : made.entry ≡ (reached_in own value).entry = ap (λ (made : MadeAround). made.entry) first ∙ entry_either (is_place_form (form_of value)) own value in
         scope_enters items p heads (A ++ B) h.id true _ missing
         (around_of within_let (A ++ B) (pending_if items p b innermost m.head >> (m.reach around >> bound))
         (then_enters within_let [] (A ++ B) (pending_if items p b innermost m.head) (m.reach around >> bound) (pending_nothing items p b m.head within_let)
@@ -470,7 +470,7 @@ module _ {W : Type 0} (items : ItemTable) (p : Effects W) (fuel : ℕ) where
     arms_law (a_node first rest) matched around to =
         (law first).taken matched (arms_in_order items p (means rest) matched around to) (arms_law rest matched around to) around to
 
-    let_law : (h : Head) (pattern : Node) → Placed pattern (meaning items p fuel pattern) → (o : MaybeNode) (heads : List ScopeHead) (w : Within) → StandsIn w heads → Missing heads h.id → Fresh (record { node = h.id; for_temporaries = true } ∷ heads) (nodes_if_any o) → (around : Around) → Enters heads (let_rows (named h.id) w.innermost pattern o) (forms.letting items p h (mean pattern) (any o) around)
+    let_law : (h : NodeHead) (pattern : Node) → Placed pattern (meaning items p fuel pattern) → (o : MaybeNode) (heads : List ScopeHead) (w : Within) → StandsIn w heads → Missing heads h.id → Fresh (record { node = h.id; for_temporaries = true } ∷ heads) (nodes_if_any o) → (around : Around) → Enters heads (let_rows (named h.id) w.innermost pattern o) (forms.letting items p h (mean pattern) (any o) around)
     let_law h pattern of_pattern absent heads w st missing g around =
         declared_enters items p heads w.innermost st.innermost (pattern_rows (named h.id) (name_in w.innermost) pattern) ((mean pattern).shape.bindings (whole_local 0))
         (λ H. names_of (named h.id) (name_in w.innermost) w.innermost refl pattern (mean pattern) of_pattern.shaped (whole_local 0) H)
@@ -654,7 +654,7 @@ module _ {W : Type 0} (items : ItemTable) (p : Effects W) (fuel : ℕ) where
             (λ H. sym (ap (λ (o : Option NodeId). entered A (enter_if_any o (named id) H)) (unnamed (name_in scope)))
             ∙ names items scope (name_in scope) scope refl (node id at ty by form) (whole_local id) H))
 
-    one_param : (n : Node) (ty : TyId) (rest : List Row) (next : Does W) → Enters heads rest next → Enters heads (param_rows scope n ++ rest) (changing (innermost (with_entry (record { key = number_of n; ty = ty }))) >> (names_of_param items p fuel (shape items n).is_binding ((shape items n).bindings (whole_local (number_of n))) >> next))
+    one_param : (n : Node) (ty : TyId) (rest : List ScopeRow) (next : Does W) → Enters heads rest next → Enters heads (param_rows scope n ++ rest) (changing (innermost (with_entry (record { key = number_of n; ty = ty }))) >> (names_of_param items p fuel (shape items n).is_binding ((shape items n).bindings (whole_local (number_of n))) >> next))
     one_param (node id at own_ty by form) ty rest next then_made =
         let n = node id at own_ty by form in
         let e : Entry = record { key = id; ty = ty } in

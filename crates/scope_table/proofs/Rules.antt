@@ -8,14 +8,14 @@ use Rattle.mir_ty.specs.ItemTable.{ItemTable}
 use Rattle.scope_table.proofs.Entering.{heads_in, heads_held, enter_heads, entered_append, Missing, enter_first, enter_later, rest}
 use Rattle.scope_table.proofs.Naming.{named_in, where_same}
 use Rattle.scope_table.proofs.Runs.{more, after_value, then_enters, then_nothing, at_value, doing_enters, changing_enters, choosing_enters, back_enters, same_heads, KeepsAround, around_of, then_around, then_keeps, keeps_then, keeps_of, changing_keeps, leaving_pops, scope_enters, scope_keeps, Pops, scope_with_enters}
-use Rattle.scope_table.specs.declared.row.Row.{Row}
+use Rattle.scope_table.specs.declared.row.ScopeRow.{ScopeRow}
 use Rattle.scope_table.specs.declared.row.Within.{Within}
 use Rattle.scope_table.specs.Law.{ScopeHead, head_of, Held, held_by, held, enter, enter_if_any, entered, IsInnermost, IsOr, IsNearest, StandsIn, WithValue, Enters}
 use Rattle.scope_table.specs.Table.{named, both_in, inner, idle, where_true}
 use Rattle.src_meaning.specs.Forms.{Destination, Into, Coerced, Around, in_guard, Meaning, entry_of, bound_entry, site_in, site_of_key, moved, keys_of, acts, panics, deliver, put_unit, put_unit_if, alone, pending_if, complete, operand, operands, take, acting, dropping, stored, stored_after, dropped_first, replacing, assigning, condition, branch, all_hold, bind, touched, scrutinised, if_taken, taken_arm, guarded, arm, emptied, declared, ticked, turned, turns, ends_loop, site_of, place_of}
 use Rattle.src_meaning.specs.Scopes.{Scope, Scopes, innermost, around_innermost, nearest_from, nearest_temporary, with_entry, with_pending, becomes_entry, without_operands, Exit, Value, Breaks, Continues, Returns, Panics, Run, At, Over, Does, on_value, ◌>>◌, in_scopes, changing, choosing, chosen, leaving}
-use Rattle.src_meaning.specs.Shape.{Head, Bound}
-use Rattle.store_model.specs.Effects.{Site, Action, Put, UnitValue, IsTrue, Normal, Out, Go, Unwind, Halts, Choice, Yes, No, Neither, Effects}
+use Rattle.src_meaning.specs.Shape.{NodeHead, BoundName}
+use Rattle.store_model.specs.Effects.{EffectSite, Action, Put, UnitValue, IsTrue, Normal, Out, Go, Unwind, Halts, Choice, Yes, No, Neither, Effects}
 use Rattle.store_model.specs.Places.Place.{Place}
 use Rattle.typed_tree.specs.Tree.{Node}
 
@@ -82,7 +82,7 @@ pub stands_alone : (heads : List ScopeHead) (id : ℕ) → StandsIn (both_in (na
 stands_alone heads id = record { innermost = refl; nearest = refl }
 
 -- a row behind those of what is in its node
-pub ends_with : (A : List Row) (b : Bool) (t : NodeId) (nodes : List Node) (own : Row) (H : Held) → entered (A ++ where_true b (idle t nodes) ++ own ∷ []) H ≡ enter_if_any own.entry own.node (entered A H)
+pub ends_with : (A : List ScopeRow) (b : Bool) (t : NodeId) (nodes : List Node) (own : ScopeRow) (H : Held) → entered (A ++ where_true b (idle t nodes) ++ own ∷ []) H ≡ enter_if_any own.entry own.node (entered A H)
 ends_with A b t nodes own H =
     entered_append (A ++ where_true b (idle t nodes)) (own ∷ []) H
     ∙ ap (enter_if_any own.entry own.node) (entered_append A (where_true b (idle t nodes)) H ∙ where_same b t nodes (entered A H))
@@ -100,26 +100,26 @@ module _ {W : Type 0} (items : ItemTable) (p : Effects W) where
   pub both_nothing : (f g : Does W) → Nothing f → Nothing g → Nothing (f >> g)
   both_nothing f g one another heads = then_enters heads [] [] f g (one heads) (another heads)
 
-  pub deliver_nothing : (h : Head) (action : Site → Action) (to : Destination) → Nothing (deliver items p h action to)
+  pub deliver_nothing : (h : NodeHead) (action : EffectSite → Action) (to : Destination) → Nothing (deliver items p h action to)
   deliver_nothing h action (Into key) = acts_nothing (action (site_in h.id key))
   deliver_nothing h action (Coerced key trait_no to) =
       both_nothing (acts items p (action (site_in h.id key))) (acts items p _) (acts_nothing (action (site_in h.id key))) (acts_nothing _)
 
-  pub unit_nothing : (h : Head) (to : Destination) → Nothing (put_unit items p h to)
+  pub unit_nothing : (h : NodeHead) (to : Destination) → Nothing (put_unit items p h to)
   unit_nothing h to = deliver_nothing h (λ site. Put site UnitValue) to
 
-  pub unit_if_nothing : (b : Bool) (h : Head) (to : Destination) → Nothing (put_unit_if items p b h to)
+  pub unit_if_nothing : (b : Bool) (h : NodeHead) (to : Destination) → Nothing (put_unit_if items p b h to)
   unit_if_nothing true h to heads = at_value heads
   unit_if_nothing false h to heads = unit_nothing h to heads
 
   pub alone_nothing : (around : Around) (m : Meaning W) (to : Destination) → Nothing (alone items p around m to)
   alone_nothing around m to heads = back_enters heads (m.evaluate around true to)
 
-  pub pending_nothing : (b : Bool) (h : Head) → Nothing (pending_if items p b innermost h)
+  pub pending_nothing : (b : Bool) (h : NodeHead) → Nothing (pending_if items p b innermost h)
   pending_nothing true h heads = changing_enters heads [] _ (λ S is. innermost_keeps (with_pending (entry_of h)) (λ s. refl) S)
   pending_nothing false h heads = changing_enters heads [] _ (λ S is. refl)
 
-  pub pending_nearest : (b : Bool) (h : Head) → Nothing (pending_if items p b nearest_temporary h)
+  pub pending_nearest : (b : Bool) (h : NodeHead) → Nothing (pending_if items p b nearest_temporary h)
   pending_nearest true h heads = changing_enters heads [] _ (λ S is. nearest_keeps (with_pending (entry_of h)) (λ s. refl) S)
   pending_nearest false h heads = changing_enters heads [] _ (λ S is. refl)
 
@@ -127,13 +127,13 @@ module _ {W : Type 0} (items : ItemTable) (p : Effects W) where
   of_heads heads P S is h = subst P (sym is) h
 
   -- a node's entry, by the row of the table
-  pub complete_enters : (heads : List ScopeHead) (i : NodeId) (own : Row) (h : Head) → IsInnermost i heads → own.entry ≡ Some i → own.node ≡ named h.id → Enters heads (own ∷ []) (complete items p innermost h)
+  pub complete_enters : (heads : List ScopeHead) (i : NodeId) (own : ScopeRow) (h : NodeHead) → IsInnermost i heads → own.entry ≡ Some i → own.node ≡ named h.id → Enters heads (own ∷ []) (complete items p innermost h)
   complete_enters heads i own h in_i is node_is =
       changing_enters heads (own ∷ []) _ (λ S at.
       innermost_puts (becomes_entry (entry_of h)) h.id (λ s. refl) i S (of_heads heads (IsInnermost i) S at in_i)
       ∙ sym (ap (λ (o : Option NodeId). enter_if_any o own.node (held S)) is ∙ ap (λ (n : NodeId). enter_if_any (Some i) n (held S)) node_is))
 
-  pub complete_nearest : (heads : List ScopeHead) (t : NodeId) (own : Row) (h : Head) → IsNearest t heads → own.entry ≡ Some t → own.node ≡ named h.id → Enters heads (own ∷ []) (complete items p nearest_temporary h)
+  pub complete_nearest : (heads : List ScopeHead) (t : NodeId) (own : ScopeRow) (h : NodeHead) → IsNearest t heads → own.entry ≡ Some t → own.node ≡ named h.id → Enters heads (own ∷ []) (complete items p nearest_temporary h)
   complete_nearest heads t own h in_t is node_is =
       changing_enters heads (own ∷ []) _ (λ S at.
       nearest_puts (becomes_entry (entry_of h)) h.id (λ s. refl) t S (of_heads heads (IsNearest t) S at in_t)
@@ -143,22 +143,22 @@ module _ {W : Type 0} (items : ItemTable) (p : Effects W) where
   take_keeps keys = changing_keeps _ (rest_innermost (without_operands keys))
 
   -- operands in a scope of their own, which are taken
-  pub acting_enters : (heads : List ScopeHead) (A : List Row) (h : Head) (around : Around) (ms : List (Meaning W)) (act : Does W) → Missing heads h.id → Enters (record { node = h.id; for_temporaries = false } ∷ heads) A (operands items p around ms) → Nothing act → Enters heads A (acting items p h around false ms act)
+  pub acting_enters : (heads : List ScopeHead) (A : List ScopeRow) (h : NodeHead) (around : Around) (ms : List (Meaning W)) (act : Does W) → Missing heads h.id → Enters (record { node = h.id; for_temporaries = false } ∷ heads) A (operands items p around ms) → Nothing act → Enters heads A (acting items p h around false ms act)
   acting_enters heads A h around ms act missing made nothing =
       scope_enters items p heads A h.id false _ missing
       (then_keeps (record { node = h.id; for_temporaries = false } ∷ heads) A (operands items p around ms) (take items p (keys_of ms) >> act) made
       (keeps_then (take items p (keys_of ms)) act (take_keeps (keys_of ms)) (keeps_of act nothing)))
 
-  pub dropping_enters : (heads : List ScopeHead) (A : List Row) (h : Head) (around : Around) (m : Meaning W) (act : Does W) → Missing heads h.id → Enters (record { node = h.id; for_temporaries = false } ∷ heads) A (operand items p around m) → Nothing act → Enters heads A (dropping items p h around false m act)
+  pub dropping_enters : (heads : List ScopeHead) (A : List ScopeRow) (h : NodeHead) (around : Around) (m : Meaning W) (act : Does W) → Missing heads h.id → Enters (record { node = h.id; for_temporaries = false } ∷ heads) A (operand items p around m) → Nothing act → Enters heads A (dropping items p h around false m act)
   dropping_enters heads A h around m act missing made nothing =
       let inside = record { node = h.id; for_temporaries = false } ∷ heads in
       scope_enters items p heads A h.id false _ missing
       (around_of inside A (operand items p around m >> act) (then_nothing inside A (operand items p around m) act made (nothing inside)))
 
-  stored_keeps : (site : Site) (key : ℕ) → KeepsAround (stored items p site key)
+  stored_keeps : (site : EffectSite) (key : ℕ) → KeepsAround (stored items p site key)
   stored_keeps site key = keeps_then (take items p (key ∷ [])) (acts items p _) (take_keeps (key ∷ [])) (keeps_of _ (acts_nothing _))
 
-  replacing_keeps : (b : Bool) (site : Site) (key : ℕ) → KeepsAround (replacing items p b site key)
+  replacing_keeps : (b : Bool) (site : EffectSite) (key : ℕ) → KeepsAround (replacing items p b site key)
   replacing_keeps b site key S x = by (dropped_first items p b site x)
     where
       by : (o : Out W) → WithValue (λ after. rest (held after) ≡ rest (held S)) (stored_after items p site key S o)
@@ -167,7 +167,7 @@ module _ {W : Type 0} (items : ItemTable) (p : Effects W) where
           (more (λ after. rest (held after) ≡ rest (held S)) (λ after. Unit {0}) (λ after h. tt) (stored items p site key S x) (stored_keeps site key S x)) (λ S' x' h. tt)
       by (Halts halt x) = tt
 
-  pub assigning_enters : (heads : List ScopeHead) (A B : List Row) (h : Head) (place value : Meaning W) (around : Around) (to : Destination) → Missing heads h.id → Enters (record { node = h.id; for_temporaries = false } ∷ heads) A (operand items p around value) → Enters (record { node = h.id; for_temporaries = false } ∷ heads) B (place.reach around) → Enters heads (A ++ B) (assigning items p h place value around false to)
+  pub assigning_enters : (heads : List ScopeHead) (A B : List ScopeRow) (h : NodeHead) (place value : Meaning W) (around : Around) (to : Destination) → Missing heads h.id → Enters (record { node = h.id; for_temporaries = false } ∷ heads) A (operand items p around value) → Enters (record { node = h.id; for_temporaries = false } ∷ heads) B (place.reach around) → Enters heads (A ++ B) (assigning items p h place value around false to)
   assigning_enters heads A B h place value around to missing made reached =
       let inside = record { node = h.id; for_temporaries = false } ∷ heads in
       let last = replacing items p (needs_drop items place.head.ty) (site_of place around) value.head.id in
@@ -191,18 +191,18 @@ module _ {W : Type 0} (items : ItemTable) (p : Effects W) where
 
   -- Names.
 
-  bind_keeps : (bounds : List Bound) → KeepsAround (bind items p innermost bounds)
+  bind_keeps : (bounds : List BoundName) → KeepsAround (bind items p innermost bounds)
   bind_keeps [] = keeps_of (At Value) (λ heads. at_value heads)
   bind_keeps (b ∷ bounds) =
       keeps_then (acts items p _) (changing (innermost (with_entry (bound_entry b))) >> bind items p innermost bounds) (keeps_of _ (acts_nothing _))
       (keeps_then (changing (innermost (with_entry (bound_entry b)))) (bind items p innermost bounds) (changing_keeps _ (rest_innermost (with_entry (bound_entry b)))) (bind_keeps bounds))
 
-  module _ (heads : List ScopeHead) (scope : ℕ) (in_that : (Scope → Scope) → Scopes → Scopes) (put : (b : Bound) (S : Scopes) → map head_of S ≡ heads → held (in_that (with_entry (bound_entry b)) S) ≡ enter scope b.key (held S)) where
-    heads_after : (b : Bound) (S : Scopes) → map head_of S ≡ heads → map head_of (in_that (with_entry (bound_entry b)) S) ≡ heads
+  module _ (heads : List ScopeHead) (scope : ℕ) (in_that : (Scope → Scope) → Scopes → Scopes) (put : (b : BoundName) (S : Scopes) → map head_of S ≡ heads → held (in_that (with_entry (bound_entry b)) S) ≡ enter scope b.key (held S)) where
+    heads_after : (b : BoundName) (S : Scopes) → map head_of S ≡ heads → map head_of (in_that (with_entry (bound_entry b)) S) ≡ heads
     heads_after b S is =
         sym (heads_held (in_that (with_entry (bound_entry b)) S)) ∙ ap heads_in (put b S is) ∙ enter_heads scope b.key (held S) ∙ heads_held S ∙ is
 
-    pub bind_makes : (bounds : List Bound) (S : Scopes) → map head_of S ≡ heads → (x : W) → WithValue (λ after. held after ≡ named_in scope bounds (held S)) (bind items p in_that bounds S x)
+    pub bind_makes : (bounds : List BoundName) (S : Scopes) → map head_of S ≡ heads → (x : W) → WithValue (λ after. held after ≡ named_in scope bounds (held S)) (bind items p in_that bounds S x)
     bind_makes [] S is x = refl
     bind_makes (b ∷ bounds) S is x = by (p.act _ x) (bind_makes bounds (in_that (with_entry (bound_entry b)) S) (heads_after b S is))
       where
@@ -211,7 +211,7 @@ module _ {W : Type 0} (items : ItemTable) (p : Effects W) where
         by (Unwind x) next = tt
         by (Halts halt x) next = tt
 
-    pub bind_enters : (A : List Row) (bounds : List Bound) → ((H : Held) → entered A H ≡ named_in scope bounds H) → Enters heads A (bind items p in_that bounds)
+    pub bind_enters : (A : List ScopeRow) (bounds : List BoundName) → ((H : Held) → entered A H ≡ named_in scope bounds H) → Enters heads A (bind items p in_that bounds)
     bind_enters A bounds same S is x =
         more (λ after. held after ≡ named_in scope bounds (held S)) (λ after. held after ≡ entered A (held S)) (λ after h. h ∙ sym (same (held S))) (bind items p in_that bounds S x) (bind_makes bounds S is x)
 
@@ -220,10 +220,10 @@ module _ {W : Type 0} (items : ItemTable) (p : Effects W) where
   emptied_nothing false key heads = doing_enters heads (p.drop Normal (site_of_key key))
 
   module _ (heads : List ScopeHead) (i : NodeId) (in_i : IsInnermost i heads) where
-    pub put_innermost : (b : Bound) (S : Scopes) → map head_of S ≡ heads → held (innermost (with_entry (bound_entry b)) S) ≡ enter i.0 b.key (held S)
+    pub put_innermost : (b : BoundName) (S : Scopes) → map head_of S ≡ heads → held (innermost (with_entry (bound_entry b)) S) ≡ enter i.0 b.key (held S)
     put_innermost b S is = innermost_puts (with_entry (bound_entry b)) b.key (λ s. refl) i S (of_heads heads (IsInnermost i) S is in_i)
 
-    pub declared_makes : (bounds : List Bound) (S : Scopes) → map head_of S ≡ heads → (x : W) → WithValue (λ after. held after ≡ named_in i.0 bounds (held S)) (declared items p bounds S x)
+    pub declared_makes : (bounds : List BoundName) (S : Scopes) → map head_of S ≡ heads → (x : W) → WithValue (λ after. held after ≡ named_in i.0 bounds (held S)) (declared items p bounds S x)
     declared_makes [] S is x = refl
     declared_makes (b ∷ bounds) S is x =
         after_value (λ after. held after ≡ held S) (λ after. held after ≡ named_in i.0 (b ∷ bounds) (held S)) (changing (innermost (with_entry (bound_entry b))) >> declared items p bounds) (emptied items p (needs_drop items b.ty) b.key S x)
@@ -235,26 +235,26 @@ module _ {W : Type 0} (items : ItemTable) (p : Effects W) where
         more (λ after. held after ≡ named_in i.0 bounds (held next)) (λ after. held after ≡ named_in i.0 (b ∷ bounds) (held S))
         (λ after h. h ∙ ap (named_in i.0 bounds) (put_innermost b S' here ∙ ap (enter i.0 b.key) same)) (declared items p bounds next x') (declared_makes bounds next there x'))
 
-    pub declared_enters : (A : List Row) (bounds : List Bound) → ((H : Held) → entered A H ≡ named_in i.0 bounds H) → Enters heads A (declared items p bounds)
+    pub declared_enters : (A : List ScopeRow) (bounds : List BoundName) → ((H : Held) → entered A H ≡ named_in i.0 bounds H) → Enters heads A (declared items p bounds)
     declared_enters A bounds same S is x =
         more (λ after. held after ≡ named_in i.0 bounds (held S)) (λ after. held after ≡ entered A (held S)) (λ after h. h ∙ sym (same (held S))) (declared items p bounds S x) (declared_makes bounds S is x)
 
   -- Arms.
 
-  pub touched_nothing : (b : Bool) (site : Site) → Nothing (touched items p b site)
+  pub touched_nothing : (b : Bool) (site : EffectSite) → Nothing (touched items p b site)
   touched_nothing true site heads = acts_nothing _ heads
   touched_nothing false site heads = at_value heads
 
-  taken_nothing : (h : Head) (around : Around) (bounds : List Bound) (body : Meaning W) (to : Destination) → Nothing (taken_arm items p h around bounds body to)
+  taken_nothing : (h : NodeHead) (around : Around) (bounds : List BoundName) (body : Meaning W) (to : Destination) → Nothing (taken_arm items p h around bounds body to)
   taken_nothing h around bounds body to heads =
       scope_keeps items p heads h.id false (bind items p innermost bounds >> alone items p around body to)
       (keeps_then (bind items p innermost bounds) (alone items p around body to) (bind_keeps bounds) (keeps_of _ (alone_nothing around body to)))
 
-  guarded_nothing : (around : Around) (bounds : List Bound) (guard : Option (Meaning W)) (f g : Does W) → Nothing f → Nothing g → Nothing (guarded items p around bounds guard f g)
+  guarded_nothing : (around : Around) (bounds : List BoundName) (guard : Option (Meaning W)) (f g : Does W) → Nothing f → Nothing g → Nothing (guarded items p around bounds guard f g)
   guarded_nothing around bounds None f g one another = one
   guarded_nothing around bounds (Some guard) f g one another = condition_nothing (in_guard bounds around) guard f g one another
 
-  pub arm_nothing : (h : Head) (pattern : Meaning W) (guard : Option (Meaning W)) (body : Meaning W) (matched : Place) (otherwise : Does W) (around : Around) (to : Destination) → Nothing otherwise → Nothing (arm items p h pattern guard body matched otherwise around to)
+  pub arm_nothing : (h : NodeHead) (pattern : Meaning W) (guard : Option (Meaning W)) (body : Meaning W) (matched : Place) (otherwise : Does W) (around : Around) (to : Destination) → Nothing otherwise → Nothing (arm items p h pattern guard body matched otherwise around to)
   arm_nothing h pattern guard body matched otherwise around to other =
       either_nothing (all_hold items p (pattern.shape.tests matched)) _ otherwise
       (guarded_nothing around (pattern.shape.bindings matched) guard (taken_arm items p h around (pattern.shape.bindings matched) body to) otherwise (taken_nothing h around (pattern.shape.bindings matched) body to) other)
@@ -273,7 +273,7 @@ module _ {W : Type 0} (items : ItemTable) (p : Effects W) where
       after_value (λ after. held after ≡ rest (held S)) (λ after. held after ≡ rest (held S)) g (f S x) (pops S x)
       (λ S' x' same. more (λ after. held after ≡ held S') (λ after. held after ≡ rest (held S)) (λ after h. h ∙ same) (g S' x') (nothing (map head_of S') S' refl x'))
 
-  pub taken_enters : (heads : List ScopeHead) (A : List Row) (h : Head) (around : Around) (pattern scrutinee : Meaning W) (body otherwise : Does W) → Missing heads h.id → Enters (record { node = h.id; for_temporaries = true } ∷ heads) A (scrutinee.reach around) → Nothing body → Nothing otherwise → Enters heads A (if_taken items p h around pattern scrutinee body otherwise)
+  pub taken_enters : (heads : List ScopeHead) (A : List ScopeRow) (h : NodeHead) (around : Around) (pattern scrutinee : Meaning W) (body otherwise : Does W) → Missing heads h.id → Enters (record { node = h.id; for_temporaries = true } ∷ heads) A (scrutinee.reach around) → Nothing body → Nothing otherwise → Enters heads A (if_taken items p h around pattern scrutinee body otherwise)
   taken_enters heads A h around pattern scrutinee body otherwise missing made one another =
       let inside = record { node = h.id; for_temporaries = true } ∷ heads in
       let bounds = pattern.shape.bindings (place_of scrutinee around) in
@@ -288,7 +288,7 @@ module _ {W : Type 0} (items : ItemTable) (p : Effects W) where
   abbrev Stops : (Scopes → Type 0) → Exit → Type 0
   Stops P exit = (S : Scopes) (x : W) → WithValue P (At exit S x)
 
-  pub then_stops : (heads : List ScopeHead) (A : List Row) (f : Does W) (exit : Exit) → ((P : Scopes → Type 0) → Stops P exit) → Enters heads A (f >> At exit)
+  pub then_stops : (heads : List ScopeHead) (A : List ScopeRow) (f : Does W) (exit : Exit) → ((P : Scopes → Type 0) → Stops P exit) → Enters heads A (f >> At exit)
   then_stops heads A f exit stops S is x = by (f S x)
     where
       by : (r : Run W) → WithValue (λ after. held after ≡ entered A (held S)) (on_value r (At exit))
@@ -299,7 +299,7 @@ module _ {W : Type 0} (items : ItemTable) (p : Effects W) where
       by (At Panics S' x') = tt
       by (Over halt x') = tt
 
-  pub ends_nothing : (h : Head) (to : Destination) → Nothing (ends_loop items p h to)
+  pub ends_nothing : (h : NodeHead) (to : Destination) → Nothing (ends_loop items p h to)
   ends_nothing h to heads = then_stops heads [] (put_unit items p h to) (Breaks h.id) (λ P S x. tt)
 
   module _ (heads : List ScopeHead) (id : ℕ) where

@@ -2,13 +2,13 @@
 use Rattle.std.proofs.Common.{◌≡◌, ◌∙◌, ℕ, Bool, List, [], ◌∷◌, ◌++◌, map, refl, sym, ap, subst}
 use Rattle.std.proofs.lemmas.List.{append-nil}
 use Rattle.mir_ty.specs.ItemTable.{ItemTable}
-use Rattle.scope_table.specs.declared.row.Row.{Row}
+use Rattle.scope_table.specs.declared.row.ScopeRow.{ScopeRow}
 use Rattle.scope_table.specs.Law.{ScopeHead, head_of, Held, held, entered, WithValue, Enters}
 use Rattle.scope_table.proofs.Entering.{heads_in, heads_held, entered_heads, entered_append, entered_missing, Missing, AllEntries, rest, rest_entered}
 use Rattle.src_meaning.specs.Scopes.{Entry, Scopes, with_scope, needing_drop, Exit, Value, Breaks, Continues, Returns, Panics, Run, At, Over, Does, on_value, ◌>>◌, in_scopes, doing, changing, chosen, choosing, back_in, entry_site, dropped_unwinding, drop_unwinding, dropped_normally, drop_normally, leave, leaving, in_scope, then_or_leave, in_scope_with}
 use Rattle.store_model.specs.Effects.{Normal, Unwinding, Out, Go, Unwind, Halts, Choice, Yes, No, Neither, Effects}
 
-pub same_heads : (heads : List ScopeHead) (A : List Row) (S after : Scopes) → map head_of S ≡ heads → held after ≡ entered A (held S) → map head_of after ≡ heads
+pub same_heads : (heads : List ScopeHead) (A : List ScopeRow) (S after : Scopes) → map head_of S ≡ heads → held after ≡ entered A (held S) → map head_of after ≡ heads
 same_heads heads A S after is made =
     sym (heads_held after) ∙ ap heads_in made ∙ entered_heads A (held S) ∙ heads_held S ∙ is
 
@@ -37,23 +37,23 @@ module _ {W : Type 0} where
   after_value P Q g (At Panics S x) h f = tt
   after_value P Q g (Over halt x) h f = tt
 
-  pub then_enters : (heads : List ScopeHead) (A B : List Row) (f g : Does W) → Enters heads A f → Enters heads B g → Enters heads (A ++ B) (f >> g)
+  pub then_enters : (heads : List ScopeHead) (A B : List ScopeRow) (f g : Does W) → Enters heads A f → Enters heads B g → Enters heads (A ++ B) (f >> g)
   then_enters heads A B f g one another S is x =
       after_value (λ after. held after ≡ entered A (held S)) (λ after. held after ≡ entered (A ++ B) (held S)) g (f S x) (one S is x)
       (λ S' x' made. more (λ after. held after ≡ entered B (held S')) (λ after. held after ≡ entered (A ++ B) (held S))
       (λ after then_made. then_made ∙ ap (entered B) made ∙ sym (entered_append A B (held S)))
       (g S' x') (another S' (same_heads heads A S S' is made) x'))
 
-  pub then_nothing : (heads : List ScopeHead) (A : List Row) (f g : Does W) → Enters heads A f → Enters heads [] g → Enters heads A (f >> g)
-  then_nothing heads A f g one another = subst (λ (rows : List Row). Enters heads rows (f >> g)) (append-nil A) (then_enters heads A [] f g one another)
+  pub then_nothing : (heads : List ScopeHead) (A : List ScopeRow) (f g : Does W) → Enters heads A f → Enters heads [] g → Enters heads A (f >> g)
+  then_nothing heads A f g one another = subst (λ (rows : List ScopeRow). Enters heads rows (f >> g)) (append-nil A) (then_enters heads A [] f g one another)
 
   -- rows that make the same entries
-  pub alike : (heads : List ScopeHead) (A B : List Row) (f : Does W) → ((H : Held) → heads_in H ≡ heads → entered A H ≡ entered B H) → Enters heads A f → Enters heads B f
+  pub alike : (heads : List ScopeHead) (A B : List ScopeRow) (f : Does W) → ((H : Held) → heads_in H ≡ heads → entered A H ≡ entered B H) → Enters heads A f → Enters heads B f
   alike heads A B f same made S is x =
       more (λ after. held after ≡ entered A (held S)) (λ after. held after ≡ entered B (held S))
       (λ after h. h ∙ same (held S) (heads_held S ∙ is)) (f S x) (made S is x)
 
-  pub of_missing : (heads : List ScopeHead) (A : List Row) (f : Does W) → AllEntries (Missing heads) A → Enters heads [] f → Enters heads A f
+  pub of_missing : (heads : List ScopeHead) (A : List ScopeRow) (f : Does W) → AllEntries (Missing heads) A → Enters heads [] f → Enters heads A f
   of_missing heads A f all = alike heads [] A f (λ H is. sym (entered_missing heads A H is all))
 
   pub at_value : (heads : List ScopeHead) → Enters {W = W} heads [] (At Value)
@@ -67,10 +67,10 @@ module _ {W : Type 0} where
       by (Unwind x) = tt
       by (Halts halt x) = tt
 
-  pub changing_enters : (heads : List ScopeHead) (A : List Row) (change : Scopes → Scopes) → ((S : Scopes) → map head_of S ≡ heads → held (change S) ≡ entered A (held S)) → Enters heads A (changing {W = W} change)
+  pub changing_enters : (heads : List ScopeHead) (A : List ScopeRow) (change : Scopes → Scopes) → ((S : Scopes) → map head_of S ≡ heads → held (change S) ≡ entered A (held S)) → Enters heads A (changing {W = W} change)
   changing_enters heads A change made S is x = made S is
 
-  pub choosing_enters : (heads : List ScopeHead) (A : List Row) (test : W → Choice W) (f g : Does W) → Enters heads A f → Enters heads A g → Enters heads A (choosing test f g)
+  pub choosing_enters : (heads : List ScopeHead) (A : List ScopeRow) (test : W → Choice W) (f g : Does W) → Enters heads A f → Enters heads A g → Enters heads A (choosing test f g)
   choosing_enters heads A test f g one another S is x = by (test x)
     where
       by : (o : Choice W) → WithValue (λ after. held after ≡ entered A (held S)) (chosen o (f S) (g S))
@@ -91,24 +91,24 @@ module _ {W : Type 0} where
 
   -- What is done in the innermost scope: what becomes of those around it.
 
-  abbrev pub EntersAround : List ScopeHead → List Row → Does W → Type 0
+  abbrev pub EntersAround : List ScopeHead → List ScopeRow → Does W → Type 0
   EntersAround heads A f = (S : Scopes) → map head_of S ≡ heads → (x : W) → WithValue (λ after. rest (held after) ≡ rest (entered A (held S))) (f S x)
 
   abbrev pub KeepsAround : Does W → Type 0
   KeepsAround f = (S : Scopes) (x : W) → WithValue (λ after. rest (held after) ≡ rest (held S)) (f S x)
 
-  pub around_of : (heads : List ScopeHead) (A : List Row) (f : Does W) → Enters heads A f → EntersAround heads A f
+  pub around_of : (heads : List ScopeHead) (A : List ScopeRow) (f : Does W) → Enters heads A f → EntersAround heads A f
   around_of heads A f made S is x =
       more (λ after. held after ≡ entered A (held S)) (λ after. rest (held after) ≡ rest (entered A (held S))) (λ after h. ap rest h) (f S x) (made S is x)
 
-  pub then_around : (heads : List ScopeHead) (A B : List Row) (f g : Does W) → Enters heads A f → EntersAround heads B g → EntersAround heads (A ++ B) (f >> g)
+  pub then_around : (heads : List ScopeHead) (A B : List ScopeRow) (f g : Does W) → Enters heads A f → EntersAround heads B g → EntersAround heads (A ++ B) (f >> g)
   then_around heads A B f g one another S is x =
       after_value (λ after. held after ≡ entered A (held S)) (λ after. rest (held after) ≡ rest (entered (A ++ B) (held S))) g (f S x) (one S is x)
       (λ S' x' made. more (λ after. rest (held after) ≡ rest (entered B (held S'))) (λ after. rest (held after) ≡ rest (entered (A ++ B) (held S)))
       (λ after then_made. then_made ∙ ap (λ (H : Held). rest (entered B H)) made ∙ ap rest (sym (entered_append A B (held S))))
       (g S' x') (another S' (same_heads heads A S S' is made) x'))
 
-  pub then_keeps : (heads : List ScopeHead) (A : List Row) (f g : Does W) → Enters heads A f → KeepsAround g → EntersAround heads A (f >> g)
+  pub then_keeps : (heads : List ScopeHead) (A : List ScopeRow) (f g : Does W) → Enters heads A f → KeepsAround g → EntersAround heads A (f >> g)
   then_keeps heads A f g one another S is x =
       after_value (λ after. held after ≡ entered A (held S)) (λ after. rest (held after) ≡ rest (entered A (held S))) g (f S x) (one S is x)
       (λ S' x' made. more (λ after. rest (held after) ≡ rest (held S')) (λ after. rest (held after) ≡ rest (entered A (held S)))
@@ -168,7 +168,7 @@ module _ {W : Type 0} where
     abbrev pub opened : ℕ → Bool → ScopeHead
     opened node for_temporaries = record { node = node; for_temporaries = for_temporaries }
 
-    pub scope_enters : (heads : List ScopeHead) (A : List Row) (node : ℕ) (own : Bool) (f : Does W) → Missing heads node → EntersAround (opened node own ∷ heads) A f → Enters heads A (in_scope items p node own f)
+    pub scope_enters : (heads : List ScopeHead) (A : List ScopeRow) (node : ℕ) (own : Bool) (f : Does W) → Missing heads node → EntersAround (opened node own ∷ heads) A f → Enters heads A (in_scope items p node own f)
     scope_enters heads A node own f missing made S is x =
         let inner = with_scope node own S in
         left (λ after. held after ≡ entered A (held S)) (f inner x)
@@ -192,7 +192,7 @@ module _ {W : Type 0} where
     value_or_leave P Q next (At Panics S x) h f = left Q (At Panics S x) tt
     value_or_leave P Q next (Over halt x) h f = tt
 
-    pub scope_with_enters : (heads : List ScopeHead) (A : List Row) (node : ℕ) (own : Bool) (f next : Does W) → Missing heads node → Enters (opened node own ∷ heads) A f → Pops next → Enters heads A (in_scope_with items p node own f next)
+    pub scope_with_enters : (heads : List ScopeHead) (A : List ScopeRow) (node : ℕ) (own : Bool) (f next : Does W) → Missing heads node → Enters (opened node own ∷ heads) A f → Pops next → Enters heads A (in_scope_with items p node own f next)
     scope_with_enters heads A node own f next missing made pops S is x =
         let inner = with_scope node own S in
         value_or_leave (λ after. held after ≡ entered A (held inner)) (λ after. held after ≡ entered A (held S)) next (f inner x)

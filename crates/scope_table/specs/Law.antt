@@ -3,7 +3,7 @@ use Rattle.std.specs.Prelude.{◌≡◌, ◌≢◌, ℕ, ◌==◌, Bool, true, f
 use Rattle.std.specs.List.{AllPairs, Contains}
 use Rattle.mir_base.specs.declared.place_in_text.NodeId.{NodeId}
 use Rattle.mir_ty.specs.ItemTable.{ItemTable}
-use Rattle.scope_table.specs.declared.row.Row.{Row}
+use Rattle.scope_table.specs.declared.row.ScopeRow.{ScopeRow}
 use Rattle.scope_table.specs.declared.row.Within.{Within}
 use Rattle.scope_table.specs.Table.{nothing, entry_in, form_of, reached_in, pending_in, name_in, rows, alone_rows, pattern_rows, rows_of_params}
 use Rattle.src_meaning.specs.Evaluation.{meaning}
@@ -45,7 +45,7 @@ enter_if_any None key H = H
 enter_if_any (Some scope) key H = enter scope.0 key.0 H
 
 -- the entries that rows of the table make, one after the other
-abbrev pub entered : List Row → Held → Held
+abbrev pub entered : List ScopeRow → Held → Held
 entered [] H = H
 entered (row ∷ rows) H = entered rows (enter_if_any row.entry row.node H)
 
@@ -97,7 +97,7 @@ WithValue P (At Panics S x) = Unit {0}
 WithValue P (Over halt x) = Unit {0}
 
 -- in these scopes, where there is a value, the entries of rows have been made, and nothing else has
-abbrev pub Enters : {W : Type 0} → List ScopeHead → List Row → Does W → Type 0
+abbrev pub Enters : {W : Type 0} → List ScopeHead → List ScopeRow → Does W → Type 0
 Enters heads rows does =
     (S : Scopes) → map head_of S ≡ heads → (x : _) → WithValue (λ after. held after ≡ entered rows (held S)) (does S x)
 

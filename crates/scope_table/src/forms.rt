@@ -4,15 +4,15 @@ ghost use Rattle.scope_table.specs.Table as table;
 ghost use Rattle.src_meaning.specs.Locals.OfBody.{is_place_form};
 ghost use Rattle.typed_tree.specs.View.{tree_of, form_of};
 
-use crate::row::{Made, Within};
+use crate::row::{MadeAround, Within};
 use mir_base::NodeId;
 use typed_tree::{Form, Node};
 
 /// A node that makes nothing.
-pub fn nothing() -> Made
+pub fn nothing() -> MadeAround
     ensures { result ≡ table.nothing }
 {
-    Made {
+    MadeAround {
         destination: None,
         entry: None,
     }
@@ -76,17 +76,17 @@ fn if_true(asked: bool, scope: NodeId) -> Option<NodeId>
 }
 
 /// A value that becomes an entry of a scope.
-pub fn entry_in(scope: NodeId, node: &Node) -> Made
+pub fn entry_in(scope: NodeId, node: &Node) -> MadeAround
     ensures { result ≡ table.entry_in scope (tree_of node.now) }
 {
-    Made {
+    MadeAround {
         destination: if_true(has_destination(&node.form), scope),
         entry: Some(scope),
     }
 }
 
 /// A place that is reached, or a temporary of a scope.
-pub fn reached_in(scope: NodeId, node: &Node) -> Made
+pub fn reached_in(scope: NodeId, node: &Node) -> MadeAround
     ensures { result ≡ table.reached_in scope (tree_of node.now) }
 {
     if is_place(&node.form) {
@@ -97,37 +97,37 @@ pub fn reached_in(scope: NodeId, node: &Node) -> Made
 }
 
 /// A value in a destination that is pending in any case.
-pub fn pending_in(scope: NodeId) -> Made
+pub fn pending_in(scope: NodeId) -> MadeAround
     ensures { result ≡ table.pending_in scope }
 {
-    Made {
+    MadeAround {
         destination: Some(scope),
         entry: Some(scope),
     }
 }
 
 /// A name of a pattern, which is an entry of a scope.
-pub fn name_in(scope: NodeId) -> Made
+pub fn name_in(scope: NodeId) -> MadeAround
     ensures { result ≡ table.name_in scope }
 {
-    Made {
+    MadeAround {
         destination: None,
         entry: Some(scope),
     }
 }
 
 /// A value that is pending in one scope and becomes an entry of another.
-fn pending_then(pending: NodeId, scope: NodeId) -> Made
+fn pending_then(pending: NodeId, scope: NodeId) -> MadeAround
     ensures { result ≡ record { destination = Some pending; entry = Some scope } }
 {
-    Made {
+    MadeAround {
         destination: Some(pending),
         entry: Some(scope),
     }
 }
 
 /// The name of a `let` with a value: that of one name is pending in the statement first.
-pub fn let_name(id: NodeId, scope: NodeId, pattern: &Form) -> Made
+pub fn let_name(id: NodeId, scope: NodeId, pattern: &Form) -> MadeAround
     ensures { result ≡ table.let_name id scope (form_of pattern.now) }
 {
     match pattern {
@@ -137,7 +137,7 @@ pub fn let_name(id: NodeId, scope: NodeId, pattern: &Form) -> Made
 }
 
 /// A place makes nothing, and a value is pending in a scope.
-fn place_or_pending(scope: NodeId, value: &Node) -> Made
+fn place_or_pending(scope: NodeId, value: &Node) -> MadeAround
     ensures { result ≡ table.pending_if_value scope (tree_of value.now) }
 {
     if is_place(&value.form) {
@@ -148,7 +148,7 @@ fn place_or_pending(scope: NodeId, value: &Node) -> Made
 }
 
 /// The value of a `let`: that of one name is made in the name; another is a place or a temporary of the statement.
-pub fn initial(id: NodeId, pattern: &Form, value: &Node) -> Made
+pub fn initial(id: NodeId, pattern: &Form, value: &Node) -> MadeAround
     ensures { result ≡ table.initial id (form_of pattern.now) (tree_of value.now) }
 {
     match pattern {

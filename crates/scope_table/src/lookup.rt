@@ -7,7 +7,7 @@ ghost use Rattle.scope_table.specs.Table.{scope_rows};
 ghost use Rattle.typed_tree.specs.View.{body_of};
 
 use crate::forms::both_in;
-use crate::row::{Made, Row};
+use crate::row::{MadeAround, ScopeRow};
 use crate::walking::{add_node, add_params};
 use mir_base::{List, NoMemory, NodeId};
 use std::alloc::Global;
@@ -19,7 +19,7 @@ use typed_tree::TBody;
 /// the block of its body. A look-up costs about the same for all nodes.
 #[derive(Drop)]
 pub struct ScopeTable {
-    rows: List<Row>,
+    rows: List<ScopeRow>,
     /// For the number of each node, the first row that has it.
     places: HashMap<u32, u32>,
 }
@@ -29,9 +29,9 @@ impl Model for ScopeTable {
     ghost use Rattle.std.specs.HashMap.{get};
     ghost use Rattle.std.specs.List.{position};
     ghost use Rattle.scope_table.specs.Lookup.{node_of};
-    ghost use Rattle.scope_table.specs.declared.row.Row.{Row};
+    ghost use Rattle.scope_table.specs.declared.row.ScopeRow.{ScopeRow};
 
-    ghost Value = { Listed Row };
+    ghost Value = { Listed ScopeRow };
 
     ghost view = { λ table. table.rows };
 
@@ -41,7 +41,7 @@ impl Model for ScopeTable {
 
 impl ScopeTable {
     /// The row of a node.
-    fn row(&self, id: NodeId) -> Option<&Row>
+    fn row(&self, id: NodeId) -> Option<&ScopeRow>
         ensures { option_copied result ≡ row_with id.0 self.now }
     {
         let place = self.places.get(&id.0).copied()?;
@@ -92,7 +92,7 @@ pub fn scopes(alloc: Global, body: &TBody) -> Result<ScopeTable, NoMemory>
     ensures { IfOk result (λ table. table ≡ scope_rows (body_of body.now)) }
 {
     let scope = body.block.id;
-    let answer = Made {
+    let answer = MadeAround {
         destination: Some(scope),
         entry: None,
     };
@@ -105,7 +105,7 @@ pub fn scopes(alloc: Global, body: &TBody) -> Result<ScopeTable, NoMemory>
 
 /// The first place of each node's number among rows. A place that is put in takes the place of the one before, so they
 /// are put in from the last to the first.
-fn first_places(alloc: Global, rows: &[Row]) -> Result<HashMap<u32, u32>, NoMemory>
+fn first_places(alloc: Global, rows: &[ScopeRow]) -> Result<HashMap<u32, u32>, NoMemory>
     ensures { IfOk result (λ places. (id : ℕ) →
         get nat_eq places id ≡ position (λ n. n == id) (map node_of rows.now)) }
 {

@@ -6,17 +6,17 @@ ghost use Rattle.typed_tree.specs.View.{tree_of, form_of, field_of, nodes_from, 
 ghost use Rattle.body_nodes.specs.Listed.{trees};
 
 use crate::forms::{has_parts, nothing};
-use crate::row::{Made, Row};
+use crate::row::{MadeAround, ScopeRow};
 use body_nodes::nodes_of;
 use mir_base::{List, NoMemory, NodeId};
 use std::alloc::Global;
 use typed_tree::{Form, Node, NumberedField};
 
 /// The row of a node.
-pub fn row_of(node: NodeId, temporary: NodeId, made: Made) -> Row
+pub fn row_of(node: NodeId, temporary: NodeId, made: MadeAround) -> ScopeRow
     ensures { result ≡ table.row node temporary made }
 {
-    Row {
+    ScopeRow {
         node,
         temporary,
         destination: made.destination,
@@ -25,7 +25,11 @@ pub fn row_of(node: NodeId, temporary: NodeId, made: Made) -> Row
 }
 
 /// The rows of nodes that make nothing.
-fn add_idle_nodes(temporary: NodeId, nodes: &[&Node], rows: &mut List<Row>) -> Result<(), NoMemory>
+fn add_idle_nodes(
+    temporary: NodeId,
+    nodes: &[&Node],
+    rows: &mut List<ScopeRow>,
+) -> Result<(), NoMemory>
     ensures { OnOk result (rows.new ≡ rows.old ++ table.idle temporary (trees nodes.now)) }
 {
     for node in nodes {
@@ -40,7 +44,7 @@ pub fn add_other(
     is_done: bool,
     temporary: NodeId,
     node: &Node,
-    rows: &mut List<Row>,
+    rows: &mut List<ScopeRow>,
 ) -> Result<(), NoMemory>
     ensures { OnOk result (rows.new ≡ rows.old
         ++ table.where_false is_done (table.idle temporary (below.nodes_of (tree_of node.now)))) }
@@ -57,7 +61,7 @@ fn add_idle_in(
     alloc: Global,
     temporary: NodeId,
     node: &Node,
-    rows: &mut List<Row>,
+    rows: &mut List<ScopeRow>,
 ) -> Result<(), NoMemory>
     ensures { OnOk result (rows.new ≡ rows.old ++ table.idle temporary (below.nodes_in (form_of node.now.form))) }
 {
@@ -74,7 +78,7 @@ fn add_unless(
     is_done: bool,
     temporary: NodeId,
     node: &Node,
-    rows: &mut List<Row>,
+    rows: &mut List<ScopeRow>,
 ) -> Result<(), NoMemory>
     ensures { OnOk result (rows.new ≡ rows.old
         ++ table.where_false is_done (table.idle temporary (below.nodes_in (form_of node.now.form)))) }
@@ -91,7 +95,7 @@ pub fn add_where(
     is_asked: bool,
     temporary: NodeId,
     node: &Node,
-    rows: &mut List<Row>,
+    rows: &mut List<ScopeRow>,
 ) -> Result<(), NoMemory>
     ensures { OnOk result (rows.new ≡ rows.old
         ++ table.where_true is_asked (table.idle temporary (below.nodes_in (form_of node.now.form)))) }
@@ -103,7 +107,7 @@ pub fn add_where(
 }
 
 /// What a pattern itself makes, where a name makes `name`.
-fn by_name(name: Made, pattern: &Form) -> Made
+fn by_name(name: MadeAround, pattern: &Form) -> MadeAround
     ensures { result ≡ table.by_name name (form_of pattern.now) }
 {
     match pattern {
@@ -117,9 +121,9 @@ fn by_name(name: Made, pattern: &Form) -> Made
 pub fn add_pattern(
     alloc: Global,
     temporary: NodeId,
-    name: Made,
+    name: MadeAround,
     pattern: &Node,
-    rows: &mut List<Row>,
+    rows: &mut List<ScopeRow>,
 ) -> Result<(), NoMemory>
     ensures { OnOk result (rows.new ≡ rows.old ++ table.pattern_rows temporary name (tree_of pattern.now)) }
 {
@@ -132,9 +136,9 @@ pub fn add_pattern(
 pub fn add_in_pattern(
     alloc: Global,
     temporary: NodeId,
-    name: Made,
+    name: MadeAround,
     pattern: &Node,
-    rows: &mut List<Row>,
+    rows: &mut List<ScopeRow>,
 ) -> Result<(), NoMemory>
     ensures { OnOk result (rows.new ≡ rows.old ++ table.pattern_rows_in temporary name (form_of pattern.now.form)) }
 {
@@ -147,9 +151,9 @@ pub fn add_in_pattern(
 fn add_of_form(
     alloc: Global,
     temporary: NodeId,
-    name: Made,
+    name: MadeAround,
     form: &Form,
-    rows: &mut List<Row>,
+    rows: &mut List<ScopeRow>,
 ) -> Result<(), NoMemory>
     ensures { OnOk result (rows.new ≡ rows.old ++ table.part_rows temporary name (form_of form.now)) }
 {
@@ -168,9 +172,9 @@ fn add_of_form(
 fn add_fields(
     alloc: Global,
     temporary: NodeId,
-    name: Made,
+    name: MadeAround,
     fields: &[NumberedField],
-    rows: &mut List<Row>,
+    rows: &mut List<ScopeRow>,
 ) -> Result<(), NoMemory>
     ensures { OnOk result (rows.new ≡ rows.old
         ++ table.pattern_rows_of_fields temporary name (fields_from (map field_of fields.now))) }
@@ -185,9 +189,9 @@ fn add_fields(
 fn add_parts(
     alloc: Global,
     temporary: NodeId,
-    name: Made,
+    name: MadeAround,
     parts: &[Node],
-    rows: &mut List<Row>,
+    rows: &mut List<ScopeRow>,
 ) -> Result<(), NoMemory>
     ensures { OnOk result (rows.new ≡ rows.old
         ++ table.pattern_rows_among temporary name (nodes_from (map tree_of parts.now))) }

@@ -2,7 +2,7 @@ use mir_base::NodeId;
 
 /// A node and its scopes, each named by the node whose scope it is.
 #[derive(Clone, Copy)]
-pub struct Row {
+pub struct ScopeRow {
     pub node: NodeId,
     /// Its temporary scope.
     pub temporary: NodeId,
@@ -14,7 +14,7 @@ pub struct Row {
 
 /// What a node makes for what is around it.
 #[derive(Clone, Copy)]
-pub struct Made {
+pub struct MadeAround {
     pub destination: Option<NodeId>,
     pub entry: Option<NodeId>,
 }

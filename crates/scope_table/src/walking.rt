@@ -9,7 +9,7 @@ use crate::forms::{
     pending_in, reached_in, temporary_of,
 };
 use crate::patterns::{add_in_pattern, add_other, add_pattern, add_where, row_of};
-use crate::row::{Made, Row, Within};
+use crate::row::{MadeAround, ScopeRow, Within};
 use mir_base::{List, NoMemory, NodeId};
 use std::alloc::Global;
 use typed_tree::{Form, Node, NumberedField, Param};
@@ -19,9 +19,9 @@ use typed_tree::{Form, Node, NumberedField, Param};
 pub fn add_node(
     alloc: Global,
     within: Within,
-    made: Made,
+    made: MadeAround,
     node: &Node,
-    rows: &mut List<Row>,
+    rows: &mut List<ScopeRow>,
 ) -> Result<(), NoMemory>
     ensures { OnOk result (rows.new ≡ rows.old ++ table.rows within made (tree_of node.now)) }
 {
@@ -38,7 +38,7 @@ fn add_operand(
     within: Within,
     id: NodeId,
     node: &Node,
-    rows: &mut List<Row>,
+    rows: &mut List<ScopeRow>,
 ) -> Result<(), NoMemory>
     ensures { OnOk result (rows.new ≡ rows.old
         ++ table.rows (table.inner id within) (table.entry_in id (tree_of node.now)) (tree_of node.now)) }
@@ -52,7 +52,7 @@ fn add_reached(
     alloc: Global,
     within: Within,
     node: &Node,
-    rows: &mut List<Row>,
+    rows: &mut List<ScopeRow>,
 ) -> Result<(), NoMemory>
     ensures { OnOk result (rows.new ≡ rows.old
         ++ table.rows within (table.reached_in within.temporary (tree_of node.now)) (tree_of node.now)) }
@@ -68,7 +68,7 @@ fn add_reached(
 
 /// Of a node that is a temporary scope of its own.
 #[cycle(rows)]
-fn add_alone(alloc: Global, node: &Node, rows: &mut List<Row>) -> Result<(), NoMemory>
+fn add_alone(alloc: Global, node: &Node, rows: &mut List<ScopeRow>) -> Result<(), NoMemory>
     ensures { OnOk result (rows.new ≡ rows.old ++ table.alone_rows (tree_of node.now)) }
 {
     add_node(alloc, both_in(own_scope(node)), nothing(), node, rows)
@@ -78,7 +78,7 @@ fn add_alone(alloc: Global, node: &Node, rows: &mut List<Row>) -> Result<(), NoM
 fn add_alone_if_any(
     alloc: Global,
     node: &Option<Box<Node, Global>>,
-    rows: &mut List<Row>,
+    rows: &mut List<ScopeRow>,
 ) -> Result<(), NoMemory>
     ensures { OnOk result (rows.new ≡ rows.old ++ table.alone_if_any (maybe_of node.now)) }
 {
@@ -93,7 +93,7 @@ fn add_if_any(
     alloc: Global,
     within: Within,
     node: &Option<Box<Node, Global>>,
-    rows: &mut List<Row>,
+    rows: &mut List<ScopeRow>,
 ) -> Result<(), NoMemory>
     ensures { OnOk result (rows.new ≡ rows.old ++ table.rows_if_any within (maybe_of node.now)) }
 {
@@ -110,7 +110,7 @@ fn add_in_form(
     within: Within,
     id: NodeId,
     form: &Form,
-    rows: &mut List<Row>,
+    rows: &mut List<ScopeRow>,
 ) -> Result<(), NoMemory>
     ensures { OnOk result (rows.new ≡ rows.old ++ table.rows_in within id (form_of form.now)) }
 {
@@ -250,7 +250,7 @@ fn add_let(
     id: NodeId,
     value: &Option<Box<Node, Global>>,
     pattern: &Node,
-    rows: &mut List<Row>,
+    rows: &mut List<ScopeRow>,
 ) -> Result<(), NoMemory>
     ensures { OnOk result (rows.new ≡ rows.old
         ++ table.let_rows id scope (tree_of pattern.now) (maybe_of value.now)) }
@@ -268,7 +268,7 @@ fn add_valued(
     id: NodeId,
     value: &Node,
     pattern: &Node,
-    rows: &mut List<Row>,
+    rows: &mut List<ScopeRow>,
 ) -> Result<(), NoMemory>
     ensures { OnOk result (rows.new ≡ rows.old
         ++ table.let_rows id scope (tree_of pattern.now) (present (tree_of value.now))) }
@@ -283,7 +283,7 @@ fn add_initial(
     id: NodeId,
     value: &Node,
     pattern: &Form,
-    rows: &mut List<Row>,
+    rows: &mut List<ScopeRow>,
 ) -> Result<(), NoMemory>
     ensures { OnOk result (rows.new ≡ rows.old
         ++ table.rows (table.both_in id) (table.initial id (form_of pattern.now) (tree_of value.now)) (tree_of value.now)) }
@@ -298,7 +298,7 @@ fn add_matched(
     id: NodeId,
     scrutinee: &Node,
     pattern: &Node,
-    rows: &mut List<Row>,
+    rows: &mut List<ScopeRow>,
 ) -> Result<(), NoMemory>
     ensures { OnOk result (rows.new ≡ rows.old
         ++ table.matched_rows id (tree_of scrutinee.now) (tree_of pattern.now)) }
@@ -312,7 +312,7 @@ fn add_arm(
     alloc: Global,
     temporary: NodeId,
     arm: &Node,
-    rows: &mut List<Row>,
+    rows: &mut List<ScopeRow>,
 ) -> Result<(), NoMemory>
     ensures { OnOk result (rows.new ≡ rows.old ++ table.arm_rows temporary (tree_of arm.now)) }
 {
@@ -326,7 +326,7 @@ fn add_arm_of(
     temporary: NodeId,
     id: NodeId,
     form: &Form,
-    rows: &mut List<Row>,
+    rows: &mut List<ScopeRow>,
 ) -> Result<(), NoMemory>
     ensures { OnOk result (rows.new ≡ rows.old ++ table.arm_rows_of temporary id (form_of form.now)) }
 {
@@ -350,7 +350,7 @@ fn add_arms(
     alloc: Global,
     temporary: NodeId,
     arms: &[Node],
-    rows: &mut List<Row>,
+    rows: &mut List<ScopeRow>,
 ) -> Result<(), NoMemory>
     ensures { OnOk result (rows.new ≡ rows.old
         ++ table.rows_of_arms temporary (nodes_from (map tree_of arms.now))) }
@@ -367,7 +367,7 @@ fn add_operands(
     within: Within,
     id: NodeId,
     nodes: &[Node],
-    rows: &mut List<Row>,
+    rows: &mut List<ScopeRow>,
 ) -> Result<(), NoMemory>
     ensures { OnOk result (rows.new ≡ rows.old
         ++ table.operand_rows within id (nodes_from (map tree_of nodes.now))) }
@@ -384,7 +384,7 @@ fn add_fields(
     within: Within,
     id: NodeId,
     fields: &[NumberedField],
-    rows: &mut List<Row>,
+    rows: &mut List<ScopeRow>,
 ) -> Result<(), NoMemory>
     ensures { OnOk result (rows.new ≡ rows.old
         ++ table.field_rows within id (fields_from (map field_of fields.now))) }
@@ -406,7 +406,7 @@ fn add_statements(
     alloc: Global,
     within: Within,
     nodes: &[Node],
-    rows: &mut List<Row>,
+    rows: &mut List<ScopeRow>,
 ) -> Result<(), NoMemory>
     ensures { OnOk result (rows.new ≡ rows.old
         ++ table.statement_rows within (nodes_from (map tree_of nodes.now))) }
@@ -422,7 +422,7 @@ pub fn add_params(
     alloc: Global,
     scope: NodeId,
     params: &[Param],
-    rows: &mut List<Row>,
+    rows: &mut List<ScopeRow>,
 ) -> Result<(), NoMemory>
     ensures { OnOk result (rows.new ≡ rows.old ++ table.rows_of_params scope (map param_tree params.now)) }
 {

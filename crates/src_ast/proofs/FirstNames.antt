@@ -4,9 +4,9 @@ use Rattle.std.proofs.Math.Seq.{take-suc}
 use Rattle.std.proofs.lemmas.List.{take-append-drop, drop_more, take_all}
 use Rattle.std.proofs.lemmas.Bool.{and_parts}
 use Rattle.src_token.specs.declared.token.Token.{Token}
-use Rattle.src_tree.specs.declared.node.Node.{Node}
-use Rattle.src_tree.specs.declared.node.Piece.{Piece}
-use Rattle.src_tree.specs.declared.node.Piece as piece
+use Rattle.src_tree.specs.declared.node.SyntaxNode.{SyntaxNode}
+use Rattle.src_tree.specs.declared.node.NodePiece.{NodePiece}
+use Rattle.src_tree.specs.declared.node.NodePiece as piece
 use Rattle.src_tree.specs.View.{Single, a_token, a_node, layout_of, piece_of, parts_from, parts_in}
 use Rattle.src_tree.proofs.Pieces.{token_seen, node_seen}
 use Rattle.src_ast.specs.Seen.{are_idents}
@@ -22,11 +22,11 @@ views_joined [] ys = refl
 views_joined (a_token t ∷ xs) ys = views_joined xs ys
 views_joined (a_node g ∷ xs) ys = ap (λ z. a_syn (view g) z) (views_joined xs ys)
 
-singles_joined : (ps qs : List Piece) → map piece_of (ps ++ qs) ≡ map piece_of ps ++ map piece_of qs
+singles_joined : (ps qs : List NodePiece) → map piece_of (ps ++ qs) ≡ map piece_of ps ++ map piece_of qs
 singles_joined [] qs = refl
 singles_joined (p ∷ ps) qs = ap (λ z. piece_of p ∷ z) (singles_joined ps qs)
 
-parts_joined : (ps qs : List Piece) → views (parts_in (ps ++ qs)) ≡ joined (views (parts_in ps)) (views (parts_in qs))
+parts_joined : (ps qs : List NodePiece) → views (parts_in (ps ++ qs)) ≡ joined (views (parts_in ps)) (views (parts_in qs))
 parts_joined ps qs = ap (λ z. views (parts_from z)) (singles_joined ps qs) ∙ views_joined (map piece_of ps) (map piece_of qs)
 
 behind_joined : (as_ bs : Syns) → are_idents as_ ≡ true → behind_idents (joined as_ bs) ≡ behind_idents bs
@@ -41,7 +41,7 @@ are_joined : (as_ bs : Syns) → are_idents as_ ≡ true → are_idents bs ≡ t
 are_joined no_syn bs h k = k
 are_joined (a_syn a as_) bs h k = let both = and_parts (is_ident a) _ h in rw (both.0) (are_joined as_ bs both.1 k)
 
-module _ (xs : List Piece) (i : ℕ) (p : Piece) (within : i < length xs) (is : p ≡ get_or xs i p) (names : are_idents (views (parts_in (take i xs))) ≡ true) where
+module _ (xs : List NodePiece) (i : ℕ) (p : NodePiece) (within : i < length xs) (is : p ≡ get_or xs i p) (names : are_idents (views (parts_in (take i xs))) ≡ true) where
   apart : views (parts_in xs) ≡ joined (views (parts_in (take i xs))) (views (parts_in (drop i xs)))
   apart = ap (λ z. views (parts_in z)) (sym (take-append-drop i xs)) ∙ parts_joined (take i xs) (drop i xs)
 
@@ -55,7 +55,7 @@ module _ (xs : List Piece) (i : ℕ) (p : Piece) (within : i < length xs) (is : 
       ∙ ap (λ z. views (parts_in z)) (take-suc xs i p within ∙ ap (λ z. take i xs ++ z ∷ []) (sym is))
       ∙ parts_joined (take i xs) (p ∷ [])
 
-  node_first : (g : Node) → p ≡ piece.Node g → (rest : List Piece) → views (parts_in (p ∷ rest)) ≡ a_syn (view (layout_of g)) (views (parts_in rest))
+  node_first : (g : SyntaxNode) → p ≡ piece.Node g → (rest : List NodePiece) → views (parts_in (p ∷ rest)) ≡ a_syn (view (layout_of g)) (views (parts_in rest))
   node_first g e rest =
       ap (λ z. views (parts_from (piece_of z ∷ map piece_of rest))) e ∙ ap (λ z. views (parts_from (z ∷ map piece_of rest))) (node_seen g)
 
@@ -65,12 +65,12 @@ module _ (xs : List Piece) (i : ℕ) (p : Piece) (within : i < length xs) (is : 
   pub past_token : (t : Token) → p ≡ piece.Token t → are_idents (views (parts_in (take (i + 1) xs))) ≡ true
   past_token t e = ap are_idents with_it ∙ are_joined (views (parts_in (take i xs))) _ names (ap are_idents (token_first t e))
 
-  pub past_name : (g : Node) → p ≡ piece.Node g → is_ident (view (layout_of g)) ≡ true → are_idents (views (parts_in (take (i + 1) xs))) ≡ true
+  pub past_name : (g : SyntaxNode) → p ≡ piece.Node g → is_ident (view (layout_of g)) ≡ true → are_idents (views (parts_in (take (i + 1) xs))) ≡ true
   past_name g e h =
       ap are_idents with_it
       ∙ are_joined (views (parts_in (take i xs))) _ names (ap are_idents (node_first g e []) ∙ ap (λ z. z && true) h)
 
-  module _ (g : Node) (e : p ≡ piece.Node g) (other : is_ident (view (layout_of g)) ≡ false) where
+  module _ (g : SyntaxNode) (e : p ≡ piece.Node g) (other : is_ident (view (layout_of g)) ≡ false) where
     from_here : views (parts_in (drop i xs)) ≡ a_syn (view (layout_of g)) (views (parts_in (drop (i + 1) xs)))
     from_here = ap (λ z. views (parts_in z)) ahead ∙ node_first g e (drop (i + 1) xs)
 
@@ -92,8 +92,8 @@ nothing_after : (as_ : Syns) → are_idents as_ ≡ true → behind_idents as_ �
 nothing_after no_syn h = refl
 nothing_after (a_syn a as_) h = let both = and_parts (is_ident a) _ h in rw (both.0) (nothing_after as_ both.1)
 
-pub nothing_behind : (xs : List Piece) (i : ℕ) → length xs ≤ i → are_idents (views (parts_in (take i xs))) ≡ true → behind_idents (views (parts_in xs)) ≡ no_syn
+pub nothing_behind : (xs : List NodePiece) (i : ℕ) → length xs ≤ i → are_idents (views (parts_in (take i xs))) ≡ true → behind_idents (views (parts_in xs)) ≡ no_syn
 nothing_behind xs i past h = nothing_after (views (parts_in xs)) (ap (λ z. are_idents (views (parts_in z))) (sym (take_all i xs past)) ∙ h)
 
-pub whole_drop : (xs : List Piece) (i : ℕ) → drop i xs ≡ take (length xs - i) (drop i xs)
+pub whole_drop : (xs : List NodePiece) (i : ℕ) → drop i xs ≡ take (length xs - i) (drop i xs)
 whole_drop xs i = let e = length-drop i xs in sym (take_all (length xs - i) (drop i xs) (omega arith))

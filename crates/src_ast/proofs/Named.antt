@@ -2,7 +2,7 @@
 use Rattle.std.proofs.Common.{◌≡◌, Bool, true, false, [], None, eqb, refl, ap, sym, ◌∙◌}
 use Rattle.std.specs.Option.{is_some}
 use Rattle.std.specs.Prelude.{◌==◌}
-use Rattle.src_tree.specs.declared.node.Node.{Node}
+use Rattle.src_tree.specs.declared.node.SyntaxNode.{SyntaxNode}
 use Rattle.src_tree.specs.View.{parts_in}
 use Rattle.src_tree.proofs.Pieces.{node_laid}
 use Rattle.src_ast.specs.Seen.{syn_of}
@@ -158,88 +158,88 @@ unlabelled (SelfParam a) h = refl
 unlabelled Odd h = refl
 
 -- a node by its row
-pub seen_as : (n : Node) → syn_of n ≡ syn n.at (made n.row (tokens_in (parts_in n.parts)) (views (parts_in n.parts)))
+pub seen_as : (n : SyntaxNode) → syn_of n ≡ syn n.at (made n.row (tokens_in (parts_in n.parts)) (views (parts_in n.parts)))
 seen_as n = ap view (node_laid n)
 
-pub no_type_seen : (n : Node) → eqb (sort_of_row n.row) 4 ≡ false → type_part (shape_of (syn_of n)) ≡ None
+pub no_type_seen : (n : SyntaxNode) → eqb (sort_of_row n.row) 4 ≡ false → type_part (shape_of (syn_of n)) ≡ None
 no_type_seen n h =
     let ts = tokens_in (parts_in n.parts) in
     let ss = views (parts_in n.parts) in
     ap (λ z. type_part (shape_of z)) (seen_as n) ∙ ap (λ z. some_if z (made n.row ts ss)) (other_sort 4 n.row ts ss refl h)
 
-pub no_item_seen : (n : Node) → eqb (sort_of_row n.row) 5 ≡ false → item_part (shape_of (syn_of n)) ≡ None
+pub no_item_seen : (n : SyntaxNode) → eqb (sort_of_row n.row) 5 ≡ false → item_part (shape_of (syn_of n)) ≡ None
 no_item_seen n h =
     let ts = tokens_in (parts_in n.parts) in
     let ss = views (parts_in n.parts) in
     ap (λ z. item_part (shape_of z)) (seen_as n) ∙ ap (λ z. some_if z (made n.row ts ss)) (other_sort 5 n.row ts ss refl h)
 
-pub no_param_seen : (n : Node) → eqb (sort_of_row n.row) 6 ≡ false → param_part (shape_of (syn_of n)) ≡ None
+pub no_param_seen : (n : SyntaxNode) → eqb (sort_of_row n.row) 6 ≡ false → param_part (shape_of (syn_of n)) ≡ None
 no_param_seen n h =
     let ts = tokens_in (parts_in n.parts) in
     let ss = views (parts_in n.parts) in
     ap (λ z. param_part (shape_of z)) (seen_as n) ∙ ap (λ z. some_if z (made n.row ts ss)) (other_sort 6 n.row ts ss refl h)
 
-pub no_field_seen : (n : Node) → eqb (sort_of_row n.row) 7 ≡ false → field_part (shape_of (syn_of n)) ≡ None
+pub no_field_seen : (n : SyntaxNode) → eqb (sort_of_row n.row) 7 ≡ false → field_part (shape_of (syn_of n)) ≡ None
 no_field_seen n h =
     let ts = tokens_in (parts_in n.parts) in
     let ss = views (parts_in n.parts) in
     ap (λ z. field_part (shape_of z)) (seen_as n) ∙ ap (λ z. some_if z (made n.row ts ss)) (other_sort 7 n.row ts ss refl h)
 
-pub no_variant_seen : (n : Node) → eqb (sort_of_row n.row) 8 ≡ false → variant_part (shape_of (syn_of n)) ≡ None
+pub no_variant_seen : (n : SyntaxNode) → eqb (sort_of_row n.row) 8 ≡ false → variant_part (shape_of (syn_of n)) ≡ None
 no_variant_seen n h =
     let ts = tokens_in (parts_in n.parts) in
     let ss = views (parts_in n.parts) in
     ap (λ z. variant_part (shape_of z)) (seen_as n) ∙ ap (λ z. some_if z (made n.row ts ss)) (other_sort 8 n.row ts ss refl h)
 
-pub no_pattern_seen : (n : Node) → eqb (sort_of_row n.row) 12 ≡ false → pattern_part (shape_of (syn_of n)) ≡ None
+pub no_pattern_seen : (n : SyntaxNode) → eqb (sort_of_row n.row) 12 ≡ false → pattern_part (shape_of (syn_of n)) ≡ None
 no_pattern_seen n h =
     let ts = tokens_in (parts_in n.parts) in
     let ss = views (parts_in n.parts) in
     ap (λ z. pattern_part (shape_of z)) (seen_as n) ∙ ap (λ z. some_if z (made n.row ts ss)) (other_sort 12 n.row ts ss refl h)
 
-pub no_field_pattern_seen : (n : Node) → eqb (sort_of_row n.row) 10 ≡ false → field_pattern_part (shape_of (syn_of n)) ≡ None
+pub no_field_pattern_seen : (n : SyntaxNode) → eqb (sort_of_row n.row) 10 ≡ false → field_pattern_part (shape_of (syn_of n)) ≡ None
 no_field_pattern_seen n h =
     let ts = tokens_in (parts_in n.parts) in
     let ss = views (parts_in n.parts) in
     ap (λ z. field_pattern_part (shape_of z)) (seen_as n) ∙ ap (λ z. some_if z (made n.row ts ss)) (other_sort 10 n.row ts ss refl h)
 
-pub no_statement_seen : (n : Node) → eqb (sort_of_row n.row) 2 ≡ false → statement_part (shape_of (syn_of n)) ≡ None
+pub no_statement_seen : (n : SyntaxNode) → eqb (sort_of_row n.row) 2 ≡ false → statement_part (shape_of (syn_of n)) ≡ None
 no_statement_seen n h =
     let ts = tokens_in (parts_in n.parts) in
     let ss = views (parts_in n.parts) in
     ap (λ z. statement_part (shape_of z)) (seen_as n) ∙ ap (λ z. some_if z (made n.row ts ss)) (other_sort 2 n.row ts ss refl h)
 
-pub no_expression_seen : (n : Node) → eqb (sort_of_row n.row) 13 ≡ false → expression_part (shape_of (syn_of n)) ≡ None
+pub no_expression_seen : (n : SyntaxNode) → eqb (sort_of_row n.row) 13 ≡ false → expression_part (shape_of (syn_of n)) ≡ None
 no_expression_seen n h =
     let ts = tokens_in (parts_in n.parts) in
     let ss = views (parts_in n.parts) in
     ap (λ z. expression_part (shape_of z)) (seen_as n) ∙ ap (λ z. some_if z (made n.row ts ss)) (other_sort 13 n.row ts ss refl h)
 
-pub no_init_seen : (n : Node) → eqb (sort_of_row n.row) 9 ≡ false → init_part (shape_of (syn_of n)) ≡ None
+pub no_init_seen : (n : SyntaxNode) → eqb (sort_of_row n.row) 9 ≡ false → init_part (shape_of (syn_of n)) ≡ None
 no_init_seen n h =
     let ts = tokens_in (parts_in n.parts) in
     let ss = views (parts_in n.parts) in
     ap (λ z. init_part (shape_of z)) (seen_as n) ∙ ap (λ z. some_if z (made n.row ts ss)) (other_sort 9 n.row ts ss refl h)
 
-pub no_arm_seen : (n : Node) → eqb (sort_of_row n.row) 11 ≡ false → arm_part (shape_of (syn_of n)) ≡ None
+pub no_arm_seen : (n : SyntaxNode) → eqb (sort_of_row n.row) 11 ≡ false → arm_part (shape_of (syn_of n)) ≡ None
 no_arm_seen n h =
     let ts = tokens_in (parts_in n.parts) in
     let ss = views (parts_in n.parts) in
     ap (λ z. arm_part (shape_of z)) (seen_as n) ∙ ap (λ z. some_if z (made n.row ts ss)) (other_sort 11 n.row ts ss refl h)
 
-pub no_word_seen : (n : Node) → eqb (sort_of_row n.row) 1 ≡ false → None ≡ ident_in (shape_of (syn_of n))
+pub no_word_seen : (n : SyntaxNode) → eqb (sort_of_row n.row) 1 ≡ false → None ≡ ident_in (shape_of (syn_of n))
 no_word_seen n h =
     let ts = tokens_in (parts_in n.parts) in
     let ss = views (parts_in n.parts) in
     sym (ap (λ z. ident_in (shape_of z)) (seen_as n) ∙ no_word (made n.row ts ss) (other_sort 1 n.row ts ss refl h))
 
-pub no_label_seen : (n : Node) → eqb (sort_of_row n.row) 3 ≡ false → None ≡ label_name (shape_of (syn_of n))
+pub no_label_seen : (n : SyntaxNode) → eqb (sort_of_row n.row) 3 ≡ false → None ≡ label_name (shape_of (syn_of n))
 no_label_seen n h =
     let ts = tokens_in (parts_in n.parts) in
     let ss = views (parts_in n.parts) in
     sym (ap (λ z. label_name (shape_of z)) (seen_as n) ∙ unlabelled (made n.row ts ss) (other_sort 3 n.row ts ss refl h))
 
-pub unnamed_seen : (n : Node) → eqb (sort_of_row n.row) 1 ≡ false → (n.at, []) ≡ named (syn_of n)
+pub unnamed_seen : (n : SyntaxNode) → eqb (sort_of_row n.row) 1 ≡ false → (n.at, []) ≡ named (syn_of n)
 unnamed_seen n h =
     let ts = tokens_in (parts_in n.parts) in
     let ss = views (parts_in n.parts) in
@@ -248,13 +248,13 @@ unnamed_seen n h =
 shaped : (s : Syn) → s ≡ syn (at_of s) (shape_of s)
 shaped (syn at s) = refl
 
-pub no_ident_seen : (n : Node) → eqb (sort_of_row n.row) 1 ≡ false → false ≡ is_ident (syn_of n)
+pub no_ident_seen : (n : SyntaxNode) → eqb (sort_of_row n.row) 1 ≡ false → false ≡ is_ident (syn_of n)
 no_ident_seen n h = sym (ap is_ident (shaped (syn_of n)) ∙ ap is_some (sym (no_word_seen n h)))
 
-pub label_seen : (n : Node) → is_label (syn_of n) ≡ is_some (label_name (shape_of (syn_of n)))
+pub label_seen : (n : SyntaxNode) → is_label (syn_of n) ≡ is_some (label_name (shape_of (syn_of n)))
 label_seen n = ap is_label (shaped (syn_of n))
 
-pub statement_seen : (n : Node) → is_statement (syn_of n) ≡ is_some (statement_part (shape_of (syn_of n)))
+pub statement_seen : (n : SyntaxNode) → is_statement (syn_of n) ≡ is_some (statement_part (shape_of (syn_of n)))
 statement_seen n = ap is_statement (shaped (syn_of n)) ∙ some_is (sort_of (shape_of (syn_of n)) == 2) (shape_of (syn_of n))
   where
     some_is : (b : Bool) (s : Shape) → b ≡ is_some (some_if b s)

@@ -4,8 +4,8 @@ use Rattle.src_token.specs.declared.mark.Mark.{Mark}
 use Rattle.src_token.specs.declared.token.Token.{Token}
 use Rattle.src_token.specs.declared.word.Word.{Word as Keyword}
 use Rattle.src_tree.specs.Grammar.{is}
-use Rattle.src_tree.specs.declared.kind.Kind.{Kind as TokenKind}
-use Rattle.src_tree.specs.declared.row.Row.{Row}
+use Rattle.src_tree.specs.declared.kind.TokenKind.{TokenKind}
+use Rattle.src_tree.specs.declared.row.GrammarRow.{GrammarRow}
 use Rattle.src_ast.specs.Sorts.{sort_of, sort_of_row}
 use Rattle.src_ast.specs.Syntax.{Word, Named, Syn, Shape, Odd, Minus, Bang, Star, Ampersand, Braces, ImplItem, FnItem, MoveOf, ParensType, TupleType, ParensPattern, TuplePattern, Parens, TupleOf, Syns, no_syn, a_syn, MaybeSyn, nothing, just}
 use Rattle.src_ast.specs.View.{has_mark, has_word, first_that, cmp_in, math_in, a_label, with_first, with_two, with_three, made_by, from_just, idents, behind_idents, with_last_name, last_of, but_last, named, syns_of, is_statement, block_by, round, prefix, if_row, while_row, arm_row, behind_params, fn_row, impl_row, let_row, made}
@@ -91,78 +91,78 @@ arm_part : (b : Bool) (ss : Syns) → Sorted 11 (arm_row b ss)
 arm_part true ss = three_parts (Sorted 11) (inl refl) _ (λ a b c rest. inr refl) ss
 arm_part false ss = two_parts (Sorted 11) (inl refl) _ (λ a b rest. inr refl) ss
 
-pub sorted : (r : Row) (ts : List Token) (ss : Syns) → Sorted (sort_of_row r) (made r ts ss)
-sorted Row.File ts ss = inr refl
-sorted Row.Struct ts ss = last_name (Sorted 5) (inl refl) _ (λ ds n. inr refl) (idents ss)
-sorted Row.Enum ts ss = last_name (Sorted 5) (inl refl) _ (λ ds n. inr refl) (idents ss)
-sorted Row.Trait ts ss = one_part (Sorted 5) (inl refl) _ (λ a rest. inr refl) ss
-sorted Row.Impl ts ss = impl_part (Sorted 5) (inl refl) (λ t n ms. inr refl) (has_word Keyword.For ts) (idents ss) (behind_idents ss)
-sorted Row.Fn ts ss = fn_part (has_mark Mark.RArrow ts) true ss
-sorted Row.Method ts ss = fn_part (has_mark Mark.RArrow ts) true ss
-sorted Row.Head ts ss = fn_part (has_mark Mark.RArrow ts) false ss
-sorted Row.Field ts ss = one_part (Sorted 7) (inl refl) _ (λ a rest. inr refl) ss
-sorted Row.Variant ts ss = inr refl
-sorted Row.Ident ts ss = inr refl
-sorted Row.NamedType ts ss = inr refl
-sorted Row.GenericType ts ss = one_part (Sorted 4) (inl refl) _ (λ a rest. inr refl) ss
-sorted Row.DynType ts ss = one_part (Sorted 4) (inl refl) _ (λ a rest. inr refl) ss
-sorted Row.SelfType ts ss = inr refl
-sorted Row.TupleType ts ss = round_part (Sorted 4) (inl refl) ParensType TupleType (λ a. inr refl) (λ as_. inr refl) ts ss
-sorted Row.ArrayType ts ss = one_part (Sorted 4) (inl refl) _ (λ a rest. inr refl) ss
-sorted Row.NeverType ts ss = inr refl
-sorted Row.RefType ts ss = one_part (Sorted 4) (inl refl) _ (λ a rest. inr refl) ss
-sorted Row.WildPattern ts ss = inr refl
-sorted Row.BindPattern ts ss = inr refl
-sorted Row.NumberPattern ts ss = inr refl
-sorted Row.BoolPattern ts ss = inr refl
-sorted Row.PathPattern ts ss = inr refl
-sorted Row.CallPattern ts ss = inr refl
-sorted Row.StructPattern ts ss = inr refl
-sorted Row.TuplePattern ts ss = round_part (Sorted 12) (inl refl) ParensPattern (λ ps. TuplePattern ps (has_mark Mark.DotDot ts)) (λ a. inr refl) (λ as_. inr refl) ts ss
-sorted Row.ArrayPattern ts ss = inr refl
-sorted Row.OrPattern ts ss = inr refl
-sorted Row.FieldPattern ts ss = inr refl
-sorted Row.Param ts ss = two_parts (Sorted 6) (inl refl) _ (λ a b rest. inr refl) ss
-sorted Row.SelfParam ts ss = one_of (Sorted 6) (has_mark Mark.And ts) _ _ (inr refl) (inr refl)
-sorted Row.Let ts ss = one_part (Sorted 2) (inl refl) _ (let_part (has_mark Mark.Colon ts) (has_mark Mark.Eq ts)) ss
-sorted Row.Empty ts ss = inr refl
-sorted Row.Semi ts ss = one_part (Sorted 2) (inl refl) _ (λ a rest. inr refl) ss
-sorted Row.Block ts ss = block_part (Sorted 13) ss (last_of ss) (λ as_ m. inr refl)
-sorted Row.If ts ss = if_part (has_word Keyword.Let ts) ss
-sorted Row.Match ts ss = one_part (Sorted 13) (inl refl) _ (λ a rest. inr refl) ss
-sorted Row.Arm ts ss = arm_part (has_word Keyword.If ts) ss
-sorted Row.LastArm ts ss = arm_part (has_word Keyword.If ts) ss
-sorted Row.Loop ts ss = one_part (Sorted 13) (inl refl) _ (λ a rest. inr refl) ss
-sorted Row.While ts ss = while_part (has_word Keyword.Let ts) (a_label ts) ss
-sorted Row.Return ts ss = inr refl
-sorted Row.Break ts ss = inr refl
-sorted Row.Continue ts ss = inr refl
-sorted Row.LabelName ts ss = inr refl
-sorted Row.Closure ts ss = params_part (Sorted 13) (inl refl) (has_mark Mark.RArrow ts) (λ params answer block. MoveOf (syns_of (idents ss)) params answer block) (λ ps r b. inr refl) (behind_idents ss)
-sorted Row.Panic ts ss = inr refl
-sorted Row.Assign ts ss = two_parts (Sorted 13) (inl refl) _ (λ a b rest. inr refl) ss
-sorted Row.Or ts ss = two_parts (Sorted 13) (inl refl) _ (λ a b rest. inr refl) ss
-sorted Row.And ts ss = two_parts (Sorted 13) (inl refl) _ (λ a b rest. inr refl) ss
-sorted Row.Compare ts ss = by_operator (Sorted 13) (inl refl) _ (λ op. two_parts (Sorted 13) (inl refl) _ (λ a b rest. inr refl) ss) (first_that cmp_in ts)
-sorted Row.Sum ts ss = by_operator (Sorted 13) (inl refl) _ (λ op. two_parts (Sorted 13) (inl refl) _ (λ a b rest. inr refl) ss) (first_that math_in ts)
-sorted Row.Product ts ss = by_operator (Sorted 13) (inl refl) _ (λ op. two_parts (Sorted 13) (inl refl) _ (λ a b rest. inr refl) ss) (first_that math_in ts)
-sorted Row.Prefix ts ss = one_part (Sorted 13) (inl refl) _ (λ a rest. prefix_part (Sorted 13) (inl refl) ts a (inr refl) (inr refl) (inr refl) (λ u. inr refl)) ss
-sorted Row.FieldAccess ts ss = one_part (Sorted 13) (inl refl) _ (λ a rest. inr refl) ss
-sorted Row.MethodCall ts ss = one_part (Sorted 13) (inl refl) _ (λ a rest. inr refl) ss
-sorted Row.TupleField ts ss = one_part (Sorted 13) (inl refl) _ (λ a rest. inr refl) ss
-sorted Row.Call ts ss = one_part (Sorted 13) (inl refl) _ (λ a rest. inr refl) ss
-sorted Row.Index ts ss = two_parts (Sorted 13) (inl refl) _ (λ a b rest. inr refl) ss
-sorted Row.Number ts ss = inr refl
-sorted Row.Truth ts ss = inr refl
-sorted Row.SelfValue ts ss = inr refl
-sorted Row.Path ts ss = inr refl
-sorted Row.StructExpr ts ss = inr refl
-sorted Row.FieldInit ts ss = inr refl
-sorted Row.Round ts ss = round_part (Sorted 13) (inl refl) Parens TupleOf (λ a. inr refl) (λ as_. inr refl) ts ss
-sorted Row.Square ts ss = inr refl
+pub sorted : (r : GrammarRow) (ts : List Token) (ss : Syns) → Sorted (sort_of_row r) (made r ts ss)
+sorted GrammarRow.File ts ss = inr refl
+sorted GrammarRow.Struct ts ss = last_name (Sorted 5) (inl refl) _ (λ ds n. inr refl) (idents ss)
+sorted GrammarRow.Enum ts ss = last_name (Sorted 5) (inl refl) _ (λ ds n. inr refl) (idents ss)
+sorted GrammarRow.Trait ts ss = one_part (Sorted 5) (inl refl) _ (λ a rest. inr refl) ss
+sorted GrammarRow.Impl ts ss = impl_part (Sorted 5) (inl refl) (λ t n ms. inr refl) (has_word Keyword.For ts) (idents ss) (behind_idents ss)
+sorted GrammarRow.Fn ts ss = fn_part (has_mark Mark.RArrow ts) true ss
+sorted GrammarRow.Method ts ss = fn_part (has_mark Mark.RArrow ts) true ss
+sorted GrammarRow.Head ts ss = fn_part (has_mark Mark.RArrow ts) false ss
+sorted GrammarRow.Field ts ss = one_part (Sorted 7) (inl refl) _ (λ a rest. inr refl) ss
+sorted GrammarRow.Variant ts ss = inr refl
+sorted GrammarRow.Ident ts ss = inr refl
+sorted GrammarRow.NamedType ts ss = inr refl
+sorted GrammarRow.GenericType ts ss = one_part (Sorted 4) (inl refl) _ (λ a rest. inr refl) ss
+sorted GrammarRow.DynType ts ss = one_part (Sorted 4) (inl refl) _ (λ a rest. inr refl) ss
+sorted GrammarRow.SelfType ts ss = inr refl
+sorted GrammarRow.TupleType ts ss = round_part (Sorted 4) (inl refl) ParensType TupleType (λ a. inr refl) (λ as_. inr refl) ts ss
+sorted GrammarRow.ArrayType ts ss = one_part (Sorted 4) (inl refl) _ (λ a rest. inr refl) ss
+sorted GrammarRow.NeverType ts ss = inr refl
+sorted GrammarRow.RefType ts ss = one_part (Sorted 4) (inl refl) _ (λ a rest. inr refl) ss
+sorted GrammarRow.WildPattern ts ss = inr refl
+sorted GrammarRow.BindPattern ts ss = inr refl
+sorted GrammarRow.NumberPattern ts ss = inr refl
+sorted GrammarRow.BoolPattern ts ss = inr refl
+sorted GrammarRow.PathPattern ts ss = inr refl
+sorted GrammarRow.CallPattern ts ss = inr refl
+sorted GrammarRow.StructPattern ts ss = inr refl
+sorted GrammarRow.TuplePattern ts ss = round_part (Sorted 12) (inl refl) ParensPattern (λ ps. TuplePattern ps (has_mark Mark.DotDot ts)) (λ a. inr refl) (λ as_. inr refl) ts ss
+sorted GrammarRow.ArrayPattern ts ss = inr refl
+sorted GrammarRow.OrPattern ts ss = inr refl
+sorted GrammarRow.FieldPattern ts ss = inr refl
+sorted GrammarRow.Param ts ss = two_parts (Sorted 6) (inl refl) _ (λ a b rest. inr refl) ss
+sorted GrammarRow.SelfParam ts ss = one_of (Sorted 6) (has_mark Mark.And ts) _ _ (inr refl) (inr refl)
+sorted GrammarRow.Let ts ss = one_part (Sorted 2) (inl refl) _ (let_part (has_mark Mark.Colon ts) (has_mark Mark.Eq ts)) ss
+sorted GrammarRow.Empty ts ss = inr refl
+sorted GrammarRow.Semi ts ss = one_part (Sorted 2) (inl refl) _ (λ a rest. inr refl) ss
+sorted GrammarRow.Block ts ss = block_part (Sorted 13) ss (last_of ss) (λ as_ m. inr refl)
+sorted GrammarRow.If ts ss = if_part (has_word Keyword.Let ts) ss
+sorted GrammarRow.Match ts ss = one_part (Sorted 13) (inl refl) _ (λ a rest. inr refl) ss
+sorted GrammarRow.Arm ts ss = arm_part (has_word Keyword.If ts) ss
+sorted GrammarRow.LastArm ts ss = arm_part (has_word Keyword.If ts) ss
+sorted GrammarRow.Loop ts ss = one_part (Sorted 13) (inl refl) _ (λ a rest. inr refl) ss
+sorted GrammarRow.While ts ss = while_part (has_word Keyword.Let ts) (a_label ts) ss
+sorted GrammarRow.Return ts ss = inr refl
+sorted GrammarRow.Break ts ss = inr refl
+sorted GrammarRow.Continue ts ss = inr refl
+sorted GrammarRow.LabelName ts ss = inr refl
+sorted GrammarRow.Closure ts ss = params_part (Sorted 13) (inl refl) (has_mark Mark.RArrow ts) (λ params answer block. MoveOf (syns_of (idents ss)) params answer block) (λ ps r b. inr refl) (behind_idents ss)
+sorted GrammarRow.Panic ts ss = inr refl
+sorted GrammarRow.Assign ts ss = two_parts (Sorted 13) (inl refl) _ (λ a b rest. inr refl) ss
+sorted GrammarRow.Or ts ss = two_parts (Sorted 13) (inl refl) _ (λ a b rest. inr refl) ss
+sorted GrammarRow.And ts ss = two_parts (Sorted 13) (inl refl) _ (λ a b rest. inr refl) ss
+sorted GrammarRow.Compare ts ss = by_operator (Sorted 13) (inl refl) _ (λ op. two_parts (Sorted 13) (inl refl) _ (λ a b rest. inr refl) ss) (first_that cmp_in ts)
+sorted GrammarRow.Sum ts ss = by_operator (Sorted 13) (inl refl) _ (λ op. two_parts (Sorted 13) (inl refl) _ (λ a b rest. inr refl) ss) (first_that math_in ts)
+sorted GrammarRow.Product ts ss = by_operator (Sorted 13) (inl refl) _ (λ op. two_parts (Sorted 13) (inl refl) _ (λ a b rest. inr refl) ss) (first_that math_in ts)
+sorted GrammarRow.Prefix ts ss = one_part (Sorted 13) (inl refl) _ (λ a rest. prefix_part (Sorted 13) (inl refl) ts a (inr refl) (inr refl) (inr refl) (λ u. inr refl)) ss
+sorted GrammarRow.FieldAccess ts ss = one_part (Sorted 13) (inl refl) _ (λ a rest. inr refl) ss
+sorted GrammarRow.MethodCall ts ss = one_part (Sorted 13) (inl refl) _ (λ a rest. inr refl) ss
+sorted GrammarRow.TupleField ts ss = one_part (Sorted 13) (inl refl) _ (λ a rest. inr refl) ss
+sorted GrammarRow.Call ts ss = one_part (Sorted 13) (inl refl) _ (λ a rest. inr refl) ss
+sorted GrammarRow.Index ts ss = two_parts (Sorted 13) (inl refl) _ (λ a b rest. inr refl) ss
+sorted GrammarRow.Number ts ss = inr refl
+sorted GrammarRow.Truth ts ss = inr refl
+sorted GrammarRow.SelfValue ts ss = inr refl
+sorted GrammarRow.Path ts ss = inr refl
+sorted GrammarRow.StructExpr ts ss = inr refl
+sorted GrammarRow.FieldInit ts ss = inr refl
+sorted GrammarRow.Round ts ss = round_part (Sorted 13) (inl refl) Parens TupleOf (λ a. inr refl) (λ as_. inr refl) ts ss
+sorted GrammarRow.Square ts ss = inr refl
 
 -- a row gives no form of another sort
-pub other_sort : (k : ℕ) (r : Row) (ts : List Token) (ss : Syns) → eqb 0 k ≡ false → eqb (sort_of_row r) k ≡ false → eqb (sort_of (made r ts ss)) k ≡ false
+pub other_sort : (k : ℕ) (r : GrammarRow) (ts : List Token) (ss : Syns) → eqb 0 k ≡ false → eqb (sort_of_row r) k ≡ false → eqb (sort_of (made r ts ss)) k ≡ false
 other_sort k r ts ss zero_not row_not = by (sorted r ts ss)
   where
     by : Sorted (sort_of_row r) (made r ts ss) → eqb (sort_of (made r ts ss)) k ≡ false

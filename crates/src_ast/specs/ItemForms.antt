@@ -1,20 +1,20 @@
 -- The forms of items, as they are borrowed from a tree.
 use Rattle.std.specs.Prelude.{Bool, true, false, Option, Some, None}
 use Rattle.std.specs.Borrow.{Bor}
-use Rattle.src_tree.specs.declared.node.Node.{Node}
+use Rattle.src_tree.specs.declared.node.SyntaxNode.{SyntaxNode}
 use Rattle.src_ast.specs.declared.item.FieldKind.{FieldKind}
 use Rattle.src_ast.specs.declared.item.Function.{Function}
 use Rattle.src_ast.specs.declared.item.ItemForm.{ItemForm}
 use Rattle.src_ast.specs.Seen.{syn_of, nodes_of, maybe_of}
-use Rattle.src_ast.specs.Syntax.{Named, Kind, Unit_, Tuple_, Fields_, Shape, StructItem, EnumItem, TraitItem, ImplItem, FnItem, Syns, nothing, just}
+use Rattle.src_ast.specs.Syntax.{Named, FieldsKind, Unit_, Tuple_, Fields_, Shape, StructItem, EnumItem, TraitItem, ImplItem, FnItem, Syns, nothing, just}
 use Rattle.src_ast.specs.View.{named, idents, behind_params, but_last, last_of}
 
-abbrev pub kind_seen : FieldKind → Kind
+abbrev pub kind_seen : FieldKind → FieldsKind
 kind_seen FieldKind.Unit = Unit_
 kind_seen FieldKind.Tuple = Tuple_
 kind_seen FieldKind.Named = Fields_
 
-abbrev pub name_seen : Option (Bor Node) → Option Named
+abbrev pub name_seen : Option (Bor SyntaxNode) → Option Named
 name_seen None = None
 name_seen (Some n) = Some (named (syn_of n.now))
 

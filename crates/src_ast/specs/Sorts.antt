@@ -2,7 +2,7 @@
 -- 7 a field, 8 a variant, 9 an initialiser of a field, 10 a pattern of a field, 11 an arm, 12 a pattern,
 -- 13 an expression; 0 none of them.
 use Rattle.std.specs.Prelude.{ℕ, ◌==◌, Bool, true, false, Option, Some, None}
-use Rattle.src_tree.specs.declared.row.Row.{Row}
+use Rattle.src_tree.specs.declared.row.GrammarRow.{GrammarRow}
 use Rattle.src_ast.specs.Syntax.{Shape, Ident, LabelOf, Literal, TruthLiteral, Path, Minus, Bang, Star, Ampersand, Calculate, Compare, Both, Either, Store, CallOf, MethodOf, FieldOf, PartOf, ElementOf, StructOf, FieldInit, Parens, TupleOf, ArrayOf, Braces, IfElse, IfLetElse, MatchOn, ArmOf, LoopOf, WhileOf, WhileLetOf, BreakOf, ContinueOf, ReturnOf, MoveOf, PanicOf, LetOf, Empty, Semi, AnyPattern, BindPattern, LiteralPattern, TruthPattern, PathPattern, PartsPattern, FieldsPattern, FieldPattern, ParensPattern, TuplePattern, ArrayPattern, Alternatives, NamedType, GenericType, DynType, SelfType, ParensType, TupleType, ArrayType, NeverType, RefType, StructItem, EnumItem, FieldDecl, VariantDecl, TraitItem, ImplItem, FnItem, ParamOf, SelfParam}
 
 abbrev pub sort_of : Shape → ℕ
@@ -79,74 +79,74 @@ sort_of (SelfParam a) = 6
 sort_of _ = 0
 
 -- the sort of the forms that a row gives
-abbrev pub sort_of_row : Row → ℕ
-sort_of_row Row.Struct = 5
-sort_of_row Row.Enum = 5
-sort_of_row Row.Trait = 5
-sort_of_row Row.Impl = 5
-sort_of_row Row.Fn = 5
-sort_of_row Row.Method = 5
-sort_of_row Row.Head = 5
-sort_of_row Row.Field = 7
-sort_of_row Row.Variant = 8
-sort_of_row Row.Ident = 1
-sort_of_row Row.NamedType = 4
-sort_of_row Row.GenericType = 4
-sort_of_row Row.DynType = 4
-sort_of_row Row.SelfType = 4
-sort_of_row Row.TupleType = 4
-sort_of_row Row.ArrayType = 4
-sort_of_row Row.NeverType = 4
-sort_of_row Row.RefType = 4
-sort_of_row Row.WildPattern = 12
-sort_of_row Row.BindPattern = 12
-sort_of_row Row.NumberPattern = 12
-sort_of_row Row.BoolPattern = 12
-sort_of_row Row.PathPattern = 12
-sort_of_row Row.CallPattern = 12
-sort_of_row Row.StructPattern = 12
-sort_of_row Row.TuplePattern = 12
-sort_of_row Row.ArrayPattern = 12
-sort_of_row Row.OrPattern = 12
-sort_of_row Row.FieldPattern = 10
-sort_of_row Row.Param = 6
-sort_of_row Row.SelfParam = 6
-sort_of_row Row.Let = 2
-sort_of_row Row.Empty = 2
-sort_of_row Row.Semi = 2
-sort_of_row Row.Block = 13
-sort_of_row Row.If = 13
-sort_of_row Row.Match = 13
-sort_of_row Row.Arm = 11
-sort_of_row Row.LastArm = 11
-sort_of_row Row.Loop = 13
-sort_of_row Row.While = 13
-sort_of_row Row.Return = 13
-sort_of_row Row.Break = 13
-sort_of_row Row.Continue = 13
-sort_of_row Row.LabelName = 3
-sort_of_row Row.Closure = 13
-sort_of_row Row.Panic = 13
-sort_of_row Row.Assign = 13
-sort_of_row Row.Or = 13
-sort_of_row Row.And = 13
-sort_of_row Row.Compare = 13
-sort_of_row Row.Sum = 13
-sort_of_row Row.Product = 13
-sort_of_row Row.Prefix = 13
-sort_of_row Row.FieldAccess = 13
-sort_of_row Row.MethodCall = 13
-sort_of_row Row.TupleField = 13
-sort_of_row Row.Call = 13
-sort_of_row Row.Index = 13
-sort_of_row Row.Number = 13
-sort_of_row Row.Truth = 13
-sort_of_row Row.SelfValue = 13
-sort_of_row Row.Path = 13
-sort_of_row Row.StructExpr = 13
-sort_of_row Row.FieldInit = 9
-sort_of_row Row.Round = 13
-sort_of_row Row.Square = 13
+abbrev pub sort_of_row : GrammarRow → ℕ
+sort_of_row GrammarRow.Struct = 5
+sort_of_row GrammarRow.Enum = 5
+sort_of_row GrammarRow.Trait = 5
+sort_of_row GrammarRow.Impl = 5
+sort_of_row GrammarRow.Fn = 5
+sort_of_row GrammarRow.Method = 5
+sort_of_row GrammarRow.Head = 5
+sort_of_row GrammarRow.Field = 7
+sort_of_row GrammarRow.Variant = 8
+sort_of_row GrammarRow.Ident = 1
+sort_of_row GrammarRow.NamedType = 4
+sort_of_row GrammarRow.GenericType = 4
+sort_of_row GrammarRow.DynType = 4
+sort_of_row GrammarRow.SelfType = 4
+sort_of_row GrammarRow.TupleType = 4
+sort_of_row GrammarRow.ArrayType = 4
+sort_of_row GrammarRow.NeverType = 4
+sort_of_row GrammarRow.RefType = 4
+sort_of_row GrammarRow.WildPattern = 12
+sort_of_row GrammarRow.BindPattern = 12
+sort_of_row GrammarRow.NumberPattern = 12
+sort_of_row GrammarRow.BoolPattern = 12
+sort_of_row GrammarRow.PathPattern = 12
+sort_of_row GrammarRow.CallPattern = 12
+sort_of_row GrammarRow.StructPattern = 12
+sort_of_row GrammarRow.TuplePattern = 12
+sort_of_row GrammarRow.ArrayPattern = 12
+sort_of_row GrammarRow.OrPattern = 12
+sort_of_row GrammarRow.FieldPattern = 10
+sort_of_row GrammarRow.Param = 6
+sort_of_row GrammarRow.SelfParam = 6
+sort_of_row GrammarRow.Let = 2
+sort_of_row GrammarRow.Empty = 2
+sort_of_row GrammarRow.Semi = 2
+sort_of_row GrammarRow.Block = 13
+sort_of_row GrammarRow.If = 13
+sort_of_row GrammarRow.Match = 13
+sort_of_row GrammarRow.Arm = 11
+sort_of_row GrammarRow.LastArm = 11
+sort_of_row GrammarRow.Loop = 13
+sort_of_row GrammarRow.While = 13
+sort_of_row GrammarRow.Return = 13
+sort_of_row GrammarRow.Break = 13
+sort_of_row GrammarRow.Continue = 13
+sort_of_row GrammarRow.LabelName = 3
+sort_of_row GrammarRow.Closure = 13
+sort_of_row GrammarRow.Panic = 13
+sort_of_row GrammarRow.Assign = 13
+sort_of_row GrammarRow.Or = 13
+sort_of_row GrammarRow.And = 13
+sort_of_row GrammarRow.Compare = 13
+sort_of_row GrammarRow.Sum = 13
+sort_of_row GrammarRow.Product = 13
+sort_of_row GrammarRow.Prefix = 13
+sort_of_row GrammarRow.FieldAccess = 13
+sort_of_row GrammarRow.MethodCall = 13
+sort_of_row GrammarRow.TupleField = 13
+sort_of_row GrammarRow.Call = 13
+sort_of_row GrammarRow.Index = 13
+sort_of_row GrammarRow.Number = 13
+sort_of_row GrammarRow.Truth = 13
+sort_of_row GrammarRow.SelfValue = 13
+sort_of_row GrammarRow.Path = 13
+sort_of_row GrammarRow.StructExpr = 13
+sort_of_row GrammarRow.FieldInit = 9
+sort_of_row GrammarRow.Round = 13
+sort_of_row GrammarRow.Square = 13
 sort_of_row _ = 0
 
 abbrev pub some_if : Bool → Shape → Option Shape

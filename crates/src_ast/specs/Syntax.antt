@@ -23,10 +23,10 @@ abbrev pub number_word : ℕ → Word
 number_word n = digits (suc n) n []
 
 -- how the parts of a struct or a variant are written: none, as a list, by their names
-pub data Kind : Type 0 where
-  Unit_ : Kind
-  Tuple_ : Kind
-  Fields_ : Kind
+pub data FieldsKind : Type 0 where
+  Unit_ : FieldsKind
+  Tuple_ : FieldsKind
+  Fields_ : FieldsKind
 
 -- how a method takes `self`
 pub data Receiver : Type 0 where
@@ -106,10 +106,10 @@ mutual
     NeverType : Shape
     RefType : (unique : Bool) (to : Syn) → Shape
     -- items
-    StructItem : (derives : List Named) (name : Named) (kind : Kind) (fields : Syns) → Shape
+    StructItem : (derives : List Named) (name : Named) (kind : FieldsKind) (fields : Syns) → Shape
     EnumItem : (derives : List Named) (name : Named) (variants : Syns) → Shape
     FieldDecl : (name : Word) (ty : Syn) → Shape
-    VariantDecl : (name : Word) (kind : Kind) (fields : Syns) → Shape
+    VariantDecl : (name : Word) (kind : FieldsKind) (fields : Syns) → Shape
     TraitItem : (name : Named) (heads : Syns) → Shape
     ImplItem : (trait_ : Option Named) (name : Named) (methods : Syns) → Shape
     -- a function, a method, or with no block the head of a trait's method

@@ -11,13 +11,13 @@ use Rattle.mir_base.specs.declared.place_in_text.Pos.{Pos}
 use Rattle.src_token.specs.declared.mark.Mark.{Mark}
 use Rattle.src_token.specs.declared.token.Token.{Token}
 use Rattle.src_token.specs.declared.word.Word.{Word as Keyword}
-use Rattle.src_tree.specs.declared.kind.Kind.{Kind as TokenKind}
-use Rattle.src_tree.specs.declared.row.Row.{Row}
+use Rattle.src_tree.specs.declared.kind.TokenKind.{TokenKind}
+use Rattle.src_tree.specs.declared.row.GrammarRow.{GrammarRow}
 use Rattle.src_tree.specs.Grammar.{is}
 use Rattle.src_tree.specs.Layout as layout
 use Rattle.src_tree.specs.Layout.{node, Parts, end, tok, sub}
 use Rattle.src_ast.specs.Sorts.{sort_of}
-use Rattle.src_ast.specs.Syntax.{Word, Named, Kind, Unit_, Tuple_, Fields_, ByValue, ByShared, ByUnique, Syn, syn, Shape, Ident, LabelOf, Literal, TruthLiteral, Path, Minus, Bang, Star, Ampersand, Calculate, Compare, Both, Either, Store, CallOf, MethodOf, FieldOf, PartOf, ElementOf, StructOf, FieldInit, Parens, TupleOf, ArrayOf, Braces, IfElse, IfLetElse, MatchOn, ArmOf, LoopOf, WhileOf, WhileLetOf, BreakOf, ContinueOf, ReturnOf, MoveOf, PanicOf, LetOf, Empty, Semi, AnyPattern, BindPattern, LiteralPattern, TruthPattern, PathPattern, PartsPattern, FieldsPattern, FieldPattern, ParensPattern, TuplePattern, ArrayPattern, Alternatives, NamedType, GenericType, DynType, SelfType, ParensType, TupleType, ArrayType, NeverType, RefType, StructItem, EnumItem, FieldDecl, VariantDecl, TraitItem, ImplItem, FnItem, ParamOf, SelfParam, Odd, Syns, no_syn, a_syn, MaybeSyn, nothing, just}
+use Rattle.src_ast.specs.Syntax.{Word, Named, FieldsKind, Unit_, Tuple_, Fields_, ByValue, ByShared, ByUnique, Syn, syn, Shape, Ident, LabelOf, Literal, TruthLiteral, Path, Minus, Bang, Star, Ampersand, Calculate, Compare, Both, Either, Store, CallOf, MethodOf, FieldOf, PartOf, ElementOf, StructOf, FieldInit, Parens, TupleOf, ArrayOf, Braces, IfElse, IfLetElse, MatchOn, ArmOf, LoopOf, WhileOf, WhileLetOf, BreakOf, ContinueOf, ReturnOf, MoveOf, PanicOf, LetOf, Empty, Semi, AnyPattern, BindPattern, LiteralPattern, TruthPattern, PathPattern, PartsPattern, FieldsPattern, FieldPattern, ParensPattern, TuplePattern, ArrayPattern, Alternatives, NamedType, GenericType, DynType, SelfType, ParensType, TupleType, ArrayType, NeverType, RefType, StructItem, EnumItem, FieldDecl, VariantDecl, TraitItem, ImplItem, FnItem, ParamOf, SelfParam, Odd, Syns, no_syn, a_syn, MaybeSyn, nothing, just}
 
 -- ---- tokens
 
@@ -264,12 +264,12 @@ closure_row has_answer ss =
     behind_params has_answer (λ params answer block. MoveOf (syns_of (idents ss)) params answer block) (behind_idents
     ss)
 
-abbrev pub kind_by : Bool → Bool → Kind
+abbrev pub kind_by : Bool → Bool → FieldsKind
 kind_by true parens = Fields_
 kind_by false true = Tuple_
 kind_by false false = Unit_
 
-abbrev pub kind_of : List Token → Kind
+abbrev pub kind_of : List Token → FieldsKind
 kind_of ts = kind_by (has_mark Mark.OpenBrace ts) (has_mark Mark.OpenParenthesis ts)
 
 abbrev pub impl_row : Bool → List Named → Syns → Shape
@@ -285,82 +285,83 @@ self_row ts =
 abbrev pub number_row : (ℕ × Option IntKind → Shape) → List Token → Shape
 number_row f ts = f (a_number ts)
 
-abbrev pub made : Row → List Token → Syns → Shape
-made Row.Struct ts ss =
+abbrev pub made : GrammarRow → List Token → Syns → Shape
+made GrammarRow.Struct ts ss =
     with_last_name (λ derives name. StructItem derives name (kind_of (behind_word Keyword.Struct ts)) (behind_idents
     ss)) (idents ss)
-made Row.Enum ts ss = with_last_name (λ derives name. EnumItem derives name (behind_idents ss)) (idents ss)
-made Row.Trait ts ss = with_first (λ name heads. TraitItem (named name) heads) ss
-made Row.Impl ts ss = impl_row (has_word Keyword.For ts) (idents ss) (behind_idents ss)
-made Row.Fn ts ss = fn_row (has_mark Mark.RArrow ts) true ss
-made Row.Method ts ss = fn_row (has_mark Mark.RArrow ts) true ss
-made Row.Head ts ss = fn_row (has_mark Mark.RArrow ts) false ss
-made Row.Field ts ss = with_first (λ ty rest. FieldDecl (a_name ts) ty) ss
-made Row.Variant ts ss = VariantDecl (a_name ts) (kind_of ts) ss
-made Row.Ident ts ss = Ident (a_name ts)
-made Row.NamedType ts ss = NamedType (a_name ts)
-made Row.GenericType ts ss = with_first (λ ty rest. GenericType (a_name ts) ty) ss
-made Row.DynType ts ss = with_first (λ name rest. DynType (a_name ts) (named name)) ss
-made Row.SelfType ts ss = SelfType
-made Row.TupleType ts ss = round ParensType TupleType ts ss
-made Row.ArrayType ts ss = with_first (λ ty rest. number_row (λ n. ArrayType ty n.0 n.1) ts) ss
-made Row.NeverType ts ss = NeverType
-made Row.RefType ts ss = with_first (λ ty rest. RefType (has_word Keyword.Mut ts) ty) ss
-made Row.WildPattern ts ss = AnyPattern
-made Row.BindPattern ts ss = BindPattern (a_name ts)
-made Row.NumberPattern ts ss = number_row (λ n. LiteralPattern (has_mark Mark.Minus ts) n.0 n.1) ts
-made Row.BoolPattern ts ss = TruthPattern (has_true ts)
-made Row.PathPattern ts ss = PathPattern (path_head ts) (path_tail ts ss)
-made Row.CallPattern ts ss = PartsPattern (path_head ts) (path_tail ts ss) (behind_path ts ss) (has_mark Mark.DotDot ts)
-made Row.StructPattern ts ss =
+made GrammarRow.Enum ts ss = with_last_name (λ derives name. EnumItem derives name (behind_idents ss)) (idents ss)
+made GrammarRow.Trait ts ss = with_first (λ name heads. TraitItem (named name) heads) ss
+made GrammarRow.Impl ts ss = impl_row (has_word Keyword.For ts) (idents ss) (behind_idents ss)
+made GrammarRow.Fn ts ss = fn_row (has_mark Mark.RArrow ts) true ss
+made GrammarRow.Method ts ss = fn_row (has_mark Mark.RArrow ts) true ss
+made GrammarRow.Head ts ss = fn_row (has_mark Mark.RArrow ts) false ss
+made GrammarRow.Field ts ss = with_first (λ ty rest. FieldDecl (a_name ts) ty) ss
+made GrammarRow.Variant ts ss = VariantDecl (a_name ts) (kind_of ts) ss
+made GrammarRow.Ident ts ss = Ident (a_name ts)
+made GrammarRow.NamedType ts ss = NamedType (a_name ts)
+made GrammarRow.GenericType ts ss = with_first (λ ty rest. GenericType (a_name ts) ty) ss
+made GrammarRow.DynType ts ss = with_first (λ name rest. DynType (a_name ts) (named name)) ss
+made GrammarRow.SelfType ts ss = SelfType
+made GrammarRow.TupleType ts ss = round ParensType TupleType ts ss
+made GrammarRow.ArrayType ts ss = with_first (λ ty rest. number_row (λ n. ArrayType ty n.0 n.1) ts) ss
+made GrammarRow.NeverType ts ss = NeverType
+made GrammarRow.RefType ts ss = with_first (λ ty rest. RefType (has_word Keyword.Mut ts) ty) ss
+made GrammarRow.WildPattern ts ss = AnyPattern
+made GrammarRow.BindPattern ts ss = BindPattern (a_name ts)
+made GrammarRow.NumberPattern ts ss = number_row (λ n. LiteralPattern (has_mark Mark.Minus ts) n.0 n.1) ts
+made GrammarRow.BoolPattern ts ss = TruthPattern (has_true ts)
+made GrammarRow.PathPattern ts ss = PathPattern (path_head ts) (path_tail ts ss)
+made GrammarRow.CallPattern ts ss = PartsPattern (path_head ts) (path_tail ts ss) (behind_path ts ss)
+    (has_mark Mark.DotDot ts)
+made GrammarRow.StructPattern ts ss =
     FieldsPattern (path_head ts) (path_tail ts ss) (behind_path ts ss) (has_mark Mark.DotDot ts)
-made Row.FieldPattern ts ss = FieldPattern (a_name ts) (first_of ss)
-made Row.TuplePattern ts ss = round ParensPattern (λ ps. TuplePattern ps (has_mark Mark.DotDot ts)) ts ss
-made Row.ArrayPattern ts ss = ArrayPattern ss (has_mark Mark.DotDot ts)
-made Row.OrPattern ts ss = Alternatives ss
-made Row.Param ts ss = with_two (λ p ty rest. ParamOf p ty) ss
-made Row.SelfParam ts ss = self_row ts
-made Row.Let ts ss = with_first (let_row (has_mark Mark.Colon ts) (has_mark Mark.Eq ts)) ss
-made Row.Empty ts ss = Empty
-made Row.Semi ts ss = with_first (λ e rest. Semi e) ss
-made Row.Block ts ss = block_by ss (last_of ss)
-made Row.If ts ss = if_row (has_word Keyword.Let ts) ss
-made Row.Match ts ss = with_first (λ s arms. MatchOn s arms) ss
-made Row.Arm ts ss = arm_row (has_word Keyword.If ts) ss
-made Row.LastArm ts ss = arm_row (has_word Keyword.If ts) ss
-made Row.Loop ts ss = with_first (λ b rest. LoopOf (a_label ts) b) ss
-made Row.While ts ss = while_row (has_word Keyword.Let ts) (a_label ts) ss
-made Row.Return ts ss = ReturnOf (first_of ss)
-made Row.Break ts ss = BreakOf (label_of (first_of ss)) (first_of (behind_label ss))
-made Row.Continue ts ss = ContinueOf (label_of (first_of ss))
-made Row.LabelName ts ss = LabelOf (or_empty (a_label ts))
-made Row.Closure ts ss = closure_row (has_mark Mark.RArrow ts) ss
-made Row.Panic ts ss = PanicOf
-made Row.Assign ts ss = with_two (λ a b rest. Store a b) ss
-made Row.Or ts ss = with_two (λ a b rest. Either a b) ss
-made Row.And ts ss = with_two (λ a b rest. Both a b) ss
-made Row.Compare ts ss = made_by (λ op. with_two (λ a b rest. Compare op a b) ss) (first_that cmp_in ts)
-made Row.Sum ts ss = made_by (λ op. with_two (λ a b rest. Calculate op a b) ss) (first_that math_in ts)
-made Row.Product ts ss = made_by (λ op. with_two (λ a b rest. Calculate op a b) ss) (first_that math_in ts)
-made Row.Prefix ts ss = with_first (λ e rest. prefix ts e) ss
-made Row.FieldAccess ts ss = with_first (λ e rest. FieldOf e (a_name ts)) ss
-made Row.MethodCall ts ss = with_first (λ e args. MethodOf e (a_name ts) args) ss
-made Row.TupleField ts ss = with_first (λ e rest. number_row (λ n. PartOf e n.0) ts) ss
-made Row.Call ts ss = with_first (λ e args. CallOf e args) ss
-made Row.Index ts ss = with_two (λ a b rest. ElementOf a b) ss
-made Row.Number ts ss = number_row (λ n. Literal n.0 n.1) ts
-made Row.Truth ts ss = TruthLiteral (has_true ts)
-made Row.SelfValue ts ss = Path (Some self_name) None
-made Row.Path ts ss = Path (path_head ts) (path_tail ts ss)
-made Row.StructExpr ts ss = StructOf (path_head ts) (path_tail ts ss) (behind_path ts ss)
-made Row.FieldInit ts ss = FieldInit (a_name ts) (first_of ss)
-made Row.Round ts ss = round Parens TupleOf ts ss
-made Row.Square ts ss = ArrayOf ss
-made Row.File ts ss = Odd
+made GrammarRow.FieldPattern ts ss = FieldPattern (a_name ts) (first_of ss)
+made GrammarRow.TuplePattern ts ss = round ParensPattern (λ ps. TuplePattern ps (has_mark Mark.DotDot ts)) ts ss
+made GrammarRow.ArrayPattern ts ss = ArrayPattern ss (has_mark Mark.DotDot ts)
+made GrammarRow.OrPattern ts ss = Alternatives ss
+made GrammarRow.Param ts ss = with_two (λ p ty rest. ParamOf p ty) ss
+made GrammarRow.SelfParam ts ss = self_row ts
+made GrammarRow.Let ts ss = with_first (let_row (has_mark Mark.Colon ts) (has_mark Mark.Eq ts)) ss
+made GrammarRow.Empty ts ss = Empty
+made GrammarRow.Semi ts ss = with_first (λ e rest. Semi e) ss
+made GrammarRow.Block ts ss = block_by ss (last_of ss)
+made GrammarRow.If ts ss = if_row (has_word Keyword.Let ts) ss
+made GrammarRow.Match ts ss = with_first (λ s arms. MatchOn s arms) ss
+made GrammarRow.Arm ts ss = arm_row (has_word Keyword.If ts) ss
+made GrammarRow.LastArm ts ss = arm_row (has_word Keyword.If ts) ss
+made GrammarRow.Loop ts ss = with_first (λ b rest. LoopOf (a_label ts) b) ss
+made GrammarRow.While ts ss = while_row (has_word Keyword.Let ts) (a_label ts) ss
+made GrammarRow.Return ts ss = ReturnOf (first_of ss)
+made GrammarRow.Break ts ss = BreakOf (label_of (first_of ss)) (first_of (behind_label ss))
+made GrammarRow.Continue ts ss = ContinueOf (label_of (first_of ss))
+made GrammarRow.LabelName ts ss = LabelOf (or_empty (a_label ts))
+made GrammarRow.Closure ts ss = closure_row (has_mark Mark.RArrow ts) ss
+made GrammarRow.Panic ts ss = PanicOf
+made GrammarRow.Assign ts ss = with_two (λ a b rest. Store a b) ss
+made GrammarRow.Or ts ss = with_two (λ a b rest. Either a b) ss
+made GrammarRow.And ts ss = with_two (λ a b rest. Both a b) ss
+made GrammarRow.Compare ts ss = made_by (λ op. with_two (λ a b rest. Compare op a b) ss) (first_that cmp_in ts)
+made GrammarRow.Sum ts ss = made_by (λ op. with_two (λ a b rest. Calculate op a b) ss) (first_that math_in ts)
+made GrammarRow.Product ts ss = made_by (λ op. with_two (λ a b rest. Calculate op a b) ss) (first_that math_in ts)
+made GrammarRow.Prefix ts ss = with_first (λ e rest. prefix ts e) ss
+made GrammarRow.FieldAccess ts ss = with_first (λ e rest. FieldOf e (a_name ts)) ss
+made GrammarRow.MethodCall ts ss = with_first (λ e args. MethodOf e (a_name ts) args) ss
+made GrammarRow.TupleField ts ss = with_first (λ e rest. number_row (λ n. PartOf e n.0) ts) ss
+made GrammarRow.Call ts ss = with_first (λ e args. CallOf e args) ss
+made GrammarRow.Index ts ss = with_two (λ a b rest. ElementOf a b) ss
+made GrammarRow.Number ts ss = number_row (λ n. Literal n.0 n.1) ts
+made GrammarRow.Truth ts ss = TruthLiteral (has_true ts)
+made GrammarRow.SelfValue ts ss = Path (Some self_name) None
+made GrammarRow.Path ts ss = Path (path_head ts) (path_tail ts ss)
+made GrammarRow.StructExpr ts ss = StructOf (path_head ts) (path_tail ts ss) (behind_path ts ss)
+made GrammarRow.FieldInit ts ss = FieldInit (a_name ts) (first_of ss)
+made GrammarRow.Round ts ss = round Parens TupleOf ts ss
+made GrammarRow.Square ts ss = ArrayOf ss
+made GrammarRow.File ts ss = Odd
 
 -- the form of a node
 abbrev mutual
-  pub view : layout.Node Pos → Syn
+  pub view : layout.SyntaxNode Pos → Syn
   view (node at row parts) = syn at (made row (tokens_in parts) (views parts))
 
   pub views : Parts Pos → Syns

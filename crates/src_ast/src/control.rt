@@ -4,13 +4,13 @@ ghost use Rattle.src_ast.specs.Seen.{made_of, nodes_of, syn_of, word_of};
 ghost use Rattle.src_ast.specs.Sorts.{arm_part, expression_part};
 ghost use Rattle.src_ast.specs.Syntax.{shape_of};
 ghost use Rattle.src_ast.specs.View.{arm_row, if_row, label_name, while_row};
-ghost use Rattle.src_tree.specs.declared.row.Row.{Row};
+ghost use Rattle.src_tree.specs.declared.row.GrammarRow.{GrammarRow};
 
 use crate::expression::{ArmForm, ExpressionForm};
 use crate::nodes::{First, Nodes};
 use crate::tokens::{a_label, has};
 use src_token::Word;
-use src_tree::{Kind, Node, Piece, Row};
+use src_tree::{GrammarRow, NodePiece, SyntaxNode, TokenKind};
 
 fn if_let(nodes: Nodes<'_>) -> ExpressionForm<'_>
     ensures { expression_of result ≡ expression_part (if_row true (nodes_of nodes.entry)) }
@@ -48,11 +48,11 @@ fn if_plain(nodes: Nodes<'_>) -> ExpressionForm<'_>
     }
 }
 
-pub(crate) fn if_of(pieces: &[Piece]) -> ExpressionForm<'_>
-    ensures { expression_of result ≡ expression_part (made_of Row.If pieces.now) }
+pub(crate) fn if_of(pieces: &[NodePiece]) -> ExpressionForm<'_>
+    ensures { expression_of result ≡ expression_part (made_of GrammarRow.If pieces.now) }
 {
     let nodes = Nodes::among(pieces);
-    if has(Kind::Word(Word::Let), pieces) {
+    if has(TokenKind::Word(Word::Let), pieces) {
         if_let(nodes)
     } else {
         if_plain(nodes)
@@ -95,12 +95,12 @@ fn while_plain<'a>(label: Option<&'a str>, nodes: Nodes<'a>) -> ExpressionForm<'
     }
 }
 
-pub(crate) fn while_of(pieces: &[Piece]) -> ExpressionForm<'_>
-    ensures { expression_of result ≡ expression_part (made_of Row.While pieces.now) }
+pub(crate) fn while_of(pieces: &[NodePiece]) -> ExpressionForm<'_>
+    ensures { expression_of result ≡ expression_part (made_of GrammarRow.While pieces.now) }
 {
     let nodes = Nodes::among(pieces);
     let label = a_label(pieces);
-    if has(Kind::Word(Word::Let), pieces) {
+    if has(TokenKind::Word(Word::Let), pieces) {
         while_let(label, nodes)
     } else {
         while_plain(label, nodes)
@@ -132,11 +132,11 @@ fn unguarded(nodes: Nodes<'_>) -> Option<ArmForm<'_>>
     })
 }
 
-fn arm(pieces: &[Piece]) -> Option<ArmForm<'_>>
-    ensures { option_map arm_of result ≡ arm_part (made_of Row.Arm pieces.now) }
+fn arm(pieces: &[NodePiece]) -> Option<ArmForm<'_>>
+    ensures { option_map arm_of result ≡ arm_part (made_of GrammarRow.Arm pieces.now) }
 {
     let nodes = Nodes::among(pieces);
-    if has(Kind::Word(Word::If), pieces) {
+    if has(TokenKind::Word(Word::If), pieces) {
         guarded(nodes)
     } else {
         unguarded(nodes)
@@ -145,22 +145,22 @@ fn arm(pieces: &[Piece]) -> Option<ArmForm<'_>>
 
 /// A node as an arm, if it is one.
 #[tactic(auto, using(crate::proofs::Named::no_arm_seen, crate::proofs::Named::seen_as))]
-pub fn arm_form(node: &Node) -> Option<ArmForm<'_>>
+pub fn arm_form(node: &SyntaxNode) -> Option<ArmForm<'_>>
     ensures { option_map arm_of result ≡ arm_part (shape_of (syn_of node.now)) }
 {
     match node.row {
-        Row::Arm | Row::LastArm => arm(node.parts.as_slice()),
+        GrammarRow::Arm | GrammarRow::LastArm => arm(node.parts.as_slice()),
         _ => None,
     }
 }
 
 /// The label that a node is, if it is one.
 #[tactic(auto, using(crate::proofs::Named::no_label_seen, crate::proofs::Named::seen_as))]
-fn label_if(node: &Node) -> Option<&str>
+fn label_if(node: &SyntaxNode) -> Option<&str>
     ensures { word_of result ≡ label_name (shape_of (syn_of node.now)) }
 {
     match node.row {
-        Row::LabelName => Some(match a_label(node.parts.as_slice()) {
+        GrammarRow::LabelName => Some(match a_label(node.parts.as_slice()) {
             Some(label) => label,
             None => "",
         }),
@@ -168,8 +168,8 @@ fn label_if(node: &Node) -> Option<&str>
     }
 }
 
-pub(crate) fn continue_of(pieces: &[Piece]) -> ExpressionForm<'_>
-    ensures { expression_of result ≡ expression_part (made_of Row.Continue pieces.now) }
+pub(crate) fn continue_of(pieces: &[NodePiece]) -> ExpressionForm<'_>
+    ensures { expression_of result ≡ expression_part (made_of GrammarRow.Continue pieces.now) }
 {
     match Nodes::among(pieces).first() {
         Some(node) => ExpressionForm::Continue {
@@ -180,8 +180,8 @@ pub(crate) fn continue_of(pieces: &[Piece]) -> ExpressionForm<'_>
 }
 
 #[tactic(auto, using(crate::proofs::Named::label_seen))]
-pub(crate) fn break_of(pieces: &[Piece]) -> ExpressionForm<'_>
-    ensures { expression_of result ≡ expression_part (made_of Row.Break pieces.now) }
+pub(crate) fn break_of(pieces: &[NodePiece]) -> ExpressionForm<'_>
+    ensures { expression_of result ≡ expression_part (made_of GrammarRow.Break pieces.now) }
 {
     let nodes = Nodes::among(pieces);
     let Some(First { first, rest }) = nodes.split_first() else {

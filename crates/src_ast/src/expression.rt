@@ -3,17 +3,17 @@ ghost use Rattle.src_ast.specs.Expressions.{expression_of, init_of};
 ghost use Rattle.src_ast.specs.Seen.{made_of, syn_of};
 ghost use Rattle.src_ast.specs.Sorts.{expression_part, init_part};
 ghost use Rattle.src_ast.specs.Syntax.{shape_of};
-ghost use Rattle.src_tree.specs.declared.row.Row.{Row};
+ghost use Rattle.src_tree.specs.declared.row.GrammarRow.{GrammarRow};
 
 use crate::control::{break_of, continue_of, if_of, while_of};
-use crate::nodes::{First, Last, Names, Nodes};
+use crate::nodes::{First, Last, LeadingNames, Nodes};
 use crate::operators::{and, assign, compare, index, or, prefix, product, sum};
 use crate::path::{PathForm, behind_path, path_of};
 use crate::statement::is_statement;
 use crate::tokens::{a_label, a_name, a_number, has, has_true};
 use mir_base::{Cmp, IntKind, Math};
 use src_token::Mark;
-use src_tree::{Kind, Node, Piece, Row};
+use src_tree::{GrammarRow, NodePiece, SyntaxNode, TokenKind};
 
 /// An expression (The Rust Reference, "Expressions").
 #[derive(Clone, Copy)]
@@ -26,115 +26,115 @@ pub enum ExpressionForm<'a> {
     Path(PathForm<'a>),
     /// `self`.
     SelfValue,
-    Negate(&'a Node),
-    Not(&'a Node),
-    Deref(&'a Node),
+    Negate(&'a SyntaxNode),
+    Not(&'a SyntaxNode),
+    Deref(&'a SyntaxNode),
     Borrow {
         unique: bool,
-        operand: &'a Node,
+        operand: &'a SyntaxNode,
     },
     Math {
         operator: Math,
-        left: &'a Node,
-        right: &'a Node,
+        left: &'a SyntaxNode,
+        right: &'a SyntaxNode,
     },
     Compare {
         operator: Cmp,
-        left: &'a Node,
-        right: &'a Node,
+        left: &'a SyntaxNode,
+        right: &'a SyntaxNode,
     },
     /// `&&`.
     And {
-        left: &'a Node,
-        right: &'a Node,
+        left: &'a SyntaxNode,
+        right: &'a SyntaxNode,
     },
     /// `||`.
     Or {
-        left: &'a Node,
-        right: &'a Node,
+        left: &'a SyntaxNode,
+        right: &'a SyntaxNode,
     },
     Assign {
-        place: &'a Node,
-        value: &'a Node,
+        place: &'a SyntaxNode,
+        value: &'a SyntaxNode,
     },
     Call {
-        callee: &'a Node,
+        callee: &'a SyntaxNode,
         args: Nodes<'a>,
     },
     MethodCall {
-        receiver: &'a Node,
+        receiver: &'a SyntaxNode,
         name: &'a str,
         args: Nodes<'a>,
     },
     Field {
-        base: &'a Node,
+        base: &'a SyntaxNode,
         name: &'a str,
     },
     /// A part of a tuple.
     Part {
-        base: &'a Node,
+        base: &'a SyntaxNode,
         number: u64,
     },
     Index {
-        base: &'a Node,
-        index: &'a Node,
+        base: &'a SyntaxNode,
+        index: &'a SyntaxNode,
     },
     /// A path with initialisers in braces.
     Struct {
         path: PathForm<'a>,
         fields: Nodes<'a>,
     },
-    Parens(&'a Node),
+    Parens(&'a SyntaxNode),
     Tuple(Nodes<'a>),
     Array(Nodes<'a>),
     Block {
         statements: Nodes<'a>,
-        tail: Option<&'a Node>,
+        tail: Option<&'a SyntaxNode>,
     },
     If {
-        condition: &'a Node,
-        body: &'a Node,
-        otherwise: Option<&'a Node>,
+        condition: &'a SyntaxNode,
+        body: &'a SyntaxNode,
+        otherwise: Option<&'a SyntaxNode>,
     },
     IfLet {
-        pattern: &'a Node,
-        scrutinee: &'a Node,
-        body: &'a Node,
-        otherwise: Option<&'a Node>,
+        pattern: &'a SyntaxNode,
+        scrutinee: &'a SyntaxNode,
+        body: &'a SyntaxNode,
+        otherwise: Option<&'a SyntaxNode>,
     },
     Match {
-        scrutinee: &'a Node,
+        scrutinee: &'a SyntaxNode,
         arms: Nodes<'a>,
     },
     Loop {
         label: Option<&'a str>,
-        body: &'a Node,
+        body: &'a SyntaxNode,
     },
     While {
         label: Option<&'a str>,
-        condition: &'a Node,
-        body: &'a Node,
+        condition: &'a SyntaxNode,
+        body: &'a SyntaxNode,
     },
     WhileLet {
         label: Option<&'a str>,
-        pattern: &'a Node,
-        scrutinee: &'a Node,
-        body: &'a Node,
+        pattern: &'a SyntaxNode,
+        scrutinee: &'a SyntaxNode,
+        body: &'a SyntaxNode,
     },
     Break {
         label: Option<&'a str>,
-        value: Option<&'a Node>,
+        value: Option<&'a SyntaxNode>,
     },
     Continue {
         label: Option<&'a str>,
     },
-    Return(Option<&'a Node>),
+    Return(Option<&'a SyntaxNode>),
     Closure {
         /// The names that it captures.
         captures: Nodes<'a>,
         params: Nodes<'a>,
-        answer: Option<&'a Node>,
-        block: &'a Node,
+        answer: Option<&'a SyntaxNode>,
+        block: &'a SyntaxNode,
     },
     /// `panic!()`.
     Panic,
@@ -146,19 +146,19 @@ pub enum ExpressionForm<'a> {
 #[derive(Clone, Copy)]
 pub struct InitForm<'a> {
     pub name: &'a str,
-    pub value: Option<&'a Node>,
+    pub value: Option<&'a SyntaxNode>,
 }
 
 /// An arm of a `match`.
 #[derive(Clone, Copy)]
 pub struct ArmForm<'a> {
-    pub pattern: &'a Node,
-    pub guard: Option<&'a Node>,
-    pub body: &'a Node,
+    pub pattern: &'a SyntaxNode,
+    pub guard: Option<&'a SyntaxNode>,
+    pub body: &'a SyntaxNode,
 }
 
-fn call(pieces: &[Piece]) -> ExpressionForm<'_>
-    ensures { expression_of result ≡ expression_part (made_of Row.Call pieces.now) }
+fn call(pieces: &[NodePiece]) -> ExpressionForm<'_>
+    ensures { expression_of result ≡ expression_part (made_of GrammarRow.Call pieces.now) }
 {
     match Nodes::among(pieces).split_first() {
         Some(First { first, rest }) => ExpressionForm::Call {
@@ -169,8 +169,8 @@ fn call(pieces: &[Piece]) -> ExpressionForm<'_>
     }
 }
 
-fn method_call(pieces: &[Piece]) -> ExpressionForm<'_>
-    ensures { expression_of result ≡ expression_part (made_of Row.MethodCall pieces.now) }
+fn method_call(pieces: &[NodePiece]) -> ExpressionForm<'_>
+    ensures { expression_of result ≡ expression_part (made_of GrammarRow.MethodCall pieces.now) }
 {
     match Nodes::among(pieces).split_first() {
         Some(First { first, rest }) => ExpressionForm::MethodCall {
@@ -182,8 +182,8 @@ fn method_call(pieces: &[Piece]) -> ExpressionForm<'_>
     }
 }
 
-fn field(pieces: &[Piece]) -> ExpressionForm<'_>
-    ensures { expression_of result ≡ expression_part (made_of Row.FieldAccess pieces.now) }
+fn field(pieces: &[NodePiece]) -> ExpressionForm<'_>
+    ensures { expression_of result ≡ expression_part (made_of GrammarRow.FieldAccess pieces.now) }
 {
     match Nodes::among(pieces).first() {
         Some(first) => ExpressionForm::Field {
@@ -194,8 +194,8 @@ fn field(pieces: &[Piece]) -> ExpressionForm<'_>
     }
 }
 
-fn part(pieces: &[Piece]) -> ExpressionForm<'_>
-    ensures { expression_of result ≡ expression_part (made_of Row.TupleField pieces.now) }
+fn part(pieces: &[NodePiece]) -> ExpressionForm<'_>
+    ensures { expression_of result ≡ expression_part (made_of GrammarRow.TupleField pieces.now) }
 {
     match Nodes::among(pieces).first() {
         Some(first) => ExpressionForm::Part {
@@ -206,8 +206,8 @@ fn part(pieces: &[Piece]) -> ExpressionForm<'_>
     }
 }
 
-fn match_on(pieces: &[Piece]) -> ExpressionForm<'_>
-    ensures { expression_of result ≡ expression_part (made_of Row.Match pieces.now) }
+fn match_on(pieces: &[NodePiece]) -> ExpressionForm<'_>
+    ensures { expression_of result ≡ expression_part (made_of GrammarRow.Match pieces.now) }
 {
     match Nodes::among(pieces).split_first() {
         Some(First { first, rest }) => ExpressionForm::Match {
@@ -218,8 +218,8 @@ fn match_on(pieces: &[Piece]) -> ExpressionForm<'_>
     }
 }
 
-fn loop_of(pieces: &[Piece]) -> ExpressionForm<'_>
-    ensures { expression_of result ≡ expression_part (made_of Row.Loop pieces.now) }
+fn loop_of(pieces: &[NodePiece]) -> ExpressionForm<'_>
+    ensures { expression_of result ≡ expression_part (made_of GrammarRow.Loop pieces.now) }
 {
     match Nodes::among(pieces).first() {
         Some(first) => ExpressionForm::Loop {
@@ -230,15 +230,15 @@ fn loop_of(pieces: &[Piece]) -> ExpressionForm<'_>
     }
 }
 
-fn number(pieces: &[Piece]) -> ExpressionForm<'_>
-    ensures { expression_of result ≡ expression_part (made_of Row.Number pieces.now) }
+fn number(pieces: &[NodePiece]) -> ExpressionForm<'_>
+    ensures { expression_of result ≡ expression_part (made_of GrammarRow.Number pieces.now) }
 {
     let (value, suffix) = a_number(pieces);
     ExpressionForm::Number { value, suffix }
 }
 
-fn struct_of(pieces: &[Piece]) -> ExpressionForm<'_>
-    ensures { expression_of result ≡ expression_part (made_of Row.StructExpr pieces.now) }
+fn struct_of(pieces: &[NodePiece]) -> ExpressionForm<'_>
+    ensures { expression_of result ≡ expression_part (made_of GrammarRow.StructExpr pieces.now) }
 {
     ExpressionForm::Struct {
         path: path_of(pieces),
@@ -246,15 +246,15 @@ fn struct_of(pieces: &[Piece]) -> ExpressionForm<'_>
     }
 }
 
-fn round(pieces: &[Piece]) -> ExpressionForm<'_>
-    ensures { expression_of result ≡ expression_part (made_of Row.Round pieces.now) }
+fn round(pieces: &[NodePiece]) -> ExpressionForm<'_>
+    ensures { expression_of result ≡ expression_part (made_of GrammarRow.Round pieces.now) }
 {
     let parts = Nodes::among(pieces);
     match parts.split_first() {
         Some(First { first, rest }) => {
             if rest.is_empty()
-                && !has(Kind::Mark(Mark::Comma), pieces)
-                && !has(Kind::Mark(Mark::DotDot), pieces)
+                && !has(TokenKind::Mark(Mark::Comma), pieces)
+                && !has(TokenKind::Mark(Mark::DotDot), pieces)
             {
                 ExpressionForm::Parens(first)
             } else {
@@ -265,8 +265,8 @@ fn round(pieces: &[Piece]) -> ExpressionForm<'_>
     }
 }
 
-fn block(pieces: &[Piece]) -> ExpressionForm<'_>
-    ensures { expression_of result ≡ expression_part (made_of Row.Block pieces.now) }
+fn block(pieces: &[NodePiece]) -> ExpressionForm<'_>
+    ensures { expression_of result ≡ expression_part (made_of GrammarRow.Block pieces.now) }
 {
     let statements = Nodes::among(pieces);
     match statements.split_last() {
@@ -290,15 +290,15 @@ fn block(pieces: &[Piece]) -> ExpressionForm<'_>
     }
 }
 
-fn closure(pieces: &[Piece]) -> ExpressionForm<'_>
-    ensures { expression_of result ≡ expression_part (made_of Row.Closure pieces.now) }
+fn closure(pieces: &[NodePiece]) -> ExpressionForm<'_>
+    ensures { expression_of result ≡ expression_part (made_of GrammarRow.Closure pieces.now) }
 {
-    let Names { names, others } = Nodes::among(pieces).split_names();
+    let LeadingNames { names, others } = Nodes::among(pieces).split_names();
     let Some(block) = others.last() else {
         return ExpressionForm::Other;
     };
     let heads = others.but_last();
-    if has(Kind::Mark(Mark::RArrow), pieces) {
+    if has(TokenKind::Mark(Mark::RArrow), pieces) {
         ExpressionForm::Closure {
             captures: names,
             params: heads.but_last(),
@@ -317,12 +317,12 @@ fn closure(pieces: &[Piece]) -> ExpressionForm<'_>
 
 /// A node as an initialiser of a field, if it is one.
 #[tactic(auto, using(crate::proofs::Named::no_init_seen, crate::proofs::Named::seen_as))]
-pub fn init_form(node: &Node) -> Option<InitForm<'_>>
+pub fn init_form(node: &SyntaxNode) -> Option<InitForm<'_>>
     ensures { option_map init_of result ≡ init_part (shape_of (syn_of node.now)) }
 {
     let pieces = node.parts.as_slice();
     match node.row {
-        Row::FieldInit => Some(InitForm {
+        GrammarRow::FieldInit => Some(InitForm {
             name: a_name(pieces),
             value: Nodes::among(pieces).first(),
         }),
@@ -332,40 +332,40 @@ pub fn init_form(node: &Node) -> Option<InitForm<'_>>
 
 /// A node as an expression; `ExpressionForm::Other` where it is none.
 #[tactic(auto, using(crate::proofs::Named::no_expression_seen, crate::proofs::Named::seen_as))]
-pub fn expression_form(node: &Node) -> ExpressionForm<'_>
+pub fn expression_form(node: &SyntaxNode) -> ExpressionForm<'_>
     ensures { expression_of result ≡ expression_part (shape_of (syn_of node.now)) }
 {
     let pieces = node.parts.as_slice();
     match node.row {
-        Row::Number => number(pieces),
-        Row::Truth => ExpressionForm::Truth(has_true(pieces)),
-        Row::SelfValue => ExpressionForm::SelfValue,
-        Row::Path => ExpressionForm::Path(path_of(pieces)),
-        Row::Prefix => prefix(pieces),
-        Row::Sum => sum(pieces),
-        Row::Product => product(pieces),
-        Row::Compare => compare(pieces),
-        Row::And => and(pieces),
-        Row::Or => or(pieces),
-        Row::Assign => assign(pieces),
-        Row::Call => call(pieces),
-        Row::MethodCall => method_call(pieces),
-        Row::FieldAccess => field(pieces),
-        Row::TupleField => part(pieces),
-        Row::Index => index(pieces),
-        Row::StructExpr => struct_of(pieces),
-        Row::Round => round(pieces),
-        Row::Square => ExpressionForm::Array(Nodes::among(pieces)),
-        Row::Block => block(pieces),
-        Row::If => if_of(pieces),
-        Row::Match => match_on(pieces),
-        Row::Loop => loop_of(pieces),
-        Row::While => while_of(pieces),
-        Row::Break => break_of(pieces),
-        Row::Continue => continue_of(pieces),
-        Row::Return => ExpressionForm::Return(Nodes::among(pieces).first()),
-        Row::Closure => closure(pieces),
-        Row::Panic => ExpressionForm::Panic,
+        GrammarRow::Number => number(pieces),
+        GrammarRow::Truth => ExpressionForm::Truth(has_true(pieces)),
+        GrammarRow::SelfValue => ExpressionForm::SelfValue,
+        GrammarRow::Path => ExpressionForm::Path(path_of(pieces)),
+        GrammarRow::Prefix => prefix(pieces),
+        GrammarRow::Sum => sum(pieces),
+        GrammarRow::Product => product(pieces),
+        GrammarRow::Compare => compare(pieces),
+        GrammarRow::And => and(pieces),
+        GrammarRow::Or => or(pieces),
+        GrammarRow::Assign => assign(pieces),
+        GrammarRow::Call => call(pieces),
+        GrammarRow::MethodCall => method_call(pieces),
+        GrammarRow::FieldAccess => field(pieces),
+        GrammarRow::TupleField => part(pieces),
+        GrammarRow::Index => index(pieces),
+        GrammarRow::StructExpr => struct_of(pieces),
+        GrammarRow::Round => round(pieces),
+        GrammarRow::Square => ExpressionForm::Array(Nodes::among(pieces)),
+        GrammarRow::Block => block(pieces),
+        GrammarRow::If => if_of(pieces),
+        GrammarRow::Match => match_on(pieces),
+        GrammarRow::Loop => loop_of(pieces),
+        GrammarRow::While => while_of(pieces),
+        GrammarRow::Break => break_of(pieces),
+        GrammarRow::Continue => continue_of(pieces),
+        GrammarRow::Return => ExpressionForm::Return(Nodes::among(pieces).first()),
+        GrammarRow::Closure => closure(pieces),
+        GrammarRow::Panic => ExpressionForm::Panic,
         _ => ExpressionForm::Other,
     }
 }

@@ -4,13 +4,13 @@ ghost use Rattle.src_ast.specs.Seen.{made_of, are_idents, nodes_of, syn_of};
 ghost use Rattle.src_ast.specs.Syntax.{FnItem, just, nothing, shape_of};
 ghost use Rattle.src_ast.specs.View.{behind_params, behind_word, but_last, idents, impl_row, kind_of, last_of, made, named, tokens_in, views};
 ghost use Rattle.src_tree.specs.View.{parts_in};
-ghost use Rattle.src_tree.specs.declared.row.Row.{Row};
+ghost use Rattle.src_tree.specs.declared.row.GrammarRow.{GrammarRow};
 ghost use Rattle.src_ast.specs.Sorts.{item_part};
 
-use crate::nodes::{First, Last, Names, Nodes};
+use crate::nodes::{First, Last, LeadingNames, Nodes};
 use crate::tokens::has;
 use src_token::{Mark, Token, Word};
-use src_tree::{Kind, Node, Piece, Row, is};
+use src_tree::{GrammarRow, NodePiece, SyntaxNode, TokenKind, is};
 
 /// How the parts of a struct or of a variant are written.
 #[derive(Clone, Copy)]
@@ -26,11 +26,11 @@ pub enum FieldKind {
 /// A function, a method, or the head of a trait's method, which has no block.
 #[derive(Clone, Copy)]
 pub struct Function<'a> {
-    pub name: &'a Node,
+    pub name: &'a SyntaxNode,
     pub params: Nodes<'a>,
     /// The type behind the arrow.
-    pub answer: Option<&'a Node>,
-    pub block: Option<&'a Node>,
+    pub answer: Option<&'a SyntaxNode>,
+    pub block: Option<&'a SyntaxNode>,
 }
 
 /// An item, a method, or the head of a trait's method (The Rust Reference, "Items").
@@ -39,23 +39,23 @@ pub enum ItemForm<'a> {
     Struct {
         /// The names that it derives.
         derives: Nodes<'a>,
-        name: &'a Node,
+        name: &'a SyntaxNode,
         kind: FieldKind,
         /// Types, or fields with names.
         fields: Nodes<'a>,
     },
     Enum {
         derives: Nodes<'a>,
-        name: &'a Node,
+        name: &'a SyntaxNode,
         variants: Nodes<'a>,
     },
     Trait {
-        name: &'a Node,
+        name: &'a SyntaxNode,
         heads: Nodes<'a>,
     },
     Impl {
-        trait_: Option<&'a Node>,
-        name: &'a Node,
+        trait_: Option<&'a SyntaxNode>,
+        name: &'a SyntaxNode,
         methods: Nodes<'a>,
     },
     Fn(Function<'a>),
@@ -64,20 +64,20 @@ pub enum ItemForm<'a> {
 }
 
 /// How parts are written, by the tokens around them.
-pub fn field_kind(pieces: &[Piece]) -> FieldKind
+pub fn field_kind(pieces: &[NodePiece]) -> FieldKind
     ensures { kind_seen result ≡ kind_of (tokens_in (parts_in pieces.now)) }
 {
-    if has(Kind::Mark(Mark::OpenBrace), pieces) {
+    if has(TokenKind::Mark(Mark::OpenBrace), pieces) {
         FieldKind::Named
-    } else if has(Kind::Mark(Mark::OpenParenthesis), pieces) {
+    } else if has(TokenKind::Mark(Mark::OpenParenthesis), pieces) {
         FieldKind::Tuple
     } else {
         FieldKind::Unit
     }
 }
 
-fn trait_item(pieces: &[Piece]) -> ItemForm<'_>
-    ensures { item_of result ≡ item_part (made_of Row.Trait pieces.now) }
+fn trait_item(pieces: &[NodePiece]) -> ItemForm<'_>
+    ensures { item_of result ≡ item_part (made_of GrammarRow.Trait pieces.now) }
 {
     match Nodes::among(pieces).split_first() {
         Some(First { first, rest }) => ItemForm::Trait {
@@ -89,10 +89,10 @@ fn trait_item(pieces: &[Piece]) -> ItemForm<'_>
 }
 
 #[tactic(auto, using(crate::proofs::LastNames::last_named))]
-fn enum_item(pieces: &[Piece]) -> ItemForm<'_>
-    ensures { item_of result ≡ item_part (made_of Row.Enum pieces.now) }
+fn enum_item(pieces: &[NodePiece]) -> ItemForm<'_>
+    ensures { item_of result ≡ item_part (made_of GrammarRow.Enum pieces.now) }
 {
-    let Names { names, others } = Nodes::among(pieces).split_names();
+    let LeadingNames { names, others } = Nodes::among(pieces).split_names();
     match names.split_last() {
         Some(Last { earlier, last }) => ItemForm::Enum {
             derives: earlier,
@@ -104,12 +104,12 @@ fn enum_item(pieces: &[Piece]) -> ItemForm<'_>
 }
 
 /// The parts behind the first token that is a word; none where there is no such token.
-fn behind(word: Word, pieces: &[Piece]) -> &[Piece]
+fn behind(word: Word, pieces: &[NodePiece]) -> &[NodePiece]
     ensures { tokens_in (parts_in result.now) ≡ behind_word word (tokens_in (parts_in pieces.now)) }
 {
     for (i, piece) in pieces.iter().enumerate() {
-        if let Piece::Token(token) = piece
-            && is(Kind::Word(word), token)
+        if let NodePiece::Token(token) = piece
+            && is(TokenKind::Word(word), token)
         {
             return &pieces[i + 1..];
         }
@@ -118,10 +118,10 @@ fn behind(word: Word, pieces: &[Piece]) -> &[Piece]
 }
 
 #[tactic(auto, using(crate::proofs::LastNames::last_named))]
-fn struct_item(pieces: &[Piece]) -> ItemForm<'_>
-    ensures { item_of result ≡ item_part (made_of Row.Struct pieces.now) }
+fn struct_item(pieces: &[NodePiece]) -> ItemForm<'_>
+    ensures { item_of result ≡ item_part (made_of GrammarRow.Struct pieces.now) }
 {
-    let Names { names, others } = Nodes::among(pieces).split_names();
+    let LeadingNames { names, others } = Nodes::among(pieces).split_names();
     match names.split_last() {
         Some(Last { earlier, last }) => ItemForm::Struct {
             derives: earlier,
@@ -134,7 +134,7 @@ fn struct_item(pieces: &[Piece]) -> ItemForm<'_>
 }
 
 /// What stands behind the name of a function that has a block.
-fn with_block<'a>(has_answer: bool, name: &'a Node, behind: Nodes<'a>) -> Option<Function<'a>>
+fn with_block<'a>(has_answer: bool, name: &'a SyntaxNode, behind: Nodes<'a>) -> Option<Function<'a>>
     ensures { option_map function_of result
         ≡ item_part (with_block_of has_answer (named (syn_of name.now)) (nodes_of behind.entry)) }
 {
@@ -157,7 +157,7 @@ fn with_block<'a>(has_answer: bool, name: &'a Node, behind: Nodes<'a>) -> Option
     })
 }
 
-fn without_block<'a>(has_answer: bool, name: &'a Node, behind: Nodes<'a>) -> Function<'a>
+fn without_block<'a>(has_answer: bool, name: &'a SyntaxNode, behind: Nodes<'a>) -> Function<'a>
     ensures { function_of result ≡ without_block_of has_answer (named (syn_of name.now)) (nodes_of behind.entry) }
 {
     if has_answer {
@@ -222,21 +222,21 @@ fn own_impl<'a>(names: Nodes<'a>, methods: Nodes<'a>) -> ItemForm<'a>
     }
 }
 
-fn impl_item(pieces: &[Piece]) -> ItemForm<'_>
-    ensures { item_of result ≡ item_part (made_of Row.Impl pieces.now) }
+fn impl_item(pieces: &[NodePiece]) -> ItemForm<'_>
+    ensures { item_of result ≡ item_part (made_of GrammarRow.Impl pieces.now) }
 {
-    let Names { names, others } = Nodes::among(pieces).split_names();
-    if has(Kind::Word(Word::For), pieces) {
+    let LeadingNames { names, others } = Nodes::among(pieces).split_names();
+    if has(TokenKind::Word(Word::For), pieces) {
         trait_impl(names, others)
     } else {
         own_impl(names, others)
     }
 }
 
-fn fn_item(pieces: &[Piece]) -> ItemForm<'_>
-    ensures { item_of result ≡ item_part (made_of Row.Fn pieces.now) }
+fn fn_item(pieces: &[NodePiece]) -> ItemForm<'_>
+    ensures { item_of result ≡ item_part (made_of GrammarRow.Fn pieces.now) }
 {
-    let has_answer = has(Kind::Mark(Mark::RArrow), pieces);
+    let has_answer = has(TokenKind::Mark(Mark::RArrow), pieces);
     let Some(First { first, rest }) = Nodes::among(pieces).split_first() else {
         return ItemForm::Other;
     };
@@ -246,10 +246,10 @@ fn fn_item(pieces: &[Piece]) -> ItemForm<'_>
     }
 }
 
-fn head_item(pieces: &[Piece]) -> ItemForm<'_>
-    ensures { item_of result ≡ item_part (made_of Row.Head pieces.now) }
+fn head_item(pieces: &[NodePiece]) -> ItemForm<'_>
+    ensures { item_of result ≡ item_part (made_of GrammarRow.Head pieces.now) }
 {
-    let has_answer = has(Kind::Mark(Mark::RArrow), pieces);
+    let has_answer = has(TokenKind::Mark(Mark::RArrow), pieces);
     match Nodes::among(pieces).split_first() {
         Some(First { first, rest }) => ItemForm::Fn(without_block(has_answer, first, rest)),
         None => ItemForm::Other,
@@ -258,17 +258,17 @@ fn head_item(pieces: &[Piece]) -> ItemForm<'_>
 
 /// A node as an item, a method or the head of a trait's method; `ItemForm::Other` where it is none.
 #[tactic(auto, using(crate::proofs::Named::no_item_seen, crate::proofs::Named::seen_as))]
-pub fn item_form(node: &Node) -> ItemForm<'_>
+pub fn item_form(node: &SyntaxNode) -> ItemForm<'_>
     ensures { item_of result ≡ item_part (shape_of (syn_of node.now)) }
 {
     let pieces = node.parts.as_slice();
     match node.row {
-        Row::Struct => struct_item(pieces),
-        Row::Enum => enum_item(pieces),
-        Row::Trait => trait_item(pieces),
-        Row::Impl => impl_item(pieces),
-        Row::Fn | Row::Method => fn_item(pieces),
-        Row::Head => head_item(pieces),
+        GrammarRow::Struct => struct_item(pieces),
+        GrammarRow::Enum => enum_item(pieces),
+        GrammarRow::Trait => trait_item(pieces),
+        GrammarRow::Impl => impl_item(pieces),
+        GrammarRow::Fn | GrammarRow::Method => fn_item(pieces),
+        GrammarRow::Head => head_item(pieces),
         _ => ItemForm::Other,
     }
 }

@@ -17,7 +17,7 @@ mod ty;
 pub use control::arm_form;
 pub use expression::{ArmForm, ExpressionForm, InitForm, expression_form, init_form};
 pub use item::{FieldKind, Function, ItemForm, field_kind, item_form};
-pub use nodes::{First, Last, Names, Nodes, is_name};
+pub use nodes::{First, Last, LeadingNames, Nodes, is_name};
 pub use part::{FieldForm, ParamForm, Receiver, VariantForm, field_form, param_form, variant_form};
 pub use path::PathForm;
 pub use pattern::{FieldPatternForm, PatternForm, field_pattern_form, pattern_form};

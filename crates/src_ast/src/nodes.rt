@@ -4,18 +4,18 @@ ghost use Rattle.src_tree.specs.View.{layout_of, parts_in};
 ghost use Rattle.src_ast.specs.Syntax.{no_syn};
 ghost use Rattle.src_ast.specs.View.{views, is_ident, idents, behind_idents, first_of, rest_of, last_of, but_last};
 
-use src_tree::{Node, Piece, Row};
+use src_tree::{GrammarRow, NodePiece, SyntaxNode};
 
 /// Some nodes in their order; the tokens between them are passed over.
 #[derive(Clone, Copy)]
 pub struct Nodes<'a> {
-    pieces: &'a [Piece],
+    pieces: &'a [NodePiece],
 }
 
 /// The first of some nodes, and the others.
 #[derive(Clone, Copy)]
 pub struct First<'a> {
-    pub first: &'a Node,
+    pub first: &'a SyntaxNode,
     pub rest: Nodes<'a>,
 }
 
@@ -23,30 +23,30 @@ pub struct First<'a> {
 #[derive(Clone, Copy)]
 pub struct Last<'a> {
     pub earlier: Nodes<'a>,
-    pub last: &'a Node,
+    pub last: &'a SyntaxNode,
 }
 
 /// The names that stand first among some nodes, and the nodes behind them.
 #[derive(Clone, Copy)]
-pub struct Names<'a> {
+pub struct LeadingNames<'a> {
     pub names: Nodes<'a>,
     pub others: Nodes<'a>,
 }
 
 /// Whether a node is a name by itself.
 #[tactic(auto, using(crate::proofs::Named::no_ident_seen, crate::proofs::Named::seen_as))]
-pub fn is_name(node: &Node) -> bool
+pub fn is_name(node: &SyntaxNode) -> bool
     ensures { result ≡ is_ident (syn_of node.now) }
 {
     match node.row {
-        Row::Ident => true,
+        GrammarRow::Ident => true,
         _ => false,
     }
 }
 
 impl<'a> Nodes<'a> {
     /// The nodes among some parts of a node.
-    pub fn among(pieces: &'a [Piece]) -> Nodes<'a>
+    pub fn among(pieces: &'a [NodePiece]) -> Nodes<'a>
         ensures { nodes_of result ≡ views (parts_in pieces.now) }
     {
         Nodes { pieces }
@@ -57,7 +57,7 @@ impl<'a> Nodes<'a> {
         ensures { by_first result ≡ nodes_of self.entry }
     {
         for (i, piece) in self.pieces.iter().enumerate() {
-            if let Piece::Node(first) = piece {
+            if let NodePiece::Node(first) = piece {
                 return Some(First {
                     first,
                     rest: Nodes {
@@ -77,7 +77,7 @@ impl<'a> Nodes<'a> {
     }
 
     /// The first node by itself.
-    pub fn first(self) -> Option<&'a Node>
+    pub fn first(self) -> Option<&'a SyntaxNode>
         ensures { maybe_of result ≡ first_of (nodes_of self.entry) }
     {
         match self.split_first() {
@@ -97,7 +97,7 @@ impl<'a> Nodes<'a> {
         let mut left = pieces.len();
         while left > 0 {
             left -= 1;
-            if let Piece::Node(last) = &pieces[left] {
+            if let NodePiece::Node(last) = &pieces[left] {
                 return Some(Last {
                     earlier: Nodes {
                         pieces: &pieces[..left],
@@ -110,7 +110,7 @@ impl<'a> Nodes<'a> {
     }
 
     /// The last node by itself.
-    pub fn last(self) -> Option<&'a Node>
+    pub fn last(self) -> Option<&'a SyntaxNode>
         ensures { maybe_of result ≡ last_of (nodes_of self.entry) }
     {
         match self.split_last() {
@@ -140,7 +140,7 @@ impl<'a> Nodes<'a> {
     }
 
     /// The names that stand first, and the nodes behind them.
-    pub fn split_names(self) -> Names<'a>
+    pub fn split_names(self) -> LeadingNames<'a>
         ensures names { are_idents (nodes_of result.names) ≡ true }
         ensures first { idents (nodes_of self.entry) ≡ idents (nodes_of result.names) }
         ensures others { behind_idents (nodes_of self.entry) ≡ nodes_of result.others }
@@ -148,10 +148,10 @@ impl<'a> Nodes<'a> {
         let pieces = self.pieces;
         for (i, piece) in pieces.iter().enumerate() {
             match piece {
-                Piece::Token(_) => {}
-                Piece::Node(node) => {
+                NodePiece::Token(_) => {}
+                NodePiece::Node(node) => {
                     if !is_name(node) {
-                        return Names {
+                        return LeadingNames {
                             names: Nodes {
                                 pieces: &pieces[..i],
                             },
@@ -163,7 +163,7 @@ impl<'a> Nodes<'a> {
                 }
             }
         }
-        Names {
+        LeadingNames {
             names: self,
             others: Nodes { pieces: &[] },
         }

@@ -4,18 +4,18 @@ ghost use Rattle.src_ast.specs.Seen.{made_of, syn_of, two_first};
 ghost use Rattle.src_ast.specs.View.{first_that, math_in as math_of, cmp_in as cmp_of, prefix as prefix_of, tokens_in, views};
 ghost use Rattle.src_tree.specs.View.{parts_in};
 ghost use Rattle.src_ast.specs.Sorts.{expression_part};
-ghost use Rattle.src_tree.specs.declared.row.Row.{Row};
+ghost use Rattle.src_tree.specs.declared.row.GrammarRow.{GrammarRow};
 
 use crate::expression::ExpressionForm;
 use crate::nodes::{First, Nodes};
 use crate::tokens::{has, split_token};
 use mir_base::{Cmp, Math};
 use src_token::{Mark, Token, Word};
-use src_tree::{Kind, Node, Piece, is};
+use src_tree::{NodePiece, SyntaxNode, TokenKind, is};
 
 /// The first two nodes among some parts.
 #[tactic(auto, using(crate::proofs::Seconds::second_is))]
-fn two(pieces: &[Piece]) -> Option<(&Node, &Node)>
+fn two(pieces: &[NodePiece]) -> Option<(&SyntaxNode, &SyntaxNode)>
     ensures { option_map (λ e. (syn_of e.0.now, syn_of e.1.now)) result ≡ two_first (views (parts_in pieces.now)) }
 {
     let First { first, rest } = Nodes::among(pieces).split_first()?;
@@ -23,8 +23,8 @@ fn two(pieces: &[Piece]) -> Option<(&Node, &Node)>
     Some((first, second))
 }
 
-pub(crate) fn assign(pieces: &[Piece]) -> ExpressionForm<'_>
-    ensures { expression_of result ≡ expression_part (made_of Row.Assign pieces.now) }
+pub(crate) fn assign(pieces: &[NodePiece]) -> ExpressionForm<'_>
+    ensures { expression_of result ≡ expression_part (made_of GrammarRow.Assign pieces.now) }
 {
     match two(pieces) {
         Some((first, second)) => ExpressionForm::Assign {
@@ -35,8 +35,8 @@ pub(crate) fn assign(pieces: &[Piece]) -> ExpressionForm<'_>
     }
 }
 
-pub(crate) fn or(pieces: &[Piece]) -> ExpressionForm<'_>
-    ensures { expression_of result ≡ expression_part (made_of Row.Or pieces.now) }
+pub(crate) fn or(pieces: &[NodePiece]) -> ExpressionForm<'_>
+    ensures { expression_of result ≡ expression_part (made_of GrammarRow.Or pieces.now) }
 {
     match two(pieces) {
         Some((first, second)) => ExpressionForm::Or {
@@ -47,8 +47,8 @@ pub(crate) fn or(pieces: &[Piece]) -> ExpressionForm<'_>
     }
 }
 
-pub(crate) fn and(pieces: &[Piece]) -> ExpressionForm<'_>
-    ensures { expression_of result ≡ expression_part (made_of Row.And pieces.now) }
+pub(crate) fn and(pieces: &[NodePiece]) -> ExpressionForm<'_>
+    ensures { expression_of result ≡ expression_part (made_of GrammarRow.And pieces.now) }
 {
     match two(pieces) {
         Some((first, second)) => ExpressionForm::And {
@@ -59,8 +59,8 @@ pub(crate) fn and(pieces: &[Piece]) -> ExpressionForm<'_>
     }
 }
 
-pub(crate) fn index(pieces: &[Piece]) -> ExpressionForm<'_>
-    ensures { expression_of result ≡ expression_part (made_of Row.Index pieces.now) }
+pub(crate) fn index(pieces: &[NodePiece]) -> ExpressionForm<'_>
+    ensures { expression_of result ≡ expression_part (made_of GrammarRow.Index pieces.now) }
 {
     match two(pieces) {
         Some((first, second)) => ExpressionForm::Index {
@@ -98,11 +98,11 @@ fn cmp_in(token: &Token) -> Option<Cmp>
     }
 }
 
-fn a_math(pieces: &[Piece]) -> Option<Math>
+fn a_math(pieces: &[NodePiece]) -> Option<Math>
     ensures { result ≡ first_that math_of (tokens_in (parts_in pieces.now)) }
 {
     for piece in pieces {
-        if let Piece::Token(token) = piece {
+        if let NodePiece::Token(token) = piece {
             let found = math_in(token);
             if found.is_some() {
                 return found;
@@ -112,11 +112,11 @@ fn a_math(pieces: &[Piece]) -> Option<Math>
     None
 }
 
-fn a_cmp(pieces: &[Piece]) -> Option<Cmp>
+fn a_cmp(pieces: &[NodePiece]) -> Option<Cmp>
     ensures { result ≡ first_that cmp_of (tokens_in (parts_in pieces.now)) }
 {
     for piece in pieces {
-        if let Piece::Token(token) = piece {
+        if let NodePiece::Token(token) = piece {
             let found = cmp_in(token);
             if found.is_some() {
                 return found;
@@ -126,8 +126,8 @@ fn a_cmp(pieces: &[Piece]) -> Option<Cmp>
     None
 }
 
-pub(crate) fn sum(pieces: &[Piece]) -> ExpressionForm<'_>
-    ensures { expression_of result ≡ expression_part (made_of Row.Sum pieces.now) }
+pub(crate) fn sum(pieces: &[NodePiece]) -> ExpressionForm<'_>
+    ensures { expression_of result ≡ expression_part (made_of GrammarRow.Sum pieces.now) }
 {
     let Some(operator) = a_math(pieces) else {
         return ExpressionForm::Other;
@@ -142,8 +142,8 @@ pub(crate) fn sum(pieces: &[Piece]) -> ExpressionForm<'_>
     }
 }
 
-pub(crate) fn product(pieces: &[Piece]) -> ExpressionForm<'_>
-    ensures { expression_of result ≡ expression_part (made_of Row.Product pieces.now) }
+pub(crate) fn product(pieces: &[NodePiece]) -> ExpressionForm<'_>
+    ensures { expression_of result ≡ expression_part (made_of GrammarRow.Product pieces.now) }
 {
     let Some(operator) = a_math(pieces) else {
         return ExpressionForm::Other;
@@ -158,8 +158,8 @@ pub(crate) fn product(pieces: &[Piece]) -> ExpressionForm<'_>
     }
 }
 
-pub(crate) fn compare(pieces: &[Piece]) -> ExpressionForm<'_>
-    ensures { expression_of result ≡ expression_part (made_of Row.Compare pieces.now) }
+pub(crate) fn compare(pieces: &[NodePiece]) -> ExpressionForm<'_>
+    ensures { expression_of result ≡ expression_part (made_of GrammarRow.Compare pieces.now) }
 {
     let Some(operator) = a_cmp(pieces) else {
         return ExpressionForm::Other;
@@ -174,26 +174,26 @@ pub(crate) fn compare(pieces: &[Piece]) -> ExpressionForm<'_>
     }
 }
 
-fn with_sign<'a>(sign: &Token, behind: &[Piece], operand: &'a Node) -> ExpressionForm<'a>
+fn with_sign<'a>(sign: &Token, behind: &[NodePiece], operand: &'a SyntaxNode) -> ExpressionForm<'a>
     ensures { expression_of result
         ≡ expression_part (prefix_of (sign.now ∷ tokens_in (parts_in behind.now)) (syn_of operand.now)) }
 {
-    if is(Kind::Mark(Mark::Minus), sign) {
+    if is(TokenKind::Mark(Mark::Minus), sign) {
         ExpressionForm::Negate(operand)
-    } else if is(Kind::Mark(Mark::Not), sign) {
+    } else if is(TokenKind::Mark(Mark::Not), sign) {
         ExpressionForm::Not(operand)
-    } else if is(Kind::Mark(Mark::Star), sign) {
+    } else if is(TokenKind::Mark(Mark::Star), sign) {
         ExpressionForm::Deref(operand)
     } else {
         ExpressionForm::Borrow {
-            unique: has(Kind::Word(Word::Mut), behind),
+            unique: has(TokenKind::Word(Word::Mut), behind),
             operand,
         }
     }
 }
 
-pub(crate) fn prefix(pieces: &[Piece]) -> ExpressionForm<'_>
-    ensures { expression_of result ≡ expression_part (made_of Row.Prefix pieces.now) }
+pub(crate) fn prefix(pieces: &[NodePiece]) -> ExpressionForm<'_>
+    ensures { expression_of result ≡ expression_part (made_of GrammarRow.Prefix pieces.now) }
 {
     let Some(operand) = Nodes::among(pieces).first() else {
         return ExpressionForm::Other;

@@ -8,7 +8,7 @@ ghost use Rattle.src_tree.specs.View.{parts_in};
 use crate::nodes::Nodes;
 use crate::tokens::{a_name, has};
 use src_token::{Mark, Token};
-use src_tree::{Kind, Node, Piece, Row};
+use src_tree::{GrammarRow, NodePiece, SyntaxNode, TokenKind};
 
 /// A path: a name, or `Self` where `first` is `None`; and the name behind `::`.
 #[derive(Clone, Copy)]
@@ -18,11 +18,11 @@ pub struct PathForm<'a> {
 }
 
 /// The name with which some parts begin; `None` where they begin with another token.
-fn head(pieces: &[Piece]) -> Option<&str>
+fn head(pieces: &[NodePiece]) -> Option<&str>
     ensures { word_of result ≡ seen.path_head (tokens_in (parts_in pieces.now)) }
 {
     for piece in pieces {
-        if let Piece::Token(token) = piece {
+        if let NodePiece::Token(token) = piece {
             return match token {
                 Token::Name(name) => Some(name.as_str()),
                 _ => None,
@@ -34,16 +34,16 @@ fn head(pieces: &[Piece]) -> Option<&str>
 
 /// The name that a node is, if it is one.
 #[tactic(auto, using(crate::proofs::Named::no_word_seen, crate::proofs::Named::seen_as))]
-fn name_if(node: &Node) -> Option<&str>
+fn name_if(node: &SyntaxNode) -> Option<&str>
     ensures { word_of result ≡ seen.ident_in (shape_of (syn_of node.now)) }
 {
     match node.row {
-        Row::Ident => Some(a_name(node.parts.as_slice())),
+        GrammarRow::Ident => Some(a_name(node.parts.as_slice())),
         _ => None,
     }
 }
 
-fn ident_name(node: Option<&Node>) -> Option<&str>
+fn ident_name(node: Option<&SyntaxNode>) -> Option<&str>
     ensures { word_of result ≡ seen.ident_name (maybe_of node.entry) }
 {
     match node {
@@ -52,10 +52,10 @@ fn ident_name(node: Option<&Node>) -> Option<&str>
     }
 }
 
-fn tail(pieces: &[Piece]) -> Option<&str>
+fn tail(pieces: &[NodePiece]) -> Option<&str>
     ensures { word_of result ≡ seen.path_tail (tokens_in (parts_in pieces.now)) (views (parts_in pieces.now)) }
 {
-    if has(Kind::Mark(Mark::PathSep), pieces) {
+    if has(TokenKind::Mark(Mark::PathSep), pieces) {
         ident_name(Nodes::among(pieces).first())
     } else {
         None
@@ -63,7 +63,7 @@ fn tail(pieces: &[Piece]) -> Option<&str>
 }
 
 /// The path with which some parts begin.
-pub fn path_of(pieces: &[Piece]) -> PathForm<'_>
+pub fn path_of(pieces: &[NodePiece]) -> PathForm<'_>
     ensures first { word_of result.first ≡ seen.path_head (tokens_in (parts_in pieces.now)) }
     ensures second { word_of result.second
         ≡ seen.path_tail (tokens_in (parts_in pieces.now)) (views (parts_in pieces.now)) }
@@ -75,11 +75,11 @@ pub fn path_of(pieces: &[Piece]) -> PathForm<'_>
 }
 
 /// The nodes behind the path with which some parts begin.
-pub fn behind_path(pieces: &[Piece]) -> Nodes<'_>
+pub fn behind_path(pieces: &[NodePiece]) -> Nodes<'_>
     ensures { nodes_of result ≡ seen.behind_path (tokens_in (parts_in pieces.now)) (views (parts_in pieces.now)) }
 {
     let nodes = Nodes::among(pieces);
-    if has(Kind::Mark(Mark::PathSep), pieces) {
+    if has(TokenKind::Mark(Mark::PathSep), pieces) {
         nodes.rest()
     } else {
         nodes

@@ -6,14 +6,14 @@ ghost use Rattle.src_ast.specs.Syntax.{shape_of};
 ghost use Rattle.src_ast.specs.View.{has_mark, tokens_in};
 ghost use Rattle.src_token.specs.declared.mark.Mark.{Mark};
 ghost use Rattle.src_tree.specs.View.{parts_in};
-ghost use Rattle.src_tree.specs.declared.row.Row.{Row};
+ghost use Rattle.src_tree.specs.declared.row.GrammarRow.{GrammarRow};
 
 use crate::nodes::{First, Nodes};
 use crate::path::{PathForm, behind_path, path_of};
 use crate::tokens::{a_name, a_number, has, has_true};
 use mir_base::IntKind;
 use src_token::Mark;
-use src_tree::{Kind, Node, Piece, Row};
+use src_tree::{GrammarRow, NodePiece, SyntaxNode, TokenKind};
 
 /// A pattern (The Rust Reference, "Patterns").
 #[derive(Clone, Copy)]
@@ -45,7 +45,7 @@ pub enum PatternForm<'a> {
         dots: bool,
     },
     /// A pattern in parentheses.
-    Parens(&'a Node),
+    Parens(&'a SyntaxNode),
     Tuple {
         parts: Nodes<'a>,
         dots: bool,
@@ -64,28 +64,28 @@ pub enum PatternForm<'a> {
 #[derive(Clone, Copy)]
 pub struct FieldPatternForm<'a> {
     pub name: &'a str,
-    pub pattern: Option<&'a Node>,
+    pub pattern: Option<&'a SyntaxNode>,
 }
 
-fn has_dots(pieces: &[Piece]) -> bool
+fn has_dots(pieces: &[NodePiece]) -> bool
     ensures { result ≡ has_mark Mark.DotDot (tokens_in (parts_in pieces.now)) }
 {
-    has(Kind::Mark(Mark::DotDot), pieces)
+    has(TokenKind::Mark(Mark::DotDot), pieces)
 }
 
-fn number(pieces: &[Piece]) -> PatternForm<'_>
-    ensures { pattern_of result ≡ pattern_part (made_of Row.NumberPattern pieces.now) }
+fn number(pieces: &[NodePiece]) -> PatternForm<'_>
+    ensures { pattern_of result ≡ pattern_part (made_of GrammarRow.NumberPattern pieces.now) }
 {
     let (value, suffix) = a_number(pieces);
     PatternForm::Literal {
-        is_negative: has(Kind::Mark(Mark::Minus), pieces),
+        is_negative: has(TokenKind::Mark(Mark::Minus), pieces),
         value,
         suffix,
     }
 }
 
-fn parts(pieces: &[Piece]) -> PatternForm<'_>
-    ensures { pattern_of result ≡ pattern_part (made_of Row.CallPattern pieces.now) }
+fn parts(pieces: &[NodePiece]) -> PatternForm<'_>
+    ensures { pattern_of result ≡ pattern_part (made_of GrammarRow.CallPattern pieces.now) }
 {
     PatternForm::Parts {
         path: path_of(pieces),
@@ -94,8 +94,8 @@ fn parts(pieces: &[Piece]) -> PatternForm<'_>
     }
 }
 
-fn fields(pieces: &[Piece]) -> PatternForm<'_>
-    ensures { pattern_of result ≡ pattern_part (made_of Row.StructPattern pieces.now) }
+fn fields(pieces: &[NodePiece]) -> PatternForm<'_>
+    ensures { pattern_of result ≡ pattern_part (made_of GrammarRow.StructPattern pieces.now) }
 {
     PatternForm::Fields {
         path: path_of(pieces),
@@ -104,14 +104,14 @@ fn fields(pieces: &[Piece]) -> PatternForm<'_>
     }
 }
 
-fn round(pieces: &[Piece]) -> PatternForm<'_>
-    ensures { pattern_of result ≡ pattern_part (made_of Row.TuplePattern pieces.now) }
+fn round(pieces: &[NodePiece]) -> PatternForm<'_>
+    ensures { pattern_of result ≡ pattern_part (made_of GrammarRow.TuplePattern pieces.now) }
 {
     let parts = Nodes::among(pieces);
     let dots = has_dots(pieces);
     match parts.split_first() {
         Some(First { first, rest }) => {
-            if rest.is_empty() && !has(Kind::Mark(Mark::Comma), pieces) && !dots {
+            if rest.is_empty() && !has(TokenKind::Mark(Mark::Comma), pieces) && !dots {
                 PatternForm::Parens(first)
             } else {
                 PatternForm::Tuple { parts, dots }
@@ -123,36 +123,36 @@ fn round(pieces: &[Piece]) -> PatternForm<'_>
 
 /// A node as a pattern; `PatternForm::Other` where it is none.
 #[tactic(auto, using(crate::proofs::Named::no_pattern_seen, crate::proofs::Named::seen_as))]
-pub fn pattern_form(node: &Node) -> PatternForm<'_>
+pub fn pattern_form(node: &SyntaxNode) -> PatternForm<'_>
     ensures { pattern_of result ≡ pattern_part (shape_of (syn_of node.now)) }
 {
     let pieces = node.parts.as_slice();
     match node.row {
-        Row::WildPattern => PatternForm::Wild,
-        Row::BindPattern => PatternForm::Bind(a_name(pieces)),
-        Row::NumberPattern => number(pieces),
-        Row::BoolPattern => PatternForm::Truth(has_true(pieces)),
-        Row::PathPattern => PatternForm::Path(path_of(pieces)),
-        Row::CallPattern => parts(pieces),
-        Row::StructPattern => fields(pieces),
-        Row::TuplePattern => round(pieces),
-        Row::ArrayPattern => PatternForm::Array {
+        GrammarRow::WildPattern => PatternForm::Wild,
+        GrammarRow::BindPattern => PatternForm::Bind(a_name(pieces)),
+        GrammarRow::NumberPattern => number(pieces),
+        GrammarRow::BoolPattern => PatternForm::Truth(has_true(pieces)),
+        GrammarRow::PathPattern => PatternForm::Path(path_of(pieces)),
+        GrammarRow::CallPattern => parts(pieces),
+        GrammarRow::StructPattern => fields(pieces),
+        GrammarRow::TuplePattern => round(pieces),
+        GrammarRow::ArrayPattern => PatternForm::Array {
             elements: Nodes::among(pieces),
             dots: has_dots(pieces),
         },
-        Row::OrPattern => PatternForm::Or(Nodes::among(pieces)),
+        GrammarRow::OrPattern => PatternForm::Or(Nodes::among(pieces)),
         _ => PatternForm::Other,
     }
 }
 
 /// A node as a field in a pattern, if it is one.
 #[tactic(auto, using(crate::proofs::Named::no_field_pattern_seen, crate::proofs::Named::seen_as))]
-pub fn field_pattern_form(node: &Node) -> Option<FieldPatternForm<'_>>
+pub fn field_pattern_form(node: &SyntaxNode) -> Option<FieldPatternForm<'_>>
     ensures { option_map field_pattern_of result ≡ field_pattern_part (shape_of (syn_of node.now)) }
 {
     let pieces = node.parts.as_slice();
     match node.row {
-        Row::FieldPattern => Some(FieldPatternForm {
+        GrammarRow::FieldPattern => Some(FieldPatternForm {
             name: a_name(pieces),
             pattern: Nodes::among(pieces).first(),
         }),

@@ -7,14 +7,14 @@ ghost use Rattle.src_tree.specs.View.{parts_in};
 
 use mir_base::IntKind;
 use src_token::{Mark, Token, Word};
-use src_tree::{Kind, Piece, is};
+use src_tree::{NodePiece, TokenKind, is};
 
 /// Whether a token of this kind is among some parts.
-pub fn has(kind: Kind, pieces: &[Piece]) -> bool
+pub fn has(kind: TokenKind, pieces: &[NodePiece]) -> bool
     ensures { result ≡ seen.has kind (tokens_in (parts_in pieces.now)) }
 {
     for piece in pieces {
-        if let Piece::Token(token) = piece
+        if let NodePiece::Token(token) = piece
             && is(kind, token)
         {
             return true;
@@ -24,11 +24,11 @@ pub fn has(kind: Kind, pieces: &[Piece]) -> bool
 }
 
 /// The first name among some parts; where there is none, an empty one.
-pub fn a_name(pieces: &[Piece]) -> &str
+pub fn a_name(pieces: &[NodePiece]) -> &str
     ensures { result.now ≡ seen.a_name (tokens_in (parts_in pieces.now)) }
 {
     for piece in pieces {
-        if let Piece::Token(Token::Name(name)) = piece {
+        if let NodePiece::Token(Token::Name(name)) = piece {
             return name.as_str();
         }
     }
@@ -36,11 +36,11 @@ pub fn a_name(pieces: &[Piece]) -> &str
 }
 
 /// The first number among some parts, with its suffix; where there is none, 0.
-pub fn a_number(pieces: &[Piece]) -> (u64, Option<IntKind>)
+pub fn a_number(pieces: &[NodePiece]) -> (u64, Option<IntKind>)
     ensures { result ≡ seen.a_number (tokens_in (parts_in pieces.now)) }
 {
     for piece in pieces {
-        if let Piece::Token(Token::Number { value, suffix }) = piece {
+        if let NodePiece::Token(Token::Number { value, suffix }) = piece {
             return (*value, *suffix);
         }
     }
@@ -48,11 +48,11 @@ pub fn a_number(pieces: &[Piece]) -> (u64, Option<IntKind>)
 }
 
 /// The first label among some parts.
-pub fn a_label(pieces: &[Piece]) -> Option<&str>
+pub fn a_label(pieces: &[NodePiece]) -> Option<&str>
     ensures { word_of result ≡ seen.a_label (tokens_in (parts_in pieces.now)) }
 {
     for piece in pieces {
-        if let Piece::Token(Token::Label(name)) = piece {
+        if let NodePiece::Token(Token::Label(name)) = piece {
             return Some(name.as_str());
         }
     }
@@ -60,11 +60,11 @@ pub fn a_label(pieces: &[Piece]) -> Option<&str>
 }
 
 /// Whether `true` is among some parts.
-pub fn has_true(pieces: &[Piece]) -> bool
+pub fn has_true(pieces: &[NodePiece]) -> bool
     ensures { result ≡ seen.has_true (tokens_in (parts_in pieces.now)) }
 {
     for piece in pieces {
-        if let Piece::Token(Token::Word(Word::True)) = piece {
+        if let NodePiece::Token(Token::Word(Word::True)) = piece {
             return true;
         }
     }
@@ -72,12 +72,12 @@ pub fn has_true(pieces: &[Piece]) -> bool
 }
 
 /// The first token among some parts, and the parts behind it.
-pub fn split_token(pieces: &[Piece]) -> Option<(&Token, &[Piece])>
+pub fn split_token(pieces: &[NodePiece]) -> Option<(&Token, &[NodePiece])>
     ensures { MatchOption result (tokens_in (parts_in pieces.now) ≡ []) (λ e.
         tokens_in (parts_in pieces.now) ≡ e.0.now ∷ tokens_in (parts_in e.1.now)) }
 {
     for (i, piece) in pieces.iter().enumerate() {
-        if let Piece::Token(token) = piece {
+        if let NodePiece::Token(token) = piece {
             return Some((token, &pieces[i + 1..]));
         }
     }

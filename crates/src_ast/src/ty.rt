@@ -4,14 +4,14 @@ ghost use Rattle.src_ast.specs.Syntax.{shape_of};
 ghost use Rattle.src_ast.specs.Types.{type_of};
 ghost use Rattle.src_ast.specs.View.{made, named, tokens_in, views};
 ghost use Rattle.src_tree.specs.View.{parts_in};
-ghost use Rattle.src_tree.specs.declared.row.Row.{Row};
+ghost use Rattle.src_tree.specs.declared.row.GrammarRow.{GrammarRow};
 ghost use Rattle.src_ast.specs.Sorts.{type_part};
 
 use crate::nodes::{First, Nodes};
 use crate::tokens::{a_name, a_number, has};
 use mir_base::{IntKind, Pos};
 use src_token::{Mark, Word};
-use src_tree::{Kind, Node, Piece, Row};
+use src_tree::{GrammarRow, NodePiece, SyntaxNode, TokenKind};
 
 /// A type as it is written (The Rust Reference, "Types").
 #[derive(Clone, Copy)]
@@ -21,7 +21,7 @@ pub enum TypeForm<'a> {
     /// `Box<T>`, whatever the name.
     Generic {
         name: &'a str,
-        content: &'a Node,
+        content: &'a SyntaxNode,
     },
     /// `Box<dyn Trait>`, whatever the name; the trait's name has its place.
     Dyn {
@@ -32,12 +32,12 @@ pub enum TypeForm<'a> {
     /// `Self`.
     SelfType,
     /// A type in parentheses.
-    Parens(&'a Node),
+    Parens(&'a SyntaxNode),
     /// A tuple; without parts, `()`.
     Tuple(Nodes<'a>),
     /// An array, with the suffix of its count.
     Array {
-        element: &'a Node,
+        element: &'a SyntaxNode,
         count: u64,
         suffix: Option<IntKind>,
     },
@@ -46,7 +46,7 @@ pub enum TypeForm<'a> {
     /// `&T`, or `&mut T` where it is unique.
     Reference {
         unique: bool,
-        to: &'a Node,
+        to: &'a SyntaxNode,
     },
     /// No type.
     Other,
@@ -54,24 +54,24 @@ pub enum TypeForm<'a> {
 
 /// A node as a type; `TypeForm::Other` where it is none.
 #[tactic(auto, using(crate::proofs::Named::no_type_seen, crate::proofs::Named::seen_as))]
-pub fn type_form(node: &Node) -> TypeForm<'_>
+pub fn type_form(node: &SyntaxNode) -> TypeForm<'_>
     ensures { type_of result ≡ type_part (shape_of (syn_of node.now)) }
 {
     match node.row {
-        Row::NamedType => TypeForm::Name(a_name(node.parts.as_slice())),
-        Row::SelfType => TypeForm::SelfType,
-        Row::NeverType => TypeForm::Never,
-        Row::GenericType => generic(node.parts.as_slice()),
-        Row::DynType => object(node.parts.as_slice()),
-        Row::TupleType => round(node.parts.as_slice()),
-        Row::ArrayType => array(node.parts.as_slice()),
-        Row::RefType => reference(node.parts.as_slice()),
+        GrammarRow::NamedType => TypeForm::Name(a_name(node.parts.as_slice())),
+        GrammarRow::SelfType => TypeForm::SelfType,
+        GrammarRow::NeverType => TypeForm::Never,
+        GrammarRow::GenericType => generic(node.parts.as_slice()),
+        GrammarRow::DynType => object(node.parts.as_slice()),
+        GrammarRow::TupleType => round(node.parts.as_slice()),
+        GrammarRow::ArrayType => array(node.parts.as_slice()),
+        GrammarRow::RefType => reference(node.parts.as_slice()),
         _ => TypeForm::Other,
     }
 }
 
-fn generic(pieces: &[Piece]) -> TypeForm<'_>
-    ensures { type_of result ≡ type_part (made_of Row.GenericType pieces.now) }
+fn generic(pieces: &[NodePiece]) -> TypeForm<'_>
+    ensures { type_of result ≡ type_part (made_of GrammarRow.GenericType pieces.now) }
 {
     match Nodes::among(pieces).first() {
         Some(content) => TypeForm::Generic {
@@ -82,20 +82,20 @@ fn generic(pieces: &[Piece]) -> TypeForm<'_>
     }
 }
 
-fn reference(pieces: &[Piece]) -> TypeForm<'_>
-    ensures { type_of result ≡ type_part (made_of Row.RefType pieces.now) }
+fn reference(pieces: &[NodePiece]) -> TypeForm<'_>
+    ensures { type_of result ≡ type_part (made_of GrammarRow.RefType pieces.now) }
 {
     match Nodes::among(pieces).first() {
         Some(to) => TypeForm::Reference {
-            unique: has(Kind::Word(Word::Mut), pieces),
+            unique: has(TokenKind::Word(Word::Mut), pieces),
             to,
         },
         None => TypeForm::Other,
     }
 }
 
-fn array(pieces: &[Piece]) -> TypeForm<'_>
-    ensures { type_of result ≡ type_part (made_of Row.ArrayType pieces.now) }
+fn array(pieces: &[NodePiece]) -> TypeForm<'_>
+    ensures { type_of result ≡ type_part (made_of GrammarRow.ArrayType pieces.now) }
 {
     match Nodes::among(pieces).first() {
         Some(element) => {
@@ -110,15 +110,15 @@ fn array(pieces: &[Piece]) -> TypeForm<'_>
     }
 }
 
-fn round(pieces: &[Piece]) -> TypeForm<'_>
-    ensures { type_of result ≡ type_part (made_of Row.TupleType pieces.now) }
+fn round(pieces: &[NodePiece]) -> TypeForm<'_>
+    ensures { type_of result ≡ type_part (made_of GrammarRow.TupleType pieces.now) }
 {
     let parts = Nodes::among(pieces);
     match parts.split_first() {
         Some(First { first, rest }) => {
             if rest.is_empty()
-                && !has(Kind::Mark(Mark::Comma), pieces)
-                && !has(Kind::Mark(Mark::DotDot), pieces)
+                && !has(TokenKind::Mark(Mark::Comma), pieces)
+                && !has(TokenKind::Mark(Mark::DotDot), pieces)
             {
                 TypeForm::Parens(first)
             } else {
@@ -129,8 +129,8 @@ fn round(pieces: &[Piece]) -> TypeForm<'_>
     }
 }
 
-fn object(pieces: &[Piece]) -> TypeForm<'_>
-    ensures { type_of result ≡ type_part (made_of Row.DynType pieces.now) }
+fn object(pieces: &[NodePiece]) -> TypeForm<'_>
+    ensures { type_of result ≡ type_part (made_of GrammarRow.DynType pieces.now) }
 {
     match Nodes::among(pieces).first() {
         Some(trait_) => TypeForm::Dyn {
@@ -144,11 +144,11 @@ fn object(pieces: &[Piece]) -> TypeForm<'_>
 
 /// The name that a node is; an empty one where it is none.
 #[tactic(auto, using(crate::proofs::Named::unnamed_seen, crate::proofs::Named::seen_as))]
-pub fn name_of(node: &Node) -> &str
+pub fn name_of(node: &SyntaxNode) -> &str
     ensures { (node.now.at, result.now) ≡ named (syn_of node.now) }
 {
     match node.row {
-        Row::Ident => a_name(node.parts.as_slice()),
+        GrammarRow::Ident => a_name(node.parts.as_slice()),
         _ => "",
     }
 }

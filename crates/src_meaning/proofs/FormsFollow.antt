@@ -5,12 +5,12 @@ use Rattle.mir_base.specs.declared.trace.Why.{Why}
 use Rattle.mir_ty.specs.Facts.{needs_drop}
 use Rattle.mir_ty.specs.ItemTable.{ItemTable}
 use Rattle.store_model.proofs.Effects.Following.{Relation, FollowsOut, goes_on, unwinds, halts, lapsed, outlived, refused, FollowsOuts, FollowsChoice, takes, declines, neither, lapsed_choice, outlived_choice, refused_choice, FollowsChoices, FollowsEffects, FollowsTick, Bounds, one_bound, more_turns, great_bounds, choice_after, says_yes, says_no, goes}
-use Rattle.store_model.specs.Effects.{Site, Operand, Copied, Number, Truth, UnitValue, Action, Put, Compare, Touch, Bounds as BoundsOf, Borrow, Unsize, IsTrue, HasVariant, Normal, Halt, Stuck, OutOfTicks, Out, Go, Unwind, Halts, Choice, Effects}
+use Rattle.store_model.specs.Effects.{EffectSite, Operand, Copied, Number, Truth, UnitValue, Action, Put, Compare, Touch, Bounds as BoundsOf, Borrow, Unsize, IsTrue, HasVariant, Normal, Halt, Stuck, OutOfTicks, Out, Go, Unwind, Halts, Choice, Effects}
 use Rattle.store_model.specs.Places.Place.{Place, whole_local}
 use Rattle.src_meaning.proofs.RunsFollow.{Follows, is_at, is_over, lapsed_run, outlived_run, refused_run, FollowsDoes, run_after, within_run, stays, stops, then_follow, at_follow, changing_follow, doing_follow, choosing_follow, back_follow, leaving_follow, in_scope_follow, in_scope_with_follow}
 use Rattle.src_meaning.specs.Forms.{Destination, Into, Coerced, Around, aliases_with, Meaning, entry_of, bound_entry, site_in, site_of_key, moved, keys_of, all_moved, is_never, acts, panics, deliver, put_unit, put_unit_if, in_own_scope, alone, pending_if, complete, operand, operands, take, acting, dropping, temporary, use_of_place, array_around, reach_element, borrowing, stored, stored_after, dropped_first, replacing, assigning, condition, branch, tested, equals, tests_after, alternatives_after, holds, all_hold, any_holds, bind, touched, scrutinised, if_taken, arms_in_order, matching, taken_arm, guarded, arm, statements, tail_of, block, evaluating, let_name, let_parts, emptied, declared, let_value, letting, ticked, turned, turns, ends_loop, value_of_jump, jumping}
 use Rattle.src_meaning.specs.Scopes.{Scope, Scopes, innermost, around_innermost, nearest_temporary, with_entry, without_pending, Exit, Value, Breaks, Continues, Returns, Panics, Run, At, Over, Does, choosing}
-use Rattle.src_meaning.specs.Shape.{operand_of_bound, Head, Shape, PatternTest, IsVariant, IsNumber, IsTruth, AnyOf, PatternTests, no_test, a_test, Alternatives, no_alternative, an_alternative, Bound, site_at, operand_at}
+use Rattle.src_meaning.specs.Shape.{operand_of_bound, NodeHead, Shape, PatternTest, IsVariant, IsNumber, IsTruth, AnyOf, PatternTests, no_test, a_test, Alternatives, no_alternative, an_alternative, BoundName, site_at, operand_at}
 
 abbrev pub FollowsReach : {W V : Type 0} → Relation W V → (Around → Does W) → (Around → Does V) → Type 0
 FollowsReach rel r r' = (a : Around) → FollowsDoes rel (r a) (r' a)
@@ -26,7 +26,7 @@ FollowsArm {W} {V} rel x x' = (matched : Place) (f : Does W) (f' : Does V) → F
 
 -- the same head and shape; evaluated, reached and taken as an arm one after the other
 pub data FollowsMeaning {W V : Type 0} (rel : Relation W V) : Meaning W → Meaning V → Type 0 where
-  means : (h : Head) (s : Shape) (e : Around → Bool → Destination → Does W) (e' : Around → Bool → Destination → Does V)
+  means : (h : NodeHead) (s : Shape) (e : Around → Bool → Destination → Does W) (e' : Around → Bool → Destination → Does V)
       (r : Around → Does W) (r' : Around → Does V)
       (x : Place → Does W → Around → Destination → Does W) (x' : Place → Does V → Around → Destination → Does V) →
       FollowsEvaluate rel e e' → FollowsReach rel r r' → FollowsArm rel x x' →
@@ -57,19 +57,19 @@ module _ {W V : Type 0} (rel : Relation W V) where
     pub panics_follow : (why : Why) → FollowsDoes rel (panics items p why) (panics items q why)
     panics_follow why = doing_follow rel (λ w. Unwind (p.panic why w)) (λ v. Unwind (q.panic why v)) (follow.panicking why)
 
-    pub deliver_follow : (h : Head) (action : Site → Action) (to : Destination) → FollowsDoes rel (deliver items p h action to) (deliver items q h action to)
+    pub deliver_follow : (h : NodeHead) (action : EffectSite → Action) (to : Destination) → FollowsDoes rel (deliver items p h action to) (deliver items q h action to)
     deliver_follow h action (Into key) = acts_follow (action (site_in h.id key))
     deliver_follow h action (Coerced key trait_no to) =
         then_follow rel (acts_follow (action (site_in h.id key))) (acts_follow (Unsize (site_in h.id to) trait_no (moved h.id key)))
 
-    pub unit_follow : (h : Head) (to : Destination) → FollowsDoes rel (put_unit items p h to) (put_unit items q h to)
+    pub unit_follow : (h : NodeHead) (to : Destination) → FollowsDoes rel (put_unit items p h to) (put_unit items q h to)
     unit_follow h to = deliver_follow h (λ site. Put site UnitValue) to
 
-    unit_if_follow : (b : Bool) (h : Head) (to : Destination) → FollowsDoes rel (put_unit_if items p b h to) (put_unit_if items q b h to)
+    unit_if_follow : (b : Bool) (h : NodeHead) (to : Destination) → FollowsDoes rel (put_unit_if items p b h to) (put_unit_if items q b h to)
     unit_if_follow true h to = at_follow rel Value
     unit_if_follow false h to = unit_follow h to
 
-    pub own_scope_follow : {f : Does W} {f' : Does V} (h : Head) (own : Bool) → FollowsDoes rel f f' →
+    pub own_scope_follow : {f : Does W} {f' : Does V} (h : NodeHead) (own : Bool) → FollowsDoes rel f f' →
         FollowsDoes rel (in_own_scope items p h own f) (in_own_scope items q h own f')
     own_scope_follow h true d = in_scope_follow rel items p q follow h.id true d
     own_scope_follow h false d = d
@@ -79,11 +79,11 @@ module _ {W V : Type 0} (rel : Relation W V) where
     alone_follow a (means h s e e' r r' x x' ae ar ax) to =
         record { run = λ n S w c k. back_follow rel S ((ae a true to).run n S w c k) }
 
-    pending_follow : (b : Bool) (in_that : (Scope → Scope) → Scopes → Scopes) (h : Head) →
+    pending_follow : (b : Bool) (in_that : (Scope → Scope) → Scopes → Scopes) (h : NodeHead) →
         FollowsDoes rel (pending_if items p b in_that h) (pending_if items q b in_that h)
     pending_follow b in_that h = changing_follow rel _
 
-    complete_follow : (in_that : (Scope → Scope) → Scopes → Scopes) (h : Head) →
+    complete_follow : (in_that : (Scope → Scope) → Scopes → Scopes) (h : NodeHead) →
         FollowsDoes rel (complete items p in_that h) (complete items q in_that h)
     complete_follow in_that h = changing_follow rel _
 
@@ -101,29 +101,29 @@ module _ {W V : Type 0} (rel : Relation W V) where
     take_follow : (keys : List ℕ) → FollowsDoes rel (take items p keys) (take items q keys)
     take_follow keys = changing_follow rel _
 
-    pub acting_follow : {ms : List (Meaning W)} {ms' : List (Meaning V)} {act : Does W} {act' : Does V} (h : Head) (a : Around) (own : Bool) →
+    pub acting_follow : {ms : List (Meaning W)} {ms' : List (Meaning V)} {act : Does W} {act' : Does V} (h : NodeHead) (a : Around) (own : Bool) →
         FollowsMeanings rel ms ms' → FollowsDoes rel act act' → FollowsDoes rel (acting items p h a own ms act) (acting items q h a own ms' act')
     acting_follow {ms} {ms'} {act} {act'} h a own ts d =
         in_scope_follow rel items p q follow h.id own
         (then_follow rel (operands_follow a ts)
         (then_follow rel (subst (λ keys. FollowsDoes rel (take items p (keys_of ms)) (take items q keys)) (same_keys ts) (take_follow (keys_of ms))) d))
 
-    pub dropping_follow : {m : Meaning W} {m' : Meaning V} {act : Does W} {act' : Does V} (h : Head) (a : Around) (own : Bool) →
+    pub dropping_follow : {m : Meaning W} {m' : Meaning V} {act : Does W} {act' : Does V} (h : NodeHead) (a : Around) (own : Bool) →
         FollowsMeaning rel m m' → FollowsDoes rel act act' → FollowsDoes rel (dropping items p h a own m act) (dropping items q h a own m' act')
     dropping_follow h a own t d = in_scope_follow rel items p q follow h.id own (then_follow rel (operand_follow a t) d)
 
-    pub temporary_follow : {e : Around → Bool → Destination → Does W} {e' : Around → Bool → Destination → Does V} (h : Head) (s : Shape) →
+    pub temporary_follow : {e : Around → Bool → Destination → Does W} {e' : Around → Bool → Destination → Does V} (h : NodeHead) (s : Shape) →
         FollowsEvaluate rel e e' → FollowsReach rel (temporary items p h s e) (temporary items q h s e')
     temporary_follow h s ae a =
         then_follow rel (pending_follow s.in_destination nearest_temporary h)
         (then_follow rel (ae a false (Into h.id)) (complete_follow nearest_temporary h))
 
-    pub use_follow : {r : Around → Does W} {r' : Around → Does V} (h : Head) (s : Shape) → FollowsReach rel r r' →
+    pub use_follow : {r : Around → Does W} {r' : Around → Does V} (h : NodeHead) (s : Shape) → FollowsReach rel r r' →
         FollowsEvaluate rel (use_of_place items p h s r) (use_of_place items q h s r')
     use_follow h s ar a own to =
         own_scope_follow h own (then_follow rel (ar a) (deliver_follow h (λ site. Put site (operand_at h (s.place a.aliases))) to))
 
-    pub element_follow : {base index : Meaning W} {base' index' : Meaning V} (h : Head) (s : Shape) → FollowsMeaning rel base base' →
+    pub element_follow : {base index : Meaning W} {base' index' : Meaning V} (h : NodeHead) (s : Shape) → FollowsMeaning rel base base' →
         FollowsMeaning rel index index' → (length : ℕ) → FollowsReach rel (reach_element items p h s base index length) (reach_element items q h s base' index' length)
     element_follow h s (means bh bs be be' br br' bx bx' abe abr abax) (means ih is_ ie ie' ir ir' ix ix' aie air aix) length a =
         then_follow rel (abr a)
@@ -131,16 +131,16 @@ module _ {W V : Type 0} (rel : Relation W V) where
         (then_follow rel (acts_follow (Touch (site_at h (array_around items p (s.place a.aliases)))))
         (acts_follow (BoundsOf (Copied (site_of_key ih.id)) length))))
 
-    pub borrowing_follow : {base : Meaning W} {base' : Meaning V} (h : Head) (unique : Bool) → FollowsMeaning rel base base' →
+    pub borrowing_follow : {base : Meaning W} {base' : Meaning V} (h : NodeHead) (unique : Bool) → FollowsMeaning rel base base' →
         FollowsEvaluate rel (borrowing items p h unique base) (borrowing items q h unique base')
     borrowing_follow h unique (means bh s e e' r r' x x' ae ar ax) a own to =
         own_scope_follow h own (then_follow rel (ar a)
         (deliver_follow h (λ site. Borrow (record site { node = bh.id }) unique (site_at bh (s.place a.aliases))) to))
 
-    stored_follow : (site : Site) (key : ℕ) → FollowsDoes rel (stored items p site key) (stored items q site key)
+    stored_follow : (site : EffectSite) (key : ℕ) → FollowsDoes rel (stored items p site key) (stored items q site key)
     stored_follow site key = then_follow rel (take_follow (key ∷ [])) (acts_follow (Put site (moved site.node key)))
 
-    stored_after_follow : {n : rel.Stage} {o : Out W} {g : rel.Choices → Out V} (site : Site) (key : ℕ) (S : Scopes) → FollowsOut rel n o g →
+    stored_after_follow : {n : rel.Stage} {o : Out W} {g : rel.Choices → Out V} (site : EffectSite) (key : ℕ) (S : Scopes) → FollowsOut rel n o g →
         Follows rel n (stored_after items p site key S o) (λ t. stored_after items q site key S (g t))
     stored_after_follow site key S (goes_on m w c l _ k d) =
         run_after rel l _ (λ rest. ap (stored_after items q site key S) (d rest)) ((stored_follow site key).run m S w c k)
@@ -152,14 +152,14 @@ module _ {W V : Type 0} (rel : Relation W V) where
         outlived_run m halt w later (stored_after items p site key S s) _ k (stored_after_follow site key S d)
     stored_after_follow site key S (refused m _ halt c l _ k d) = refused_run m _ halt c l _ k (λ rest. ap (stored_after items q site key S) (d rest))
 
-    dropped_first_follow : (b : Bool) (site : Site) → FollowsOuts rel (dropped_first items p b site) (dropped_first items q b site)
+    dropped_first_follow : (b : Bool) (site : EffectSite) → FollowsOuts rel (dropped_first items p b site) (dropped_first items q b site)
     dropped_first_follow true site n w c k = follow.dropping Normal site n w c k
     dropped_first_follow false site n w c k = goes rel n w c k
 
-    replacing_follow : (b : Bool) (site : Site) (key : ℕ) → FollowsDoes rel (replacing items p b site key) (replacing items q b site key)
+    replacing_follow : (b : Bool) (site : EffectSite) (key : ℕ) → FollowsDoes rel (replacing items p b site key) (replacing items q b site key)
     replacing_follow b site key = record { run = λ n S w c k. stored_after_follow site key S (dropped_first_follow b site n w c k) }
 
-    pub assigning_follow : {place value : Meaning W} {place' value' : Meaning V} (h : Head) → FollowsMeaning rel place place' → FollowsMeaning rel value value' →
+    pub assigning_follow : {place value : Meaning W} {place' value' : Meaning V} (h : NodeHead) → FollowsMeaning rel place place' → FollowsMeaning rel value value' →
         FollowsEvaluate rel (assigning items p h place value) (assigning items q h place' value')
     assigning_follow h (means ph ps pe pe' pr pr' px px' ape apr pax) (means vh s e e' r r' x x' ae ar ax) a own to =
         in_scope_follow rel items p q follow h.id own
@@ -191,7 +191,7 @@ module _ {W V : Type 0} (rel : Relation W V) where
     tested_follow operand (outlived m halt w later s _ k d) = outlived_choice m halt w later (tested items p s operand) _ k (tested_follow operand d)
     tested_follow operand (refused m _ halt c l _ k d) = refused_choice m _ halt c l _ k (λ rest. ap (λ o. tested items q o operand) (d rest))
 
-    equals_follow : (site : Site) (value : Operand) → FollowsChoices rel (equals items p site value) (equals items q site value)
+    equals_follow : (site : EffectSite) (value : Operand) → FollowsChoices rel (equals items p site value) (equals items q site value)
     equals_follow site value n w c k =
         tested_follow (moved site.node site.node) (follow.acting (Compare (site_of_key site.node) Cmp.Eq (Copied site) value) n w c k)
 
@@ -233,20 +233,20 @@ module _ {W V : Type 0} (rel : Relation W V) where
         FollowsDoes rel (choosing (all_hold items p tests) f h) (choosing (all_hold items q tests) f' h')
     takes_follow tests d b = choosing_follow rel (all_hold items p tests) (all_hold items q tests) (all_follow tests) d b
 
-    pub bind_follow : (in_that : (Scope → Scope) → Scopes → Scopes) (bounds : List Bound) → FollowsDoes rel (bind items p in_that bounds) (bind items q in_that bounds)
+    pub bind_follow : (in_that : (Scope → Scope) → Scopes → Scopes) (bounds : List BoundName) → FollowsDoes rel (bind items p in_that bounds) (bind items q in_that bounds)
     bind_follow in_that [] = at_follow rel Value
     bind_follow in_that (b ∷ bounds) =
         then_follow rel (acts_follow (Put (site_of_key b.key) (operand_of_bound b)))
         (then_follow rel (changing_follow rel (in_that (with_entry (bound_entry b)))) (bind_follow in_that bounds))
 
-    touched_follow : (b : Bool) (site : Site) → FollowsDoes rel (touched items p b site) (touched items q b site)
+    touched_follow : (b : Bool) (site : EffectSite) → FollowsDoes rel (touched items p b site) (touched items q b site)
     touched_follow true site = acts_follow (Touch site)
     touched_follow false site = at_follow rel Value
 
     scrutinised_follow : {m : Meaning W} {m' : Meaning V} (a : Around) → FollowsMeaning rel m m' → FollowsDoes rel (scrutinised items p a m) (scrutinised items q a m')
     scrutinised_follow a (means h s e e' r r' x x' ae ar ax) = then_follow rel (ar a) (touched_follow s.is_place (site_at h (s.place a.aliases)))
 
-    pub if_taken_follow : {pattern m : Meaning W} {pattern' m' : Meaning V} {body o : Does W} {body' o' : Does V} (h : Head) (a : Around) →
+    pub if_taken_follow : {pattern m : Meaning W} {pattern' m' : Meaning V} {body o : Does W} {body' o' : Does V} (h : NodeHead) (a : Around) →
         FollowsMeaning rel pattern pattern' → FollowsMeaning rel m m' → FollowsDoes rel body body' → FollowsDoes rel o o' →
         FollowsDoes rel (if_taken items p h a pattern m body o) (if_taken items q h a pattern' m' body' o')
     if_taken_follow h a (means ph ps pe pe' pr pr' px px' ape apr pax) (means mh s e e' r r' x x' ae ar ax) b d =
@@ -260,22 +260,22 @@ module _ {W V : Type 0} (rel : Relation W V) where
     arms_follow no_meaning matched a to = panics_follow Why.Match
     arms_follow (and_means _ _ ms ms' (means h s e e' r r' x x' ae ar ax) ts) matched a to = ax matched _ _ (arms_follow ts matched a to) a to
 
-    pub matching_follow : {m : Meaning W} {m' : Meaning V} {ms : List (Meaning W)} {ms' : List (Meaning V)} (h : Head) → FollowsMeaning rel m m' →
+    pub matching_follow : {m : Meaning W} {m' : Meaning V} {ms : List (Meaning W)} {ms' : List (Meaning V)} (h : NodeHead) → FollowsMeaning rel m m' →
         FollowsMeanings rel ms ms' → FollowsEvaluate rel (matching items p h m ms) (matching items q h m' ms')
     matching_follow h (means mh s e e' r r' x x' ae ar ax) ts a own to =
         own_scope_follow h own (then_follow rel (scrutinised_follow a (means mh s e e' r r' x x' ae ar ax)) (arms_follow ts (s.place a.aliases) a to))
 
-    taken_arm_follow : {m : Meaning W} {m' : Meaning V} (h : Head) (a : Around) (bounds : List Bound) → FollowsMeaning rel m m' → (to : Destination) →
+    taken_arm_follow : {m : Meaning W} {m' : Meaning V} (h : NodeHead) (a : Around) (bounds : List BoundName) → FollowsMeaning rel m m' → (to : Destination) →
         FollowsDoes rel (taken_arm items p h a bounds m to) (taken_arm items q h a bounds m' to)
     taken_arm_follow h a bounds t to =
         in_scope_follow rel items p q follow h.id false (then_follow rel (bind_follow innermost bounds) (alone_follow a t to))
 
-    guarded_follow : {o : Option (Meaning W)} {o' : Option (Meaning V)} {h f : Does W} {h' f' : Does V} (a : Around) (bounds : List Bound) →
+    guarded_follow : {o : Option (Meaning W)} {o' : Option (Meaning V)} {h f : Does W} {h' f' : Does V} (a : Around) (bounds : List BoundName) →
         FollowsIfAny rel o o' → FollowsDoes rel h h' → FollowsDoes rel f f' → FollowsDoes rel (guarded items p a bounds o h f) (guarded items q a bounds o' h' f')
     guarded_follow a bounds without b d = b
     guarded_follow a bounds (with_one _ _ t) b d = condition_follow (record a { aliases = aliases_with bounds a.aliases }) t b d
 
-    pub arm_follow : {pattern body : Meaning W} {pattern' body' : Meaning V} {o : Option (Meaning W)} {o' : Option (Meaning V)} (h : Head) →
+    pub arm_follow : {pattern body : Meaning W} {pattern' body' : Meaning V} {o : Option (Meaning W)} {o' : Option (Meaning V)} (h : NodeHead) →
         FollowsMeaning rel pattern pattern' → FollowsIfAny rel o o' → FollowsMeaning rel body body' →
         FollowsArm rel (arm items p h pattern o body) (arm items q h pattern' o' body')
     arm_follow h (means ph ps pe pe' pr pr' px px' ape apr pax) u t matched f f' d a to =
@@ -290,27 +290,27 @@ module _ {W V : Type 0} (rel : Relation W V) where
     statements_follow a no_meaning = at_follow rel Value
     statements_follow a (and_means _ _ ms ms' (means h s e e' r r' x x' ae ar ax) ts) = then_follow rel (ae a false (Into h.id)) (statements_follow a ts)
 
-    tail_follow : {o : Option (Meaning W)} {o' : Option (Meaning V)} (h : Head) → FollowsIfAny rel o o' → FollowsInto rel (tail_of items p h o) (tail_of items q h o')
+    tail_follow : {o : Option (Meaning W)} {o' : Option (Meaning V)} (h : NodeHead) → FollowsIfAny rel o o' → FollowsInto rel (tail_of items p h o) (tail_of items q h o')
     tail_follow h without a to = unit_if_follow (is_never items h.ty) h to
     tail_follow h (with_one _ _ t) a to = alone_follow a t to
 
-    pub block_follow : {ms : List (Meaning W)} {ms' : List (Meaning V)} {o : Option (Meaning W)} {o' : Option (Meaning V)} (h : Head) →
+    pub block_follow : {ms : List (Meaning W)} {ms' : List (Meaning V)} {o : Option (Meaning W)} {o' : Option (Meaning V)} (h : NodeHead) →
         FollowsMeanings rel ms ms' → FollowsIfAny rel o o' → FollowsEvaluate rel (block items p h ms o) (block items q h ms' o')
     block_follow h ts t a own to = in_scope_follow rel items p q follow h.id own (then_follow rel (statements_follow a ts) (tail_follow h t a to))
 
-    pub evaluating_follow : {m : Meaning W} {m' : Meaning V} (h : Head) → FollowsMeaning rel m m' → FollowsReach rel (evaluating items p h m) (evaluating items q h m')
+    pub evaluating_follow : {m : Meaning W} {m' : Meaning V} (h : NodeHead) → FollowsMeaning rel m m' → FollowsReach rel (evaluating items p h m) (evaluating items q h m')
     evaluating_follow h (means mh s e e' r r' x x' ae ar ax) a =
         in_scope_follow rel items p q follow h.id true
         (then_follow rel (pending_follow true innermost mh) (then_follow rel (ae a false (Into mh.id)) (complete_follow innermost mh)))
 
-    let_name_follow : {m : Meaning W} {m' : Meaning V} (h n : Head) → FollowsMeaning rel m m' → FollowsReach rel (let_name items p h n m) (let_name items q h n m')
+    let_name_follow : {m : Meaning W} {m' : Meaning V} (h n : NodeHead) → FollowsMeaning rel m m' → FollowsReach rel (let_name items p h n m) (let_name items q h n m')
     let_name_follow h n (means mh s e e' r r' x x' ae ar ax) a =
         in_scope_follow rel items p q follow h.id true
         (then_follow rel (pending_follow true innermost n)
         (then_follow rel (ae a false (Into n.id))
         (then_follow rel (changing_follow rel (innermost (without_pending (entry_of n)))) (changing_follow rel (around_innermost (with_entry (entry_of n)))))))
 
-    let_parts_follow : {pattern m : Meaning W} {pattern' m' : Meaning V} (h : Head) → FollowsMeaning rel pattern pattern' → FollowsMeaning rel m m' →
+    let_parts_follow : {pattern m : Meaning W} {pattern' m' : Meaning V} (h : NodeHead) → FollowsMeaning rel pattern pattern' → FollowsMeaning rel m m' →
         FollowsReach rel (let_parts items p h pattern m) (let_parts items q h pattern' m')
     let_parts_follow h (means ph ps pe pe' pr pr' px px' ape apr pax) (means mh s e e' r r' x x' ae ar ax) a =
         in_scope_follow rel items p q follow h.id true
@@ -321,18 +321,18 @@ module _ {W V : Type 0} (rel : Relation W V) where
     emptied_follow true key = at_follow rel Value
     emptied_follow false key = doing_follow rel (p.drop Normal (site_of_key key)) (q.drop Normal (site_of_key key)) (follow.dropping Normal (site_of_key key))
 
-    declared_follow : (bounds : List Bound) → FollowsDoes rel (declared items p bounds) (declared items q bounds)
+    declared_follow : (bounds : List BoundName) → FollowsDoes rel (declared items p bounds) (declared items q bounds)
     declared_follow [] = at_follow rel Value
     declared_follow (b ∷ bounds) =
         then_follow rel (emptied_follow (needs_drop items b.ty) b.key)
         (then_follow rel (changing_follow rel (innermost (with_entry (bound_entry b)))) (declared_follow bounds))
 
-    let_value_follow : {pattern m : Meaning W} {pattern' m' : Meaning V} (b : Bool) (h : Head) → FollowsMeaning rel pattern pattern' → FollowsMeaning rel m m' →
+    let_value_follow : {pattern m : Meaning W} {pattern' m' : Meaning V} (b : Bool) (h : NodeHead) → FollowsMeaning rel pattern pattern' → FollowsMeaning rel m m' →
         FollowsReach rel (let_value items p b h pattern m) (let_value items q b h pattern' m')
     let_value_follow true h (means ph ps pe pe' pr pr' px px' ape apr pax) t = let_name_follow h ph t
     let_value_follow false h u t = let_parts_follow h u t
 
-    pub letting_follow : {pattern : Meaning W} {pattern' : Meaning V} {o : Option (Meaning W)} {o' : Option (Meaning V)} (h : Head) → FollowsMeaning rel pattern pattern' →
+    pub letting_follow : {pattern : Meaning W} {pattern' : Meaning V} {o : Option (Meaning W)} {o' : Option (Meaning V)} (h : NodeHead) → FollowsMeaning rel pattern pattern' →
         FollowsIfAny rel o o' → FollowsReach rel (letting items p h pattern o) (letting items q h pattern' o')
     letting_follow h (means ph ps pe pe' pr pr' px px' ape apr pax) without a = declared_follow (ps.bindings (whole_local 0))
     letting_follow h (means ph ps pe pe' pr pr' px px' ape apr pax) (with_one _ _ t) a =
@@ -445,14 +445,14 @@ module _ {W V : Type 0} (rel : Relation W V) where
     turns_follow id (great_bounds m m' left h h' ticks no_shadow) d =
         record { run = λ n S w c k. turns_of_great left no_shadow m m' id ticks d n (h n w c k, h' n w c k) S w c k }
 
-    pub end_follow : (h : Head) (to : Destination) → FollowsDoes rel (ends_loop items p h to) (ends_loop items q h to)
+    pub end_follow : (h : NodeHead) (to : Destination) → FollowsDoes rel (ends_loop items p h to) (ends_loop items q h to)
     end_follow h to = then_follow rel (unit_follow h to) (at_follow rel (Breaks h.id))
 
-    value_of_jump_follow : {o : Option (Meaning W)} {o' : Option (Meaning V)} (h : Head) → FollowsIfAny rel o o' →
+    value_of_jump_follow : {o : Option (Meaning W)} {o' : Option (Meaning V)} (h : NodeHead) → FollowsIfAny rel o o' →
         FollowsInto rel (value_of_jump items p h o) (value_of_jump items q h o')
     value_of_jump_follow h without a to = unit_follow h to
     value_of_jump_follow h (with_one _ _ (means mh s e e' r r' x x' ae ar ax)) a to = ae a false to
 
-    pub jumping_follow : {o : Option (Meaning W)} {o' : Option (Meaning V)} (exit : Exit) (h : Head) → FollowsIfAny rel o o' →
+    pub jumping_follow : {o : Option (Meaning W)} {o' : Option (Meaning V)} (exit : Exit) (h : NodeHead) → FollowsIfAny rel o o' →
         FollowsInto rel (jumping items p exit h o) (jumping items q exit h o')
     jumping_follow exit h t a to = then_follow rel (value_of_jump_follow h t a to) (at_follow rel exit)

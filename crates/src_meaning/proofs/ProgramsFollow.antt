@@ -5,7 +5,7 @@ use Rattle.mir_base.specs.declared.trace.Why.{Why}
 use Rattle.mir_ty.specs.ItemTable.{ItemTable}
 use Rattle.store_model.proofs.Effects.Following.{Relation, FollowsOut, halts, lapsed, outlived, refused, FollowsOuts, FollowsEffects, Bounds, out_after, panics_on, after_drop}
 use Rattle.store_model.specs.Effects as effects
-use Rattle.store_model.specs.Effects.{Site, Operand, Action, OfTuple, OfArray, OfVariant, OfClosure, Stuck, Out, Effects, Unwinding}
+use Rattle.store_model.specs.Effects.{EffectSite, Operand, Action, OfTuple, OfArray, OfVariant, OfClosure, Stuck, Out, Effects, Unwinding}
 use Rattle.store_model.specs.Places.Place.{whole_local}
 use Rattle.src_meaning.proofs.FormsFollow.{FollowsReach, FollowsInto, FollowsEvaluate, FollowsArm, FollowsMeaning, means, FollowsMeanings, no_meaning, and_means, FollowsIfAny, without, with_one, same_moved, acts_follow, panics_follow, deliver_follow, unit_follow, own_scope_follow, alone_follow, acting_follow, dropping_follow, temporary_follow, use_follow, element_follow, borrowing_follow, assigning_follow, condition_follow, branch_follow, bind_follow, if_taken_follow, matching_follow, arm_follow, block_follow, evaluating_follow, letting_follow, turns_follow, end_follow, jumping_follow}
 use Rattle.src_meaning.proofs.RunsFollow.{Follows, is_at, is_over, lapsed_run, outlived_run, refused_run, FollowsDoes, then_follow, at_follow, changing_follow, in_scope_follow}
@@ -15,7 +15,7 @@ use Rattle.src_meaning.specs.Forms.{Destination, Into, coerced, Around, in_loop,
 use Rattle.src_meaning.specs.Locals.OfBody.{param_key, answer_key}
 use Rattle.src_meaning.specs.Programs.{names_of_param, params_entered, unwinds as further_unwinds, body_end, around_body, answer_scope, entire_function, activation}
 use Rattle.src_meaning.specs.Scopes.{Entry, Value, Breaks, Continues, Returns, Panics, Run, At, Does, innermost, with_entry, entry_site, all_entries, needing_drop}
-use Rattle.src_meaning.specs.Shape.{Head, head, Shape, Bound, kind_of, shape, shape_of}
+use Rattle.src_meaning.specs.Shape.{NodeHead, head, Shape, BoundName, kind_of, shape, shape_of}
 use Rattle.typed_tree.specs.Tree as tree
 use Rattle.typed_tree.specs.Tree.{Node, node, Form, Nodes, no_node, a_node, Fields, no_field, a_field, MaybeNode, absent, present, ParamTree, BodyTree}
 
@@ -52,124 +52,124 @@ module _ {W V : Type 0} (rel : Relation W V) where
   evaluated (means h s e e' r r' x x' ae ar ax) = ae
 
   module _ (items : ItemTable) (p : Effects W) (q : Effects V) (follow : FollowsEffects rel p q) (fuel fuel' : ℕ) (bounds : Bounds rel p.tick q.tick fuel fuel') where
-    made_follow : (e : Around → Bool → Destination → Does W) (e' : Around → Bool → Destination → Does V) (h : Head) → FollowsEvaluate rel e e' →
+    made_follow : (e : Around → Bool → Destination → Does W) (e' : Around → Bool → Destination → Does V) (h : NodeHead) → FollowsEvaluate rel e e' →
         FollowsEvaluate rel (made_in items p fuel h e) (made_in items q fuel' h e')
     made_follow e e' h ae a own to = ae a own (to_own_key (is_never items h.ty) h.id to)
 
     no_arm_follow : FollowsArm rel (no_arm items p fuel) (no_arm items q fuel')
     no_arm_follow matched f f' d a to = at_follow rel Value
 
-    value_follow : (e : Around → Bool → Destination → Does W) (e' : Around → Bool → Destination → Does V) (h : Head) (s : Shape) → FollowsEvaluate rel e e' →
+    value_follow : (e : Around → Bool → Destination → Does W) (e' : Around → Bool → Destination → Does V) (h : NodeHead) (s : Shape) → FollowsEvaluate rel e e' →
         FollowsMeaning rel (a_value items p fuel h s e) (a_value items q fuel' h s e')
     value_follow e e' h s ae =
         means h s _ _ _ _ _ _ (made_follow e e' h ae) (temporary_follow rel items p q follow h s (made_follow e e' h ae)) no_arm_follow
 
-    place_follow : (r : Around → Does W) (r' : Around → Does V) (h : Head) (s : Shape) → FollowsReach rel r r' →
+    place_follow : (r : Around → Does W) (r' : Around → Does V) (h : NodeHead) (s : Shape) → FollowsReach rel r r' →
         FollowsMeaning rel (a_place items p fuel h s r) (a_place items q fuel' h s r')
     place_follow r r' h s ar =
         means h s _ _ _ _ _ _ (made_follow (forms.use_of_place items p h s r) (forms.use_of_place items q h s r') h (use_follow rel items p q follow h s ar)) ar no_arm_follow
 
-    scope_follow : (e : Around → Destination → Does W) (e' : Around → Destination → Does V) (h : Head) (s : Shape) → FollowsInto rel e e' →
+    scope_follow : (e : Around → Destination → Does W) (e' : Around → Destination → Does V) (h : NodeHead) (s : Shape) → FollowsInto rel e e' →
         FollowsMeaning rel (a_scope items p fuel h s e) (a_scope items q fuel' h s e')
     scope_follow e e' h s d =
         value_follow (in_scope_of_its_own items p fuel h e) (in_scope_of_its_own items q fuel' h e') h s (λ a own to. own_scope_follow rel items p q follow h own (d a to))
 
-    effect_follow : (h : Head) (s : Shape) (action : Site → Action) → FollowsMeaning rel (effect items p fuel h s action) (effect items q fuel' h s action)
+    effect_follow : (h : NodeHead) (s : Shape) (action : EffectSite → Action) → FollowsMeaning rel (effect items p fuel h s action) (effect items q fuel' h s action)
     effect_follow h s action =
         scope_follow (λ a. forms.deliver items p h action) (λ a. forms.deliver items q h action) h s (λ a to. deliver_follow rel items p q follow h action to)
 
-    operands_follow : {ms : List (Meaning W)} {ms' : List (Meaning V)} (h : Head) (s : Shape) → FollowsMeanings rel ms ms' → (action action' : Site → Action) → action ≡ action' →
+    operands_follow : {ms : List (Meaning W)} {ms' : List (Meaning V)} (h : NodeHead) (s : Shape) → FollowsMeanings rel ms ms' → (action action' : EffectSite → Action) → action ≡ action' →
         FollowsMeaning rel (on_operands items p fuel h s ms action) (on_operands items q fuel' h s ms' action')
     operands_follow {ms} {ms'} h s ts action action' e =
         subst (λ act. FollowsMeaning rel (on_operands items p fuel h s ms action) (on_operands items q fuel' h s ms' act)) e
         (value_follow (λ a own to. forms.acting items p h a own ms (forms.deliver items p h action to)) (λ a own to. forms.acting items q h a own ms' (forms.deliver items q h action to)) h s
         (λ a own to. acting_follow rel items p q follow h a own ts (deliver_follow rel items p q follow h action to)))
 
-    one_follow : {m : Meaning W} {m' : Meaning V} (h : Head) (s : Shape) (action : Site → Operand → Action) → FollowsMeaning rel m m' →
+    one_follow : {m : Meaning W} {m' : Meaning V} (h : NodeHead) (s : Shape) (action : EffectSite → Operand → Action) → FollowsMeaning rel m m' →
         FollowsMeaning rel (on_one items p fuel h s m action) (on_one items q fuel' h s m' action)
     one_follow h s action (means h' s' e e' r r' x x' ae ar ax) =
         operands_follow h s (and_means _ _ [] [] (means h' s' e e' r r' x x' ae ar ax) no_meaning)
         (λ site. action site (moved h.id h'.id)) (λ site. action site (moved h.id h'.id)) refl
 
-    two_follow : {m n : Meaning W} {m' n' : Meaning V} (h : Head) (s : Shape) (action : Site → Operand → Operand → Action) → FollowsMeaning rel m m' → FollowsMeaning rel n n' →
+    two_follow : {m n : Meaning W} {m' n' : Meaning V} (h : NodeHead) (s : Shape) (action : EffectSite → Operand → Operand → Action) → FollowsMeaning rel m m' → FollowsMeaning rel n n' →
         FollowsMeaning rel (on_two items p fuel h s m n action) (on_two items q fuel' h s m' n' action)
     two_follow h s action (means mh ms me me' mr mr' mx mx' ame amr max) (means h' s' e e' r r' x x' ae ar ax) =
         operands_follow h s (and_means _ _ _ _ (means mh ms me me' mr mr' mx mx' ame amr max) (and_means _ _ [] [] (means h' s' e e' r r' x x' ae ar ax) no_meaning))
         (λ site. action site (moved h.id mh.id) (moved h.id h'.id)) (λ site. action site (moved h.id mh.id) (moved h.id h'.id)) refl
 
-    all_follow : {ms : List (Meaning W)} {ms' : List (Meaning V)} (h : Head) (s : Shape) (action : Site → List Operand → Action) → FollowsMeanings rel ms ms' →
+    all_follow : {ms : List (Meaning W)} {ms' : List (Meaning V)} (h : NodeHead) (s : Shape) (action : EffectSite → List Operand → Action) → FollowsMeanings rel ms ms' →
         FollowsMeaning rel (on_all items p fuel h s ms action) (on_all items q fuel' h s ms' action)
     all_follow h s action ts = operands_follow h s ts _ _ (ap (λ list. λ site. action site list) (same_moved rel h.id ts))
 
-    fields_in_order_follow : {fs : List (ℕ × Meaning W)} {fs' : List (ℕ × Meaning V)} (h : Head) (s : Shape) (action : Site → List Operand → Action) → FollowsFields rel fs fs' →
+    fields_in_order_follow : {fs : List (ℕ × Meaning W)} {fs' : List (ℕ × Meaning V)} (h : NodeHead) (s : Shape) (action : EffectSite → List Operand → Action) → FollowsFields rel fs fs' →
         FollowsMeaning rel (on_fields items p fuel h s fs action) (on_fields items q fuel' h s fs' action)
     fields_in_order_follow h s action ts =
         operands_follow h s (values_follow ts) _ _ (ap (λ list. λ site. action site list) (same_moved rel h.id (values_follow (ordered_follow ts))))
 
-    gives_unit_follow : {m : Meaning W} {m' : Meaning V} (h : Head) (s : Shape) (action : Operand → Action) → FollowsMeaning rel m m' →
+    gives_unit_follow : {m : Meaning W} {m' : Meaning V} (h : NodeHead) (s : Shape) (action : Operand → Action) → FollowsMeaning rel m m' →
         FollowsMeaning rel (gives_unit items p fuel h s m action) (gives_unit items q fuel' h s m' action)
     gives_unit_follow h s action (means h' s' e e' r r' x x' ae ar ax) =
         value_follow _ _ h s (λ a own to. acting_follow rel items p q follow h a own (and_means _ _ [] [] (means h' s' e e' r r' x x' ae ar ax) no_meaning)
         (then_follow rel (acts_follow rel items p q follow (action (moved h.id h'.id))) (unit_follow rel items p q follow h to)))
 
-    drops_follow : {m : Meaning W} {m' : Meaning V} (h : Head) → FollowsMeaning rel m m' → FollowsEvaluate rel (drops items p fuel h m) (drops items q fuel' h m')
+    drops_follow : {m : Meaning W} {m' : Meaning V} (h : NodeHead) → FollowsMeaning rel m m' → FollowsEvaluate rel (drops items p fuel h m) (drops items q fuel' h m')
     drops_follow h t a own to = dropping_follow rel items p q follow h a own t (unit_follow rel items p q follow h to)
 
-    shortcut_follow : (h : Head) (truth : Bool) (to : Destination) → FollowsDoes rel (shortcut items p fuel h truth to) (shortcut items q fuel' h truth to)
+    shortcut_follow : (h : NodeHead) (truth : Bool) (to : Destination) → FollowsDoes rel (shortcut items p fuel h truth to) (shortcut items q fuel' h truth to)
     shortcut_follow h truth to = deliver_follow rel items p q follow h (λ site. effects.Put site (effects.Truth truth)) to
 
-    conjunction_follow : {l r : Meaning W} {l' r' : Meaning V} (h : Head) → FollowsMeaning rel l l' → FollowsMeaning rel r r' →
+    conjunction_follow : {l r : Meaning W} {l' r' : Meaning V} (h : NodeHead) → FollowsMeaning rel l l' → FollowsMeaning rel r r' →
         FollowsInto rel (conjunction items p fuel h l r) (conjunction items q fuel' h l' r')
     conjunction_follow h t u a to = condition_follow rel items p q follow a t (alone_follow rel items p q follow a u to) (shortcut_follow h false to)
 
-    disjunction_follow : {l r : Meaning W} {l' r' : Meaning V} (h : Head) → FollowsMeaning rel l l' → FollowsMeaning rel r r' →
+    disjunction_follow : {l r : Meaning W} {l' r' : Meaning V} (h : NodeHead) → FollowsMeaning rel l l' → FollowsMeaning rel r r' →
         FollowsInto rel (disjunction items p fuel h l r) (disjunction items q fuel' h l' r')
     disjunction_follow h t u a to = condition_follow rel items p q follow a t (shortcut_follow h true to) (alone_follow rel items p q follow a u to)
 
-    otherwise_follow : {o : Option (Meaning W)} {o' : Option (Meaning V)} (h : Head) → FollowsIfAny rel o o' → FollowsInto rel (otherwise_unit items p fuel h o) (otherwise_unit items q fuel' h o')
+    otherwise_follow : {o : Option (Meaning W)} {o' : Option (Meaning V)} (h : NodeHead) → FollowsIfAny rel o o' → FollowsInto rel (otherwise_unit items p fuel h o) (otherwise_unit items q fuel' h o')
     otherwise_follow h t a to = branch_follow rel items p q follow a to t (unit_follow rel items p q follow h to)
 
-    if_else_follow : {c m : Meaning W} {c' m' : Meaning V} {o : Option (Meaning W)} {o' : Option (Meaning V)} (h : Head) → FollowsMeaning rel c c' → FollowsMeaning rel m m' →
+    if_else_follow : {c m : Meaning W} {c' m' : Meaning V} {o : Option (Meaning W)} {o' : Option (Meaning V)} (h : NodeHead) → FollowsMeaning rel c c' → FollowsMeaning rel m m' →
         FollowsIfAny rel o o' → FollowsInto rel (if_else items p fuel h c m o) (if_else items q fuel' h c' m' o')
     if_else_follow h t u v a to = condition_follow rel items p q follow a t (alone_follow rel items p q follow a u to) (otherwise_follow h v a to)
 
-    if_let_follow : {x c m : Meaning W} {x' c' m' : Meaning V} {o : Option (Meaning W)} {o' : Option (Meaning V)} (h : Head) → FollowsMeaning rel x x' → FollowsMeaning rel c c' →
+    if_let_follow : {x c m : Meaning W} {x' c' m' : Meaning V} {o : Option (Meaning W)} {o' : Option (Meaning V)} (h : NodeHead) → FollowsMeaning rel x x' → FollowsMeaning rel c c' →
         FollowsMeaning rel m m' → FollowsIfAny rel o o' → FollowsInto rel (if_let items p fuel h x c m o) (if_let items q fuel' h x' c' m' o')
     if_let_follow h x t u v a to = if_taken_follow rel items p q follow h a x t (alone_follow rel items p q follow a u to) (otherwise_follow h v a to)
 
     body_follow : {m : Meaning W} {m' : Meaning V} → FollowsMeaning rel m m' → FollowsReach rel (body_in items p fuel m) (body_in items q fuel' m')
     body_follow (means h s e e' r r' x x' ae ar ax) a = alone_follow rel items p q follow a (means h s e e' r r' x x' ae ar ax) (Into h.id)
 
-    endless_follow : {m : Meaning W} {m' : Meaning V} (h : Head) → FollowsMeaning rel m m' → FollowsInto rel (endless items p fuel h m) (endless items q fuel' h m')
+    endless_follow : {m : Meaning W} {m' : Meaning V} (h : NodeHead) → FollowsMeaning rel m m' → FollowsInto rel (endless items p fuel h m) (endless items q fuel' h m')
     endless_follow h t a to = turns_follow rel items p q follow h.id bounds (body_follow t (in_loop h.id to a))
 
-    while_follow : {c m : Meaning W} {c' m' : Meaning V} (h : Head) → FollowsMeaning rel c c' → FollowsMeaning rel m m' →
+    while_follow : {c m : Meaning W} {c' m' : Meaning V} (h : NodeHead) → FollowsMeaning rel c c' → FollowsMeaning rel m m' →
         FollowsInto rel (while_true items p fuel h c m) (while_true items q fuel' h c' m')
     while_follow h t u a to =
         turns_follow rel items p q follow h.id bounds
         (condition_follow rel items p q follow (in_loop h.id to a) t (body_follow u (in_loop h.id to a)) (end_follow rel items p q follow h to))
 
-    while_let_follow : {x c m : Meaning W} {x' c' m' : Meaning V} (h : Head) → FollowsMeaning rel x x' → FollowsMeaning rel c c' → FollowsMeaning rel m m' →
+    while_let_follow : {x c m : Meaning W} {x' c' m' : Meaning V} (h : NodeHead) → FollowsMeaning rel x x' → FollowsMeaning rel c c' → FollowsMeaning rel m m' →
         FollowsInto rel (while_taken items p fuel h x c m) (while_taken items q fuel' h x' c' m')
     while_let_follow h x t u a to =
         turns_follow rel items p q follow h.id bounds
         (if_taken_follow rel items p q follow h (in_loop h.id to a) x t (body_follow u (in_loop h.id to a)) (end_follow rel items p q follow h to))
 
-    coerce_follow : {m : Meaning W} {m' : Meaning V} (h : Head) (trait_no : ℕ) → FollowsMeaning rel m m' →
+    coerce_follow : {m : Meaning W} {m' : Meaning V} (h : NodeHead) (trait_no : ℕ) → FollowsMeaning rel m m' →
         FollowsEvaluate rel (coerce items p fuel h trait_no m) (coerce items q fuel' h trait_no m')
     coerce_follow h trait_no (means h' s' e e' r r' x x' ae ar ax) a own to = ae a own (coerced h'.id trait_no to)
 
-    breaks_follow : {o : Option (Meaning W)} {o' : Option (Meaning V)} (loop : ℕ) (h : Head) → FollowsIfAny rel o o' →
+    breaks_follow : {o : Option (Meaning W)} {o' : Option (Meaning V)} (loop : ℕ) (h : NodeHead) → FollowsIfAny rel o o' →
         FollowsInto rel (breaks items p fuel loop h o) (breaks items q fuel' loop h o')
     breaks_follow loop h t a to = jumping_follow rel items p q follow (Breaks loop) h t a (loop_destination loop a.loops)
 
-    returns_follow : {o : Option (Meaning W)} {o' : Option (Meaning V)} (h : Head) → FollowsIfAny rel o o' → FollowsInto rel (returns items p fuel h o) (returns items q fuel' h o')
+    returns_follow : {o : Option (Meaning W)} {o' : Option (Meaning V)} (h : NodeHead) → FollowsIfAny rel o o' → FollowsInto rel (returns items p fuel h o) (returns items q fuel' h o')
     returns_follow h t a to = jumping_follow rel items p q follow Returns h t a a.answer
 
-    at_once : (exit : _) (h : Head) (s : Shape) → FollowsMeaning rel (a_value items p fuel h s (λ a own to. At exit)) (a_value items q fuel' h s (λ a own to. At exit))
+    at_once : (exit : _) (h : NodeHead) (s : Shape) → FollowsMeaning rel (a_value items p fuel h s (λ a own to. At exit)) (a_value items q fuel' h s (λ a own to. At exit))
     at_once exit h s = value_follow (λ a own to. At exit) (λ a own to. At exit) h s (λ a own to. at_follow rel exit)
 
-    an_arm_follow : (h : Head) (s : Shape) {x : _} {x' : _} → FollowsArm rel x x' →
+    an_arm_follow : (h : NodeHead) (s : Shape) {x : _} {x' : _} → FollowsArm rel x x' →
         FollowsMeaning rel (record (a_pattern items p fuel h s) { arm = x }) (record (a_pattern items q fuel' h s) { arm = x' })
     an_arm_follow h s ax =
         means h s _ _ _ _ _ _ (made_follow (λ a own to. At Value) (λ a own to. At Value) h (λ a own to. at_follow rel Value))
@@ -179,7 +179,7 @@ module _ {W V : Type 0} (rel : Relation W V) where
       pub meaning_follow : (n : Node) → FollowsMeaning rel (meaning items p fuel n) (meaning items q fuel' n)
       meaning_follow (node id at ty by form) = form_follow form (head id ty by) (shape_of items form (head id ty by))
 
-      form_follow : (form : Form) (h : Head) (s : Shape) → FollowsMeaning rel (meaning_of items p fuel form h s) (meaning_of items q fuel' form h s)
+      form_follow : (form : Form) (h : NodeHead) (s : Shape) → FollowsMeaning rel (meaning_of items p fuel form h s) (meaning_of items q fuel' form h s)
       form_follow (tree.Number value) h s = effect_follow h s (λ site. effects.Put site (effects.Number value (kind_of items h.ty)))
       form_follow (tree.Truth value) h s = effect_follow h s (λ site. effects.Put site (effects.Truth value))
       form_follow tree.UnitValue h s = effect_follow h s (λ site. effects.Put site effects.UnitValue)
@@ -256,7 +256,7 @@ module _ {W V : Type 0} (rel : Relation W V) where
 
     -- Bodies.
 
-    names_follow : (b : Bool) (bounds : List Bound) → FollowsDoes rel (names_of_param items p fuel b bounds) (names_of_param items q fuel' b bounds)
+    names_follow : (b : Bool) (bounds : List BoundName) → FollowsDoes rel (names_of_param items p fuel b bounds) (names_of_param items q fuel' b bounds)
     names_follow true bounds = at_follow rel Value
     names_follow false bounds = bind_follow rel items p q follow innermost bounds
 

@@ -8,7 +8,7 @@ use Rattle.store_model.specs.Concrete.State.{State}
 use Rattle.typed_tree.specs.Tree as tree
 use Rattle.typed_tree.specs.Tree.{Node, node, Form, Nodes, no_node, a_node, Fields, no_field, a_field}
 use Rattle.src_meaning.specs.Forms.{holds, all_hold, any_holds, tests_after, alternatives_after}
-use Rattle.src_meaning.specs.Shape.{Head, head, followed_by, extended, PatternTest, IsVariant, IsNumber, IsTruth, AnyOf, PatternTests, no_test, a_test, Alternatives, no_alternative, an_alternative, shape, shape_of, in_fields, in_parts, alternatives_at}
+use Rattle.src_meaning.specs.Shape.{NodeHead, head, followed_by, extended, PatternTest, IsVariant, IsNumber, IsTruth, AnyOf, PatternTests, no_test, a_test, Alternatives, no_alternative, an_alternative, shape, shape_of, in_fields, in_parts, alternatives_at}
 use Rattle.src_meaning.specs.Takes.{is_equal, is_of_variant, part_at, takes, takes_by, takes_fields, takes_parts, any_takes, View, HasParts, Answers, Truthful, AllTruthful, AnyTruthful, TestsHoldWhereTaken}
 
 -- what the tests say of a view
@@ -46,7 +46,7 @@ module _ (items : ItemTable) (view : View) (parts : HasParts view) where
     pattern_so : (pattern : Node) (place : Place) → all_so view ((shape items pattern).tests place) ≡ takes pattern (view place)
     pattern_so (node id at ty by form) place = form_so form (head id ty by) place
 
-    form_so : (form : Form) (h : Head) (place : Place) → all_so view ((shape_of items form h).tests place) ≡ takes_by form (view place)
+    form_so : (form : Form) (h : NodeHead) (place : Place) → all_so view ((shape_of items form h).tests place) ≡ takes_by form (view place)
     form_so (tree.NumberPattern number) h place = and_true (is_equal (view place) (Number number))
     form_so (tree.TruthPattern truth) h place = and_true (is_equal (view place) (Truth truth))
     form_so (tree.StructPattern fields) h place = fields_so fields ToPart place

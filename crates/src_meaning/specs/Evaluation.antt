@@ -4,12 +4,12 @@ use Rattle.std.specs.Prelude.{ℕ, nat_lt, Bool, true, false, List, [], ◌∷�
 use Rattle.mir_base.specs.declared.trace.Why.{Why}
 use Rattle.mir_ty.specs.ItemTable.{ItemTable}
 use Rattle.store_model.specs.Effects as effects
-use Rattle.store_model.specs.Effects.{Site, Operand, Action, OfTuple, OfArray, OfVariant, OfClosure, Effects}
+use Rattle.store_model.specs.Effects.{EffectSite, Operand, Action, OfTuple, OfArray, OfVariant, OfClosure, Effects}
 use Rattle.store_model.specs.Places.Place.{Place}
 use Rattle.typed_tree.specs.Tree as tree
 use Rattle.typed_tree.specs.Tree.{Node, node, Form, Nodes, no_node, a_node, Fields, no_field, a_field, MaybeNode, absent, present}
 use Rattle.src_meaning.specs.Scopes.{Value, Breaks, Continues, Returns, At, Does, ◌>>◌}
-use Rattle.src_meaning.specs.Shape.{Head, head, Shape, kind_of, shape_of}
+use Rattle.src_meaning.specs.Shape.{NodeHead, head, Shape, kind_of, shape_of}
 use Rattle.src_meaning.specs.Forms as forms
 use Rattle.src_meaning.specs.Forms.{Destination, Into, coerced, Around, in_loop, loop_destination, Meaning, moved, all_moved, is_never}
 
@@ -37,14 +37,14 @@ module _ {W : Type 0} (items : ItemTable) (p : Effects W) (fuel : ℕ) where
   abbrev pub MakesInto : Type 0
   MakesInto = Around → Destination → Does W
 
-  abbrev pub made_in : Head → Evaluates → Evaluates
+  abbrev pub made_in : NodeHead → Evaluates → Evaluates
   made_in h evaluate around own to = evaluate around own (to_own_key (is_never items h.ty) h.id to)
 
   -- only arms are arms
   abbrev pub no_arm : Place → Does W → Around → Destination → Does W
   no_arm matched otherwise around to = At Value
 
-  abbrev pub a_value : Head → Shape → Evaluates → Meaning W
+  abbrev pub a_value : NodeHead → Shape → Evaluates → Meaning W
   a_value h s evaluate = record {
     head = h;
     shape = s;
@@ -53,7 +53,7 @@ module _ {W : Type 0} (items : ItemTable) (p : Effects W) (fuel : ℕ) where
     arm = no_arm;
   }
 
-  abbrev pub a_place : Head → Shape → (Around → Does W) → Meaning W
+  abbrev pub a_place : NodeHead → Shape → (Around → Does W) → Meaning W
   a_place h s reach = record {
     head = h;
     shape = s;
@@ -62,77 +62,77 @@ module _ {W : Type 0} (items : ItemTable) (p : Effects W) (fuel : ℕ) where
     arm = no_arm;
   }
 
-  abbrev pub in_scope_of_its_own : Head → MakesInto → Evaluates
+  abbrev pub in_scope_of_its_own : NodeHead → MakesInto → Evaluates
   in_scope_of_its_own h does around own to = forms.in_own_scope items p h own (does around to)
 
-  abbrev pub a_scope : Head → Shape → MakesInto → Meaning W
+  abbrev pub a_scope : NodeHead → Shape → MakesInto → Meaning W
   a_scope h s does = a_value h s (in_scope_of_its_own h does)
 
   -- one effect, whose answer goes to the destination; one effect after the operands are made
-  abbrev pub effect : Head → Shape → (Site → Action) → Meaning W
+  abbrev pub effect : NodeHead → Shape → (EffectSite → Action) → Meaning W
   effect h s action = a_scope h s (λ around. forms.deliver items p h action)
 
-  abbrev pub on_operands : Head → Shape → List (Meaning W) → (Site → Action) → Meaning W
+  abbrev pub on_operands : NodeHead → Shape → List (Meaning W) → (EffectSite → Action) → Meaning W
   on_operands h s ms action =
       a_value h s (λ around own to. forms.acting items p h around own ms (forms.deliver items p h action to))
 
-  abbrev pub on_one : Head → Shape → Meaning W → (Site → Operand → Action) → Meaning W
+  abbrev pub on_one : NodeHead → Shape → Meaning W → (EffectSite → Operand → Action) → Meaning W
   on_one h s m action = on_operands h s (m ∷ []) (λ site. action site (moved h.id m.head.id))
 
-  abbrev pub on_two : Head → Shape → Meaning W → Meaning W → (Site → Operand → Operand → Action) → Meaning W
+  abbrev pub on_two : NodeHead → Shape → Meaning W → Meaning W → (EffectSite → Operand → Operand → Action) → Meaning W
   on_two h s m m' action =
       on_operands h s (m ∷ m' ∷ []) (λ site. action site (moved h.id m.head.id) (moved h.id m'.head.id))
 
-  abbrev pub on_all : Head → Shape → List (Meaning W) → (Site → List Operand → Action) → Meaning W
+  abbrev pub on_all : NodeHead → Shape → List (Meaning W) → (EffectSite → List Operand → Action) → Meaning W
   on_all h s ms action = on_operands h s ms (λ site. action site (all_moved h.id ms))
 
   -- the fields are made in the order in which they are written, and stand in the order of their numbers
-  abbrev pub on_fields : Head → Shape → List (ℕ × Meaning W) → (Site → List Operand → Action) → Meaning W
+  abbrev pub on_fields : NodeHead → Shape → List (ℕ × Meaning W) → (EffectSite → List Operand → Action) → Meaning W
   on_fields h s fields action =
       on_operands h s (values_of fields) (λ site. action site (all_moved h.id (values_of (in_number_order fields))))
 
   -- an action without an answer gives `()`
-  abbrev pub unit_after : Head → Action → Destination → Does W
+  abbrev pub unit_after : NodeHead → Action → Destination → Does W
   unit_after h action to = do
     forms.acts items p action
     forms.put_unit items p h to
 
-  abbrev pub gives_unit : Head → Shape → Meaning W → (Operand → Action) → Meaning W
+  abbrev pub gives_unit : NodeHead → Shape → Meaning W → (Operand → Action) → Meaning W
   gives_unit h s m action =
       a_value h s (λ around own to.
       forms.acting items p h around own (m ∷ []) (unit_after h (action (moved h.id m.head.id)) to))
 
-  abbrev pub drops : Head → Meaning W → Evaluates
+  abbrev pub drops : NodeHead → Meaning W → Evaluates
   drops h m around own to = forms.dropping items p h around own m (forms.put_unit items p h to)
 
-  abbrev pub a_statement : Head → Shape → (Around → Does W) → Meaning W
+  abbrev pub a_statement : NodeHead → Shape → (Around → Does W) → Meaning W
   a_statement h s does = a_value h s (λ around own to. does around)
 
   -- a pattern is not evaluated: its shape has its tests and its names
-  abbrev pub a_pattern : Head → Shape → Meaning W
+  abbrev pub a_pattern : NodeHead → Shape → Meaning W
   a_pattern h s = a_value h s (λ around own to. At Value)
 
-  abbrev pub shortcut : Head → Bool → Destination → Does W
+  abbrev pub shortcut : NodeHead → Bool → Destination → Does W
   shortcut h truth to = forms.deliver items p h (λ site. effects.Put site (effects.Truth truth)) to
 
   -- `left && right` is `if left { right } else { false }`, `left || right` is `if left { true } else { right }`
-  abbrev pub conjunction : Head → Meaning W → Meaning W → MakesInto
+  abbrev pub conjunction : NodeHead → Meaning W → Meaning W → MakesInto
   conjunction h left right around to =
       forms.condition items p around left (forms.alone items p around right to) (shortcut h false to)
 
-  abbrev pub disjunction : Head → Meaning W → Meaning W → MakesInto
+  abbrev pub disjunction : NodeHead → Meaning W → Meaning W → MakesInto
   disjunction h left right around to =
       forms.condition items p around left (shortcut h true to) (forms.alone items p around right to)
 
   -- the branch that is there, or `()`
-  abbrev pub otherwise_unit : Head → Option (Meaning W) → MakesInto
+  abbrev pub otherwise_unit : NodeHead → Option (Meaning W) → MakesInto
   otherwise_unit h otherwise around to = forms.branch items p around to otherwise (forms.put_unit items p h to)
 
-  abbrev pub if_else : Head → Meaning W → Meaning W → Option (Meaning W) → MakesInto
+  abbrev pub if_else : NodeHead → Meaning W → Meaning W → Option (Meaning W) → MakesInto
   if_else h c consequent otherwise around to =
       forms.condition items p around c (forms.alone items p around consequent to) (otherwise_unit h otherwise around to)
 
-  abbrev pub if_let : Head → Meaning W → Meaning W → Meaning W → Option (Meaning W) → MakesInto
+  abbrev pub if_let : NodeHead → Meaning W → Meaning W → Meaning W → Option (Meaning W) → MakesInto
   if_let h pattern scrutinee consequent otherwise around to =
       forms.if_taken items p h around pattern scrutinee
       (forms.alone items p around consequent to)
@@ -142,35 +142,35 @@ module _ {W : Type 0} (items : ItemTable) (p : Effects W) (fuel : ℕ) where
   abbrev pub body_in : Meaning W → Around → Does W
   body_in body around = forms.alone items p around body (Into body.head.id)
 
-  abbrev pub endless : Head → Meaning W → MakesInto
+  abbrev pub endless : NodeHead → Meaning W → MakesInto
   endless h body around to = forms.turns items p fuel h.id (body_in body (in_loop h.id to around))
 
-  abbrev pub while_true : Head → Meaning W → Meaning W → MakesInto
+  abbrev pub while_true : NodeHead → Meaning W → Meaning W → MakesInto
   while_true h c body around to = forms.turns items p fuel h.id
       (forms.condition items p (in_loop h.id to around) c
       (body_in body (in_loop h.id to around))
       (forms.ends_loop items p h to))
 
-  abbrev pub while_taken : Head → Meaning W → Meaning W → Meaning W → MakesInto
+  abbrev pub while_taken : NodeHead → Meaning W → Meaning W → Meaning W → MakesInto
   while_taken h pattern scrutinee body around to = forms.turns items p fuel h.id
       (forms.if_taken items p h (in_loop h.id to around) pattern scrutinee
       (body_in body (in_loop h.id to around))
       (forms.ends_loop items p h to))
 
-  abbrev pub breaks : ℕ → Head → Option (Meaning W) → MakesInto
+  abbrev pub breaks : ℕ → NodeHead → Option (Meaning W) → MakesInto
   breaks loop h m around to = forms.jumping items p (Breaks loop) h m around (loop_destination loop around.loops)
 
-  abbrev pub returns : Head → Option (Meaning W) → MakesInto
+  abbrev pub returns : NodeHead → Option (Meaning W) → MakesInto
   returns h m around to = forms.jumping items p Returns h m around around.answer
 
-  abbrev pub coerce : Head → ℕ → Meaning W → Evaluates
+  abbrev pub coerce : NodeHead → ℕ → Meaning W → Evaluates
   coerce h trait_no m around own to = m.evaluate around own (coerced m.head.id trait_no to)
 
   abbrev mutual
     pub meaning : Node → Meaning W
     meaning (node id at ty by form) = meaning_of form (head id ty by) (shape_of items form (head id ty by))
 
-    pub meaning_of : Form → Head → Shape → Meaning W
+    pub meaning_of : Form → NodeHead → Shape → Meaning W
     meaning_of (tree.Number value) h s =
         effect h s (λ site. effects.Put site (effects.Number value (kind_of items h.ty)))
     meaning_of (tree.Truth value) h s = effect h s (λ site. effects.Put site (effects.Truth value))

@@ -8,8 +8,8 @@ use Rattle.mir_base.specs.Trace.{Trace}
 use Rattle.mir_ty.specs.declared.ty.TyId.{TyId}
 use Rattle.mir_ty.specs.ItemTable.{ItemTable}
 use Rattle.store_model.specs.Values.Datum.{Datum}
-use Rattle.store_model.specs.Effects.{Site, Halt, BadUse, BadStore, Stuck, Out, Unwind, Halts, aborting, Effects, Unwinding}
-use Rattle.store_model.specs.Concrete.Bodies.{Code, main_of, run_of}
+use Rattle.store_model.specs.Effects.{EffectSite, Halt, BadUse, BadStore, Stuck, Out, Unwind, Halts, aborting, Effects, Unwinding}
+use Rattle.store_model.specs.Concrete.Bodies.{CodeOfBodies, main_of, run_of}
 use Rattle.store_model.specs.Abstract.Effects.{AbstractState, at_start, abstract_effects}
 use Rattle.store_model.specs.Places.Place.{whole_local}
 use Rattle.store_model.specs.Concrete.Location.{Setting}
@@ -20,11 +20,11 @@ use Rattle.src_meaning.specs.Evaluation.{meaning}
 use Rattle.src_meaning.specs.Forms.{Into, Around, bind, site_of_key}
 use Rattle.src_meaning.specs.Locals.OfBody.{param_key, answer_key, local_of, local_ty, local_tys}
 use Rattle.src_meaning.specs.Scopes.{Entry, Scopes, innermost, with_scope, with_entry, with_pending, all_entries, needing_drop, Value, Breaks, Continues, Returns, Panics, Run, At, Over, Does, ◌>>◌, changing, in_scope, entry_site}
-use Rattle.src_meaning.specs.Shape.{Bound, shape}
+use Rattle.src_meaning.specs.Shape.{BoundName, shape}
 
 module _ {W : Type 0} (items : ItemTable) (p : Effects W) (fuel : ℕ) where
   -- the names of a parameter's pattern; a pattern that is one name is the parameter itself
-  abbrev pub names_of_param : Bool → List Bound → Does W
+  abbrev pub names_of_param : Bool → List BoundName → Does W
   names_of_param true bounds = At Value
   names_of_param false bounds = bind items p innermost bounds
 
@@ -92,7 +92,7 @@ setting_of program = setting_with program.items (map (local_tys program.items) p
 abbrev pub within_body : ItemTable → Effects State → ℕ → BodyTree → State → Out State
 within_body items p turns body = activation items (at_locals (local_of items body) p) turns body
 
-abbrev pub code_of : ProgramTree → Code
+abbrev pub code_of : ProgramTree → CodeOfBodies
 code_of program = record {
   arguments = λ n args. arguments_from 1 args;
   answer = λ n. 0;
@@ -112,21 +112,21 @@ free_run items body list =
     (at_start (range_with_len 1 (length body.params)) list)
 
 -- the refused use at which a run has halted, if all choices are taken
-abbrev use_if_taken : Site → List Bool → Option Site
+abbrev use_if_taken : EffectSite → List Bool → Option EffectSite
 use_if_taken site [] = Some site
 use_if_taken site (i ∷ rest) = None
 
-abbrev refused_of_halt : Halt → List Bool → Option Site
+abbrev refused_of_halt : Halt → List Bool → Option EffectSite
 refused_of_halt (BadUse site) rest = use_if_taken site rest
 refused_of_halt (BadStore site) rest = use_if_taken site rest
 refused_of_halt halt rest = None
 
-abbrev pub refused_of : Out AbstractState → Option Site
+abbrev pub refused_of : Out AbstractState → Option EffectSite
 refused_of (Halts halt w) = refused_of_halt halt w.choices
 refused_of out = None
 
 -- the use that a list of choices reaches: the run takes exactly the list, and then meets it
-abbrev pub reached_by : ItemTable → BodyTree → List Bool → Option Site
+abbrev pub reached_by : ItemTable → BodyTree → List Bool → Option EffectSite
 reached_by items body list = refused_of (free_run items body list)
 
 -- no list of choices reaches a refused use in any body

@@ -4,7 +4,7 @@ use Rattle.std.specs.Prelude.{ℕ, ◌==◌, Bool, true, false, List, [], ◌∷
 use Rattle.mir_ty.specs.declared.ty.TyId.{TyId}
 use Rattle.mir_ty.specs.Facts.{needs_drop}
 use Rattle.mir_ty.specs.ItemTable.{ItemTable}
-use Rattle.store_model.specs.Effects.{Site, Normal, Unwinding, Halt, Aborted, Out, Go, Unwind, Halts, Choice, Yes, No, Neither, Effects}
+use Rattle.store_model.specs.Effects.{EffectSite, Normal, Unwinding, Halt, Aborted, Out, Go, Unwind, Halts, Choice, Yes, No, Neither, Effects}
 use Rattle.store_model.specs.Places.Place.{whole_local}
 
 -- a parameter, variable, operand or temporary, or a destination that is not complete
@@ -135,7 +135,7 @@ abbrev pub back_in : {W : Type 0} → Scopes → Run W → Run W
 back_in S (At Value inner w) = At Value S w
 back_in S run = run
 
-abbrev pub entry_site : Entry → Site
+abbrev pub entry_site : Entry → EffectSite
 entry_site e = record { node = e.key; place = whole_local e.key }
 
 module _ {W : Type 0} (items : ItemTable) (p : Effects W) where

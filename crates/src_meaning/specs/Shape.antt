@@ -4,7 +4,7 @@ use Rattle.std.specs.Prelude.{unwrap_or, ℕ, suc, ◌==◌, ℤ, Bool, true, fa
 use Rattle.mir_base.specs.declared.int_kind.IntKind.{IntKind}
 use Rattle.mir_ty.specs.declared.ty.TyId.{TyId}
 use Rattle.mir_ty.specs.ItemTable.{ItemTable, type_at}
-use Rattle.store_model.specs.Effects.{Site, Operand, Copied, Moved}
+use Rattle.store_model.specs.Effects.{EffectSite, Operand, Copied, Moved}
 use Rattle.store_model.specs.Places.Place.{Step, ToPart, ToField, ToContent, ToElement, Place, whole_local}
 use Rattle.store_model.specs.Places.TypeForms.{int_kind}
 use Rattle.typed_tree.specs.declared.node.Use.{Use}
@@ -13,12 +13,12 @@ use Rattle.typed_tree.specs.Tree as tree
 use Rattle.typed_tree.specs.Tree.{Node, node, Form, Nodes, no_node, a_node, Fields, no_field, a_field}
 
 -- a node's number, type and use
-pub record Head : Type 0 where
+pub record NodeHead : Type 0 where
   pub id : ℕ
   pub ty : TyId
   pub by : Option Use
 
-abbrev pub head : ℕ → TyId → Option Use → Head
+abbrev pub head : ℕ → TyId → Option Use → NodeHead
 head id ty by = record { id = id; ty = ty; by = by }
 
 -- Inside a guard the name of a binding of its arm stands for the part that the binding would take.
@@ -35,9 +35,9 @@ extended step place = record place { steps = place.steps ++ step ∷ [] }
 -- The tests of a pattern in the order in which they are made. All have to hold; of alternatives one has to.
 mutual
   pub data PatternTest : Type 0 where
-    IsVariant : (site : Site) (variant : ℕ) → PatternTest
-    IsNumber : (site : Site) (value : ℤ) (kind : IntKind) → PatternTest
-    IsTruth : (site : Site) (value : Bool) → PatternTest
+    IsVariant : (site : EffectSite) (variant : ℕ) → PatternTest
+    IsNumber : (site : EffectSite) (value : ℤ) (kind : IntKind) → PatternTest
+    IsTruth : (site : EffectSite) (value : Bool) → PatternTest
     AnyOf : (alternatives : Alternatives) → PatternTest
 
   pub data PatternTests : Type 0 where
@@ -53,11 +53,11 @@ followed_by no_test more = more
 followed_by (a_test test rest) more = a_test test (followed_by rest more)
 
 -- a name of a pattern: the entry that it makes, and the part that it moves or copies into it
-pub record Bound : Type 0 where
+pub record BoundName : Type 0 where
   pub key : ℕ
   pub ty : TyId
   pub takes : Bool
-  pub site : Site
+  pub site : EffectSite
 
 pub record Shape : Type 0 where
   pub is_place : Bool
@@ -65,9 +65,9 @@ pub record Shape : Type 0 where
   pub is_binding : Bool  -- a pattern that is one name
   pub place : Aliases → Place  -- a value stands in a temporary under its own number
   pub tests : Place → PatternTests
-  pub bindings : Place → List Bound
+  pub bindings : Place → List BoundName
 
-abbrev pub site_at : Head → Place → Site
+abbrev pub site_at : NodeHead → Place → EffectSite
 site_at h place = record { node = h.id; place = place }
 
 -- a place whose value is used is copied or moved
@@ -75,23 +75,23 @@ abbrev pub moves : Option Use → Bool
 moves (Some Use.Move) = true
 moves by = false
 
-abbrev pub copied_or_moved : Bool → Site → Operand
+abbrev pub copied_or_moved : Bool → EffectSite → Operand
 copied_or_moved true site = Moved site
 copied_or_moved false site = Copied site
 
 -- what a name of a pattern takes
-abbrev pub operand_of_bound : Bound → Operand
+abbrev pub operand_of_bound : BoundName → Operand
 operand_of_bound b = copied_or_moved b.takes b.site
 
 -- a place whose value is used is copied or moved
-abbrev pub operand_at : Head → Place → Operand
+abbrev pub operand_at : NodeHead → Place → Operand
 operand_at h place = copied_or_moved (moves h.by) (site_at h place)
 
 -- the integer type of a literal, which has one in a typed program
 abbrev pub kind_of : ItemTable → TyId → IntKind
 kind_of items id = unwrap_or (int_kind (type_at items id)) IntKind.I32
 
-abbrev a_value : Head → Shape
+abbrev a_value : NodeHead → Shape
 a_value h = record {
   is_place = false;
   in_destination = false;
@@ -101,23 +101,23 @@ a_value h = record {
   bindings = λ place. [];
 }
 
-abbrev a_value_in_destination : Head → Shape
+abbrev a_value_in_destination : NodeHead → Shape
 a_value_in_destination h = record (a_value h) { in_destination = true }
 
-abbrev a_place : Head → (Aliases → Place) → Shape
+abbrev a_place : NodeHead → (Aliases → Place) → Shape
 a_place h place = record (a_value h) { is_place = true; place = place }
 
 -- a part of a place
-abbrev a_part : Head → (Aliases → Place) → Step → Shape
+abbrev a_part : NodeHead → (Aliases → Place) → Step → Shape
 a_part h base step = a_place h (λ aliases. extended step (base aliases))
 
-abbrev a_pattern : Head → (Place → PatternTests) → (Place → List Bound) → Shape
+abbrev a_pattern : NodeHead → (Place → PatternTests) → (Place → List BoundName) → Shape
 a_pattern h tests bindings = record (a_value h) { tests = tests; bindings = bindings }
 
-abbrev a_test_alone : Head → (Site → PatternTest) → Shape
+abbrev a_test_alone : NodeHead → (EffectSite → PatternTest) → Shape
 a_test_alone h test = record (a_value h) { tests = λ place. a_test (test (site_at h place)) no_test }
 
-abbrev a_binding : Head → Shape
+abbrev a_binding : NodeHead → Shape
 a_binding h = record (a_value h) {
   is_binding = true;
   bindings = λ place. (record { key = h.id; ty = h.ty; takes = moves h.by; site = site_at h place }) ∷ [];
@@ -126,7 +126,7 @@ a_binding h = record (a_value h) {
 -- patterns of parts, one after the other, each at its part
 pub record Parts : Type 0 where
   pub tests : Place → PatternTests
-  pub bindings : Place → List Bound
+  pub bindings : Place → List BoundName
 
 abbrev no_parts : Parts
 no_parts = record { tests = λ place. no_test; bindings = λ place. [] }
@@ -137,19 +137,19 @@ part_then step one rest = record {
   bindings = λ place. one.bindings (extended step place) ++ rest.bindings place;
 }
 
-abbrev of_parts : Head → Parts → Shape
+abbrev of_parts : NodeHead → Parts → Shape
 of_parts h parts = a_pattern h parts.tests parts.bindings
 
 -- a variant of an enum with more than one is tested before its parts
-abbrev variant_test : Bool → Site → ℕ → PatternTests → PatternTests
+abbrev variant_test : Bool → EffectSite → ℕ → PatternTests → PatternTests
 variant_test true site variant rest = a_test (IsVariant site variant) rest
 variant_test false site variant rest = rest
 
-abbrev of_variant : Head → Bool → ℕ → Parts → Shape
+abbrev of_variant : NodeHead → Bool → ℕ → Parts → Shape
 of_variant h is_test variant parts =
     a_pattern h (λ place. variant_test is_test (site_at h place) variant (parts.tests place)) parts.bindings
 
-abbrev of_alternatives : Head → (Place → Alternatives) → Shape
+abbrev of_alternatives : NodeHead → (Place → Alternatives) → Shape
 of_alternatives h alternatives = a_pattern h (λ place. a_test (AnyOf (alternatives place)) no_test) (λ place. [])
 
 module _ (items : ItemTable) where
@@ -157,7 +157,7 @@ module _ (items : ItemTable) where
     pub shape : Node → Shape
     shape (node id at ty by form) = shape_of form (head id ty by)
 
-    pub shape_of : Form → Head → Shape
+    pub shape_of : Form → NodeHead → Shape
     shape_of (tree.Number value) h = a_value h
     shape_of (tree.Truth value) h = a_value h
     shape_of tree.UnitValue h = a_value h

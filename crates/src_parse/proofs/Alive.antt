@@ -3,13 +3,13 @@ use Rattle.std.proofs.Common.{◌≡◌, ℕ, Bool, true, false, ◌&&◌, ◌||
 use Rattle.std.proofs.lemmas.Bool.{and_parts, and_from, eq-eqb}
 use Rattle.src_token.specs.declared.token.Token.{Token}
 use Rattle.src_token.specs.declared.mark.Mark.{Mark}
-use Rattle.src_tree.specs.declared.row.Row.{Row}
+use Rattle.src_tree.specs.declared.row.GrammarRow.{GrammarRow}
 use Rattle.src_tree.specs.declared.row.Sort.{Sort}
-use Rattle.src_tree.specs.declared.place.Place.{Place}
-use Rattle.src_tree.specs.declared.place.Part.{Part}
+use Rattle.src_tree.specs.declared.place.GrammarPlace.{GrammarPlace}
+use Rattle.src_tree.specs.declared.place.GrammarPart.{GrammarPart}
 use Rattle.src_tree.specs.declared.place.Start.{Start}
-use Rattle.src_tree.specs.declared.kind.Kind.{Kind}
-use Rattle.src_tree.specs.Grammar.{Rest, ends, token, either, part, maybe, list, more, many, items, alternatives, statements, arms, arm_body, after_break, is, comma, close_block, pattern1, seen, allowed, may_begin, place_of, move, due, behind, behind_statement, behind_arm, behind_body, behind_break, mark_number, word_number, Entry, entry, Joined, joined}
+use Rattle.src_tree.specs.declared.kind.TokenKind.{TokenKind}
+use Rattle.src_tree.specs.Grammar.{GrammarRest, ends, token, either, part, maybe, list, more, many, items, alternatives, statements, arms, arm_body, after_break, is, comma, close_block, pattern1, seen, allowed, may_begin, place_of, move, due, behind, behind_statement, behind_arm, behind_body, behind_break, mark_number, word_number, NodeBeginning, entry, Joined, joined}
 use Rattle.src_tree.specs.Layout.{node, end, tok, sub, Levelled, Follows}
 use Rattle.src_tree.proofs.Samples.{samples, every, like, of_samples}
 use Rattle.src_tree.proofs.Follow.{places, is_known, same_place, implies}
@@ -19,7 +19,7 @@ use Rattle.src_tree.proofs.Complete.{Tree, Held}
 
 -- A test holds of a rest and of all that comes of it. What else is at hand beside a token is no rest of its own.
 abbrev mutual
-  pub everywhere : (Rest → Bool) → Rest → Bool
+  pub everywhere : (GrammarRest → Bool) → GrammarRest → Bool
   everywhere P (ends r) = P (ends r)
   everywhere P (token k after) = P (token k after) && everywhere P after
   everywhere P (either k after other) = P (either k after other) && (everywhere P after && beyond P other)
@@ -31,13 +31,13 @@ abbrev mutual
   everywhere P (many p close after) = P (many p close after) && everywhere P after
   everywhere P items = P items
   everywhere P alternatives = P alternatives && P (part pattern1 alternatives)
-  everywhere P (statements o) = P (statements false) && (P (statements true) && (P close_block && P (ends Row.Block)))
-  everywhere P (arms o) = P (arms false) && (P (arms true) && (P (token (Kind.Mark Mark.CloseBrace) (ends Row.Match)) && P (ends Row.Match)))
+  everywhere P (statements o) = P (statements false) && (P (statements true) && (P close_block && P (ends GrammarRow.Block)))
+  everywhere P (arms o) = P (arms false) && (P (arms true) && (P (token (TokenKind.Mark Mark.CloseBrace) (ends GrammarRow.Match)) && P (ends GrammarRow.Match)))
   everywhere P arm_body =
-      P arm_body && (P (either comma (ends Row.Arm) (ends Row.Arm)) && (P (either comma (ends Row.Arm) (ends Row.LastArm)) && P (ends Row.Arm)))
-  everywhere P after_break = P after_break && (P (maybe Part.AfterReturn (ends Row.Break) Row.Break) && P (ends Row.Break))
+      P arm_body && (P (either comma (ends GrammarRow.Arm) (ends GrammarRow.Arm)) && (P (either comma (ends GrammarRow.Arm) (ends GrammarRow.LastArm)) && P (ends GrammarRow.Arm)))
+  everywhere P after_break = P after_break && (P (maybe GrammarPart.AfterReturn (ends GrammarRow.Break) GrammarRow.Break) && P (ends GrammarRow.Break))
 
-  pub beyond : (Rest → Bool) → Rest → Bool
+  pub beyond : (GrammarRest → Bool) → GrammarRest → Bool
   beyond P (ends r) = true
   beyond P (token k after) = everywhere P after
   beyond P (either k after other) = everywhere P after && beyond P other
@@ -45,7 +45,7 @@ abbrev mutual
   beyond P (maybe p after r) = everywhere P after
   beyond P _ = false
 
-pub at_once : (P : Rest → Bool) (q : Rest) → everywhere P q ≡ true → P q ≡ true
+pub at_once : (P : GrammarRest → Bool) (q : GrammarRest) → everywhere P q ≡ true → P q ≡ true
 at_once P (ends r) h = h
 at_once P (token k after) h = (and_parts _ _ h).0
 at_once P (either k after other) h = (and_parts _ _ h).0
@@ -63,7 +63,7 @@ at_once P (arms true) h = (and_parts _ _ (and_parts (P (arms false)) _ h).1).0
 at_once P arm_body h = (and_parts _ _ h).0
 at_once P after_break h = (and_parts _ _ h).0
 
-moved_beyond : (P : Rest → Bool) (q : Rest) (t : Token) (q1 : Rest) → beyond P q ≡ true → move q t ≡ Some q1 → everywhere P q1 ≡ true
+moved_beyond : (P : GrammarRest → Bool) (q : GrammarRest) (t : Token) (q1 : GrammarRest) → beyond P q ≡ true → move q t ≡ Some q1 → everywhere P q1 ≡ true
 moved_beyond P (token k after) t q1 h e = picks (λ q. everywhere P q ≡ true) (is k t) after None q1 e h (no_more _ q1)
 moved_beyond P (either k after other) t q1 h e =
     let b = and_parts (everywhere P after) (beyond P other) h in
@@ -73,7 +73,7 @@ moved_beyond P (part p after) t q1 h e = no_more _ q1 e
 moved_beyond P (maybe p after r) t q1 h e = no_more _ q1 e
 moved_beyond P _ t q1 h e = absurd (cc)
 
-behind_beyond : (P : Rest → Bool) (q : Rest) (p : Part) (r : Row) → beyond P q ≡ true → due q ≡ Some p → everywhere P (behind q r) ≡ true
+behind_beyond : (P : GrammarRest → Bool) (q : GrammarRest) (p : GrammarPart) (r : GrammarRow) → beyond P q ≡ true → due q ≡ Some p → everywhere P (behind q r) ≡ true
 behind_beyond P (token k after) p r h d = absurd (cc)
 behind_beyond P (either k after other) p r h d = behind_beyond P other p r (and_parts (everywhere P after) (beyond P other) h).1 d
 behind_beyond P (ends x) p r h d = absurd (cc)
@@ -81,7 +81,7 @@ behind_beyond P (part x after) p r h d = h
 behind_beyond P (maybe x after y) p r h d = h
 behind_beyond P _ p r h d = absurd (cc)
 
-pub and_moved : (P : Rest → Bool) (q : Rest) (t : Token) (q1 : Rest) → everywhere P q ≡ true → move q t ≡ Some q1 → everywhere P q1 ≡ true
+pub and_moved : (P : GrammarRest → Bool) (q : GrammarRest) (t : Token) (q1 : GrammarRest) → everywhere P q ≡ true → move q t ≡ Some q1 → everywhere P q1 ≡ true
 and_moved P (ends r) t q1 h e = no_more _ q1 e
 and_moved P (token k after) t q1 h e = picks (λ q. everywhere P q ≡ true) (is k t) after None q1 e (and_parts (P (token k after)) _ h).1 (no_more _ q1)
 and_moved P (either k after other) t q1 h e =
@@ -95,8 +95,8 @@ and_moved P (list p later dots close after) t q1 h e =
     let b = and_parts (P (more later dots close after)) _ a.1 in
     let c = and_parts (P (list later later dots close after)) _ b.1 in
     let d = and_parts (P (token close after)) (everywhere P after) c.1 in
-    picks (λ q. everywhere P q ≡ true) (is close t) after (if dots && is (Kind.Mark Mark.DotDot) t then Some (token close after) else None) q1 e d.1
-    (λ f. picks (λ q. everywhere P q ≡ true) (dots && is (Kind.Mark Mark.DotDot) t) (token close after) None q1 f c.1 (no_more _ q1))
+    picks (λ q. everywhere P q ≡ true) (is close t) after (if dots && is (TokenKind.Mark Mark.DotDot) t then Some (token close after) else None) q1 e d.1
+    (λ f. picks (λ q. everywhere P q ≡ true) (dots && is (TokenKind.Mark Mark.DotDot) t) (token close after) None q1 f c.1 (no_more _ q1))
 and_moved P (more p dots close after) t q1 h e =
     let a = and_parts (P (more p dots close after)) _ h in
     let b = and_parts (P (list p p dots close after)) _ a.1 in
@@ -107,48 +107,48 @@ and_moved P (more p dots close after) t q1 h e =
 and_moved P (many p close after) t q1 h e = picks (λ q. everywhere P q ≡ true) (is close t) after None q1 e (and_parts (P (many p close after)) _ h).1 (no_more _ q1)
 and_moved P items t q1 h e = no_more _ q1 e
 and_moved P alternatives t q1 h e =
-    picks (λ q. everywhere P q ≡ true) (is (Kind.Mark Mark.Or) t) _ None q1 e (and_from _ _ (and_parts (P alternatives) _ h).1 h) (no_more _ q1)
+    picks (λ q. everywhere P q ≡ true) (is (TokenKind.Mark Mark.Or) t) _ None q1 e (and_from _ _ (and_parts (P alternatives) _ h).1 h) (no_more _ q1)
 and_moved P (statements o) t q1 h e =
-    picks (λ q. everywhere P q ≡ true) (is (Kind.Mark Mark.CloseBrace) t) (ends Row.Block) None q1 e
+    picks (λ q. everywhere P q ≡ true) (is (TokenKind.Mark Mark.CloseBrace) t) (ends GrammarRow.Block) None q1 e
     (and_parts (P close_block) _ (and_parts (P (statements true)) _ (and_parts (P (statements false)) _ h).1).1).1 (no_more _ q1)
 and_moved P (arms o) t q1 h e =
-    picks (λ q. everywhere P q ≡ true) (o && is (Kind.Mark Mark.CloseBrace) t) (ends Row.Match) None q1 e
-    (and_parts (P (token (Kind.Mark Mark.CloseBrace) (ends Row.Match))) _ (and_parts (P (arms true)) _ (and_parts (P (arms false)) _ h).1).1).1 (no_more _ q1)
+    picks (λ q. everywhere P q ≡ true) (o && is (TokenKind.Mark Mark.CloseBrace) t) (ends GrammarRow.Match) None q1 e
+    (and_parts (P (token (TokenKind.Mark Mark.CloseBrace) (ends GrammarRow.Match))) _ (and_parts (P (arms true)) _ (and_parts (P (arms false)) _ h).1).1).1 (no_more _ q1)
 and_moved P arm_body t q1 h e = no_more _ q1 e
 and_moved P after_break t q1 h e = no_more _ q1 e
 
-behind_a_statement : (P : Rest → Bool) (r : Row) → everywhere P (statements false) ≡ true → everywhere P (behind_statement r) ≡ true
-behind_a_statement P Row.Let h = h
-behind_a_statement P Row.Semi h = h
-behind_a_statement P Row.Empty h = h
-behind_a_statement P Row.Block h = h
-behind_a_statement P Row.If h = h
-behind_a_statement P Row.Match h = h
-behind_a_statement P Row.Loop h = h
-behind_a_statement P Row.While h = h
+behind_a_statement : (P : GrammarRest → Bool) (r : GrammarRow) → everywhere P (statements false) ≡ true → everywhere P (behind_statement r) ≡ true
+behind_a_statement P GrammarRow.Let h = h
+behind_a_statement P GrammarRow.Semi h = h
+behind_a_statement P GrammarRow.Empty h = h
+behind_a_statement P GrammarRow.Block h = h
+behind_a_statement P GrammarRow.If h = h
+behind_a_statement P GrammarRow.Match h = h
+behind_a_statement P GrammarRow.Loop h = h
+behind_a_statement P GrammarRow.While h = h
 behind_a_statement P _ h = (and_parts (P (statements true)) _ (and_parts (P (statements false)) _ h).1).1
 
-behind_an_arm : (P : Rest → Bool) (r : Row) → everywhere P (arms true) ≡ true → everywhere P (behind_arm r) ≡ true
-behind_an_arm P Row.Arm h = h
+behind_an_arm : (P : GrammarRest → Bool) (r : GrammarRow) → everywhere P (arms true) ≡ true → everywhere P (behind_arm r) ≡ true
+behind_an_arm P GrammarRow.Arm h = h
 behind_an_arm P _ h = (and_parts (P (arms true)) _ (and_parts (P (arms false)) _ h).1).1
 
-behind_a_body : (P : Rest → Bool) (r : Row) → everywhere P arm_body ≡ true → everywhere P (behind_body r) ≡ true
-behind_a_body P Row.Block h =
+behind_a_body : (P : GrammarRest → Bool) (r : GrammarRow) → everywhere P arm_body ≡ true → everywhere P (behind_body r) ≡ true
+behind_a_body P GrammarRow.Block h =
     let a = and_parts (P arm_body) _ h in
-    let b = and_parts (P (either comma (ends Row.Arm) (ends Row.Arm))) _ a.1 in
-    let c = and_parts (P (either comma (ends Row.Arm) (ends Row.LastArm))) _ b.1 in
+    let b = and_parts (P (either comma (ends GrammarRow.Arm) (ends GrammarRow.Arm))) _ a.1 in
+    let c = and_parts (P (either comma (ends GrammarRow.Arm) (ends GrammarRow.LastArm))) _ b.1 in
     and_from _ _ b.0 (and_from _ _ c.1 refl)
 behind_a_body P _ h =
     let a = and_parts (P arm_body) _ h in
-    let b = and_parts (P (either comma (ends Row.Arm) (ends Row.Arm))) _ a.1 in
-    let c = and_parts (P (either comma (ends Row.Arm) (ends Row.LastArm))) _ b.1 in
+    let b = and_parts (P (either comma (ends GrammarRow.Arm) (ends GrammarRow.Arm))) _ a.1 in
+    let c = and_parts (P (either comma (ends GrammarRow.Arm) (ends GrammarRow.LastArm))) _ b.1 in
     and_from _ _ c.0 (and_from _ _ c.1 refl)
 
-behind_a_break : (P : Rest → Bool) (r : Row) → everywhere P after_break ≡ true → everywhere P (behind_break r) ≡ true
-behind_a_break P Row.LabelName h = (and_parts (P after_break) _ h).1
-behind_a_break P _ h = (and_parts (P (maybe Part.AfterReturn (ends Row.Break) Row.Break)) _ (and_parts (P after_break) _ h).1).1
+behind_a_break : (P : GrammarRest → Bool) (r : GrammarRow) → everywhere P after_break ≡ true → everywhere P (behind_break r) ≡ true
+behind_a_break P GrammarRow.LabelName h = (and_parts (P after_break) _ h).1
+behind_a_break P _ h = (and_parts (P (maybe GrammarPart.AfterReturn (ends GrammarRow.Break) GrammarRow.Break)) _ (and_parts (P after_break) _ h).1).1
 
-pub and_behind : (P : Rest → Bool) (q : Rest) (p : Part) (r : Row) → everywhere P q ≡ true → due q ≡ Some p → everywhere P (behind q r) ≡ true
+pub and_behind : (P : GrammarRest → Bool) (q : GrammarRest) (p : GrammarPart) (r : GrammarRow) → everywhere P q ≡ true → due q ≡ Some p → everywhere P (behind q r) ≡ true
 and_behind P (ends x) p r h d = h
 and_behind P (token k after) p r h d = h
 and_behind P (either k after other) p r h d = behind_beyond P other p r (and_parts (everywhere P after) (beyond P other) (and_parts (P (either k after other)) _ h).1).1 d
@@ -172,53 +172,53 @@ and_behind P after_break p r h d = behind_a_break P r h
 
 -- A way to the end.
 
-abbrev pub sample : Kind → Token
-sample (Kind.Mark m) = Token.Mark m
-sample (Kind.Word w) = Token.Word w
-sample Kind.Name = Token.Name []
-sample Kind.Number = Token.Number 0 None
-sample Kind.Digits = Token.Number 0 None
-sample Kind.Label = Token.Label []
-sample Kind.Text = Token.Text []
-sample Kind.Derive = Token.Name (100 ∷ 101 ∷ 114 ∷ 105 ∷ 118 ∷ 101 ∷ [])
+abbrev pub sample : TokenKind → Token
+sample (TokenKind.Mark m) = Token.Mark m
+sample (TokenKind.Word w) = Token.Word w
+sample TokenKind.Name = Token.Name []
+sample TokenKind.Number = Token.Number 0 None
+sample TokenKind.Digits = Token.Number 0 None
+sample TokenKind.Label = Token.Label []
+sample TokenKind.Text = Token.Text []
+sample TokenKind.Derive = Token.Name (100 ∷ 101 ∷ 114 ∷ 105 ∷ 118 ∷ 101 ∷ [])
 
-pub is_sample : (k : Kind) → is k (sample k) ≡ true
-is_sample (Kind.Mark m) = eq-eqb (mark_number m) (mark_number m) refl
-is_sample (Kind.Word w) = eq-eqb (word_number w) (word_number w) refl
-is_sample Kind.Name = refl
-is_sample Kind.Number = refl
-is_sample Kind.Digits = refl
-is_sample Kind.Label = refl
-is_sample Kind.Text = refl
-is_sample Kind.Derive = refl
+pub is_sample : (k : TokenKind) → is k (sample k) ≡ true
+is_sample (TokenKind.Mark m) = eq-eqb (mark_number m) (mark_number m) refl
+is_sample (TokenKind.Word w) = eq-eqb (word_number w) (word_number w) refl
+is_sample TokenKind.Name = refl
+is_sample TokenKind.Number = refl
+is_sample TokenKind.Digits = refl
+is_sample TokenKind.Label = refl
+is_sample TokenKind.Text = refl
+is_sample TokenKind.Derive = refl
 
 abbrev pub leaf_block : Tree
-leaf_block = node tt Row.Block (tok (Token.Mark Mark.OpenBrace) (tok (Token.Mark Mark.CloseBrace) end))
+leaf_block = node tt GrammarRow.Block (tok (Token.Mark Mark.OpenBrace) (tok (Token.Mark Mark.CloseBrace) end))
 
 abbrev leaf_expr : Start → Tree
 leaf_expr Start.OnlyBlock = leaf_block
 leaf_expr Start.BlockOrIf = leaf_block
-leaf_expr _ = node tt Row.Number (tok (Token.Number 0 None) end)
+leaf_expr _ = node tt GrammarRow.Number (tok (Token.Number 0 None) end)
 
 abbrev leaf_type : Tree
-leaf_type = node tt Row.NeverType (tok (Token.Mark Mark.Not) end)
+leaf_type = node tt GrammarRow.NeverType (tok (Token.Mark Mark.Not) end)
 
 -- a tree that may stand there
-abbrev pub leaf : Place → Tree
+abbrev pub leaf : GrammarPlace → Tree
 leaf c = elim c.sort [
   | Sort.Expr ↦ leaf_expr c.start
   | Sort.Type_ ↦ leaf_type
-  | Sort.Pattern ↦ node tt Row.WildPattern (tok (Token.Mark Mark.Underscore) end)
-  | _ ↦ node tt Row.Ident (tok (Token.Name []) end)
+  | Sort.Pattern ↦ node tt GrammarRow.WildPattern (tok (Token.Mark Mark.Underscore) end)
+  | _ ↦ node tt GrammarRow.Ident (tok (Token.Name []) end)
 ]
 
 abbrev pub leaf_arm : Tree
-leaf_arm = node tt Row.Arm (sub (node tt Row.WildPattern (tok (Token.Mark Mark.Underscore) end)) (tok (Token.Mark Mark.FatArrow) (sub leaf_block end)))
+leaf_arm = node tt GrammarRow.Arm (sub (node tt GrammarRow.WildPattern (tok (Token.Mark Mark.Underscore) end)) (tok (Token.Mark Mark.FatArrow) (sub leaf_block end)))
 
-abbrev in_place : Sort → ℕ → Bool → Start → Place
+abbrev in_place : Sort → ℕ → Bool → Start → GrammarPlace
 in_place s n h b = record { sort = s; least = n; head = h; start = b }
 
-abbrev pub leaf_places : List Place
+abbrev pub leaf_places : List GrammarPlace
 leaf_places =
     in_place Sort.Name 0 false Start.Anything ∷ in_place Sort.Type_ 0 false Start.Anything ∷ in_place Sort.Pattern 0 false Start.Anything ∷ in_place Sort.Pattern 1 false Start.Anything
     ∷ in_place Sort.Expr 0 false Start.Anything ∷ in_place Sort.Expr 0 true Start.Anything ∷ in_place Sort.Expr 0 false Start.OnlyBlock ∷ in_place Sort.Expr 0 false Start.BlockOrIf
@@ -226,7 +226,7 @@ leaf_places =
     ∷ in_place Sort.Expr 7 false Start.Anything ∷ in_place Sort.Expr 3 true Start.Anything ∷ in_place Sort.Expr 4 true Start.Anything ∷ in_place Sort.Expr 5 true Start.Anything
     ∷ in_place Sort.Expr 6 true Start.Anything ∷ in_place Sort.Expr 7 true Start.Anything ∷ []
 
-abbrev pub AllLeaves : List Place → Type 0
+abbrev pub AllLeaves : List GrammarPlace → Type 0
 AllLeaves [] = Unit {0}
 AllLeaves (c ∷ cs) = Levelled (Some c) (leaf c) × AllLeaves cs
 
@@ -269,7 +269,7 @@ all_leaves = (
   ),
 )
 
-pub leaf_from : (ds : List Place) (c : Place) → AllLeaves ds → is_known ds c ≡ true → Levelled (Some c) (leaf c)
+pub leaf_from : (ds : List GrammarPlace) (c : GrammarPlace) → AllLeaves ds → is_known ds c ≡ true → Levelled (Some c) (leaf c)
 leaf_from [] c a k = absurd (cc)
 leaf_from (d ∷ ds) c a k = go (leaf_from ds c a.1) (same_place d c) refl
   where
@@ -277,7 +277,7 @@ leaf_from (d ∷ ds) c a k = go (leaf_from ds c a.1) (same_place d c) refl
     go ih true e = subst (λ z. Levelled (Some z) (leaf z)) (same_places d c e) a.0
     go ih false e = ih (subst (λ b. (b || is_known ds c) ≡ true) e k)
 
-abbrev pub way_row : Rest → Row
+abbrev pub way_row : GrammarRest → GrammarRow
 way_row (ends r) = r
 way_row (token k after) = way_row after
 way_row (either k after other) = way_row after
@@ -286,18 +286,18 @@ way_row (maybe p after r) = r
 way_row (list p later dots close after) = way_row after
 way_row (more p dots close after) = way_row after
 way_row (many p close after) = way_row after
-way_row items = Row.File
-way_row alternatives = Row.OrPattern
-way_row (statements o) = Row.Block
-way_row (arms o) = Row.Match
-way_row arm_body = Row.Arm
-way_row after_break = Row.Break
+way_row items = GrammarRow.File
+way_row alternatives = GrammarRow.OrPattern
+way_row (statements o) = GrammarRow.Block
+way_row (arms o) = GrammarRow.Match
+way_row arm_body = GrammarRow.Arm
+way_row after_break = GrammarRow.Break
 
 abbrev pub way_arms : Bool → Held
 way_arms false = sub leaf_arm (tok (Token.Mark Mark.CloseBrace) end)
 way_arms true = tok (Token.Mark Mark.CloseBrace) end
 
-abbrev pub way : Bool → Rest → Held
+abbrev pub way : Bool → GrammarRest → Held
 way h (ends r) = end
 way h (token k after) = tok (sample k) (way h after)
 way h (either k after other) = tok (sample k) (way h after)
@@ -314,7 +314,7 @@ way h arm_body = sub leaf_block end
 way h after_break = end
 
 -- the parts on the way are known
-abbrev pub leaves : Bool → Rest → Bool
+abbrev pub leaves : Bool → GrammarRest → Bool
 leaves h (token k after) = leaves h after
 leaves h (either k after other) = leaves h after
 leaves h (part p after) = is_known leaf_places (place_of h p) && leaves h after
@@ -323,11 +323,11 @@ leaves h (more p dots close after) = leaves h after
 leaves h (many p close after) = leaves h after
 leaves h _ = true
 
-by_test : (h : Bool) (r : Row) (ps : Held) (b : Bool) (q : Rest) (o : Option Rest) → b ≡ true → Follows h (Some q) r ps → Follows h (if b then Some q else o) r ps
+by_test : (h : Bool) (r : GrammarRow) (ps : Held) (b : Bool) (q : GrammarRest) (o : Option GrammarRest) → b ≡ true → Follows h (Some q) r ps → Follows h (if b then Some q else o) r ps
 by_test h r ps true q o e f = f
 by_test h r ps false q o e f = absurd (cc)
 
-pub way_follows : (h : Bool) (q : Rest) → leaves h q ≡ true → Follows h (Some q) (way_row q) (way h q)
+pub way_follows : (h : Bool) (q : GrammarRest) → leaves h q ≡ true → Follows h (Some q) (way_row q) (way h q)
 way_follows h (ends r) l = refl
 way_follows h (token k after) l = by_test h _ _ (is k (sample k)) after None (is_sample k) (way_follows h after l)
 way_follows h (either k after other) l = by_test h _ _ (is k (sample k)) after (move other (sample k)) (is_sample k) (way_follows h after l)
@@ -352,32 +352,32 @@ ender Start.IsParam = Some (Token.Mark Mark.Colon)
 ender Start.IsArm = Some (Token.Mark Mark.FatArrow)
 ender _ = None
 
-abbrev pub joinable_by : Place → Row → Option Joined → Bool
+abbrev pub joinable_by : GrammarPlace → GrammarRow → Option Joined → Bool
 joinable_by c r None = false
 joinable_by c r (Some j) = may_begin c j.row && (allowed j.place r && (allowed c (way_row j.rest) && leaves c.head j.rest))
 
-abbrev pub joinable : Place → Row → Option Token → Bool
+abbrev pub joinable : GrammarPlace → GrammarRow → Option Token → Bool
 joinable c r None = false
 joinable c r (Some t) = joinable_by c r (joined (seen c) t)
 
-abbrev pub alive : Place → Rest → Bool
+abbrev pub alive : GrammarPlace → GrammarRest → Bool
 alive c q = leaves c.head q && (allowed c (way_row q) || joinable c (way_row q) (ender c.start))
 
-abbrev pub alive_entry : Place → Option Entry → Bool
+abbrev pub alive_entry : GrammarPlace → Option NodeBeginning → Bool
 alive_entry c None = true
 alive_entry c (Some e) = implies (may_begin c e.row) (everywhere (alive c) e.rest)
 
-abbrev pub alive_joined : Place → Option Joined → Bool
+abbrev pub alive_joined : GrammarPlace → Option Joined → Bool
 alive_joined c None = true
 alive_joined c (Some j) = implies (may_begin c j.row) (everywhere (alive c) j.rest)
 
-abbrev pub lively : Place → Bool
+abbrev pub lively : GrammarPlace → Bool
 lively c = every (λ t. alive_entry c (entry (seen c) t) && alive_joined c (joined (seen c) t)) samples
 
 pub places_lively : every lively places ≡ true
 places_lively = refl
 
-known_lively : (ds : List Place) (c : Place) → every lively ds ≡ true → is_known ds c ≡ true → lively c ≡ true
+known_lively : (ds : List GrammarPlace) (c : GrammarPlace) → every lively ds ≡ true → is_known ds c ≡ true → lively c ≡ true
 known_lively [] c g k = absurd (cc)
 known_lively (d ∷ ds) c g k = let p = and_parts (lively d) (every lively ds) g in go (known_lively ds c p.1) p.0 (same_place d c) refl
   where
@@ -385,13 +385,13 @@ known_lively (d ∷ ds) c g k = let p = and_parts (lively d) (every lively ds) g
     go ih x true e = ap lively (sym (same_places d c e)) ∙ x
     go ih x false e = ih (subst (λ b. (b || is_known ds c) ≡ true) e k)
 
-pub entry_alive : (c : Place) (t : Token) (e : Entry) → is_known places c ≡ true → entry (seen c) t ≡ Some e → may_begin c e.row ≡ true → everywhere (alive c) e.rest ≡ true
+pub entry_alive : (c : GrammarPlace) (t : Token) (e : NodeBeginning) → is_known places c ≡ true → entry (seen c) t ≡ Some e → may_begin c e.row ≡ true → everywhere (alive c) e.rest ≡ true
 entry_alive c t x k e m =
     let f = of_samples (λ t. alive_entry c (entry (seen c) t) && alive_joined c (joined (seen c) t)) (known_lively places c places_lively k) t in
     let p = (and_parts (alive_entry c (entry (seen c) (like t))) _ f).0 in
     implied (may_begin c x.row) _ (subst (λ o. alive_entry c o ≡ true) (sym (entry_alike c t) ∙ e) p) m
 
-pub joined_alive : (c : Place) (t : Token) (j : Joined) → is_known places c ≡ true → joined (seen c) t ≡ Some j → may_begin c j.row ≡ true → everywhere (alive c) j.rest ≡ true
+pub joined_alive : (c : GrammarPlace) (t : Token) (j : Joined) → is_known places c ≡ true → joined (seen c) t ≡ Some j → may_begin c j.row ≡ true → everywhere (alive c) j.rest ≡ true
 joined_alive c t x k e m =
     let f = of_samples (λ t. alive_entry c (entry (seen c) t) && alive_joined c (joined (seen c) t)) (known_lively places c places_lively k) t in
     let p = (and_parts (alive_entry c (entry (seen c) (like t))) _ f).1 in

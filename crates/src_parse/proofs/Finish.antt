@@ -2,10 +2,10 @@
 use Rattle.std.proofs.Common.{◌≡◌, Bool, true, false, ◌||◌, Option, Some, None, option_map, List, [], ◌∷◌, ◌++◌, refl, sym, ap, ◌∙◌, subst}
 use Rattle.std.proofs.lemmas.Bool.{and_parts}
 use Rattle.src_token.specs.declared.token.Token.{Token}
-use Rattle.src_tree.specs.declared.row.Row.{Row}
-use Rattle.src_tree.specs.declared.place.Place.{Place}
-use Rattle.src_tree.specs.declared.place.Part.{Part}
-use Rattle.src_tree.specs.Grammar.{seen, allowed, may_begin, place_of, Rest, due, behind, made, Joined, joined}
+use Rattle.src_tree.specs.declared.row.GrammarRow.{GrammarRow}
+use Rattle.src_tree.specs.declared.place.GrammarPlace.{GrammarPlace}
+use Rattle.src_tree.specs.declared.place.GrammarPart.{GrammarPart}
+use Rattle.src_tree.specs.Grammar.{seen, allowed, may_begin, place_of, GrammarRest, due, behind, made, Joined, joined}
 use Rattle.src_tree.specs.Layout.{node, tok, sub, spell_parts, Levelled, Begun, Follows}
 use Rattle.src_tree.specs.Reading.{and_then, with_sub, frame, whole}
 use Rattle.src_tree.proofs.Follow.{ok, calm}
@@ -24,22 +24,22 @@ Ends s = (ts : List Token) × (g : Tree) × (and_then (run ts (Some s)) (λ z. w
 
 -- a state that stands where a good frame does
 abbrev Ready : Stack → Type 0
-Ready S = (c : Place) (q : Rest) (d : Held) (s : Stack) → Good (frame c q tt d ∷ S) → Stands s c q d S → Ends s
+Ready S = (c : GrammarPlace) (q : GrammarRest) (d : Held) (s : Stack) → Good (frame c q tt d ∷ S) → Stands s c q d S → Ends s
 
 ends_by : (ts : List Token) (s s1 : Stack) → run ts (Some s) ≡ Some s1 → Ends s1 → Ends s
 ends_by ts s s1 e (us, g, r) = (ts ++ us, g, ap (λ o. and_then o (λ z. whole z)) (run_append ts us (Some s) ∙ ap (run us) e) ∙ r)
 
 -- a node that is complete and may stand there
-up : (c0 : Place) (q0 : Rest) (d0 : Held) (S : Stack) → Ready S → (c : Place) (p : Part) → due q0 ≡ Some p → place_of c0.head p ≡ c → Good (frame c0 q0 tt d0 ∷ S)
-    → (s : Stack) (q : Rest) (d : Held) (r : Row) → Stands s c q d (frame c0 q0 tt d0 ∷ S) → made q ≡ Some r → ok c.head q ≡ true → allowed c r ≡ true → Begun (seen c) r d → Ends s
+up : (c0 : GrammarPlace) (q0 : GrammarRest) (d0 : Held) (S : Stack) → Ready S → (c : GrammarPlace) (p : GrammarPart) → due q0 ≡ Some p → place_of c0.head p ≡ c → Good (frame c0 q0 tt d0 ∷ S)
+    → (s : Stack) (q : GrammarRest) (d : Held) (r : GrammarRow) → Stands s c q d (frame c0 q0 tt d0 ∷ S) → made q ≡ Some r → ok c.head q ≡ true → allowed c r ≡ true → Begun (seen c) r d → Ends s
 up c0 q0 d0 S ih c p e x g s q d r st m k a b =
     ih c0 (behind q0 r) (with_sub d0 (node tt r d)) s (placed c c0 q0 d0 S (node tt r d) (p, e, x) (a, b) g)
     (handed s S c0 q0 d0 p q d r (ok_good c0 q0 d0 S g) e
     (subst (λ z. Stands s z q d (frame c0 q0 tt d0 ∷ S)) (sym x) st) m (subst (λ z. ok z.head q ≡ true) (sym x) k) (subst (λ z. allowed z r ≡ true) (sym x) a))
 
 -- a node that is complete, and the first part of one that may stand there
-up_joined : (c0 : Place) (q0 : Rest) (d0 : Held) (S : Stack) → Ready S → (c : Place) (p : Part) → due q0 ≡ Some p → place_of c0.head p ≡ c → Good (frame c0 q0 tt d0 ∷ S)
-    → (s : Stack) (q : Rest) (d : Held) (r : Row) → Stands s c q d (frame c0 q0 tt d0 ∷ S) → made q ≡ Some r → ok c.head q ≡ true → Begun (seen c) r d
+up_joined : (c0 : GrammarPlace) (q0 : GrammarRest) (d0 : Held) (S : Stack) → Ready S → (c : GrammarPlace) (p : GrammarPart) → due q0 ≡ Some p → place_of c0.head p ≡ c → Good (frame c0 q0 tt d0 ∷ S)
+    → (s : Stack) (q : GrammarRest) (d : Held) (r : GrammarRow) → Stands s c q d (frame c0 q0 tt d0 ∷ S) → made q ≡ Some r → ok c.head q ≡ true → Begun (seen c) r d
     → (t : Token) (o : Option Joined) → joined (seen c) t ≡ o → joinable_by c r o ≡ true → Ends s
 up_joined c0 q0 d0 S ih c p e x g s q d r st m k b t None y h = absurd (cc)
 up_joined c0 q0 d0 S ih c p e x g s q d r st m k b t (Some j) y h =
@@ -61,10 +61,10 @@ or_case true b P h f g = f refl
 or_case false b P h f g = g h
 
 pub ready : (S : Stack) → Ready S
-ready [] c q d s g st = ([], node tt Row.File d, st.ending Row.File (ap (λ z. made z) g.1) ∙ ap (λ z. option_map (λ r. node tt r d) (made z)) g.1)
+ready [] c q d s g st = ([], node tt GrammarRow.File d, st.ending GrammarRow.File (ap (λ z. made z) g.1) ∙ ap (λ z. option_map (λ r. node tt r d) (made z)) g.1)
 ready (frame c0 q0 a0 d0 ∷ S) c q d s g st = go (ready S) g.1 (and_parts (leaves c.head q) _ (at_once (alive c) q g.3))
   where
-    go : Ready S → ((p : Part) × (due q0 ≡ Some p) × (place_of c0.head p ≡ c)) → (leaves c.head q ≡ true) × ((allowed c (way_row q) || joinable c (way_row q) (ender c.start)) ≡ true) → Ends s
+    go : Ready S → ((p : GrammarPart) × (due q0 ≡ Some p) × (place_of c0.head p ≡ c)) → (leaves c.head q ≡ true) × ((allowed c (way_row q) || joinable c (way_row q) (ender c.start)) ≡ true) → Ends s
     go ih (p, e, x) l =
         let ps = way c.head q in
         let w = way_follows c.head q l.0 in
@@ -75,7 +75,7 @@ ready (frame c0 q0 a0 d0 ∷ S) c q d s g st = go (ready S) g.1 (and_parts (leav
         (λ a. up c0 q0 d0 S ih c p e x g.4 s1 q1 (and_parts_of d ps) (way_row q) at1 made1 ok1 a b)
         (by_ender (ender c.start) s1 q1 (and_parts_of d ps) (way_row q) p e x at1 made1 ok1 b ih))
       where
-        by_ender : (o : Option Token) (s1 : Stack) (q1 : Rest) (d1 : Held) (r : Row) (p : Part) → due q0 ≡ Some p → place_of c0.head p ≡ c → Stands s1 c q1 d1 (frame c0 q0 a0 d0 ∷ S) → made q1 ≡ Some r → ok c.head q1 ≡ true → Begun (seen c) r d1
+        by_ender : (o : Option Token) (s1 : Stack) (q1 : GrammarRest) (d1 : Held) (r : GrammarRow) (p : GrammarPart) → due q0 ≡ Some p → place_of c0.head p ≡ c → Stands s1 c q1 d1 (frame c0 q0 a0 d0 ∷ S) → made q1 ≡ Some r → ok c.head q1 ≡ true → Begun (seen c) r d1
             → Ready S → joinable c r o ≡ true → Ends s1
         by_ender None s1 q1 d1 r p e x at1 made1 ok1 b ih h = absurd (cc)
         by_ender (Some t) s1 q1 d1 r p e x at1 made1 ok1 b ih h = up_joined c0 q0 d0 S ih c p e x g.4 s1 q1 d1 r at1 made1 ok1 b t (joined (seen c) t) refl h

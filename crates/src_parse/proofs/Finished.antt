@@ -3,29 +3,29 @@ use Rattle.std.proofs.Common.{◌≡◌, ℕ, zero, suc, ◌<◌, Bool, true, fa
 use Rattle.std.specs.List.{list_all}
 use Rattle.std.specs.Prelude.{IfSome, nat_le}
 use Rattle.std.proofs.lemmas.Bool.{and_parts, eqb-true, ltb-true}
-use Rattle.src_tree.specs.declared.place.Part.{Part}
-use Rattle.src_tree.specs.declared.place.Place.{Place}
+use Rattle.src_tree.specs.declared.place.GrammarPart.{GrammarPart}
+use Rattle.src_tree.specs.declared.place.GrammarPlace.{GrammarPlace}
 use Rattle.src_tree.specs.declared.place.Start.{Start}
-use Rattle.src_tree.specs.declared.row.Row.{Row}
+use Rattle.src_tree.specs.declared.row.GrammarRow.{GrammarRow}
 use Rattle.src_tree.specs.declared.row.Sort.{Sort}
-use Rattle.src_tree.specs.Grammar.{Rest, ends, token, either, part, maybe, list, more, many, items, alternatives, statements, arms, arm_body, after_break, allowed, belongs, level, may_be, place_of, counts}
+use Rattle.src_tree.specs.Grammar.{GrammarRest, ends, token, either, part, maybe, list, more, many, items, alternatives, statements, arms, arm_body, after_break, allowed, belongs, level, may_be, place_of, counts}
 use Rattle.src_tree.specs.Table.{or_end, rests, rest_at}
 use Rattle.src_parse.specs.declared.endings.TheConstants.{ENDINGS}
 use Rattle.src_parse.specs.Bounds.{Alike, EndsAs, plain_bound, bound, bound_of, ended, ended_by, lesser, with_part, least_place, arms_floor}
 
 -- where that row may stand
-stands : (c : Place) (r x : Row) (f a : ℕ) → Alike r x → allowed c x ≡ true → ended c r f a ≡ bound_of f a
+stands : (c : GrammarPlace) (r x : GrammarRow) (f a : ℕ) → Alike r x → allowed c x ≡ true → ended c r f a ≡ bound_of f a
 stands c r x f a same may = ap (λ z. ended_by z c.start f a) (same c ∙ may)
 
-least_part : (h : Bool) (p : Part) → least_place (place_of h p) ≡ least_place (place_of false p)
-least_part h (Part.At c) = refl
-least_part h (Part.Operand least) = refl
-least_part true Part.AfterBreak = refl
-least_part false Part.AfterBreak = refl
-least_part true Part.AfterReturn = refl
-least_part false Part.AfterReturn = refl
+least_part : (h : Bool) (p : GrammarPart) → least_place (place_of h p) ≡ least_place (place_of false p)
+least_part h (GrammarPart.At c) = refl
+least_part h (GrammarPart.Operand least) = refl
+least_part true GrammarPart.AfterBreak = refl
+least_part false GrammarPart.AfterBreak = refl
+least_part true GrammarPart.AfterReturn = refl
+least_part false GrammarPart.AfterReturn = refl
 
-pub plain : (c : Place) (x : Row) (q : Rest) → EndsAs x q → allowed c x ≡ true → bound c q ≡ plain_bound q
+pub plain : (c : GrammarPlace) (x : GrammarRow) (q : GrammarRest) → EndsAs x q → allowed c x ≡ true → bound c q ≡ plain_bound q
 plain c x (ends r) e may = stands c r x 0 (counts r) e may
 plain c x (token k after) e may = plain c x after e may
 plain c x (either k after other) e may =
@@ -36,12 +36,12 @@ plain c x (maybe p after r) e may = stands c r x 0 (counts r) e may
 plain c x (list p later dots close after) e may = plain c x after e may
 plain c x (more p dots close after) e may = plain c x after e may
 plain c x (many p close after) e may = plain c x after e may
-plain c x items e may = stands c Row.File x 0 0 e may
-plain c x alternatives e may = stands c Row.OrPattern x 0 1 e may
-plain c x (statements o) e may = stands c Row.Block x 0 1 e may
-plain c x (arms o) e may = stands c Row.Match x (arms_floor o) 1 e may
-plain c x arm_body e may = stands c Row.Arm x 2 1 e may
-plain c x after_break e may = stands c Row.Break x 0 1 e may
+plain c x items e may = stands c GrammarRow.File x 0 0 e may
+plain c x alternatives e may = stands c GrammarRow.OrPattern x 0 1 e may
+plain c x (statements o) e may = stands c GrammarRow.Block x 0 1 e may
+plain c x (arms o) e may = stands c GrammarRow.Match x (arms_floor o) 1 e may
+plain c x arm_body e may = stands c GrammarRow.Arm x 2 1 e may
+plain c x after_break e may = stands c GrammarRow.Break x 0 1 e may
 
 -- a row by where it may stand
 abbrev sorts : List Sort
@@ -63,7 +63,7 @@ same_is false false h = refl
 same_is true false h = cc
 same_is false true h = cc
 
-abbrev alike : Row → Row → Bool
+abbrev alike : GrammarRow → GrammarRow → Bool
 alike r x =
     list_all (λ s. same (belongs s r) (belongs s x)) sorts
     && (list_all (λ s. same (may_be s r) (may_be s x)) starts && eqb (level r) (level x))
@@ -138,7 +138,7 @@ start_in Start.BlockOrIf = refl
 start_in Start.IsArm = refl
 start_in Start.IsParam = refl
 
-alike_is : (r x : Row) → alike r x ≡ true → Alike r x
+alike_is : (r x : GrammarRow) → alike r x ≡ true → Alike r x
 alike_is r x h c =
     let (first, others) = and_parts (list_all (λ s. same (belongs s r) (belongs s x)) sorts) _ h in
     let (second, third) = and_parts (list_all (λ s. same (may_be s r) (may_be s x)) starts) _ others in
@@ -149,7 +149,7 @@ alike_is r x h c =
     ∙ ap (λ z. belongs c.sort x && (nat_le c.least z && may_be c.start r)) levels
     ∙ ap (λ z. belongs c.sort x && (nat_le c.least (level x) && z)) being
 
-abbrev ends_as : Row → Rest → Bool
+abbrev ends_as : GrammarRow → GrammarRest → Bool
 ends_as x (ends r) = alike r x
 ends_as x (token k after) = ends_as x after
 ends_as x (either k after other) = ends_as x after && ends_as x other
@@ -158,14 +158,14 @@ ends_as x (maybe p after r) = alike r x
 ends_as x (list p later dots close after) = ends_as x after
 ends_as x (more p dots close after) = ends_as x after
 ends_as x (many p close after) = ends_as x after
-ends_as x items = alike Row.File x
-ends_as x alternatives = alike Row.OrPattern x
-ends_as x (statements o) = alike Row.Block x
-ends_as x (arms o) = alike Row.Match x
-ends_as x arm_body = alike Row.Arm x
-ends_as x after_break = alike Row.Break x
+ends_as x items = alike GrammarRow.File x
+ends_as x alternatives = alike GrammarRow.OrPattern x
+ends_as x (statements o) = alike GrammarRow.Block x
+ends_as x (arms o) = alike GrammarRow.Match x
+ends_as x arm_body = alike GrammarRow.Arm x
+ends_as x after_break = alike GrammarRow.Break x
 
-ends_as_is : (x : Row) (q : Rest) → ends_as x q ≡ true → EndsAs x q
+ends_as_is : (x : GrammarRow) (q : GrammarRest) → ends_as x q ≡ true → EndsAs x q
 ends_as_is x (ends r) h = alike_is r x h
 ends_as_is x (token k after) h = ends_as_is x after h
 ends_as_is x (either k after other) h =
@@ -175,23 +175,23 @@ ends_as_is x (maybe p after r) h = alike_is r x h
 ends_as_is x (list p later dots close after) h = ends_as_is x after h
 ends_as_is x (more p dots close after) h = ends_as_is x after h
 ends_as_is x (many p close after) h = ends_as_is x after h
-ends_as_is x items h = alike_is Row.File x h
-ends_as_is x alternatives h = alike_is Row.OrPattern x h
-ends_as_is x (statements o) h = alike_is Row.Block x h
-ends_as_is x (arms o) h = alike_is Row.Match x h
-ends_as_is x arm_body h = alike_is Row.Arm x h
-ends_as_is x after_break h = alike_is Row.Break x h
+ends_as_is x items h = alike_is GrammarRow.File x h
+ends_as_is x alternatives h = alike_is GrammarRow.OrPattern x h
+ends_as_is x (statements o) h = alike_is GrammarRow.Block x h
+ends_as_is x (arms o) h = alike_is GrammarRow.Match x h
+ends_as_is x arm_body h = alike_is GrammarRow.Arm x h
+ends_as_is x after_break h = alike_is GrammarRow.Break x h
 
 -- what the table says of a step
-abbrev Told : Row × ℕ × ℕ → Rest → Type 0
+abbrev Told : GrammarRow × ℕ × ℕ → GrammarRest → Type 0
 Told e q = EndsAs e.0 q × (plain_bound q ≡ bound_of e.1 e.2)
 
-abbrev told : Option (Row × ℕ × ℕ) → Rest → Bool
+abbrev told : Option (GrammarRow × ℕ × ℕ) → GrammarRest → Bool
 told None q = true
 told (Some e) q =
     ends_as e.0 q && (eqb (plain_bound q).floor e.1 && (eqb (plain_bound q).around e.2 && ltb e.2 66))
 
-abbrev all_told : List (Option (Row × ℕ × ℕ)) → List Rest → Bool
+abbrev all_told : List (Option (GrammarRow × ℕ × ℕ)) → List GrammarRest → Bool
 all_told [] qs = true
 all_told (o ∷ os) [] = false
 all_told (o ∷ os) (q ∷ qs) = told o q && all_told os qs
@@ -201,7 +201,7 @@ table_told : all_told ENDINGS rests ≡ true
 unfolding rests
 table_told = refl
 
-told_of : (os : List (Option (Row × ℕ × ℕ))) (qs : List Rest) (i : ℕ) (e : Row × ℕ × ℕ) → all_told os qs ≡ true
+told_of : (os : List (Option (GrammarRow × ℕ × ℕ))) (qs : List GrammarRest) (i : ℕ) (e : GrammarRow × ℕ × ℕ) → all_told os qs ≡ true
     → slice_get os i ≡ Some (Some e) → told (Some e) (or_end (slice_get qs i)) ≡ true
 told_of [] qs zero e all is = cc
 told_of [] qs (suc i) e all is = cc
@@ -209,11 +209,11 @@ told_of (o ∷ os) [] i e all is = cc
 told_of (o ∷ os) (q ∷ qs) zero e all is = let h : o ≡ Some e = cc in ap (λ z. told z q) (sym h) ∙ (and_parts (told o q) _ all).0
 told_of (o ∷ os) (q ∷ qs) (suc i) e all is = told_of os qs i e (and_parts (told o q) _ all).1 is
 
-told_at : (i : ℕ) (e : Row × ℕ × ℕ) → slice_get ENDINGS i ≡ Some (Some e) → told (Some e) (rest_at i) ≡ true
+told_at : (i : ℕ) (e : GrammarRow × ℕ × ℕ) → slice_get ENDINGS i ≡ Some (Some e) → told (Some e) (rest_at i) ≡ true
 unfolding rest_at
 told_at i e is = told_of ENDINGS rests i e table_told is
 
-pub ending_there : (i : ℕ) (e : Row × ℕ × ℕ) → slice_get ENDINGS i ≡ Some (Some e) → Told e (rest_at i)
+pub ending_there : (i : ℕ) (e : GrammarRow × ℕ × ℕ) → slice_get ENDINGS i ≡ Some (Some e) → Told e (rest_at i)
 ending_there i e is =
     let q = rest_at i in
     let first = and_parts (ends_as e.0 q) _ (told_at i e is) in
@@ -223,7 +223,7 @@ ending_there i e is =
       ap (λ z. bound_of z (plain_bound q).around) (eqb-true _ e.1 second.0) ∙ ap (λ z. bound_of e.1 z) (eqb-true _ e.2 third.0),
     )
 
-pub ending_small : (i : ℕ) (o : Option (Row × ℕ × ℕ)) → slice_get ENDINGS i ≡ Some o → IfSome o (λ e. e.2 < 66)
+pub ending_small : (i : ℕ) (o : Option (GrammarRow × ℕ × ℕ)) → slice_get ENDINGS i ≡ Some o → IfSome o (λ e. e.2 < 66)
 ending_small i None is = tt
 ending_small i (Some e) is =
     let q = rest_at i in

@@ -1,7 +1,7 @@
 -- The laws of reading.
 use Rattle.std.proofs.Common.{◌≡◌, true, Option, Some, None, List, [], ◌∷◌, refl, sym, ap, ◌∙◌, is_some}
 use Rattle.src_token.specs.declared.token.Token.{Token}
-use Rattle.src_tree.specs.declared.row.Row.{Row}
+use Rattle.src_tree.specs.declared.row.GrammarRow.{GrammarRow}
 use Rattle.src_tree.specs.Layout.{node}
 use Rattle.src_tree.specs.Reading.{and_then, whole, start}
 use Rattle.src_tree.proofs.Complete.{Stack, step_if, run, complete}
@@ -31,8 +31,8 @@ reads_trees ts g = (to, from)
     run_is : started ts ≡ state_behind ts
     run_is = same ts (Some (start tt))
 
-    to : and_then (state_behind ts) (λ s. whole s) ≡ Some (node tt Row.File g) → IsItems ts g
-    to e = let so = sound ts (node tt Row.File g) (ap (λ o. and_then o (λ s. whole s)) run_is ∙ e) in (so.1, so.2)
+    to : and_then (state_behind ts) (λ s. whole s) ≡ Some (node tt GrammarRow.File g) → IsItems ts g
+    to e = let so = sound ts (node tt GrammarRow.File g) (ap (λ o. and_then o (λ s. whole s)) run_is ∙ e) in (so.1, so.2)
 
-    from : IsItems ts g → and_then (state_behind ts) (λ s. whole s) ≡ Some (node tt Row.File g)
+    from : IsItems ts g → and_then (state_behind ts) (λ s. whole s) ≡ Some (node tt GrammarRow.File g)
     from h = ap (λ o. and_then o (λ s. whole s)) (sym run_is ∙ ap (λ z. started z) (sym h.1)) ∙ complete g h.0

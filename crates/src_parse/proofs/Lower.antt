@@ -2,11 +2,11 @@
 use Rattle.std.proofs.Common.{◌≡◌, ℕ, ◌+◌, ◌≤◌, max, nat_le, Bool, true, false, ◌&&◌, ◌||◌, Option, Some, None, option_map, List, [], ◌∷◌, refl, sym, ap, ◌∙◌, subst, arith}
 use Rattle.std.proofs.lemmas.Bool.{and_parts, leb-true}
 use Rattle.src_token.specs.declared.token.Token.{Token}
-use Rattle.src_tree.specs.declared.row.Row.{Row}
-use Rattle.src_tree.specs.declared.place.Place.{Place}
-use Rattle.src_tree.specs.declared.place.Part.{Part}
+use Rattle.src_tree.specs.declared.row.GrammarRow.{GrammarRow}
+use Rattle.src_tree.specs.declared.place.GrammarPlace.{GrammarPlace}
+use Rattle.src_tree.specs.declared.place.GrammarPart.{GrammarPart}
 use Rattle.src_tree.specs.declared.place.Start.{Start}
-use Rattle.src_tree.specs.Grammar.{Rest, ends, token, either, part, maybe, list, more, many, items, alternatives, statements, arms, arm_body, after_break, seen, allowed, may_begin, place_of, counts, move, due, behind, made, Entry, entry, Joined, joined}
+use Rattle.src_tree.specs.Grammar.{GrammarRest, ends, token, either, part, maybe, list, more, many, items, alternatives, statements, arms, arm_body, after_break, seen, allowed, may_begin, place_of, counts, move, due, behind, made, NodeBeginning, entry, Joined, joined}
 use Rattle.src_tree.specs.Layout.{node, end, tok, sub, depth, parts_depth}
 use Rattle.src_tree.specs.Reading.{or_else, and_then, only_if, begin_at, opens, joins, with_tok, with_sub, frame, goes_on, is_joined, act, step}
 use Rattle.src_tree.proofs.Samples.{samples, rows, every, like, of_samples, of_rows}
@@ -21,52 +21,52 @@ use Rattle.src_parse.proofs.Depth.{by_start, settle_by, settle, settle_up, possi
 use Rattle.src_parse.proofs.Sound.{Good, ok_good, handed_on, known_place, steps_well, Ok}
 
 -- each join makes a parameter or an arm as deep as it has to be
-abbrev deepens : Place → ℕ → Rest → Bool
+abbrev deepens : GrammarPlace → ℕ → GrammarRest → Bool
 deepens c k arm_body = nat_le k 1
 deepens c k (part p after) = nat_le 1 (least_place (place_of c.head p)) && all_ends (λ x. nat_le k (counts x)) after
 deepens c k _ = false
 
-deepened : (c : Place) (k : ℕ) (q : Rest) (n : ℕ) → deepens c k q ≡ true → k + max n 1 ≤ total c q n
-deepened c k arm_body n h = let u = settle_up c Row.Arm (1 + max n 1) in let l = leb-true k 1 h in omega arith
+deepened : (c : GrammarPlace) (k : ℕ) (q : GrammarRest) (n : ℕ) → deepens c k q ≡ true → k + max n 1 ≤ total c q n
+deepened c k arm_body n h = let u = settle_up c GrammarRow.Arm (1 + max n 1) in let l = leb-true k 1 h in omega arith
 deepened c k (part p after) n h =
     let a = and_parts (nat_le 1 (least_place (place_of c.head p))) (all_ends (λ x. nat_le k (counts x)) after) h in
     let l = leb-true 1 (least_place (place_of c.head p)) a.0 in
     let u = total_heavy c after (max n (least_place (place_of c.head p))) k a.1 in omega arith
 deepened c k _ n h = absurd (cc)
 
-abbrev gains : Start → Place → Rest → Bool
+abbrev gains : Start → GrammarPlace → GrammarRest → Bool
 gains Start.IsParam c q = deepens c 0 q
 gains Start.IsArm c q = deepens c 1 q
 gains _ c q = true
 
-gained : (s : Start) (c : Place) (q : Rest) (n : ℕ) → gains s c q ≡ true → by_start s n ≤ total c q n
+gained : (s : Start) (c : GrammarPlace) (q : GrammarRest) (n : ℕ) → gains s c q ≡ true → by_start s n ≤ total c q n
 gained Start.IsParam c q n h = let u = deepened c 0 q n h in omega arith
 gained Start.IsArm c q n h = let u = deepened c 1 q n h in omega arith
 gained _ c q n h = total_up c q n
 
-joined_total : (c : Place) (r : Row) (q : Rest) (n : ℕ) → gains c.start c q ≡ true → settle c r n ≤ total c q n
+joined_total : (c : GrammarPlace) (r : GrammarRow) (q : GrammarRest) (n : ℕ) → gains c.start c q ≡ true → settle c r n ≤ total c q n
 joined_total c r q n h = go (allowed c r)
   where
     go : (b : Bool) → settle_by b c.start n ≤ total c q n
     go true = total_up c q n
     go false = gained c.start c q n h
 
-abbrev deep_entry : Place → Option Entry → Bool
+abbrev deep_entry : GrammarPlace → Option NodeBeginning → Bool
 deep_entry c None = true
 deep_entry c (Some e) = implies (may_begin c e.row) (nat_le (least_place c) (total c e.rest 0) && everywhere (fits c) e.rest)
 
-abbrev deep_joined : Place → Option Joined → Bool
+abbrev deep_joined : GrammarPlace → Option Joined → Bool
 deep_joined c None = true
 deep_joined c (Some j) =
     implies (may_begin c j.row) (everywhere (fits c) j.rest && (every (λ r. implies (allowed j.place r) (possible c r)) rows && gains c.start c j.rest))
 
-abbrev deep : Place → Bool
+abbrev deep : GrammarPlace → Bool
 deep c = every (λ t. deep_entry c (entry (seen c) t) && deep_joined c (joined (seen c) t)) samples
 
 places_deep : every deep places ≡ true
 places_deep = refl
 
-known_deep : (ds : List Place) (c : Place) → every deep ds ≡ true → is_known ds c ≡ true → deep c ≡ true
+known_deep : (ds : List GrammarPlace) (c : GrammarPlace) → every deep ds ≡ true → is_known ds c ≡ true → deep c ≡ true
 known_deep [] c g k = absurd (cc)
 known_deep (d ∷ ds) c g k = let p = and_parts (deep d) (every deep ds) g in go (known_deep ds c p.1) p.0 (same_place d c) refl
   where
@@ -74,15 +74,15 @@ known_deep (d ∷ ds) c g k = let p = and_parts (deep d) (every deep ds) g in go
     go ih x true e = ap deep (sym (same_places d c e)) ∙ x
     go ih x false e = ih (subst (λ b. (b || is_known ds c) ≡ true) e k)
 
-entry_deep : (c : Place) (t : Token) (e : Entry) → is_known places c ≡ true → entry (seen c) t ≡ Some e → may_begin c e.row ≡ true → (least_place c ≤ total c e.rest 0) × (everywhere (fits c) e.rest ≡ true)
+entry_deep : (c : GrammarPlace) (t : Token) (e : NodeBeginning) → is_known places c ≡ true → entry (seen c) t ≡ Some e → may_begin c e.row ≡ true → (least_place c ≤ total c e.rest 0) × (everywhere (fits c) e.rest ≡ true)
 entry_deep c t x k e m =
     let f = of_samples (λ t. deep_entry c (entry (seen c) t) && deep_joined c (joined (seen c) t)) (known_deep places c places_deep k) t in
     let p = (and_parts (deep_entry c (entry (seen c) (like t))) _ f).0 in
     let q = and_parts (nat_le (least_place c) (total c x.rest 0)) (everywhere (fits c) x.rest) (implied (may_begin c x.row) _ (subst (λ o. deep_entry c o ≡ true) (sym (entry_alike c t) ∙ e) p) m) in
     (leb-true (least_place c) (total c x.rest 0) q.0, q.1)
 
-joined_deep : (c : Place) (t : Token) (j : Joined) → is_known places c ≡ true → joined (seen c) t ≡ Some j → may_begin c j.row ≡ true
-    → (everywhere (fits c) j.rest ≡ true) × ((r : Row) → allowed j.place r ≡ true → possible c r ≡ true) × (gains c.start c j.rest ≡ true)
+joined_deep : (c : GrammarPlace) (t : Token) (j : Joined) → is_known places c ≡ true → joined (seen c) t ≡ Some j → may_begin c j.row ≡ true
+    → (everywhere (fits c) j.rest ≡ true) × ((r : GrammarRow) → allowed j.place r ≡ true → possible c r ≡ true) × (gains c.start c j.rest ≡ true)
 joined_deep c t x k e m =
     let f = of_samples (λ t. deep_entry c (entry (seen c) t) && deep_joined c (joined (seen c) t)) (known_deep places c places_deep k) t in
     let p = (and_parts (deep_entry c (entry (seen c) (like t))) _ f).1 in
@@ -91,7 +91,7 @@ joined_deep c t x k e m =
     (q.0, (λ r a. implied (allowed x.place r) (possible c r) (of_rows (λ r. implies (allowed x.place r) (possible c r)) s.0 r) a), s.1)
 
 -- what is alive can come to a row
-way_poss : (c : Place) (q : Rest) → possible c (way_row q) ≡ true → poss c q ≡ true
+way_poss : (c : GrammarPlace) (q : GrammarRest) → possible c (way_row q) ≡ true → poss c q ≡ true
 way_poss c (ends r) h = h
 way_poss c (token k after) h = way_poss c after h
 way_poss c (either k after other) h = or_left (poss c after) (poss c other) (way_poss c after h)
@@ -111,7 +111,7 @@ way_poss c (arms o) h = h
 way_poss c arm_body h = h
 way_poss c after_break h = h
 
-pub alive_poss : (c : Place) (q : Rest) → everywhere (alive c) q ≡ true → poss c q ≡ true
+pub alive_poss : (c : GrammarPlace) (q : GrammarRest) → everywhere (alive c) q ≡ true → poss c q ≡ true
 alive_poss c q a = way_poss c q (and_parts (leaves c.head q) (possible c (way_row q)) (at_once (alive c) q a)).1
 
 abbrev pub Fitted : Stack → Type 0
@@ -119,11 +119,11 @@ Fitted [] = Unit {0}
 Fitted (frame c q at d ∷ []) = Unit {0}
 Fitted (frame c q at d ∷ f ∷ S) = (everywhere (fits c) q ≡ true) × Fitted (f ∷ S)
 
-pub fit_of : (c : Place) (q : Rest) (d : Held) (S : Stack) → Good (frame c q tt d ∷ S) → Fitted (frame c q tt d ∷ S) → fit c q ≡ true
+pub fit_of : (c : GrammarPlace) (q : GrammarRest) (d : Held) (S : Stack) → Good (frame c q tt d ∷ S) → Fitted (frame c q tt d ∷ S) → fit c q ≡ true
 fit_of c q d [] g f = ap (fit c) g.1
 fit_of c q d (frame c0 q0 a0 d0 ∷ S) g f = fits_fit c q (at_once (fits c) q f.0)
 
-pub below_mono : (S : Stack) (c : Place) (q : Rest) (d : Held) (n m : ℕ) → Good (frame c q tt d ∷ S) → Fitted (frame c q tt d ∷ S) → n ≤ m → below S n ≤ below S m
+pub below_mono : (S : Stack) (c : GrammarPlace) (q : GrammarRest) (d : Held) (n m : ℕ) → Good (frame c q tt d ∷ S) → Fitted (frame c q tt d ∷ S) → n ≤ m → below S n ≤ below S m
 below_mono [] c q d n m g f h = h
 below_mono (frame c0 q0 a0 d0 ∷ S) c q d n m g f h =
     below_mono S c0 q0 d0 (total_behind c0 q0 (max (parts_depth d0) n)) (total_behind c0 q0 (max (parts_depth d0) m)) g.4 f.1
@@ -151,7 +151,7 @@ up_from : (s from : Stack) (o : Option Stack) → need from ≤ need s → Up s 
 up_from s from None h u = tt
 up_from s from (Some to) h u = (u.0, (let k = u.1 in omega arith))
 
-up_move : (S : Stack) (c : Place) (q : Rest) (d : Held) (t : Token) (o : Option Rest) → move q t ≡ o → Good (frame c q tt d ∷ S) → Fitted (frame c q tt d ∷ S)
+up_move : (S : Stack) (c : GrammarPlace) (q : GrammarRest) (d : Held) (t : Token) (o : Option GrammarRest) → move q t ≡ o → Good (frame c q tt d ∷ S) → Fitted (frame c q tt d ∷ S)
     → Up (frame c q tt d ∷ S) (option_map (λ r. frame c r tt (with_tok d t) ∷ S) o)
 up_move S c q d t None e g f = tt
 up_move [] c q d t (Some q1) e g f = let n : None ≡ Some q1 = ap (λ z. move z t) (sym g.1) ∙ e in absurd (cc)
@@ -162,15 +162,15 @@ up_move (frame c0 q0 a0 d0 ∷ S) c q d t (Some q1) e g f =
           (subst (λ z. total c q (parts_depth d) ≤ total c q1 z) (sym (depth_with_tok d t)) m.1),
     )
 
-fitted_top : (S : Stack) (c cg : Place) (q qg : Rest) (d dg : Held) → Fitted (frame c q tt d ∷ S) → everywhere (fits cg) qg ≡ true → Fitted (frame cg qg tt dg ∷ frame c q tt d ∷ S)
+fitted_top : (S : Stack) (c cg : GrammarPlace) (q qg : GrammarRest) (d dg : Held) → Fitted (frame c q tt d ∷ S) → everywhere (fits cg) qg ≡ true → Fitted (frame cg qg tt dg ∷ frame c q tt d ∷ S)
 fitted_top S c cg q qg d dg f e = (e, f)
 
-up_entry : (S : Stack) (c : Place) (q : Rest) (d : Held) (t : Token) (p : Part) → due q ≡ Some p → Good (frame c q tt d ∷ S) → Fitted (frame c q tt d ∷ S) → (o : Option Entry) → entry (seen (place_of c.head p)) t ≡ o
-    → Up (frame c q tt d ∷ S) (option_map {T = Place × Rest} (λ e. frame e.0 e.1 tt (tok t end) ∷ frame c q tt d ∷ S) (and_then o (λ e. only_if (may_begin (place_of c.head p) e.row) (Some (place_of c.head p, e.rest)))))
+up_entry : (S : Stack) (c : GrammarPlace) (q : GrammarRest) (d : Held) (t : Token) (p : GrammarPart) → due q ≡ Some p → Good (frame c q tt d ∷ S) → Fitted (frame c q tt d ∷ S) → (o : Option NodeBeginning) → entry (seen (place_of c.head p)) t ≡ o
+    → Up (frame c q tt d ∷ S) (option_map {T = GrammarPlace × GrammarRest} (λ e. frame e.0 e.1 tt (tok t end) ∷ frame c q tt d ∷ S) (and_then o (λ e. only_if (may_begin (place_of c.head p) e.row) (Some (place_of c.head p, e.rest)))))
 up_entry S c q d t p e g f None x = tt
 up_entry S c q d t p e g f (Some b) x = go (may_begin (place_of c.head p) b.row) refl
   where
-    go : (m : Bool) → may_begin (place_of c.head p) b.row ≡ m → Up (frame c q tt d ∷ S) (option_map {T = Place × Rest} (λ e. frame e.0 e.1 tt (tok t end) ∷ frame c q tt d ∷ S) (only_if m (Some (place_of c.head p, b.rest))))
+    go : (m : Bool) → may_begin (place_of c.head p) b.row ≡ m → Up (frame c q tt d ∷ S) (option_map {T = GrammarPlace × GrammarRest} (λ e. frame e.0 e.1 tt (tok t end) ∷ frame c q tt d ∷ S) (only_if m (Some (place_of c.head p, b.rest))))
     go false y = tt
     go true y =
         let k = known_part c.head q p (here_of c.head q (ok_good c q d S g)) e in
@@ -180,12 +180,12 @@ up_entry S c q d t p e g f (Some b) x = go (may_begin (place_of c.head p) b.row)
               (total_part c q p (parts_depth d) (total (place_of c.head p) b.rest 0) e (fit_of c q d S g f) h.0),
         )
 
-up_open : (S : Stack) (c : Place) (q : Rest) (d : Held) (t : Token) (o : Option Part) → due q ≡ o → Good (frame c q tt d ∷ S) → Fitted (frame c q tt d ∷ S)
-    → Up (frame c q tt d ∷ S) (option_map {T = Place × Rest} (λ e. frame e.0 e.1 tt (tok t end) ∷ frame c q tt d ∷ S) (and_then (option_map (place_of c.head) o) (begin_at t)))
+up_open : (S : Stack) (c : GrammarPlace) (q : GrammarRest) (d : Held) (t : Token) (o : Option GrammarPart) → due q ≡ o → Good (frame c q tt d ∷ S) → Fitted (frame c q tt d ∷ S)
+    → Up (frame c q tt d ∷ S) (option_map {T = GrammarPlace × GrammarRest} (λ e. frame e.0 e.1 tt (tok t end) ∷ frame c q tt d ∷ S) (and_then (option_map (place_of c.head) o) (begin_at t)))
 up_open S c q d t None e g f = tt
 up_open S c q d t (Some p) e g f = up_entry S c q d t p e g f (entry (seen (place_of c.head p)) t) refl
 
-up_join : (c0 : Place) (q0 : Rest) (d0 : Held) (S : Stack) (c : Place) (q : Rest) (d : Held) (t : Token) (r : Row) → made q ≡ Some r → Good (frame c q tt d ∷ frame c0 q0 tt d0 ∷ S) → Fitted (frame c q tt d ∷ frame c0 q0 tt d0 ∷ S)
+up_join : (c0 : GrammarPlace) (q0 : GrammarRest) (d0 : Held) (S : Stack) (c : GrammarPlace) (q : GrammarRest) (d : Held) (t : Token) (r : GrammarRow) → made q ≡ Some r → Good (frame c q tt d ∷ frame c0 q0 tt d0 ∷ S) → Fitted (frame c q tt d ∷ frame c0 q0 tt d0 ∷ S)
     → is_known places c ≡ true → (o : Option Joined) → joined (seen c) t ≡ o
     → Up (frame c q tt d ∷ frame c0 q0 tt d0 ∷ S) (option_map (λ q1. frame c q1 tt (sub (node tt r d) (tok t end)) ∷ frame c0 q0 tt d0 ∷ S) (and_then o (λ j. only_if (may_begin c j.row && allowed j.place r) (Some j.rest))))
 up_join c0 q0 d0 S c q d t r m g f k None x = tt
@@ -204,7 +204,7 @@ up_join c0 q0 d0 S c q d t r m g f k (Some j) x = go (may_begin c j.row) (allowe
         ((h.0, f.1), below_mono (frame c0 q0 tt d0 ∷ S) c q d (total c q (parts_depth d)) (total c j.rest (max n 0)) g f (omega arith))
 
 -- handing on
-pub up_hand : (c0 : Place) (q0 : Rest) (d0 : Held) (S : Stack) (c : Place) (q : Rest) (d : Held) (r : Row) → made q ≡ Some r → allowed c r ≡ true → Good (frame c q tt d ∷ frame c0 q0 tt d0 ∷ S) → Fitted (frame c q tt d ∷ frame c0 q0 tt d0 ∷ S)
+pub up_hand : (c0 : GrammarPlace) (q0 : GrammarRest) (d0 : Held) (S : Stack) (c : GrammarPlace) (q : GrammarRest) (d : Held) (r : GrammarRow) → made q ≡ Some r → allowed c r ≡ true → Good (frame c q tt d ∷ frame c0 q0 tt d0 ∷ S) → Fitted (frame c q tt d ∷ frame c0 q0 tt d0 ∷ S)
     → need (frame c q tt d ∷ frame c0 q0 tt d0 ∷ S) ≤ need (frame c0 (behind q0 r) tt (with_sub d0 (node tt r d)) ∷ S)
 up_hand c0 q0 d0 S c q d r m a g f =
     let n = counts r + parts_depth d in
@@ -220,28 +220,28 @@ up_hand c0 q0 d0 S c q d r m a g f =
     or_left true b h = refl
     or_left false b h = absurd (cc)
 
-pub fitted_on : (c0 : Place) (q0 : Rest) (d0 d1 : Held) (S : Stack) (p : Part) (r : Row) → due q0 ≡ Some p → Fitted (frame c0 q0 tt d0 ∷ S) → Fitted (frame c0 (behind q0 r) tt d1 ∷ S)
+pub fitted_on : (c0 : GrammarPlace) (q0 : GrammarRest) (d0 d1 : Held) (S : Stack) (p : GrammarPart) (r : GrammarRow) → due q0 ≡ Some p → Fitted (frame c0 q0 tt d0 ∷ S) → Fitted (frame c0 (behind q0 r) tt d1 ∷ S)
 fitted_on c0 q0 d0 d1 [] p r e f = tt
 fitted_on c0 q0 d0 d1 (x ∷ S) p r e f = (and_behind (fits c0) q0 p r f.0 e, f.1)
 
-pub ups : (S : Stack) (c : Place) (q : Rest) (d : Held) (t : Token) → Good (frame c q tt d ∷ S) → Fitted (frame c q tt d ∷ S) → Up (frame c q tt d ∷ S) (act S c q tt d t tt)
+pub ups : (S : Stack) (c : GrammarPlace) (q : GrammarRest) (d : Held) (t : Token) → Good (frame c q tt d ∷ S) → Fitted (frame c q tt d ∷ S) → Up (frame c q tt d ∷ S) (act S c q tt d t tt)
 ups [] c q d t g f =
     up_or (frame c q tt d ∷ []) (goes_on c q tt d [] t tt) (and_then (made q) (λ r. is_joined c tt d [] t r))
-    (up_or (frame c q tt d ∷ []) (option_map (λ r. frame c r tt (with_tok d t) ∷ []) (move q t)) (option_map {T = Place × Rest} (λ e. frame e.0 e.1 tt (tok t end) ∷ frame c q tt d ∷ []) (opens c.head q t))
+    (up_or (frame c q tt d ∷ []) (option_map (λ r. frame c r tt (with_tok d t) ∷ []) (move q t)) (option_map {T = GrammarPlace × GrammarRest} (λ e. frame e.0 e.1 tt (tok t end) ∷ frame c q tt d ∷ []) (opens c.head q t))
     (up_move [] c q d t (move q t) refl g f) (up_open [] c q d t (due q) refl g f))
     (no_join (made q))
   where
-    no_join : (o : Option Row) → Up (frame c q tt d ∷ []) (and_then o (λ r. is_joined c tt d [] t r))
+    no_join : (o : Option GrammarRow) → Up (frame c q tt d ∷ []) (and_then o (λ r. is_joined c tt d [] t r))
     no_join None = tt
     no_join (Some r) = let e : joins c r t ≡ None = ap (λ z. joins z r t) g.0 in subst (λ o. Up (frame c q tt d ∷ []) (option_map (λ q1. frame c q1 tt (sub (node tt r d) (tok t end)) ∷ []) o)) (sym e) tt
 ups (frame c0 q0 a0 d0 ∷ S) c q d t g f =
     up_or (frame c q tt d ∷ frame c0 q0 a0 d0 ∷ S) (goes_on c q tt d (frame c0 q0 a0 d0 ∷ S) t tt)
     (and_then (made q) (λ r. or_else (is_joined c tt d (frame c0 q0 a0 d0 ∷ S) t r) (only_if (allowed c r) (act S c0 (behind q0 r) tt (with_sub d0 (node tt r d)) t tt))))
-    (up_or (frame c q tt d ∷ frame c0 q0 a0 d0 ∷ S) (option_map (λ r. frame c r tt (with_tok d t) ∷ frame c0 q0 a0 d0 ∷ S) (move q t)) (option_map {T = Place × Rest} (λ e. frame e.0 e.1 tt (tok t end) ∷ frame c q tt d ∷ frame c0 q0 a0 d0 ∷ S) (opens c.head q t))
+    (up_or (frame c q tt d ∷ frame c0 q0 a0 d0 ∷ S) (option_map (λ r. frame c r tt (with_tok d t) ∷ frame c0 q0 a0 d0 ∷ S) (move q t)) (option_map {T = GrammarPlace × GrammarRest} (λ e. frame e.0 e.1 tt (tok t end) ∷ frame c q tt d ∷ frame c0 q0 a0 d0 ∷ S) (opens c.head q t))
     (up_move (frame c0 q0 a0 d0 ∷ S) c q d t (move q t) refl g f) (up_open (frame c0 q0 a0 d0 ∷ S) c q d t (due q) refl g f))
     (ended (made q) refl (λ r. ups S c0 (behind q0 r) (with_sub d0 (node tt r d)) t))
   where
-    handing : (r : Row) → made q ≡ Some r
+    handing : (r : GrammarRow) → made q ≡ Some r
         → (Good (frame c0 (behind q0 r) tt (with_sub d0 (node tt r d)) ∷ S) → Fitted (frame c0 (behind q0 r) tt (with_sub d0 (node tt r d)) ∷ S) → Up (frame c0 (behind q0 r) tt (with_sub d0 (node tt r d)) ∷ S) (act S c0 (behind q0 r) tt (with_sub d0 (node tt r d)) t tt))
         → (a : Bool) → allowed c r ≡ a → Up (frame c q tt d ∷ frame c0 q0 a0 d0 ∷ S) (only_if a (act S c0 (behind q0 r) tt (with_sub d0 (node tt r d)) t tt))
     handing r m ih false e = tt
@@ -249,8 +249,8 @@ ups (frame c0 q0 a0 d0 ∷ S) c q d t g f =
         up_from (frame c0 (behind q0 r) tt (with_sub d0 (node tt r d)) ∷ S) (frame c q tt d ∷ frame c0 q0 a0 d0 ∷ S) (act S c0 (behind q0 r) tt (with_sub d0 (node tt r d)) t tt)
         (up_hand c0 q0 d0 S c q d r m e g f) (ih (handed_on c q d c0 q0 d0 S r m e g) (fitted_on c0 q0 d0 (with_sub d0 (node tt r d)) S g.1.0 r g.1.1 f.1))
 
-    ended : (o : Option Row) → made q ≡ o
-        → ((r : Row) → Good (frame c0 (behind q0 r) tt (with_sub d0 (node tt r d)) ∷ S) → Fitted (frame c0 (behind q0 r) tt (with_sub d0 (node tt r d)) ∷ S) → Up (frame c0 (behind q0 r) tt (with_sub d0 (node tt r d)) ∷ S) (act S c0 (behind q0 r) tt (with_sub d0 (node tt r d)) t tt))
+    ended : (o : Option GrammarRow) → made q ≡ o
+        → ((r : GrammarRow) → Good (frame c0 (behind q0 r) tt (with_sub d0 (node tt r d)) ∷ S) → Fitted (frame c0 (behind q0 r) tt (with_sub d0 (node tt r d)) ∷ S) → Up (frame c0 (behind q0 r) tt (with_sub d0 (node tt r d)) ∷ S) (act S c0 (behind q0 r) tt (with_sub d0 (node tt r d)) t tt))
         → Up (frame c q tt d ∷ frame c0 q0 a0 d0 ∷ S) (and_then o (λ r. or_else (is_joined c tt d (frame c0 q0 a0 d0 ∷ S) t r) (only_if (allowed c r) (act S c0 (behind q0 r) tt (with_sub d0 (node tt r d)) t tt))))
     ended None m ih = tt
     ended (Some r) m ih =

@@ -3,14 +3,14 @@ use Rattle.std.proofs.Common.{◌≡◌, ℕ, ◌+◌, ◌≤◌, max, min, nat_
 use Rattle.std.proofs.lemmas.Bool.{leb-true, ltb-true, ltb-false}
 use Rattle.mir_base.specs.declared.place_in_text.Pos.{Pos}
 use Rattle.src_token.specs.declared.token.Token.{Token}
-use Rattle.src_tree.specs.declared.row.Row.{Row}
-use Rattle.src_tree.specs.declared.place.Place.{Place}
-use Rattle.src_tree.specs.Grammar.{Rest, items, allowed, move, made, behind}
-use Rattle.src_tree.specs.Layout.{Node, node, Parts, end, tok, sub, depth, parts_depth}
+use Rattle.src_tree.specs.declared.row.GrammarRow.{GrammarRow}
+use Rattle.src_tree.specs.declared.place.GrammarPlace.{GrammarPlace}
+use Rattle.src_tree.specs.Grammar.{GrammarRest, items, allowed, move, made, behind}
+use Rattle.src_tree.specs.Layout.{SyntaxNode, node, Parts, end, tok, sub, depth, parts_depth}
 use Rattle.src_tree.specs.Laws.{unplaced_parts}
 use Rattle.src_tree.specs.Reading.{or_else, and_then, only_if, opens, joins, with_tok, with_sub, frame, file_place}
 use Rattle.src_tree.proofs.Complete.{Held}
-use Rattle.src_parse.specs.declared.bound.Bound.{Bound}
+use Rattle.src_parse.specs.declared.bound.DepthBound.{DepthBound}
 use Rattle.src_parse.specs.Bounds.{bound_of, value, bound, most, limit}
 use Rattle.src_parse.specs.Counting.{Counted, sat, reach_by, need_of, passes, taken, inside, began, with_node, goes_on, is_joined, act}
 use Rattle.src_parse.proofs.Alive.{at_once, and_behind, alive}
@@ -26,7 +26,7 @@ module _ {L : Type 0} where
   depth_and_tok (tok u rest) t = depth_and_tok rest t
   depth_and_tok (sub g rest) t = ap (λ z. max (depth g) z) (depth_and_tok rest t)
 
-  depth_and_sub : (ps : Parts L) (h : Node L) → parts_depth (with_sub ps h) ≡ max (parts_depth ps) (depth h)
+  depth_and_sub : (ps : Parts L) (h : SyntaxNode L) → parts_depth (with_sub ps h) ≡ max (parts_depth ps) (depth h)
   depth_and_sub end h = omega arith
   depth_and_sub (tok u rest) h = depth_and_sub rest h
   depth_and_sub (sub g rest) h = let e = depth_and_sub rest h in omega arith
@@ -35,12 +35,12 @@ abbrev pub cap : ℕ → ℕ
 cap n = min n 4294967295
 
 -- what stands around a part of a node
-abbrev pub around_by : Bound → ℕ → Bound → Bound
+abbrev pub around_by : DepthBound → ℕ → DepthBound → DepthBound
 around_by b d B = bound_of (max B.floor (max b.floor (d + b.around) + B.around)) (b.around + B.around)
 
-abbrev pub bounds : List Counted → Bound
+abbrev pub bounds : List Counted → DepthBound
 bounds [] = bound_of 0 0
-bounds (g ∷ S) = around_by (bound g.place (behind g.rest Row.File)) (parts_depth g.parts) (bounds S)
+bounds (g ∷ S) = around_by (bound g.place (behind g.rest GrammarRow.File)) (parts_depth g.parts) (bounds S)
 
 abbrev pub needed : Counted → List Counted → ℕ
 needed f S = (around_by (bound f.place f.rest) (parts_depth f.parts) (bounds S)).floor
@@ -50,7 +50,7 @@ abbrev pub Holds : List Counted → Type 0
 Holds [] = Unit {0}
 Holds (f ∷ S) = (f.deepest ≡ cap (parts_depth f.parts)) × (f.floor ≡ cap (bounds S).floor) × (f.around ≡ cap (bounds S).around) × Holds S
 
-reached_floor : (b : Bound) (d F R x y z : ℕ) → x ≡ cap d → y ≡ cap F → z ≡ cap R → max y (sat (max b.floor (sat x b.around)) z) ≡ cap (max F (max b.floor (d + b.around) + R))
+reached_floor : (b : DepthBound) (d F R x y z : ℕ) → x ≡ cap d → y ≡ cap F → z ≡ cap R → max y (sat (max b.floor (sat x b.around)) z) ≡ cap (max F (max b.floor (d + b.around) + R))
 reached_floor b d F R x y z e f g = omega arith
 
 pub need_counted : (f : Counted) (S : List Counted) → Holds (f ∷ S) → need_of f ≡ cap (needed f S)
@@ -67,10 +67,10 @@ or_holds (Some x) b h k = h
 goes_holds : (f : Counted) (S : List Counted) (t : Token) (at : Pos) → Holds (f ∷ S) → HoldsIf (goes_on f S t at)
 goes_holds f S t at h = go (move f.rest t) (opens f.place.head f.rest t)
   where
-    go : (m : Option Rest) (o : Option (Place × Rest)) → HoldsIf (or_else (option_map (λ q. taken f q t ∷ S) m) (option_map (λ e. inside f e.0 e.1 at t ∷ f ∷ S) o))
+    go : (m : Option GrammarRest) (o : Option (GrammarPlace × GrammarRest)) → HoldsIf (or_else (option_map (λ q. taken f q t ∷ S) m) (option_map (λ e. inside f e.0 e.1 at t ∷ f ∷ S) o))
     go (Some q) o = (h.0 ∙ ap cap (sym (depth_and_tok f.parts t)), h.1, h.2, h.3)
     go None (Some e) =
-        let b = bound f.place (behind f.rest Row.File) in
+        let b = bound f.place (behind f.rest GrammarRow.File) in
         let r = h.2 in (
           omega arith,
           reached_floor b (parts_depth f.parts) (bounds S).floor (bounds S).around f.deepest f.floor f.around h.0 h.1 h.2,
@@ -79,14 +79,14 @@ goes_holds f S t at h = go (move f.rest t) (opens f.place.head f.rest t)
         )
     go None None = tt
 
-joined_holds : (f : Counted) (S : List Counted) (t : Token) (r : Row) → Holds (f ∷ S) → HoldsIf (is_joined f S t r)
+joined_holds : (f : Counted) (S : List Counted) (t : Token) (r : GrammarRow) → Holds (f ∷ S) → HoldsIf (is_joined f S t r)
 joined_holds f S t r h = go (joins f.place r t)
   where
-    go : (o : Option Rest) → HoldsIf (option_map (λ q. began f r q t ∷ S) o)
+    go : (o : Option GrammarRest) → HoldsIf (option_map (λ q. began f r q t ∷ S) o)
     go None = tt
     go (Some q) = let d = h.0 in (omega arith, h.1, h.2, h.3)
 
-pub node_holds : (g f : Counted) (S : List Counted) (r : Row) → Holds (f ∷ g ∷ S) → Holds (with_node g f r ∷ S)
+pub node_holds : (g f : Counted) (S : List Counted) (r : GrammarRow) → Holds (f ∷ g ∷ S) → Holds (with_node g f r ∷ S)
 node_holds g f S r h =
     let d = h.0 in
     let e = h.3.0 in
@@ -96,51 +96,51 @@ node_holds g f S r h =
 pub act_holds : (S : List Counted) (f : Counted) (t : Token) (at : Pos) → Holds (f ∷ S) → HoldsIf (act S f t at)
 act_holds [] f t at h = or_holds (goes_on f [] t at) (and_then (made f.rest) (λ r. is_joined f [] t r)) (goes_holds f [] t at h) (go (made f.rest))
   where
-    go : (m : Option Row) → HoldsIf (and_then m (λ r. is_joined f [] t r))
+    go : (m : Option GrammarRow) → HoldsIf (and_then m (λ r. is_joined f [] t r))
     go None = tt
     go (Some r) = joined_holds f [] t r h
 act_holds (g ∷ S) f t at h =
     or_holds (goes_on f (g ∷ S) t at) (and_then (made f.rest) (λ r. or_else (is_joined f (g ∷ S) t r) (only_if (allowed f.place r) (act S (with_node g f r) t at)))) (goes_holds f (g ∷ S) t at h)
     (go (made f.rest) (λ r. act_holds S (with_node g f r) t at))
   where
-    only : (r : Row) → (Holds (with_node g f r ∷ S) → HoldsIf (act S (with_node g f r) t at)) → (a : Bool) → HoldsIf (only_if a (act S (with_node g f r) t at))
+    only : (r : GrammarRow) → (Holds (with_node g f r ∷ S) → HoldsIf (act S (with_node g f r) t at)) → (a : Bool) → HoldsIf (only_if a (act S (with_node g f r) t at))
     only r ih true = ih (node_holds g f S r h)
     only r ih false = tt
 
-    go : (m : Option Row) → ((r : Row) → Holds (with_node g f r ∷ S) → HoldsIf (act S (with_node g f r) t at)) → HoldsIf (and_then m (λ r. or_else (is_joined f (g ∷ S) t r) (only_if (allowed f.place r) (act S (with_node g f r) t at))))
+    go : (m : Option GrammarRow) → ((r : GrammarRow) → Holds (with_node g f r ∷ S) → HoldsIf (act S (with_node g f r) t at)) → HoldsIf (and_then m (λ r. or_else (is_joined f (g ∷ S) t r) (only_if (allowed f.place r) (act S (with_node g f r) t at))))
     go None ih = tt
     go (Some r) ih = or_holds (is_joined f (g ∷ S) t r) (only_if (allowed f.place r) (act S (with_node g f r) t at)) (joined_holds f (g ∷ S) t r h) (only r (ih r) (allowed f.place r))
 
 -- They are the least depths.
 
-file_total : (c : Place) (q : Rest) (d : ℕ) → c ≡ file_place → q ≡ items → (total c q d ≡ d) × (total_behind c q d ≡ d) × (value (bound c q) d ≡ d) × (value (bound c (behind q Row.File)) d ≡ d)
+file_total : (c : GrammarPlace) (q : GrammarRest) (d : ℕ) → c ≡ file_place → q ≡ items → (total c q d ≡ d) × (total_behind c q d ≡ d) × (value (bound c q) d ≡ d) × (value (bound c (behind q GrammarRow.File)) d ≡ d)
 file_total c q d e f =
-    subst (λ z. (total z q d ≡ d) × (total_behind z q d ≡ d) × (value (bound z q) d ≡ d) × (value (bound z (behind q Row.File)) d ≡ d)) (sym e)
-    (subst (λ z. (total file_place z d ≡ d) × (total_behind file_place z d ≡ d) × (value (bound file_place z) d ≡ d) × (value (bound file_place (behind z Row.File)) d ≡ d)) (sym f)
+    subst (λ z. (total z q d ≡ d) × (total_behind z q d ≡ d) × (value (bound z q) d ≡ d) × (value (bound z (behind q GrammarRow.File)) d ≡ d)) (sym e)
+    (subst (λ z. (total file_place z d ≡ d) × (total_behind file_place z d ≡ d) × (value (bound file_place z) d ≡ d) × (value (bound file_place (behind z GrammarRow.File)) d ≡ d)) (sym f)
     (omega arith, omega arith, omega arith, omega arith))
 
-value_two : (b B : Bound) (d n x : ℕ) → x ≡ value b (max d n) → value B x ≡ value (around_by b d B) n
+value_two : (b B : DepthBound) (d n x : ℕ) → x ≡ value b (max d n) → value B x ≡ value (around_by b d B) n
 value_two b B d n x e = omega arith
 
-pub below_is : (g : Counted) (S : List Counted) (c : Place) (q : Rest) (d : Held) (n : ℕ) → Good (frame c q tt d ∷ erase (g ∷ S)) → Fitted (frame c q tt d ∷ erase (g ∷ S)) → below (erase (g ∷ S)) n ≡ value (bounds (g ∷ S)) n
+pub below_is : (g : Counted) (S : List Counted) (c : GrammarPlace) (q : GrammarRest) (d : Held) (n : ℕ) → Good (frame c q tt d ∷ erase (g ∷ S)) → Fitted (frame c q tt d ∷ erase (g ∷ S)) → below (erase (g ∷ S)) n ≡ value (bounds (g ∷ S)) n
 below_is g [] c q d n gd ft =
     let u = depth_unplaced_parts g.parts in
     let m = max (parts_depth (unplaced_parts g.parts)) n in
     let h = file_total g.place g.rest m gd.4.0 gd.4.1 in
-    let b = bound g.place (behind g.rest Row.File) in
+    let b = bound g.place (behind g.rest GrammarRow.File) in
     let a = h.1 in
     let k = h.3 in omega arith
 below_is g (h ∷ S) c q d n gd ft =
     let u = depth_unplaced_parts g.parts in
     let m = max (parts_depth (unplaced_parts g.parts)) n in
     let (p, due_, same) = gd.1 in
-    let e = behind_total g.place g.rest p Row.File m due_ (fit_of g.place g.rest (unplaced_parts g.parts) (erase (h ∷ S)) gd.4 ft.1) in
-    let f = at_once (fits g.place) (behind g.rest Row.File) (and_behind (fits g.place) g.rest p Row.File ft.1.0 due_) in
-    let k = alive_poss g.place (behind g.rest Row.File) (and_behind (alive g.place) g.rest p Row.File gd.4.3 due_) in
-    let t = total_is g.place (behind g.rest Row.File) m (fits_formed g.place (behind g.rest Row.File) f) k in
-    let x : total_behind g.place g.rest m ≡ value (bound g.place (behind g.rest Row.File)) (max (parts_depth g.parts) n) = sym e ∙ t ∙ ap (λ z. value (bound g.place (behind g.rest Row.File)) (max z n)) u in
+    let e = behind_total g.place g.rest p GrammarRow.File m due_ (fit_of g.place g.rest (unplaced_parts g.parts) (erase (h ∷ S)) gd.4 ft.1) in
+    let f = at_once (fits g.place) (behind g.rest GrammarRow.File) (and_behind (fits g.place) g.rest p GrammarRow.File ft.1.0 due_) in
+    let k = alive_poss g.place (behind g.rest GrammarRow.File) (and_behind (alive g.place) g.rest p GrammarRow.File gd.4.3 due_) in
+    let t = total_is g.place (behind g.rest GrammarRow.File) m (fits_formed g.place (behind g.rest GrammarRow.File) f) k in
+    let x : total_behind g.place g.rest m ≡ value (bound g.place (behind g.rest GrammarRow.File)) (max (parts_depth g.parts) n) = sym e ∙ t ∙ ap (λ z. value (bound g.place (behind g.rest GrammarRow.File)) (max z n)) u in
     below_is h S g.place g.rest (unplaced_parts g.parts) (total_behind g.place g.rest m) gd.4 ft.1
-    ∙ value_two (bound g.place (behind g.rest Row.File)) (bounds (h ∷ S)) (parts_depth g.parts) n (total_behind g.place g.rest m) x
+    ∙ value_two (bound g.place (behind g.rest GrammarRow.File)) (bounds (h ∷ S)) (parts_depth g.parts) n (total_behind g.place g.rest m) x
 
 pub need_is : (f : Counted) (S : List Counted) → Good (erase (f ∷ S)) → Fitted (erase (f ∷ S)) → need (erase (f ∷ S)) ≡ needed f S
 need_is f [] gd ft =
@@ -155,7 +155,7 @@ need_is f (g ∷ S) gd ft =
     let t = total_is f.place f.rest (parts_depth (unplaced_parts f.parts)) (fits_formed f.place f.rest k) (alive_poss f.place f.rest gd.3) in
     b ∙ ap (λ z. value (bounds (g ∷ S)) z) t ∙ summed (bound f.place f.rest) (bounds (g ∷ S)) (parts_depth (unplaced_parts f.parts)) (parts_depth f.parts) u
   where
-    summed : (b B : Bound) (d e : ℕ) → d ≡ e → value B (value b d) ≡ (around_by b e B).floor
+    summed : (b B : DepthBound) (d e : ℕ) → d ≡ e → value B (value b d) ≡ (around_by b e B).floor
     summed b B d e h = omega arith
 
 -- What the test of the limit tells.

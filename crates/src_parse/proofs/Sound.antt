@@ -1,12 +1,12 @@
 -- What a state has read is the beginning of a levelled tree.
 use Rattle.std.proofs.Common.{◌≡◌, Bool, true, false, ◌&&◌, Option, Some, None, option_map, List, [], ◌∷◌, ◌++◌, refl, sym, ap, ◌∙◌, subst}
 use Rattle.src_token.specs.declared.token.Token.{Token}
-use Rattle.src_tree.specs.declared.row.Row.{Row}
-use Rattle.src_tree.specs.declared.place.Place.{Place}
-use Rattle.src_tree.specs.declared.place.Part.{Part}
-use Rattle.src_tree.specs.Grammar.{seen, allowed, may_begin, place_of, Rest, items, move, due, behind, made, Entry, entry, Joined, joined}
+use Rattle.src_tree.specs.declared.row.GrammarRow.{GrammarRow}
+use Rattle.src_tree.specs.declared.place.GrammarPlace.{GrammarPlace}
+use Rattle.src_tree.specs.declared.place.GrammarPart.{GrammarPart}
+use Rattle.src_tree.specs.Grammar.{seen, allowed, may_begin, place_of, GrammarRest, items, move, due, behind, made, NodeBeginning, entry, Joined, joined}
 use Rattle.src_tree.specs.Layout.{node, end, tok, sub, row_of, parts_of, spell, spell_parts, due_place, Levelled, Begun, Follows, ItemsLevelled}
-use Rattle.src_tree.specs.Reading.{or_else, and_then, only_if, begin_at, opens, joins, with_tok, with_sub, Frame, frame, goes_on, is_joined, act, step, close_all, whole, file_place, start}
+use Rattle.src_tree.specs.Reading.{or_else, and_then, only_if, begin_at, opens, joins, with_tok, with_sub, ParserFrame, frame, goes_on, is_joined, act, step, close_all, whole, file_place, start}
 use Rattle.src_tree.proofs.Follow.{ok, good, places, is_known}
 use Rattle.src_tree.proofs.Facts.{here_of, ok_move, ok_behind, good_part, known_part, joins_as, entry_is_ok, joined_is_ok, join_rows}
 use Rattle.src_tree.proofs.Checked.{items_ok}
@@ -29,20 +29,20 @@ told [] k = k
 told (frame c q at d ∷ S) k = told S (spell_parts d k)
 
 -- what is due after these parts makes a node of the place
-abbrev pub Sofar : Place → Rest → Held → Type 0
-Sofar c q d = (r : Row) (ps : Held) → Follows c.head (Some q) r ps → Begun (seen c) r (and_parts_of d ps)
+abbrev pub Sofar : GrammarPlace → GrammarRest → Held → Type 0
+Sofar c q d = (r : GrammarRow) (ps : Held) → Follows c.head (Some q) r ps → Begun (seen c) r (and_parts_of d ps)
 
 -- the items so far
-abbrev pub ItemsSofar : Rest → Held → Type 0
-ItemsSofar q d = (ps : Held) → Follows false (Some items) Row.File ps → Follows false (Some items) Row.File (and_parts_of d ps)
+abbrev pub ItemsSofar : GrammarRest → Held → Type 0
+ItemsSofar q d = (ps : Held) → Follows false (Some items) GrammarRow.File ps → Follows false (Some items) GrammarRow.File (and_parts_of d ps)
 
 abbrev pub Good : Stack → Type 0
 Good [] = ⊥
 Good (frame c q at d ∷ []) = (c ≡ file_place) × (q ≡ items) × ItemsSofar q d
 Good (frame c q at d ∷ frame c0 q0 at0 d0 ∷ S) =
-    Sofar c q d × ((p : Part) × (due q0 ≡ Some p) × (place_of c0.head p ≡ c)) × (ok c.head q ≡ true) × (everywhere (alive c) q ≡ true) × Good (frame c0 q0 at0 d0 ∷ S)
+    Sofar c q d × ((p : GrammarPart) × (due q0 ≡ Some p) × (place_of c0.head p ≡ c)) × (ok c.head q ≡ true) × (everywhere (alive c) q ≡ true) × Good (frame c0 q0 at0 d0 ∷ S)
 
-pub ok_good : (c : Place) (q : Rest) (d : Held) (S : Stack) → Good (frame c q tt d ∷ S) → ok c.head q ≡ true
+pub ok_good : (c : GrammarPlace) (q : GrammarRest) (d : Held) (S : Stack) → Good (frame c q tt d ∷ S) → ok c.head q ≡ true
 ok_good c q d [] g = ap (λ z. ok z.head q) g.0 ∙ ap (λ z. ok false z) g.1 ∙ items_ok
 ok_good c q d (frame c0 q0 a0 d0 ∷ S) g = g.2
 
@@ -58,7 +58,7 @@ ok_or s t None p a b = b
 ok_or s t (Some x) p a b = a
 
 -- the node moves
-moves : (c : Place) (q : Rest) (d : Held) (S : Stack) (t : Token) (o : Option Rest) → move q t ≡ o → Good (frame c q tt d ∷ S)
+moves : (c : GrammarPlace) (q : GrammarRest) (d : Held) (S : Stack) (t : Token) (o : Option GrammarRest) → move q t ≡ o → Good (frame c q tt d ∷ S)
     → Ok (frame c q tt d ∷ S) t (option_map (λ r. frame c r tt (with_tok d t) ∷ S) o)
 moves c q d S t None e g = tt
 moves c q d [] t (Some q1) e g =
@@ -75,12 +75,12 @@ moves c q d (frame c0 q0 a0 d0 ∷ S) t (Some q1) e g = (
 )
 
 -- a part begins
-begun_by : (c : Place) (q : Rest) (d : Held) (S : Stack) (t : Token) (p : Part) → due q ≡ Some p → Good (frame c q tt d ∷ S) → (o : Option Entry) → entry (seen (place_of c.head p)) t ≡ o
-    → Ok (frame c q tt d ∷ S) t (option_map {T = Place × Rest} (λ e. frame e.0 e.1 tt (tok t end) ∷ frame c q tt d ∷ S) (and_then o (λ e. only_if (may_begin (place_of c.head p) e.row) (Some (place_of c.head p, e.rest)))))
+begun_by : (c : GrammarPlace) (q : GrammarRest) (d : Held) (S : Stack) (t : Token) (p : GrammarPart) → due q ≡ Some p → Good (frame c q tt d ∷ S) → (o : Option NodeBeginning) → entry (seen (place_of c.head p)) t ≡ o
+    → Ok (frame c q tt d ∷ S) t (option_map {T = GrammarPlace × GrammarRest} (λ e. frame e.0 e.1 tt (tok t end) ∷ frame c q tt d ∷ S) (and_then o (λ e. only_if (may_begin (place_of c.head p) e.row) (Some (place_of c.head p, e.rest)))))
 begun_by c q d S t p e g None x = tt
 begun_by c q d S t p e g (Some b) x = go (may_begin (place_of c.head p) b.row) refl
   where
-    go : (m : Bool) → may_begin (place_of c.head p) b.row ≡ m → Ok (frame c q tt d ∷ S) t (option_map {T = Place × Rest} (λ e. frame e.0 e.1 tt (tok t end) ∷ frame c q tt d ∷ S) (only_if m (Some (place_of c.head p, b.rest))))
+    go : (m : Bool) → may_begin (place_of c.head p) b.row ≡ m → Ok (frame c q tt d ∷ S) t (option_map {T = GrammarPlace × GrammarRest} (λ e. frame e.0 e.1 tt (tok t end) ∷ frame c q tt d ∷ S) (only_if m (Some (place_of c.head p, b.rest))))
     go false y = tt
     go true y = (
       (
@@ -93,18 +93,18 @@ begun_by c q d S t p e g (Some b) x = go (may_begin (place_of c.head p) b.row) r
       λ k. refl,
     )
 
-parts_begin : (c : Place) (q : Rest) (d : Held) (S : Stack) (t : Token) (o : Option Part) → due q ≡ o → Good (frame c q tt d ∷ S)
-    → Ok (frame c q tt d ∷ S) t (option_map {T = Place × Rest} (λ e. frame e.0 e.1 tt (tok t end) ∷ frame c q tt d ∷ S) (and_then (option_map (place_of c.head) o) (begin_at t)))
+parts_begin : (c : GrammarPlace) (q : GrammarRest) (d : Held) (S : Stack) (t : Token) (o : Option GrammarPart) → due q ≡ o → Good (frame c q tt d ∷ S)
+    → Ok (frame c q tt d ∷ S) t (option_map {T = GrammarPlace × GrammarRest} (λ e. frame e.0 e.1 tt (tok t end) ∷ frame c q tt d ∷ S) (and_then (option_map (place_of c.head) o) (begin_at t)))
 parts_begin c q d S t None e g = tt
 parts_begin c q d S t (Some p) e g = begun_by c q d S t p e g (entry (seen (place_of c.head p)) t) refl
 
-goes : (c : Place) (q : Rest) (d : Held) (S : Stack) (t : Token) → Good (frame c q tt d ∷ S) → Ok (frame c q tt d ∷ S) t (goes_on c q tt d S t tt)
+goes : (c : GrammarPlace) (q : GrammarRest) (d : Held) (S : Stack) (t : Token) → Good (frame c q tt d ∷ S) → Ok (frame c q tt d ∷ S) t (goes_on c q tt d S t tt)
 goes c q d S t g =
-    ok_or (frame c q tt d ∷ S) t (option_map (λ r. frame c r tt (with_tok d t) ∷ S) (move q t)) (option_map {T = Place × Rest} (λ e. frame e.0 e.1 tt (tok t end) ∷ frame c q tt d ∷ S) (opens c.head q t))
+    ok_or (frame c q tt d ∷ S) t (option_map (λ r. frame c r tt (with_tok d t) ∷ S) (move q t)) (option_map {T = GrammarPlace × GrammarRest} (λ e. frame e.0 e.1 tt (tok t end) ∷ frame c q tt d ∷ S) (opens c.head q t))
     (moves c q d S t (move q t) refl g) (parts_begin c q d S t (due q) refl g)
 
 -- the node is the first part of another
-joins_good : (c : Place) (q : Rest) (d : Held) (f : Frame (Unit {0})) (S : Stack) (t : Token) (r : Row) → made q ≡ Some r → Good (frame c q tt d ∷ f ∷ S) → good c ≡ true → is_known places c ≡ true → (o : Option Joined) → joined (seen c) t ≡ o
+joins_good : (c : GrammarPlace) (q : GrammarRest) (d : Held) (f : ParserFrame (Unit {0})) (S : Stack) (t : Token) (r : GrammarRow) → made q ≡ Some r → Good (frame c q tt d ∷ f ∷ S) → good c ≡ true → is_known places c ≡ true → (o : Option Joined) → joined (seen c) t ≡ o
     → Ok (frame c q tt d ∷ f ∷ S) t (option_map (λ q1. frame c q1 tt (sub (node tt r d) (tok t end)) ∷ f ∷ S) (and_then o (λ j. only_if (may_begin c j.row && allowed j.place r) (Some j.rest))))
 joins_good c q d f S t r m g gd k None x = tt
 joins_good c q d (frame c0 q0 a0 d0) S t r m g gd k (Some j) x = go (may_begin c j.row) (allowed j.place r) refl refl
@@ -129,19 +129,19 @@ joins_good c q d (frame c0 q0 a0 d0) S t r m g gd k (Some j) x = go (may_begin c
           λ k. refl,
         )
 
-good_place : (c c0 : Place) (q0 : Rest) (d0 : Held) (S : Stack) → Good (frame c0 q0 tt d0 ∷ S) → ((p : Part) × (due q0 ≡ Some p) × (place_of c0.head p ≡ c)) → good c ≡ true
+good_place : (c c0 : GrammarPlace) (q0 : GrammarRest) (d0 : Held) (S : Stack) → Good (frame c0 q0 tt d0 ∷ S) → ((p : GrammarPart) × (due q0 ≡ Some p) × (place_of c0.head p ≡ c)) → good c ≡ true
 good_place c c0 q0 d0 S g (p, e, s) = ap good (sym s) ∙ good_part c0.head q0 p (here_of c0.head q0 (ok_good c0 q0 d0 S g)) e
 
-pub known_place : (c c0 : Place) (q0 : Rest) (d0 : Held) (S : Stack) → Good (frame c0 q0 tt d0 ∷ S) → ((p : Part) × (due q0 ≡ Some p) × (place_of c0.head p ≡ c)) → is_known places c ≡ true
+pub known_place : (c c0 : GrammarPlace) (q0 : GrammarRest) (d0 : Held) (S : Stack) → Good (frame c0 q0 tt d0 ∷ S) → ((p : GrammarPart) × (due q0 ≡ Some p) × (place_of c0.head p ≡ c)) → is_known places c ≡ true
 known_place c c0 q0 d0 S g (p, e, s) = ap (is_known places) (sym s) ∙ known_part c0.head q0 p (here_of c0.head q0 (ok_good c0 q0 d0 S g)) e
 
 -- a node that may stand there is a part of the one below
-pub placed : (c c0 : Place) (q0 : Rest) (d0 : Held) (S : Stack) (g : Tree) → ((p : Part) × (due q0 ≡ Some p) × (place_of c0.head p ≡ c)) → Levelled (Some c) g
+pub placed : (c c0 : GrammarPlace) (q0 : GrammarRest) (d0 : Held) (S : Stack) (g : Tree) → ((p : GrammarPart) × (due q0 ≡ Some p) × (place_of c0.head p ≡ c)) → Levelled (Some c) g
     → Good (frame c0 q0 tt d0 ∷ S) → Good (frame c0 (behind q0 (row_of g)) tt (with_sub d0 g) ∷ S)
 placed c c0 q0 d0 [] g (p, e, s) l b = (
   b.0,
   ap (λ z. behind z (row_of g)) b.1,
-  λ ps f. subst (λ z. Follows false (Some items) Row.File z) (sym (with_sub_and d0 g ps))
+  λ ps f. subst (λ z. Follows false (Some items) GrammarRow.File z) (sym (with_sub_and d0 g ps))
       (b.2 (sub g ps) (subst (λ o. Levelled o g) (sym x) l, f)),
 )
   where
@@ -160,7 +160,7 @@ placed c c0 q0 d0 (frame c1 q1 a1 d1 ∷ S) g (p, e, s) l b = (
     x = ap (λ z. option_map (place_of c0.head) z) e ∙ ap (λ z. Some z) s
 
 -- the node is complete
-pub handed_on : (c : Place) (q : Rest) (d : Held) (c0 : Place) (q0 : Rest) (d0 : Held) (S : Stack) (r : Row) → made q ≡ Some r → allowed c r ≡ true
+pub handed_on : (c : GrammarPlace) (q : GrammarRest) (d : Held) (c0 : GrammarPlace) (q0 : GrammarRest) (d0 : Held) (S : Stack) (r : GrammarRow) → made q ≡ Some r → allowed c r ≡ true
     → Good (frame c q tt d ∷ frame c0 q0 tt d0 ∷ S) → Good (frame c0 (behind q0 r) tt (with_sub d0 (node tt r d)) ∷ S)
 handed_on c q d c0 q0 d0 S r m a g =
     placed c c0 q0 d0 S (node tt r d) g.1 (a, subst (λ z. Begun (seen c) r z) (and_end d) (g.0 r end m)) g.4
@@ -169,10 +169,10 @@ moved : (s from : Stack) (t : Token) (o : Option Stack) → ((k : List Token) �
 moved s from t None e h = tt
 moved s from t (Some to) e h = (h.0, λ k. h.1 k ∙ e (t ∷ k))
 
-pub acts_well : (S : Stack) (c : Place) (q : Rest) (d : Held) (t : Token) → Good (frame c q tt d ∷ S) → Ok (frame c q tt d ∷ S) t (act S c q tt d t tt)
+pub acts_well : (S : Stack) (c : GrammarPlace) (q : GrammarRest) (d : Held) (t : Token) → Good (frame c q tt d ∷ S) → Ok (frame c q tt d ∷ S) t (act S c q tt d t tt)
 acts_well [] c q d t g = ok_or (frame c q tt d ∷ []) t (goes_on c q tt d [] t tt) (and_then (made q) (λ r. is_joined c tt d [] t r)) (goes c q d [] t g) (no_join (made q))
   where
-    no_join : (o : Option Row) → Ok (frame c q tt d ∷ []) t (and_then o (λ r. is_joined c tt d [] t r))
+    no_join : (o : Option GrammarRow) → Ok (frame c q tt d ∷ []) t (and_then o (λ r. is_joined c tt d [] t r))
     no_join None = tt
     no_join (Some r) = let e : joins c r t ≡ None = ap (λ z. joins z r t) g.0 in subst (λ o. Ok (frame c q tt d ∷ []) t (option_map (λ q1. frame c q1 tt (sub (node tt r d) (tok t end)) ∷ []) o)) (sym e) tt
 acts_well (frame c0 q0 a0 d0 ∷ S) c q d t g =
@@ -181,12 +181,12 @@ acts_well (frame c0 q0 a0 d0 ∷ S) c q d t g =
     (goes c q d (frame c0 q0 a0 d0 ∷ S) t g)
     (ended (made q) refl (λ r. acts_well S c0 (behind q0 r) (with_sub d0 (node tt r d)) t))
   where
-    handing : (r : Row) → made q ≡ Some r → (Good (frame c0 (behind q0 r) tt (with_sub d0 (node tt r d)) ∷ S) → Ok (frame c0 (behind q0 r) tt (with_sub d0 (node tt r d)) ∷ S) t (act S c0 (behind q0 r) tt (with_sub d0 (node tt r d)) t tt))
+    handing : (r : GrammarRow) → made q ≡ Some r → (Good (frame c0 (behind q0 r) tt (with_sub d0 (node tt r d)) ∷ S) → Ok (frame c0 (behind q0 r) tt (with_sub d0 (node tt r d)) ∷ S) t (act S c0 (behind q0 r) tt (with_sub d0 (node tt r d)) t tt))
         → (a : Bool) → allowed c r ≡ a → Ok (frame c q tt d ∷ frame c0 q0 a0 d0 ∷ S) t (only_if a (act S c0 (behind q0 r) tt (with_sub d0 (node tt r d)) t tt))
     handing r m ih false e = tt
     handing r m ih true e = moved (frame c0 (behind q0 r) tt (with_sub d0 (node tt r d)) ∷ S) (frame c q tt d ∷ frame c0 q0 a0 d0 ∷ S) t (act S c0 (behind q0 r) tt (with_sub d0 (node tt r d)) t tt) (λ k. ap (told S) (spell_with_sub d0 (node tt r d) k)) (ih (handed_on c q d c0 q0 d0 S r m e g))
 
-    ended : (o : Option Row) → made q ≡ o → ((r : Row) → Good (frame c0 (behind q0 r) tt (with_sub d0 (node tt r d)) ∷ S) → Ok (frame c0 (behind q0 r) tt (with_sub d0 (node tt r d)) ∷ S) t (act S c0 (behind q0 r) tt (with_sub d0 (node tt r d)) t tt))
+    ended : (o : Option GrammarRow) → made q ≡ o → ((r : GrammarRow) → Good (frame c0 (behind q0 r) tt (with_sub d0 (node tt r d)) ∷ S) → Ok (frame c0 (behind q0 r) tt (with_sub d0 (node tt r d)) ∷ S) t (act S c0 (behind q0 r) tt (with_sub d0 (node tt r d)) t tt))
         → Ok (frame c q tt d ∷ frame c0 q0 a0 d0 ∷ S) t (and_then o (λ r. or_else (is_joined c tt d (frame c0 q0 a0 d0 ∷ S) t r) (only_if (allowed c r) (act S c0 (behind q0 r) tt (with_sub d0 (node tt r d)) t tt))))
     ended None m ih = tt
     ended (Some r) m ih =
@@ -224,24 +224,24 @@ runs (t ∷ ts) s g = go (runs ts) (step s t tt) (steps_well s t g)
 -- where all nodes end, what was read are the parts of a text
 abbrev pub Ended : Stack → Option Tree → Type 0
 Ended s None = Unit {0}
-Ended s (Some g) = (row_of g ≡ Row.File) × ItemsLevelled (parts_of g) × (spell g [] ≡ told s [])
+Ended s (Some g) = (row_of g ≡ GrammarRow.File) × ItemsLevelled (parts_of g) × (spell g [] ≡ told s [])
 
-pub closes_well : (S : Stack) (c : Place) (q : Rest) (d : Held) → Good (frame c q tt d ∷ S) → Ended (frame c q tt d ∷ S) (close_all S c q tt d)
+pub closes_well : (S : Stack) (c : GrammarPlace) (q : GrammarRest) (d : Held) → Good (frame c q tt d ∷ S) → Ended (frame c q tt d ∷ S) (close_all S c q tt d)
 closes_well [] c q d g =
     subst (λ o. Ended (frame c q tt d ∷ []) (option_map (λ r. node tt r d) o)) (ap (λ z. made z) (sym g.1))
-    (refl, subst (λ z. Follows false (Some items) Row.File z) (and_end d) (g.2 end refl), refl)
+    (refl, subst (λ z. Follows false (Some items) GrammarRow.File z) (and_end d) (g.2 end refl), refl)
 closes_well (frame c0 q0 a0 d0 ∷ S) c q d g = ended (made q) refl (λ r. closes_well S c0 (behind q0 r) (with_sub d0 (node tt r d)))
   where
     as_told : (s from : Stack) (o : Option Tree) → told s [] ≡ told from [] → Ended s o → Ended from o
     as_told s from None e h = tt
     as_told s from (Some x) e h = (h.0, h.1, h.2 ∙ e)
 
-    handing : (r : Row) → made q ≡ Some r → (Good (frame c0 (behind q0 r) tt (with_sub d0 (node tt r d)) ∷ S) → Ended (frame c0 (behind q0 r) tt (with_sub d0 (node tt r d)) ∷ S) (close_all S c0 (behind q0 r) tt (with_sub d0 (node tt r d))))
+    handing : (r : GrammarRow) → made q ≡ Some r → (Good (frame c0 (behind q0 r) tt (with_sub d0 (node tt r d)) ∷ S) → Ended (frame c0 (behind q0 r) tt (with_sub d0 (node tt r d)) ∷ S) (close_all S c0 (behind q0 r) tt (with_sub d0 (node tt r d))))
         → (a : Bool) → allowed c r ≡ a → Ended (frame c q tt d ∷ frame c0 q0 a0 d0 ∷ S) (only_if a (close_all S c0 (behind q0 r) tt (with_sub d0 (node tt r d))))
     handing r m ih false e = tt
     handing r m ih true e = as_told (frame c0 (behind q0 r) tt (with_sub d0 (node tt r d)) ∷ S) (frame c q tt d ∷ frame c0 q0 a0 d0 ∷ S) (close_all S c0 (behind q0 r) tt (with_sub d0 (node tt r d))) (ap (told S) (spell_with_sub d0 (node tt r d) [])) (ih (handed_on c q d c0 q0 d0 S r m e g))
 
-    ended : (o : Option Row) → made q ≡ o → ((r : Row) → Good (frame c0 (behind q0 r) tt (with_sub d0 (node tt r d)) ∷ S) → Ended (frame c0 (behind q0 r) tt (with_sub d0 (node tt r d)) ∷ S) (close_all S c0 (behind q0 r) tt (with_sub d0 (node tt r d))))
+    ended : (o : Option GrammarRow) → made q ≡ o → ((r : GrammarRow) → Good (frame c0 (behind q0 r) tt (with_sub d0 (node tt r d)) ∷ S) → Ended (frame c0 (behind q0 r) tt (with_sub d0 (node tt r d)) ∷ S) (close_all S c0 (behind q0 r) tt (with_sub d0 (node tt r d))))
         → Ended (frame c q tt d ∷ frame c0 q0 a0 d0 ∷ S) (and_then o (λ r. only_if (allowed c r) (close_all S c0 (behind q0 r) tt (with_sub d0 (node tt r d)))))
     ended None m ih = tt
     ended (Some r) m ih = handing r m (ih r) (allowed c r) refl

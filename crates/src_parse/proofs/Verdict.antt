@@ -6,7 +6,7 @@ use Rattle.mir_base.specs.declared.place_in_text.Pos.{Pos}
 use Rattle.src_token.specs.declared.token.Token.{Token}
 use Rattle.src_token.specs.declared.token.Spanned.{Spanned}
 use Rattle.src_tree.specs.declared.node.Tree as tree
-use Rattle.src_tree.specs.declared.row.Row.{Row}
+use Rattle.src_tree.specs.declared.row.GrammarRow.{GrammarRow}
 use Rattle.src_tree.specs.Grammar.{allowed, made}
 use Rattle.src_tree.specs.Layout.{node, parts_depth, spell_parts, ItemsLevelled}
 use Rattle.src_tree.specs.Laws.{unplaced_parts}
@@ -128,21 +128,21 @@ deep_is ss e i s f S f2 S2 g r n a d =
 
 abbrev EndMade : Option Counted → Type 0
 EndMade None = Unit {0}
-EndMade (Some h) = (r : Row) × (made h.rest ≡ Some r)
+EndMade (Some h) = (r : GrammarRow) × (made h.rest ≡ Some r)
 
 close_made : (S : List Counted) (f : Counted) → EndMade (close S f)
 close_made [] f = go (made f.rest) refl
   where
-    go : (m : Option Row) → made f.rest ≡ m → EndMade (option_map (λ r. f) m)
+    go : (m : Option GrammarRow) → made f.rest ≡ m → EndMade (option_map (λ r. f) m)
     go None e = tt
     go (Some r) e = (r, e)
 close_made (g ∷ S) f = go (made f.rest) (λ r. close_made S (with_node g f r))
   where
-    only : (r : Row) → EndMade (close S (with_node g f r)) → (a : Bool) → EndMade (only_if a (close S (with_node g f r)))
+    only : (r : GrammarRow) → EndMade (close S (with_node g f r)) → (a : Bool) → EndMade (only_if a (close S (with_node g f r)))
     only r ih true = ih
     only r ih false = tt
 
-    go : (m : Option Row) → ((r : Row) → EndMade (close S (with_node g f r))) → EndMade (and_then m (λ r. only_if (allowed f.place r) (close S (with_node g f r))))
+    go : (m : Option GrammarRow) → ((r : GrammarRow) → EndMade (close S (with_node g f r))) → EndMade (and_then m (λ r. only_if (allowed f.place r) (close S (with_node g f r))))
     go None ih = tt
     go (Some r) ih = only r (ih r) (allowed f.place r)
 
@@ -168,7 +168,7 @@ tree_is ss e f S h t r c d i x =
 
 -- tokens that spell a tree end in it
 end_of : (ss : List Spanned) (e : Pos) (f : Counted) (S : List Counted) (g : Items) → from_start ss e ≡ Some (f ∷ S) → IsItems (tokens_in ss) g
-    → and_then (close S f) (λ h. option_map (λ r. node tt r (unplaced_parts h.parts)) (made h.rest)) ≡ Some (node tt Row.File g)
+    → and_then (close S f) (λ h. option_map (λ r. node tt r (unplaced_parts h.parts)) (made h.rest)) ≡ Some (node tt GrammarRow.File g)
 end_of ss e f S g r h =
     sym (close_bare S f) ∙ ap (λ o. and_then o (λ s. whole s)) (sym (plain_state ss e (Some (f ∷ S)) r)) ∙ ap (λ z. and_then (started z) (λ s. whole s)) (sym h.1) ∙ complete g h.0
 
@@ -195,4 +195,4 @@ end_bad ss e f S r n never = (
 pub end_none : (ss : List Spanned) (e : Pos) (f : Counted) (S : List Counted) → from_start ss e ≡ Some (f ∷ S) → need_of f ≤ limit → close S f ≡ None → IsRefused ss e (Syntax (length ss) e)
 end_none ss e f S r n c =
     end_bad ss e f S r n
-    (λ g is w. let x : None ≡ Some (node tt Row.File g) = ap (λ o. and_then o (λ h. option_map (λ r. node tt r (unplaced_parts h.parts)) (made h.rest))) (sym c) ∙ end_of ss e f S g r is in absurd (cc))
+    (λ g is w. let x : None ≡ Some (node tt GrammarRow.File g) = ap (λ o. and_then o (λ h. option_map (λ r. node tt r (unplaced_parts h.parts)) (made h.rest))) (sym c) ∙ end_of ss e f S g r is in absurd (cc))

@@ -2,11 +2,11 @@
 use Rattle.std.proofs.Common.{◌≡◌, ℕ, ◌+◌, ◌≤◌, max, nat_le, Bool, true, false, ◌&&◌, ◌||◌, Option, Some, None, option_map, List, [], ◌∷◌, ◌++◌, refl, sym, ap, ◌∙◌, subst, arith}
 use Rattle.std.proofs.lemmas.Bool.{and_parts, leb-true}
 use Rattle.src_token.specs.declared.token.Token.{Token}
-use Rattle.src_tree.specs.declared.row.Row.{Row}
-use Rattle.src_tree.specs.declared.place.Place.{Place}
-use Rattle.src_tree.specs.declared.place.Part.{Part}
+use Rattle.src_tree.specs.declared.row.GrammarRow.{GrammarRow}
+use Rattle.src_tree.specs.declared.place.GrammarPlace.{GrammarPlace}
+use Rattle.src_tree.specs.declared.place.GrammarPart.{GrammarPart}
 use Rattle.src_tree.specs.declared.place.Start.{Start}
-use Rattle.src_tree.specs.Grammar.{seen, allowed, may_begin, place_of, counts, Rest, due, behind, made, Joined, joined}
+use Rattle.src_tree.specs.Grammar.{seen, allowed, may_begin, place_of, counts, GrammarRest, due, behind, made, Joined, joined}
 use Rattle.src_tree.specs.Layout.{node, tok, sub, end, spell_parts, depth, parts_depth, Levelled, Begun, Follows}
 use Rattle.src_tree.specs.Reading.{and_then, with_sub, frame, whole}
 use Rattle.src_tree.proofs.Samples.{every}
@@ -26,7 +26,7 @@ EndsWithin s n = (ts : List Token) × (g : Tree) × (and_then (run ts (Some s)) 
 
 -- a state that stands where a fitted frame does
 abbrev Ready : Stack → Type 0
-Ready S = (c : Place) (q : Rest) (d : Held) (s : Stack) → Good (frame c q tt d ∷ S) → Fitted (frame c q tt d ∷ S) → Stands s c q d S → EndsWithin s (need (frame c q tt d ∷ S))
+Ready S = (c : GrammarPlace) (q : GrammarRest) (d : Held) (s : Stack) → Good (frame c q tt d ∷ S) → Fitted (frame c q tt d ∷ S) → Stands s c q d S → EndsWithin s (need (frame c q tt d ∷ S))
 
 ends_by : (ts : List Token) (s s1 : Stack) (n m : ℕ) → run ts (Some s) ≡ Some s1 → n ≤ m → EndsWithin s1 n → EndsWithin s m
 ends_by ts s s1 n m e h (us, g, r, l) = (ts ++ us, g, ap (λ o. and_then o (λ z. whole z)) (run_append ts us (Some s) ∙ ap (run us) e) ∙ r, omega arith)
@@ -37,7 +37,7 @@ and_depth (tok t rest) ps = and_depth rest ps
 and_depth (sub g rest) ps = let h = and_depth rest ps in omega arith
 
 -- a node of this depth is handed on
-pub handed_depth : (c0 : Place) (q0 : Rest) (d0 : Held) (S : Stack) (p : Part) (r : Row) (g : Tree) (n : ℕ) → due q0 ≡ Some p → Good (frame c0 q0 tt d0 ∷ S) → Fitted (frame c0 q0 tt d0 ∷ S) → depth g ≤ n
+pub handed_depth : (c0 : GrammarPlace) (q0 : GrammarRest) (d0 : Held) (S : Stack) (p : GrammarPart) (r : GrammarRow) (g : Tree) (n : ℕ) → due q0 ≡ Some p → Good (frame c0 q0 tt d0 ∷ S) → Fitted (frame c0 q0 tt d0 ∷ S) → depth g ≤ n
     → need (frame c0 (behind q0 r) tt (with_sub d0 g) ∷ S) ≤ below (frame c0 q0 tt d0 ∷ S) n
 handed_depth c0 q0 d0 S p r g n e gd f h =
     let k = fit_of c0 q0 d0 S gd f in
@@ -48,8 +48,8 @@ handed_depth c0 q0 d0 S p r g n e gd f h =
     below_mono S c0 q0 d0 (total c0 (behind q0 r) (parts_depth (with_sub d0 g))) (total_behind c0 q0 m) gd f (omega arith)
 
 -- a node that is complete and may stand there
-up : (c0 : Place) (q0 : Rest) (d0 : Held) (S : Stack) → Ready S → (c : Place) (p : Part) → due q0 ≡ Some p → place_of c0.head p ≡ c → Good (frame c0 q0 tt d0 ∷ S) → Fitted (frame c0 q0 tt d0 ∷ S)
-    → (s : Stack) (q : Rest) (d : Held) (r : Row) (n : ℕ) → Stands s c q d (frame c0 q0 tt d0 ∷ S) → made q ≡ Some r → ok c.head q ≡ true → allowed c r ≡ true → Begun (seen c) r d
+up : (c0 : GrammarPlace) (q0 : GrammarRest) (d0 : Held) (S : Stack) → Ready S → (c : GrammarPlace) (p : GrammarPart) → due q0 ≡ Some p → place_of c0.head p ≡ c → Good (frame c0 q0 tt d0 ∷ S) → Fitted (frame c0 q0 tt d0 ∷ S)
+    → (s : Stack) (q : GrammarRest) (d : Held) (r : GrammarRow) (n : ℕ) → Stands s c q d (frame c0 q0 tt d0 ∷ S) → made q ≡ Some r → ok c.head q ≡ true → allowed c r ≡ true → Begun (seen c) r d
     → counts r + parts_depth d ≤ n → EndsWithin s (below (frame c0 q0 tt d0 ∷ S) n)
 up c0 q0 d0 S ih c p e x g f s q d r n st m k a b h =
     ends_by [] s s (need (frame c0 (behind q0 r) tt (with_sub d0 (node tt r d)) ∷ S)) (below (frame c0 q0 tt d0 ∷ S) n) refl
@@ -61,26 +61,26 @@ up c0 q0 d0 S ih c p e x g f s q d r n st m k a b h =
 
 -- What makes a parameter or an arm of a node is as little deep as it is counted.
 
-abbrev light : Start → Rest → Held → Bool
+abbrev light : Start → GrammarRest → Held → Bool
 light Start.IsParam q ps = nat_le (counts (way_row q)) 0 && nat_le (parts_depth ps) 1
 light Start.IsArm q ps = nat_le (counts (way_row q)) 1 && nat_le (parts_depth ps) 1
 light _ q ps = true
 
-abbrev light_joined : Place → Option Joined → Bool
+abbrev light_joined : GrammarPlace → Option Joined → Bool
 light_joined c None = true
 light_joined c (Some j) = light c.start j.rest (way c.head j.rest)
 
-abbrev light_end : Place → Option Token → Bool
+abbrev light_end : GrammarPlace → Option Token → Bool
 light_end c None = true
 light_end c (Some t) = light_joined c (joined (seen c) t)
 
-abbrev light_place : Place → Bool
+abbrev light_place : GrammarPlace → Bool
 light_place c = light_end c (ender c.start)
 
 places_light : every light_place places ≡ true
 places_light = refl
 
-known_light : (ds : List Place) (c : Place) → every light_place ds ≡ true → is_known ds c ≡ true → light_place c ≡ true
+known_light : (ds : List GrammarPlace) (c : GrammarPlace) → every light_place ds ≡ true → is_known ds c ≡ true → light_place c ≡ true
 known_light [] c g k = absurd (cc)
 known_light (d ∷ ds) c g k = let p = and_parts (light_place d) (every light_place ds) g in go (known_light ds c p.1) p.0 (same_place d c) refl
   where
@@ -88,14 +88,14 @@ known_light (d ∷ ds) c g k = let p = and_parts (light_place d) (every light_pl
     go ih x true e = ap light_place (sym (same_places d c e)) ∙ x
     go ih x false e = ih (subst (λ b. (b || is_known ds c) ≡ true) e k)
 
-as_light : (s : Start) (t : Token) (q : Rest) (ps : Held) (n : ℕ) → ender s ≡ Some t → light s q ps ≡ true → counts (way_row q) + max n (parts_depth ps) ≤ by_start s n
+as_light : (s : Start) (t : Token) (q : GrammarRest) (ps : Held) (n : ℕ) → ender s ≡ Some t → light s q ps ≡ true → counts (way_row q) + max n (parts_depth ps) ≤ by_start s n
 as_light Start.IsParam t q ps n e h = let p = and_parts (nat_le (counts (way_row q)) 0) (nat_le (parts_depth ps) 1) h in let a = leb-true (counts (way_row q)) 0 p.0 in let b = leb-true (parts_depth ps) 1 p.1 in omega arith
 as_light Start.IsArm t q ps n e h = let p = and_parts (nat_le (counts (way_row q)) 1) (nat_le (parts_depth ps) 1) h in let a = leb-true (counts (way_row q)) 1 p.0 in let b = leb-true (parts_depth ps) 1 p.1 in omega arith
 as_light _ t q ps n e h = absurd (cc)
 
 -- a node that is complete, and the first part of one that may stand there
-up_joined : (c0 : Place) (q0 : Rest) (d0 : Held) (S : Stack) → Ready S → (c : Place) (p : Part) → due q0 ≡ Some p → place_of c0.head p ≡ c → Good (frame c0 q0 tt d0 ∷ S) → Fitted (frame c0 q0 tt d0 ∷ S)
-    → (s : Stack) (q : Rest) (d : Held) (r : Row) → Stands s c q d (frame c0 q0 tt d0 ∷ S) → made q ≡ Some r → ok c.head q ≡ true → Begun (seen c) r d
+up_joined : (c0 : GrammarPlace) (q0 : GrammarRest) (d0 : Held) (S : Stack) → Ready S → (c : GrammarPlace) (p : GrammarPart) → due q0 ≡ Some p → place_of c0.head p ≡ c → Good (frame c0 q0 tt d0 ∷ S) → Fitted (frame c0 q0 tt d0 ∷ S)
+    → (s : Stack) (q : GrammarRest) (d : Held) (r : GrammarRow) → Stands s c q d (frame c0 q0 tt d0 ∷ S) → made q ≡ Some r → ok c.head q ≡ true → Begun (seen c) r d
     → (t : Token) (o : Option Joined) → ender c.start ≡ Some t → joined (seen c) t ≡ o → light_joined c o ≡ true → joinable_by c r o ≡ true
     → EndsWithin s (below (frame c0 q0 tt d0 ∷ S) (by_start c.start (counts r + parts_depth d)))
 up_joined c0 q0 d0 S ih c p e x g f s q d r st m k b t None en y lt h = absurd (cc)
@@ -117,7 +117,7 @@ up_joined c0 q0 d0 S ih c p e x g f s q d r st m k b t (Some j) en y lt h =
 
 pub ready : (S : Stack) → Ready S
 ready [] c q d s g f st =
-    ([], node tt Row.File d, st.ending Row.File (ap (λ z. made z) g.1) ∙ ap (λ z. option_map (λ r. node tt r d) (made z)) g.1, (let h = total_up c q (parts_depth d) in omega arith))
+    ([], node tt GrammarRow.File d, st.ending GrammarRow.File (ap (λ z. made z) g.1) ∙ ap (λ z. option_map (λ r. node tt r d) (made z)) g.1, (let h = total_up c q (parts_depth d) in omega arith))
 ready (frame c0 q0 a0 d0 ∷ S) c q d s g f st = go (ready S) g.1
   where
     fs : fits c q ≡ true
@@ -126,7 +126,7 @@ ready (frame c0 q0 a0 d0 ∷ S) c q d s g f st = go (ready S) g.1
     ps : Held
     ps = low_way c q
 
-    r : Row
+    r : GrammarRow
     r = low_row c q
 
     can : poss c q ≡ true
@@ -144,7 +144,7 @@ ready (frame c0 q0 a0 d0 ∷ S) c q d s g f st = go (ready S) g.1
     lighted : light_place c ≡ true
     lighted = known_light places c places_light known
 
-    go : Ready S → ((p : Part) × (due q0 ≡ Some p) × (place_of c0.head p ≡ c)) → EndsWithin s (need (frame c q tt d ∷ frame c0 q0 a0 d0 ∷ S))
+    go : Ready S → ((p : GrammarPart) × (due q0 ≡ Some p) × (place_of c0.head p ≡ c)) → EndsWithin s (need (frame c q tt d ∷ frame c0 q0 a0 d0 ∷ S))
     go ih (p, e, x) =
         let w = low_follows c q (fits_shallow c q fs) in
         let (s1, q1, run1, at1, made1, ok1) = reads_rest (low_way c q) c q d (frame c0 q0 a0 d0 ∷ S) s [] (low_row c q) g.2 st w in
@@ -153,15 +153,15 @@ ready (frame c0 q0 a0 d0 ∷ S) c q d s g f st = go (ready S) g.1
         ends_by (spell_parts (low_way c q) []) s s1 (below (frame c0 q0 a0 d0 ∷ S) n) (below (frame c0 q0 a0 d0 ∷ S) n) run1 (omega arith)
         (by_row (allowed c (low_row c q)) refl ih p e x s1 q1 at1 made1 ok1 b)
       where
-        by_ender : (o : Option Token) → ender c.start ≡ o → light_end c o ≡ true → Ready S → (p : Part) → due q0 ≡ Some p → place_of c0.head p ≡ c
-            → (s1 : Stack) (q1 : Rest) → Stands s1 c q1 (and_parts_of d (low_way c q)) (frame c0 q0 a0 d0 ∷ S) → made q1 ≡ Some (low_row c q) → ok c.head q1 ≡ true → Begun (seen c) (low_row c q) (and_parts_of d (low_way c q))
+        by_ender : (o : Option Token) → ender c.start ≡ o → light_end c o ≡ true → Ready S → (p : GrammarPart) → due q0 ≡ Some p → place_of c0.head p ≡ c
+            → (s1 : Stack) (q1 : GrammarRest) → Stands s1 c q1 (and_parts_of d (low_way c q)) (frame c0 q0 a0 d0 ∷ S) → made q1 ≡ Some (low_row c q) → ok c.head q1 ≡ true → Begun (seen c) (low_row c q) (and_parts_of d (low_way c q))
             → joinable c (low_row c q) o ≡ true → EndsWithin s1 (below (frame c0 q0 a0 d0 ∷ S) (by_start c.start (counts (low_row c q) + parts_depth (and_parts_of d (low_way c q)))))
         by_ender None eo lo ih p e x s1 q1 at1 made1 ok1 b h = absurd (cc)
         by_ender (Some t) eo lo ih p e x s1 q1 at1 made1 ok1 b h =
             up_joined c0 q0 d0 S ih c p e x g.4 f.1 s1 q1 (and_parts_of d (low_way c q)) (low_row c q) at1 made1 ok1 b t (joined (seen c) t) eo refl lo h
 
-        by_row : (a : Bool) → allowed c (low_row c q) ≡ a → Ready S → (p : Part) → due q0 ≡ Some p → place_of c0.head p ≡ c
-            → (s1 : Stack) (q1 : Rest) → Stands s1 c q1 (and_parts_of d (low_way c q)) (frame c0 q0 a0 d0 ∷ S) → made q1 ≡ Some (low_row c q) → ok c.head q1 ≡ true → Begun (seen c) (low_row c q) (and_parts_of d (low_way c q))
+        by_row : (a : Bool) → allowed c (low_row c q) ≡ a → Ready S → (p : GrammarPart) → due q0 ≡ Some p → place_of c0.head p ≡ c
+            → (s1 : Stack) (q1 : GrammarRest) → Stands s1 c q1 (and_parts_of d (low_way c q)) (frame c0 q0 a0 d0 ∷ S) → made q1 ≡ Some (low_row c q) → ok c.head q1 ≡ true → Begun (seen c) (low_row c q) (and_parts_of d (low_way c q))
             → EndsWithin s1 (below (frame c0 q0 a0 d0 ∷ S) (total c q (parts_depth d)))
         by_row true ea ih p e x s1 q1 at1 made1 ok1 b =
             up c0 q0 d0 S ih c p e x g.4 f.1 s1 q1 (and_parts_of d (low_way c q)) (low_row c q) (total c q (parts_depth d)) at1 made1 ok1 ea b

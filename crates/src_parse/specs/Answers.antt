@@ -4,7 +4,7 @@ use Rattle.mir_base.specs.declared.place_in_text.Pos.{Pos}
 use Rattle.src_token.specs.declared.token.Token.{Token}
 use Rattle.src_token.specs.declared.token.Spanned.{Spanned}
 use Rattle.src_tree.specs.declared.node.Tree.{Tree}
-use Rattle.src_tree.specs.Layout.{Node, node, Parts, end, tok, sub, spell, spell_parts, parts_depth, ItemsLevelled}
+use Rattle.src_tree.specs.Layout.{SyntaxNode, node, Parts, end, tok, sub, spell, spell_parts, parts_depth, ItemsLevelled}
 use Rattle.src_tree.specs.View.{items_of}
 use Rattle.src_parse.specs.declared.error.ParseError.{ParseError}
 use Rattle.src_parse.specs.declared.error.ParseError.TheVariants.{Syntax, TooDeep, Memory}
@@ -20,7 +20,7 @@ places_in ss = map (λ s. s.at) ss
 module _ {L : Type 0} where
   -- each node has the place of its first token, where its tokens and those behind them have these places
   abbrev mutual
-    pub Placed : Node L → List L → Type 0
+    pub Placed : SyntaxNode L → List L → Type 0
     Placed (node at row parts) places = (slice_get places 0 ≡ Some at) × PartsPlaced parts places
 
     pub PartsPlaced : Parts L → List L → Type 0

@@ -4,19 +4,19 @@ use Rattle.std.specs.Prelude.{ℕ, ◌+◌, max, min, nat_le, nat_lt, if◌then�
 use Rattle.mir_base.specs.declared.place_in_text.Pos.{Pos}
 use Rattle.src_token.specs.declared.token.Token.{Token}
 use Rattle.src_token.specs.declared.token.Spanned.{Spanned}
-use Rattle.src_tree.specs.declared.row.Row.{Row}
-use Rattle.src_tree.specs.declared.place.Place.{Place}
-use Rattle.src_tree.specs.Grammar.{counts, allowed, Rest, items, move, behind, made}
+use Rattle.src_tree.specs.declared.row.GrammarRow.{GrammarRow}
+use Rattle.src_tree.specs.declared.place.GrammarPlace.{GrammarPlace}
+use Rattle.src_tree.specs.Grammar.{counts, allowed, GrammarRest, items, move, behind, made}
 use Rattle.src_tree.specs.Layout.{node, Parts, end, tok, sub}
 use Rattle.src_tree.specs.Reading.{or_else, and_then, only_if, opens, joins, with_tok, with_sub, file_place}
-use Rattle.src_parse.specs.declared.bound.Bound.{Bound}
+use Rattle.src_parse.specs.declared.bound.DepthBound.{DepthBound}
 use Rattle.src_parse.specs.Bounds.{bound_of, bound, most, limit}
 
 -- A node of which a part may still come. How deep its parts so far are; and of what stands around it, how deep the text
 -- is at least and by how much deeper than the node.
 pub record Counted : Type 0 where
-  pub place : Place
-  pub rest : Rest
+  pub place : GrammarPlace
+  pub rest : GrammarRest
   pub at : Pos
   pub parts : Parts Pos
   pub deepest : ℕ
@@ -28,10 +28,10 @@ abbrev pub sat : ℕ → ℕ → ℕ
 sat a b = min (a + b) 4294967295
 
 -- what stands around a part, where the node is behind it
-abbrev pub reach_by : Counted → Bound → Bound
+abbrev pub reach_by : Counted → DepthBound → DepthBound
 reach_by f b = bound_of (max f.floor (sat (max b.floor (sat f.deepest b.around)) f.around)) (sat b.around f.around)
 
-abbrev pub reach : Counted → Rest → Bound
+abbrev pub reach : Counted → GrammarRest → DepthBound
 reach f q = reach_by f (bound f.place q)
 
 -- the least depth of a text that goes on from here
@@ -42,7 +42,7 @@ need_of f = (reach f f.rest).floor
 abbrev pub passes : Counted → Bool
 passes f = if nat_le (reach_by f most).floor limit then false else nat_lt limit (need_of f)
 
-abbrev pub taken : Counted → Rest → Token → Counted
+abbrev pub taken : Counted → GrammarRest → Token → Counted
 taken f q t = record {
   place = f.place;
   rest = q;
@@ -53,7 +53,7 @@ taken f q t = record {
   around = f.around;
 }
 
-abbrev pub opened : Bound → Place → Rest → Pos → Token → Counted
+abbrev pub opened : DepthBound → GrammarPlace → GrammarRest → Pos → Token → Counted
 opened b c q at t = record {
   place = c;
   rest = q;
@@ -64,10 +64,10 @@ opened b c q at t = record {
   around = b.around;
 }
 
-abbrev pub inside : Counted → Place → Rest → Pos → Token → Counted
-inside f c q at t = opened (reach f (behind f.rest Row.File)) c q at t
+abbrev pub inside : Counted → GrammarPlace → GrammarRest → Pos → Token → Counted
+inside f c q at t = opened (reach f (behind f.rest GrammarRow.File)) c q at t
 
-abbrev pub began : Counted → Row → Rest → Token → Counted
+abbrev pub began : Counted → GrammarRow → GrammarRest → Token → Counted
 began f r q t = record {
   place = f.place;
   rest = q;
@@ -78,7 +78,7 @@ began f r q t = record {
   around = f.around;
 }
 
-abbrev pub with_node : Counted → Counted → Row → Counted
+abbrev pub with_node : Counted → Counted → GrammarRow → Counted
 with_node f g r = record {
   place = f.place;
   rest = behind f.rest r;
@@ -94,7 +94,7 @@ goes_on f S t at =
     or_else (option_map (λ q. taken f q t ∷ S) (move f.rest t))
     (option_map (λ e. inside f e.0 e.1 at t ∷ f ∷ S) (opens f.place.head f.rest t))
 
-abbrev pub is_joined : Counted → List Counted → Token → Row → Option (List Counted)
+abbrev pub is_joined : Counted → List Counted → Token → GrammarRow → Option (List Counted)
 is_joined f S t r = option_map (λ q. began f r q t ∷ S) (joins f.place r t)
 
 abbrev pub act : List Counted → Counted → Token → Pos → Option (List Counted)

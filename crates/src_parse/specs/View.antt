@@ -2,10 +2,10 @@
 use Rattle.std.specs.Prelude.{List, map, reverse}
 use Rattle.src_tree.specs.Table.{rest_of}
 use Rattle.src_tree.specs.View.{parts_in}
-use Rattle.src_parse.specs.declared.frame.Frame.{Frame}
+use Rattle.src_parse.specs.declared.frame.ParserFrame.{ParserFrame}
 use Rattle.src_parse.specs.Counting.{Counted}
 
-abbrev pub frame_of : Frame → Counted
+abbrev pub frame_of : ParserFrame → Counted
 frame_of f = record {
   place = f.place;
   rest = rest_of f.point;
@@ -17,5 +17,5 @@ frame_of f = record {
 }
 
 -- the innermost frame is the last of the list
-abbrev pub stack_of : List Frame → List Counted
+abbrev pub stack_of : List ParserFrame → List Counted
 stack_of frames = reverse (map frame_of frames)

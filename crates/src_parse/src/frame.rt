@@ -7,23 +7,26 @@ ghost use Rattle.src_tree.specs.View.{layout_of, parts_in};
 ghost use Rattle.src_parse.specs.View.{frame_of};
 
 use crate::LIMIT;
-use crate::bound::{Bound, MOST, bound_at};
+use crate::bound::{DepthBound, MOST, bound_at};
 use mir_base::{List, NoMemory, Pos};
 use src_token::Token;
-use src_tree::{ITEMS, Node, Piece, Place, Point, Row, Sort, Start, behind, counts};
+use src_tree::{
+    GrammarPlace, GrammarPoint, GrammarRow, ITEMS, NodePiece, Sort, Start, SyntaxNode, behind,
+    counts,
+};
 use std::alloc::Global;
 use std::mem;
 
 /// A node of which a part may still come.
 #[derive(Drop)]
-pub(crate) struct Frame {
+pub(crate) struct ParserFrame {
     /// Where it stands.
-    pub(crate) place: Place,
+    pub(crate) place: GrammarPlace,
     /// Where it is in its row.
-    pub(crate) point: Point,
+    pub(crate) point: GrammarPoint,
     /// Where its first token stands.
     pub(crate) at: Pos,
-    pub(crate) parts: List<Piece>,
+    pub(crate) parts: List<NodePiece>,
     /// How deep its parts so far are nested.
     pub(crate) deepest: u32,
     /// How deep the text is at least, by what stands around the node.
@@ -32,18 +35,18 @@ pub(crate) struct Frame {
     pub(crate) around: u32,
 }
 
-fn reach(frame: &Frame, bound: Bound) -> Bound
+fn reach(frame: &ParserFrame, bound: DepthBound) -> DepthBound
     ensures { result ≡ reach_by (frame_of frame.now) bound }
 {
     let own = bound.floor.max(frame.deepest.saturating_add(bound.around));
-    Bound {
+    DepthBound {
         floor: frame.floor.max(own.saturating_add(frame.around)),
         around: bound.around.saturating_add(frame.around),
     }
 }
 
 /// The least depth of a text that goes on from here.
-fn need(frame: &Frame) -> u32
+fn need(frame: &ParserFrame) -> u32
     ensures { result ≡ need_of (frame_of frame.now) }
 {
     reach(frame, bound_at(frame.place, frame.point)).floor
@@ -51,7 +54,7 @@ fn need(frame: &Frame) -> u32
 
 /// Whether each text that goes on from here is nested past the limit. Most often the greatest bound tells that it is
 /// not.
-pub(crate) fn passes(frame: &Frame) -> bool
+pub(crate) fn passes(frame: &ParserFrame) -> bool
     ensures { result ≡ passes_of (frame_of frame.now) }
 {
     reach(frame, MOST).floor > LIMIT && need(frame) > LIMIT
@@ -59,17 +62,17 @@ pub(crate) fn passes(frame: &Frame) -> bool
 
 /// The frame of a text before its first token.
 #[tactic(auto, using(crate::proofs::Parts::items_there))]
-pub(crate) fn start(alloc: Global, at: Pos) -> Frame
+pub(crate) fn start(alloc: Global, at: Pos) -> ParserFrame
     ensures { frame_of result ≡ start_of at }
 {
-    Frame {
-        place: Place {
+    ParserFrame {
+        place: GrammarPlace {
             sort: Sort::File,
             least: 0,
             head: false,
             start: Start::Anything,
         },
-        point: Point::At(ITEMS),
+        point: GrammarPoint::At(ITEMS),
         at,
         parts: List::new(alloc),
         deepest: 0,
@@ -80,38 +83,45 @@ pub(crate) fn start(alloc: Global, at: Pos) -> Frame
 
 /// One more token of a node, which is at this point behind it.
 #[tactic(auto, using(crate::proofs::Parts::one_token))]
-pub(crate) fn take(frame: &mut Frame, point: Point, token: Token) -> Result<(), NoMemory>
+pub(crate) fn take(
+    frame: &mut ParserFrame,
+    point: GrammarPoint,
+    token: Token,
+) -> Result<(), NoMemory>
     ensures { OnOk result (frame_of frame.new ≡ taken_of (frame_of frame.old) (rest_of point) token) }
 {
-    frame.parts.push(Piece::Token(token))?;
+    frame.parts.push(NodePiece::Token(token))?;
     frame.point = point;
     Ok(())
 }
 
 /// The parts of a node that begins with a token. Most such nodes have no other part.
-fn one_part(alloc: Global, token: Token) -> Result<List<Piece>, NoMemory>
+fn one_part(alloc: Global, token: Token) -> Result<List<NodePiece>, NoMemory>
     ensures { IfOk result (λ parts. parts_in parts ≡ tok token end) }
 {
     let mut parts = List::from_vec(Vec::with_capacity(alloc, 1)?);
-    parts.push(Piece::Token(token))?;
+    parts.push(NodePiece::Token(token))?;
     Ok(parts)
 }
 
 /// A node that begins with a token, as a part of another.
 pub(crate) fn inside(
     alloc: Global,
-    frame: &Frame,
-    place: Place,
+    frame: &ParserFrame,
+    place: GrammarPlace,
     point: u16,
     at: Pos,
     token: Token,
-) -> Result<Frame, NoMemory>
+) -> Result<ParserFrame, NoMemory>
     ensures { IfOk result (λ new. frame_of new ≡ inside_of (frame_of frame.now) place (rest_at point) at token) }
 {
-    let around = reach(frame, bound_at(frame.place, behind(frame.point, Row::File)));
-    Ok(Frame {
+    let around = reach(
+        frame,
+        bound_at(frame.place, behind(frame.point, GrammarRow::File)),
+    );
+    Ok(ParserFrame {
         place,
-        point: Point::At(point),
+        point: GrammarPoint::At(point),
         at,
         parts: one_part(alloc, token)?,
         deepest: 0,
@@ -121,20 +131,24 @@ pub(crate) fn inside(
 }
 
 /// The parts of a node that begins with another one and a token; one more is to come most often.
-fn node_and_token(alloc: Global, node: Node, token: Token) -> Result<List<Piece>, NoMemory>
+fn node_and_token(
+    alloc: Global,
+    node: SyntaxNode,
+    token: Token,
+) -> Result<List<NodePiece>, NoMemory>
     ensures { IfOk result (λ parts. parts_in parts ≡ sub (layout_of node) (tok token end)) }
 {
     let mut parts = List::from_vec(Vec::with_capacity(alloc, 3)?);
-    parts.push(Piece::Node(node))?;
-    parts.push(Piece::Token(token))?;
+    parts.push(NodePiece::Node(node))?;
+    parts.push(NodePiece::Token(token))?;
     Ok(parts)
 }
 
 /// The node is complete as this row, and with the token it begins another.
 pub(crate) fn begin(
     alloc: Global,
-    frame: &mut Frame,
-    row: Row,
+    frame: &mut ParserFrame,
+    row: GrammarRow,
     point: u16,
     token: Token,
 ) -> Result<(), NoMemory>
@@ -142,23 +156,29 @@ pub(crate) fn begin(
 {
     let parts = mem::replace(&mut frame.parts, List::new(alloc));
     let at = frame.at;
-    frame.parts = node_and_token(alloc, Node { row, at, parts }, token)?;
-    frame.point = Point::At(point);
+    frame.parts = node_and_token(alloc, SyntaxNode { row, at, parts }, token)?;
+    frame.point = GrammarPoint::At(point);
     frame.deepest = frame.deepest.saturating_add(counts(row));
     Ok(())
 }
 
 /// One more part of a node, which is complete as this row.
-pub(crate) fn hold(frame: &mut Frame, part: Frame, row: Row) -> Result<(), NoMemory>
+pub(crate) fn hold(
+    frame: &mut ParserFrame,
+    part: ParserFrame,
+    row: GrammarRow,
+) -> Result<(), NoMemory>
     ensures { OnOk result (frame_of frame.new ≡ with_node_of (frame_of frame.old) (frame_of part) row) }
 {
-    let Frame {
+    let ParserFrame {
         at,
         parts,
         deepest,
         ..
     } = part;
-    frame.parts.push(Piece::Node(Node { row, at, parts }))?;
+    frame
+        .parts
+        .push(NodePiece::Node(SyntaxNode { row, at, parts }))?;
     frame.point = behind(frame.point, row);
     frame.deepest = frame.deepest.max(deepest.saturating_add(counts(row)));
     Ok(())

@@ -9,7 +9,7 @@ mod law;
 mod parser;
 mod steps;
 
-pub use bound::Bound;
+pub use bound::DepthBound;
 pub use error::ParseError;
 pub use law::law_of_reading;
 pub use parser::{LIMIT, parse, parse_owned};

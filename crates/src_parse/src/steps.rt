@@ -5,17 +5,18 @@ ghost use Rattle.src_tree.specs.Reading.{only_if, opens as opens_of, joins as jo
 ghost use Rattle.src_parse.specs.Counting.{act, close as close_of};
 ghost use Rattle.src_parse.specs.View.{frame_of, stack_of};
 
-use crate::frame::{Frame, begin, hold, inside, take};
+use crate::frame::{ParserFrame, begin, hold, inside, take};
 use mir_base::{List, NoMemory, Pos};
 use src_token::Token;
 use src_tree::{
-    Place, Point, Row, advance, allowed, due, entry, joined, made, may_begin, place_of, seen,
+    GrammarPlace, GrammarPoint, GrammarRow, advance, allowed, due, entry, joined, made, may_begin,
+    place_of, seen,
 };
 use std::alloc::Global;
 use std::mem;
 
 /// The place of a part that begins with the token, and where it is behind it.
-fn opens(head: bool, point: Point, token: &Token) -> Option<(Place, u16)>
+fn opens(head: bool, point: GrammarPoint, token: &Token) -> Option<(GrammarPlace, u16)>
     ensures { option_map (λ e. (e.0, rest_at e.1)) result ≡ opens_of head (rest_of point) token.now }
 {
     let part = due(point)?;
@@ -29,7 +30,7 @@ fn opens(head: bool, point: Point, token: &Token) -> Option<(Place, u16)>
 }
 
 /// Where a node is that begins with a complete one of this row and the token.
-fn joins(place: Place, row: Row, token: &Token) -> Option<u16>
+fn joins(place: GrammarPlace, row: GrammarRow, token: &Token) -> Option<u16>
     ensures { option_map rest_at result ≡ joins_of place row token.now }
 {
     let begun = joined(seen(place), token)?;
@@ -45,8 +46,8 @@ fn joins(place: Place, row: Row, token: &Token) -> Option<u16>
 #[tactic(auto, using(crate::proofs::Turns::act_moves, crate::proofs::Turns::act_opens, crate::proofs::Turns::act_ends, crate::proofs::Turns::act_joins, crate::proofs::Turns::act_refuses, crate::proofs::Turns::act_outermost, crate::proofs::Turns::act_hands))]
 pub(crate) fn step(
     alloc: Global,
-    below: &mut List<Frame>,
-    top: &mut Frame,
+    below: &mut List<ParserFrame>,
+    top: &mut ParserFrame,
     token: Token,
     at: Pos,
 ) -> Result<bool, NoMemory>
@@ -83,7 +84,7 @@ pub(crate) fn step(
 
 /// All nodes end where the tokens of a text do; false where one is not complete.
 #[tactic(auto, using(crate::proofs::Turns::close_not_made))]
-pub(crate) fn close(below: &mut List<Frame>, top: &mut Frame) -> Result<bool, NoMemory>
+pub(crate) fn close(below: &mut List<ParserFrame>, top: &mut ParserFrame) -> Result<bool, NoMemory>
     ensures { IfOk result (λ ended. close_of (stack_of below.old) (frame_of top.old)
         ≡ only_if ended (Some (frame_of top.new))) }
 {

@@ -3,14 +3,14 @@ use Rattle.std.proofs.Common.{◌≡◌, ℕ, zero, suc, true, ◌≤◌, List, 
 use Rattle.std.proofs.lemmas.List.{take-append-drop, length-take-le, append_cancel_right}
 use Rattle.src_token.specs.declared.piece.Beginning.{Beginning}
 use Rattle.src_token.specs.declared.piece.Beginning.TheVariants.{Blank, Digit, Quote, DoubleQuote, Slash, Sign, Letter, Other}
-use Rattle.src_token.specs.declared.piece.Piece.{Piece}
+use Rattle.src_token.specs.declared.piece.TokenPiece.{TokenPiece}
 use Rattle.src_token.specs.declared.piece.Reading.{Reading}
 use Rattle.src_token.specs.declared.mark.Mark.{Mark}
 use Rattle.src_token.specs.declared.piece.Reading.TheVariants.{Reads}
 use Rattle.src_token.specs.declared.token.Token.{Token}
 use Rattle.src_token.specs.Beginnings.{beginning_of, is_identifier}
 use Rattle.src_token.specs.Comments.{EndsComment}
-use Rattle.src_token.specs.Rows.{Row, text_reading}
+use Rattle.src_token.specs.Rows.{TokenRow, text_reading}
 use Rattle.src_token.specs.Scanning.{next_piece}
 use Rattle.src_token.specs.Tokens.{Cut, Begins, Cutting, OneCutting}
 use Rattle.src_token.proofs.Described.{Described, IsDescribed, row_described, LabelRow, none, named, TextRow, open_one, whole, SlashRow, alone, to_line_end, to_nowhere, to_end}
@@ -18,10 +18,10 @@ use Rattle.src_token.proofs.Comments.{ends_nonempty}
 use Rattle.src_token.proofs.Longest.{Next, next_is, same_heads}
 
 -- a piece of a text as a cut
-abbrev pub cut_of : List ℕ → Piece → Cut
+abbrev pub cut_of : List ℕ → TokenPiece → Cut
 cut_of text p = record { piece = take p.length text; reading = p.reading }
 
-module _ (c : ℕ) (cs : List ℕ) (b : Beginning) (is : beginning_of c ≡ b) (p : Piece) (next : Next c cs b p) where
+module _ (c : ℕ) (cs : List ℕ) (b : Beginning) (is : beginning_of c ≡ b) (p : TokenPiece) (next : Next c cs b p) where
   taken : take p.length (c ∷ cs) ≡ c ∷ take next.count cs
   taken = rw next.counted refl
 
@@ -41,7 +41,7 @@ module _ (c : ℕ) (cs : List ℕ) (b : Beginning) (is : beginning_of c ≡ b) (
   begins_next : Begins (c ∷ cs) (cut_of (c ∷ cs) p) (drop p.length (c ∷ cs))
   begins_next = record {
     joined = sym (take-append-drop p.length (c ∷ cs));
-    described = subst (λ (w : List ℕ). Row w p.reading) (sym taken) next.good.row;
+    described = subst (λ (w : List ℕ). TokenRow w p.reading) (sym taken) next.good.row;
     longest = λ longer others reading same row.
         rw taken_length (longest_here longer others reading same (row_described longer reading row));
   }
@@ -108,7 +108,7 @@ one_reading Sign c cs r s (m, h, p) (n, k, q) = let same : m ≡ n = cc in p ∙
 one_reading Letter c cs r s h k = h.1 ∙ sym k.1
 one_reading Other c cs r s h k = h.1 ∙ sym k.1
 
-rows_agree : (piece : List ℕ) (r s : Reading) → Row piece r → Row piece s → r ≡ s
+rows_agree : (piece : List ℕ) (r s : Reading) → TokenRow piece r → TokenRow piece s → r ≡ s
 rows_agree [] r s h k = absurd (row_described [] r h)
 rows_agree (c ∷ cs) r s h k = one_reading (beginning_of c) c cs r s (row_described (c ∷ cs) r h) (row_described (c ∷ cs) s k)
 
@@ -125,7 +125,7 @@ same_front (x ∷ xs) (y ∷ ys) rest others h k =
 no_piece : (cut : Cut) (rest : List ℕ) → Begins [] cut rest → ⊥
 no_piece cut rest begins = nothing_described cut.piece rest cut.reading begins.joined begins.described
   where
-    nothing_described : (piece rest : List ℕ) (r : Reading) → [] ≡ piece ++ rest → Row piece r → ⊥
+    nothing_described : (piece rest : List ℕ) (r : Reading) → [] ≡ piece ++ rest → TokenRow piece r → ⊥
     nothing_described [] rest r h row = row_described [] r row
     nothing_described (c ∷ cs) rest r h row = cc
 
@@ -137,7 +137,7 @@ same_begin text a b rest others x y =
     let long = x.longest b.piece others b.reading y.joined y.described in
     let long_too = y.longest a.piece rest a.reading x.joined x.described in
     let (pieces, rests) = same_front a.piece b.piece rest others (sym x.joined ∙ y.joined) (omega arith) in
-    let readings = rows_agree b.piece a.reading b.reading (subst (λ (w : List ℕ). Row w a.reading) pieces x.described) y.described in
+    let readings = rows_agree b.piece a.reading b.reading (subst (λ (w : List ℕ). TokenRow w a.reading) pieces x.described) y.described in
     (same_cut a.piece b.piece a.reading b.reading pieces readings, rests)
 
 pub same_cutting : (text : List ℕ) (xs ys : List Cut) → Cutting text xs → Cutting text ys → xs ≡ ys

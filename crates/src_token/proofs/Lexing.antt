@@ -3,8 +3,8 @@ use Rattle.std.proofs.Common.{◌≡◌, ℕ, zero, suc, ◌+◌, ◌<◌, ◌�
 use Rattle.std.proofs.lemmas.List.{drop_more, drop-drop, take-take, drop_all, append-nil}
 use Rattle.mir_base.specs.declared.place_in_text.Pos.{Pos}
 use Rattle.src_token.specs.declared.cursor.Cursor.{Cursor}
-use Rattle.src_token.specs.declared.piece.Fault.{Fault}
-use Rattle.src_token.specs.declared.piece.Piece.{Piece}
+use Rattle.src_token.specs.declared.piece.TokenFault.{TokenFault}
+use Rattle.src_token.specs.declared.piece.TokenPiece.{TokenPiece}
 use Rattle.src_token.specs.declared.piece.Reading.{Reading}
 use Rattle.src_token.specs.declared.piece.Reading.TheVariants.{Skipped, Reads, Fails}
 use Rattle.src_token.specs.declared.token.LexError.{LexError}
@@ -21,7 +21,7 @@ take_on [] (suc i) zero = let e : suc i + 0 ≡ suc (i + 0) = omega arith in rw 
 take_on [] (suc i) (suc n) = let e : suc i + suc n ≡ suc (i + suc n) = omega arith in rw e refl
 take_on (x ∷ xs) (suc i) n = let e : suc i + n ≡ suc (i + n) = omega arith in rw e (ap (λ (w : List ℕ). x ∷ w) (take_on xs i n))
 
-module _ (xs : List ℕ) (i : ℕ) (p : Piece) (within : i < length xs) (is : p ≡ next_piece (drop i xs)) where
+module _ (xs : List ℕ) (i : ℕ) (p : TokenPiece) (within : i < length xs) (is : p ≡ next_piece (drop i xs)) where
   cuts_at : the_cuts (drop i xs) ≡ cut_of (drop i xs) p ∷ the_cuts (drop (i + p.length) xs)
   cuts_at =
       let shape = drop_more xs i 0 within in
@@ -39,7 +39,7 @@ module _ (xs : List ℕ) (i : ℕ) (p : Piece) (within : i < length xs) (is : p 
       ≡ error_or (take i xs) (take p.length (drop i xs)) p.reading (first_error (take (i + p.length) xs) (the_cuts (drop (i + p.length) xs)))
   fails_step = rw (cuts_at, take_on xs i p.length) refl
 
-module _ (xs : List ℕ) (i : ℕ) (cursor after : Cursor) (p : Piece) (within : i < length xs) (is : p ≡ next_piece (drop i xs))
+module _ (xs : List ℕ) (i : ℕ) (cursor after : Cursor) (p : TokenPiece) (within : i < length xs) (is : p ≡ next_piece (drop i xs))
     (at : cursor ≡ cursor_after (take i xs)) (past : after ≡ cursor_after (take (i + p.length) xs)) where
   spanned : Token → Spanned
   spanned token = record { token = token; at = cursor.at; start = cursor.bytes; end = after.bytes }
@@ -73,13 +73,13 @@ module _ (xs : List ℕ) (i : ℕ) (cursor after : Cursor) (p : Piece) (within :
       → first_error [] (the_cuts xs) ≡ first_error (take (i + p.length) xs) (the_cuts (drop (i + p.length) xs))
   none_token token reads fails = fails ∙ fails_step xs i p within is ∙ rw reads refl
 
-fault_refused : (xs : List ℕ) (fault : Fault) (at : Pos) → CutError xs (error_at fault at) → CutRefused xs (error_at fault at)
-fault_refused xs Fault.BadChar at h = h
-fault_refused xs Fault.BadNumber at h = h
-fault_refused xs Fault.OpenComment at h = h
-fault_refused xs Fault.OpenText at h = h
+fault_refused : (xs : List ℕ) (fault : TokenFault) (at : Pos) → CutError xs (error_at fault at) → CutRefused xs (error_at fault at)
+fault_refused xs TokenFault.BadChar at h = h
+fault_refused xs TokenFault.BadNumber at h = h
+fault_refused xs TokenFault.OpenComment at h = h
+fault_refused xs TokenFault.OpenText at h = h
 
-pub fails_here : (xs : List ℕ) (i : ℕ) (p : Piece) (within : i < length xs) (is : p ≡ next_piece (drop i xs)) (fault : Fault) (before : ℕ) (place : Cursor) (error : LexError)
+pub fails_here : (xs : List ℕ) (i : ℕ) (p : TokenPiece) (within : i < length xs) (is : p ≡ next_piece (drop i xs)) (fault : TokenFault) (before : ℕ) (place : Cursor) (error : LexError)
     → p.reading ≡ Fails fault before → before ≤ p.length → place ≡ cursor_after (take (i + before) xs) → error ≡ error_at fault place.at
     → first_error [] (the_cuts xs) ≡ first_error (take i xs) (the_cuts (drop i xs))
     → CutRefused xs error

@@ -14,8 +14,8 @@ use Rattle.mir_base.specs.declared.int_kind.IntKind.{IntKind}
 use Rattle.src_token.specs.declared.mark.Mark.{Mark}
 use Rattle.src_token.specs.declared.piece.Beginning.{Beginning}
 use Rattle.src_token.specs.declared.piece.Beginning.TheVariants.{Blank, Digit, Quote, DoubleQuote, Slash, Sign, Letter, Other}
-use Rattle.src_token.specs.declared.piece.Fault.{Fault}
-use Rattle.src_token.specs.declared.piece.Piece.{Piece}
+use Rattle.src_token.specs.declared.piece.TokenFault.{TokenFault}
+use Rattle.src_token.specs.declared.piece.TokenPiece.{TokenPiece}
 use Rattle.src_token.specs.declared.piece.Reading.{Reading}
 use Rattle.src_token.specs.declared.piece.Reading.TheVariants.{Skipped, Reads, Fails}
 use Rattle.src_token.specs.declared.token.Token.{Token}
@@ -23,7 +23,7 @@ use Rattle.src_token.specs.Beginnings.{beginning_of, is_identifier}
 use Rattle.src_token.specs.Comments.{EndsComment}
 use Rattle.src_token.specs.Marks.{one_mark, two_mark}
 use Rattle.src_token.specs.Numbers.{number_reading, number_of}
-use Rattle.src_token.specs.Rows.{Row, blank, line_comment, comment, open_comment, slash, mark, word, number, label, no_label, text, open_text, other, is_inside_text, is_inside_line, is_backslash, text_reading, text_with}
+use Rattle.src_token.specs.Rows.{TokenRow, blank, line_comment, comment, open_comment, slash, mark, word, number, label, no_label, text, open_text, other, is_inside_text, is_inside_line, is_backslash, text_reading, text_with}
 use Rattle.src_token.specs.Scanning.{piece, piece_by, next_piece, number_piece, word_piece, label_piece, text_piece, slash_piece, comment_piece, closing, sign_piece, two_signs, one_sign, Near, Stands}
 use Rattle.src_token.proofs.Comments.{by_test, scan_ends, scan_is_comment}
 use Rattle.src_token.proofs.Described.{Described, LabelRow, none, named, TextRow, open_one, whole, SlashRow, alone, to_line_end, to_nowhere, to_end}
@@ -32,12 +32,12 @@ use Rattle.src_token.proofs.Runs.{run_passes, run_within, passing_within, run_to
 
 -- behind a character the piece goes on for n characters, which a row describes, and for no more
 pub record Good (c : ℕ) (cs : List ℕ) (b : Beginning) (n : ℕ) (r : Reading) : Type 0 where
-  pub row : Row (c ∷ take n cs) r
+  pub row : TokenRow (c ∷ take n cs) r
   pub within : n ≤ length cs
   pub near : Near n r
   pub longest : (ds later : List ℕ) (s : Reading) → cs ≡ ds ++ later → Described b c ds s → length ds ≤ n
 
-pub record Next (c : ℕ) (cs : List ℕ) (b : Beginning) (p : Piece) : Type 0 where
+pub record Next (c : ℕ) (cs : List ℕ) (b : Beginning) (p : TokenPiece) : Type 0 where
   pub count : ℕ
   pub counted : p.length ≡ suc count
   pub good : Good c cs b count p.reading
@@ -56,7 +56,7 @@ module _ (c : ℕ) (cs : List ℕ) where
     good = record { row = blank c e; within = omega arith; near = tt; longest = λ ds later s is h. none_longer ds h.0 };
   }
 
-  next_other : beginning_of c ≡ Other → Next c cs Other (piece 1 (Fails Fault.BadChar 0))
+  next_other : beginning_of c ≡ Other → Next c cs Other (piece 1 (Fails TokenFault.BadChar 0))
   next_other e = record {
     count = 0;
     counted = refl;
@@ -137,11 +137,11 @@ identifier_run (c ∷ d ∷ ds) later h =
     (and_from _ _ first (and_from _ _ this (run_passes is_xid_continue (ds ++ later))))
 
 module _ (c : ℕ) (cs : List ℕ) (e : beginning_of c ≡ Quote) where
-  label_row : (name : List ℕ) → is_identifier name ≡ true → Row (c ∷ name) (Reads (Token.Label (encode_utf8_all name)))
-  label_row name h = subst (λ (d : ℕ). Row (d ∷ name) (Reads (Token.Label (encode_utf8_all name)))) (sym (quote_is c e)) (label name h)
+  label_row : (name : List ℕ) → is_identifier name ≡ true → TokenRow (c ∷ name) (Reads (Token.Label (encode_utf8_all name)))
+  label_row name h = subst (λ (d : ℕ). TokenRow (d ∷ name) (Reads (Token.Label (encode_utf8_all name)))) (sym (quote_is c e)) (label name h)
 
-  lone_row : Row (c ∷ []) (Fails Fault.BadChar 0)
-  lone_row = subst (λ (d : ℕ). Row (d ∷ []) (Fails Fault.BadChar 0)) (sym (quote_is c e)) no_label
+  lone_row : TokenRow (c ∷ []) (Fails TokenFault.BadChar 0)
+  lone_row = subst (λ (d : ℕ). TokenRow (d ∷ []) (Fails TokenFault.BadChar 0)) (sym (quote_is c e)) no_label
 
   label_longest : (ds later : List ℕ) (s : Reading) → cs ≡ ds ++ later → LabelRow ds s → length ds ≤ prefix_len is_xid_continue cs
   label_longest ds later s is (none empty r) = rw empty (omega arith)
@@ -187,11 +187,11 @@ text_with_near inside n None h short = tt
 text_with_near inside n (Some b) h short = let found = (position-Some is_backslash inside b 0 h).0 in omega arith
 
 module _ (c : ℕ) (cs : List ℕ) (e : beginning_of c ≡ DoubleQuote) where
-  text_row : (inside : List ℕ) → list_all is_inside_text inside ≡ true → Row (c ∷ (inside ++ 34 ∷ [])) (text_reading inside)
-  text_row inside h = subst (λ (d : ℕ). Row (d ∷ (inside ++ 34 ∷ [])) (text_reading inside)) (sym (double_quote_is c e)) (text inside h)
+  text_row : (inside : List ℕ) → list_all is_inside_text inside ≡ true → TokenRow (c ∷ (inside ++ 34 ∷ [])) (text_reading inside)
+  text_row inside h = subst (λ (d : ℕ). TokenRow (d ∷ (inside ++ 34 ∷ [])) (text_reading inside)) (sym (double_quote_is c e)) (text inside h)
 
-  quote_row : Row (c ∷ []) (Fails Fault.OpenText 0)
-  quote_row = subst (λ (d : ℕ). Row (d ∷ []) (Fails Fault.OpenText 0)) (sym (double_quote_is c e)) open_text
+  quote_row : TokenRow (c ∷ []) (Fails TokenFault.OpenText 0)
+  quote_row = subst (λ (d : ℕ). TokenRow (d ∷ []) (Fails TokenFault.OpenText 0)) (sym (double_quote_is c e)) open_text
 
   length_of_text : (ds later inside : List ℕ) → cs ≡ ds ++ later → ds ≡ inside ++ 34 ∷ [] → list_all is_inside_text inside ≡ true → prefix_len is_inside_text cs ≡ length inside
   length_of_text ds later inside is parts h =
@@ -248,8 +248,8 @@ module _ (c : ℕ) (cs : List ℕ) (e : beginning_of c ≡ DoubleQuote) where
 pub same_heads : (d e : ℕ) (ds es : List ℕ) → d ∷ ds ≡ e ∷ es → (d ≡ e) × (ds ≡ es)
 same_heads d e ds es h = (cc, cc)
 
-at_slash : (c : ℕ) (cs : List ℕ) (r : Reading) → beginning_of c ≡ Slash → Row (47 ∷ cs) r → Row (c ∷ cs) r
-at_slash c cs r e h = subst (λ (d : ℕ). Row (d ∷ cs) r) (sym (slash_is c e)) h
+at_slash : (c : ℕ) (cs : List ℕ) (r : Reading) → beginning_of c ≡ Slash → TokenRow (47 ∷ cs) r → TokenRow (c ∷ cs) r
+at_slash c cs r e h = subst (λ (d : ℕ). TokenRow (d ∷ cs) r) (sym (slash_is c e)) h
 
 -- `/` at the end, and before what ends no mark
 slash_ends : (ds later : List ℕ) (s : Reading) → [] ≡ ds ++ later → length ds ≤ 0

@@ -5,7 +5,7 @@ use Rattle.std.specs.Str.{byte, bytes_eq}
 use Rattle.std.specs.Char.{is_ascii_digit}
 use Rattle.mir_base.specs.declared.int_kind.IntKind.{IntKind}
 use Rattle.src_token.specs.declared.token.Token.{Token}
-use Rattle.src_token.specs.declared.piece.Fault.{Fault}
+use Rattle.src_token.specs.declared.piece.TokenFault.{TokenFault}
 use Rattle.src_token.specs.declared.piece.Reading.{Reading}
 
 abbrev pub is_numeral : ℕ → Bool
@@ -34,8 +34,8 @@ abbrev pub limited : ℕ → Option ℕ
 limited value = if nat_lt value (2 ^ 64) then Some value else None
 
 abbrev pub number_of : Option ℕ → Option (Option IntKind) → Reading
-number_of None suffix = Reading.Fails Fault.BadNumber 0
-number_of (Some value) None = Reading.Fails Fault.BadNumber 0
+number_of None suffix = Reading.Fails TokenFault.BadNumber 0
+number_of (Some value) None = Reading.Fails TokenFault.BadNumber 0
 number_of (Some value) (Some suffix) = Reading.Reads (Token.Number value suffix)
 
 -- what a run that begins by a digit is

@@ -5,7 +5,7 @@ use Rattle.std.specs.Str.{byte, encode_utf8_all}
 use Rattle.unicode_ident.specs.Ident.{is_xid_continue}
 use Rattle.src_token.specs.declared.mark.Mark.{Mark}
 use Rattle.src_token.specs.declared.piece.Beginning.{Beginning}
-use Rattle.src_token.specs.declared.piece.Fault.{Fault}
+use Rattle.src_token.specs.declared.piece.TokenFault.{TokenFault}
 use Rattle.src_token.specs.declared.piece.Reading.{Reading}
 use Rattle.src_token.specs.declared.piece.Reading.TheVariants.{Skipped, Reads, Fails}
 use Rattle.src_token.specs.declared.token.Token.{Token}
@@ -30,27 +30,28 @@ is_inside_line c = not (c == 10)
 
 abbrev pub text_with : List ℕ → Option ℕ → Reading
 text_with inside None = Reads (Token.Text (encode_utf8_all inside))
-text_with inside (Some before) = Fails Fault.BadChar (1 + before)
+text_with inside (Some before) = Fails TokenFault.BadChar (1 + before)
 
 -- characters between quotes: a text, or else a `\` behind so many of them and the quote
 abbrev pub text_reading : List ℕ → Reading
 text_reading inside = text_with inside (position is_backslash inside)
 
-pub data Row : List ℕ → Reading → Type 0 where
-  blank : (c : ℕ) → beginning_of c ≡ Beginning.Blank → Row (c ∷ []) Skipped
-  line_comment : (line : List ℕ) → IsTrue (list_all is_inside_line line) → Row (byte "/" ∷ byte "/" ∷ line) Skipped
-  comment : (inside : List ℕ) → EndsComment inside → Row (byte "/" ∷ byte "*" ∷ inside) Skipped
-  open_comment : Row (byte "/" ∷ byte "*" ∷ []) (Fails Fault.OpenComment 0)
-  slash : Row (byte "/" ∷ []) (Reads (Token.Mark Mark.Slash))
+pub data TokenRow : List ℕ → Reading → Type 0 where
+  blank : (c : ℕ) → beginning_of c ≡ Beginning.Blank → TokenRow (c ∷ []) Skipped
+  line_comment : (line : List ℕ) → IsTrue (list_all is_inside_line line) → TokenRow (byte "/" ∷ byte "/" ∷ line) Skipped
+  comment : (inside : List ℕ) → EndsComment inside → TokenRow (byte "/" ∷ byte "*" ∷ inside) Skipped
+  open_comment : TokenRow (byte "/" ∷ byte "*" ∷ []) (Fails TokenFault.OpenComment 0)
+  slash : TokenRow (byte "/" ∷ []) (Reads (Token.Mark Mark.Slash))
   mark : (c : ℕ) (cs : List ℕ) (m : Mark) → beginning_of c ≡ Beginning.Sign → mark_of (c ∷ cs) ≡ Some m →
-      Row (c ∷ cs) (Reads (Token.Mark m))
+      TokenRow (c ∷ cs) (Reads (Token.Mark m))
   word : (c : ℕ) (cs : List ℕ) → beginning_of c ≡ Beginning.Letter → IsTrue (list_all is_xid_continue cs) →
-      Row (c ∷ cs) (Reads (word_token (c ∷ cs)))
+      TokenRow (c ∷ cs) (Reads (word_token (c ∷ cs)))
   number : (c : ℕ) (cs : List ℕ) → beginning_of c ≡ Beginning.Digit → IsTrue (list_all is_xid_continue cs) →
-      Row (c ∷ cs) (number_reading (c ∷ cs))
-  label : (cs : List ℕ) → IsTrue (is_identifier cs) → Row (byte "'" ∷ cs) (Reads (Token.Label (encode_utf8_all cs)))
-  no_label : Row (byte "'" ∷ []) (Fails Fault.BadChar 0)
+      TokenRow (c ∷ cs) (number_reading (c ∷ cs))
+  label : (cs : List ℕ) → IsTrue (is_identifier cs) →
+      TokenRow (byte "'" ∷ cs) (Reads (Token.Label (encode_utf8_all cs)))
+  no_label : TokenRow (byte "'" ∷ []) (Fails TokenFault.BadChar 0)
   text : (inside : List ℕ) → IsTrue (list_all is_inside_text inside) →
-      Row (quote ∷ (inside ++ quote ∷ [])) (text_reading inside)
-  open_text : Row (quote ∷ []) (Fails Fault.OpenText 0)
-  other : (c : ℕ) → beginning_of c ≡ Beginning.Other → Row (c ∷ []) (Fails Fault.BadChar 0)
+      TokenRow (quote ∷ (inside ++ quote ∷ [])) (text_reading inside)
+  open_text : TokenRow (quote ∷ []) (Fails TokenFault.OpenText 0)
+  other : (c : ℕ) → beginning_of c ≡ Beginning.Other → TokenRow (c ∷ []) (Fails TokenFault.BadChar 0)

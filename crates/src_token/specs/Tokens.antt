@@ -3,14 +3,14 @@
 use Rattle.std.specs.Prelude.{◌≡◌, ℕ, ◌≤◌, List, [], ◌∷◌, ◌++◌, length, take, Option, Some, None}
 use Rattle.std.specs.Str.{chars, encode_utf8_all, IsUtf8, IsValidUpTo}
 use Rattle.mir_base.specs.declared.place_in_text.Pos.{Pos}
-use Rattle.src_token.specs.declared.piece.Fault.{Fault}
+use Rattle.src_token.specs.declared.piece.TokenFault.{TokenFault}
 use Rattle.src_token.specs.declared.piece.Reading.{Reading}
 use Rattle.src_token.specs.declared.piece.Reading.TheVariants.{Skipped, Reads, Fails}
 use Rattle.src_token.specs.declared.token.LexError.{LexError}
 use Rattle.src_token.specs.declared.token.LexError.TheVariants.{BadChar, BadNumber, OpenComment, OpenText, NotUtf8, Memory}
 use Rattle.src_token.specs.declared.token.Spanned.{Spanned}
 use Rattle.src_token.specs.Places.{place_after}
-use Rattle.src_token.specs.Rows.{Row}
+use Rattle.src_token.specs.Rows.{TokenRow}
 
 -- a piece of a text, and what it is
 pub record Cut : Type 0 where
@@ -20,8 +20,8 @@ pub record Cut : Type 0 where
 -- a text begins by this piece, and no row describes a longer one there
 pub record Begins (text : List ℕ) (cut : Cut) (rest : List ℕ) : Type 0 where
   pub joined : text ≡ cut.piece ++ rest
-  pub described : Row cut.piece cut.reading
-  pub longest : (longer others : List ℕ) (reading : Reading) → text ≡ longer ++ others → Row longer reading →
+  pub described : TokenRow cut.piece cut.reading
+  pub longest : (longer others : List ℕ) (reading : Reading) → text ≡ longer ++ others → TokenRow longer reading →
       length longer ≤ length cut.piece
 
 -- the pieces of a text, in their order
@@ -45,11 +45,11 @@ abbrev pub tokens_of : List ℕ → List Cut → List Spanned
 tokens_of before [] = []
 tokens_of before (cut ∷ cuts) = token_of before cut.piece cut.reading ++ tokens_of (before ++ cut.piece) cuts
 
-abbrev pub error_at : Fault → Pos → LexError
-error_at Fault.BadChar at = BadChar at
-error_at Fault.BadNumber at = BadNumber at
-error_at Fault.OpenComment at = OpenComment at
-error_at Fault.OpenText at = OpenText at
+abbrev pub error_at : TokenFault → Pos → LexError
+error_at TokenFault.BadChar at = BadChar at
+error_at TokenFault.BadNumber at = BadNumber at
+error_at TokenFault.OpenComment at = OpenComment at
+error_at TokenFault.OpenText at = OpenText at
 
 -- the error of a piece that these characters stand before, or else that of the rest
 abbrev pub error_or : List ℕ → List ℕ → Reading → Option LexError → Option LexError

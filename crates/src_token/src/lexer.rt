@@ -6,7 +6,7 @@ ghost use Rattle.src_token.specs.Tokens.{Tokens, Refused, CutTokens, CutRefused,
 
 use crate::cursor::Cursor;
 use crate::pieces::next;
-use crate::{Fault, LexError, Piece, Reading, Spanned};
+use crate::{LexError, Reading, Spanned, TokenFault, TokenPiece};
 use mir_base::{List, Pos};
 use std::alloc::{AllocError, Global};
 
@@ -68,14 +68,14 @@ fn past_byte(at: Pos, byte: u8) -> Pos
     }
 }
 
-fn error(fault: Fault, at: Pos) -> LexError
+fn error(fault: TokenFault, at: Pos) -> LexError
     ensures { result ≡ error_at fault at }
 {
     match fault {
-        Fault::BadChar => LexError::BadChar(at),
-        Fault::BadNumber => LexError::BadNumber(at),
-        Fault::OpenComment => LexError::OpenComment(at),
-        Fault::OpenText => LexError::OpenText(at),
+        TokenFault::BadChar => LexError::BadChar(at),
+        TokenFault::BadNumber => LexError::BadNumber(at),
+        TokenFault::OpenComment => LexError::OpenComment(at),
+        TokenFault::OpenText => LexError::OpenText(at),
     }
 }
 
@@ -89,7 +89,7 @@ fn lex_characters(alloc: Global, characters: &[char]) -> Result<List<Spanned>, L
     let mut cursor = Cursor::start();
     let mut passed = 0;
     while passed < characters.len() {
-        let Piece { length, reading } = next(alloc, &characters[passed..])?;
+        let TokenPiece { length, reading } = next(alloc, &characters[passed..])?;
         let after = cursor.moved(characters, passed, passed + length);
         match reading {
             Reading::Skipped => {}

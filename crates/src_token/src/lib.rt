@@ -16,7 +16,7 @@ mod word;
 pub use law::law_of_tokens;
 pub use lexer::{end_of, lex};
 pub use mark::Mark;
-use piece::{Beginning, Fault, Piece, Reading};
+use piece::{Beginning, Reading, TokenFault, TokenPiece};
 pub use token::{LexError, Spanned, Token};
 use word::KEYWORDS;
 pub use word::Word;

@@ -4,7 +4,7 @@ ghost use Rattle.std.specs.List.{prefix_len};
 ghost use Rattle.src_token.specs.Numbers.{is_numeral, number_reading, limited, numeral_value, suffix_of, with_digit};
 
 use crate::characters::spells;
-use crate::{Fault, Reading, Token};
+use crate::{Reading, Token, TokenFault};
 use mir_base::IntKind;
 
 /// What a run that begins by a digit is.
@@ -15,7 +15,7 @@ pub fn number(run: &[char]) -> Reading
     let length = numeral_length(run);
     match (value(&run[..length]), suffix(&run[length..])) {
         (Some(value), Some(suffix)) => Reading::Reads(Token::Number { value, suffix }),
-        _ => Reading::Fails(Fault::BadNumber, 0),
+        _ => Reading::Fails(TokenFault::BadNumber, 0),
     }
 }
 

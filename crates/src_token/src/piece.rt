@@ -24,7 +24,7 @@ pub enum Beginning {
 
 /// What is wrong with a piece.
 #[derive(Clone, Copy)]
-pub enum Fault {
+pub enum TokenFault {
     BadChar,
     BadNumber,
     OpenComment,
@@ -39,12 +39,12 @@ pub enum Reading {
     /// A token.
     Reads(Token),
     /// No token: what is wrong, at the character that so many of the piece's stand before.
-    Fails(Fault, usize),
+    Fails(TokenFault, usize),
 }
 
 /// A piece at the beginning of some characters: how many of them it has, and what it is.
 #[derive(Drop)]
-pub struct Piece {
+pub struct TokenPiece {
     pub length: usize,
     pub reading: Reading,
 }

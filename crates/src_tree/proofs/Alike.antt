@@ -3,12 +3,12 @@ use Rattle.std.proofs.Common.{◌≡◌, ℕ, Bool, true, false, ◌&&◌, not, 
 use Rattle.std.proofs.lemmas.Bool.{and_parts, eqb-true}
 use Rattle.src_token.specs.declared.token.Token.{Token}
 use Rattle.src_token.specs.declared.mark.Mark.{Mark}
-use Rattle.src_tree.specs.declared.row.Row.{Row}
+use Rattle.src_tree.specs.declared.row.GrammarRow.{GrammarRow}
 use Rattle.src_tree.specs.declared.row.Sort.{Sort}
 use Rattle.src_tree.specs.declared.place.Start.{Start}
-use Rattle.src_tree.specs.declared.place.Place.{Place}
-use Rattle.src_tree.specs.declared.kind.Kind.{Kind}
-use Rattle.src_tree.specs.Grammar.{seen, place_of, Rest, ends, token, either, part, maybe, list, more, many, items, alternatives, statements, arms, arm_body, after_break, is, is_text, is_panic, named, move, due, made, Entry, entry, by_row, Joined, joined}
+use Rattle.src_tree.specs.declared.place.GrammarPlace.{GrammarPlace}
+use Rattle.src_tree.specs.declared.kind.TokenKind.{TokenKind}
+use Rattle.src_tree.specs.Grammar.{seen, place_of, GrammarRest, ends, token, either, part, maybe, list, more, many, items, alternatives, statements, arms, arm_body, after_break, is, is_text, is_panic, named, move, due, made, NodeBeginning, entry, by_row, Joined, joined}
 use Rattle.src_tree.specs.Layout.{due_place}
 use Rattle.src_tree.specs.Reading.{and_then, only_if, begin_at, opens, joins}
 use Rattle.src_tree.proofs.Samples.{like, like_name, panic_text, derive_text}
@@ -43,42 +43,42 @@ like_panic n = go (is_text n panic_text) (is_text n derive_text)
     go false true = refl
     go false false = refl
 
-pub is_like : (k : Kind) (t : Token) → is k t ≡ is k (like t)
-is_like Kind.Derive (Token.Name n) = like_derive n
-is_like (Kind.Mark m) (Token.Name n) = refl
-is_like (Kind.Word w) (Token.Name n) = refl
+pub is_like : (k : TokenKind) (t : Token) → is k t ≡ is k (like t)
+is_like TokenKind.Derive (Token.Name n) = like_derive n
+is_like (TokenKind.Mark m) (Token.Name n) = refl
+is_like (TokenKind.Word w) (Token.Name n) = refl
 is_like _ (Token.Name n) = refl
-is_like (Kind.Mark m) (Token.Number v None) = refl
+is_like (TokenKind.Mark m) (Token.Number v None) = refl
 is_like _ (Token.Number v None) = refl
-is_like (Kind.Mark m) (Token.Number v (Some k)) = refl
+is_like (TokenKind.Mark m) (Token.Number v (Some k)) = refl
 is_like _ (Token.Number v (Some k)) = refl
-is_like (Kind.Mark m) (Token.Word w) = refl
+is_like (TokenKind.Mark m) (Token.Word w) = refl
 is_like _ (Token.Word w) = refl
-is_like (Kind.Mark m) (Token.Label n) = refl
+is_like (TokenKind.Mark m) (Token.Label n) = refl
 is_like _ (Token.Label n) = refl
-is_like (Kind.Mark m) (Token.Text n) = refl
+is_like (TokenKind.Mark m) (Token.Text n) = refl
 is_like _ (Token.Text n) = refl
-is_like (Kind.Mark m) (Token.Mark n) = refl
+is_like (TokenKind.Mark m) (Token.Mark n) = refl
 is_like _ (Token.Mark n) = refl
 
-pub move_like : (q : Rest) (t : Token) → move q t ≡ move q (like t)
+pub move_like : (q : GrammarRest) (t : Token) → move q t ≡ move q (like t)
 move_like (ends r) t = refl
 move_like (token k after) t = rw (is_like k t) refl
 move_like (either k after other) t = rw (is_like k t, move_like other t) refl
 move_like (part p after) t = refl
 move_like (maybe p after r) t = refl
-move_like (list p later dots close after) t = rw (is_like close t, is_like (Kind.Mark Mark.DotDot) t) refl
-move_like (more p dots close after) t = rw (is_like close t, is_like (Kind.Mark Mark.Comma) t) refl
+move_like (list p later dots close after) t = rw (is_like close t, is_like (TokenKind.Mark Mark.DotDot) t) refl
+move_like (more p dots close after) t = rw (is_like close t, is_like (TokenKind.Mark Mark.Comma) t) refl
 move_like (many p close after) t = rw (is_like close t) refl
 move_like items t = refl
-move_like alternatives t = rw (is_like (Kind.Mark Mark.Or) t) refl
-move_like (statements o) t = rw (is_like (Kind.Mark Mark.CloseBrace) t) refl
-move_like (arms s) t = rw (is_like (Kind.Mark Mark.CloseBrace) t) refl
+move_like alternatives t = rw (is_like (TokenKind.Mark Mark.Or) t) refl
+move_like (statements o) t = rw (is_like (TokenKind.Mark Mark.CloseBrace) t) refl
+move_like (arms s) t = rw (is_like (TokenKind.Mark Mark.CloseBrace) t) refl
 move_like arm_body t = refl
 move_like after_break t = refl
 
 pub entry_like : (s : Sort) (h : Bool) (st : Start) (t : Token) → entry record { sort = s; head = h; start = st } t ≡ entry record { sort = s; head = h; start = st } (like t)
-entry_like Sort.Expr h st (Token.Name n) = ap (λ p. by_row Row.Path (named p h)) (like_panic n)
+entry_like Sort.Expr h st (Token.Name n) = ap (λ p. by_row GrammarRow.Path (named p h)) (like_panic n)
 entry_like Sort.File h st (Token.Name n) = refl
 entry_like _ h st (Token.Name n) = refl
 entry_like s h st (Token.Word w) = refl
@@ -106,27 +106,27 @@ joined_like Sort.File h st (Token.Text n) = refl
 joined_like _ h st (Token.Text n) = refl
 joined_like s h st (Token.Mark m) = refl
 
-pub entry_alike : (c : Place) (t : Token) → entry (seen c) t ≡ entry (seen c) (like t)
+pub entry_alike : (c : GrammarPlace) (t : Token) → entry (seen c) t ≡ entry (seen c) (like t)
 entry_alike c t = entry_like c.sort c.head (seen c).start t
 
-pub joined_alike : (c : Place) (t : Token) → joined (seen c) t ≡ joined (seen c) (like t)
+pub joined_alike : (c : GrammarPlace) (t : Token) → joined (seen c) t ≡ joined (seen c) (like t)
 joined_alike c t = joined_like c.sort c.head (seen c).start t
 
-begin_like : (o : Option Place) (t : Token) → and_then o (begin_at t) ≡ and_then o (begin_at (like t))
+begin_like : (o : Option GrammarPlace) (t : Token) → and_then o (begin_at t) ≡ and_then o (begin_at (like t))
 begin_like None t = refl
 begin_like (Some c) t = ap (λ e. and_then e (λ e. only_if (Rattle.src_tree.specs.Grammar.may_begin c e.row) (Some (c, e.rest)))) (entry_alike c t)
 
-pub opens_like : (h : Bool) (q : Rest) (t : Token) → opens h q t ≡ opens h q (like t)
+pub opens_like : (h : Bool) (q : GrammarRest) (t : Token) → opens h q t ≡ opens h q (like t)
 opens_like h q t = begin_like (due_place h q) t
 
-pub joins_like : (c : Place) (r : Row) (t : Token) → joins c r t ≡ joins c r (like t)
+pub joins_like : (c : GrammarPlace) (r : GrammarRow) (t : Token) → joins c r t ≡ joins c r (like t)
 joins_like c r t = ap (λ o. and_then o (λ j. only_if (Rattle.src_tree.specs.Grammar.may_begin c j.row && Rattle.src_tree.specs.Grammar.allowed j.place r) (Some j.rest))) (joined_alike c t)
 
-pub among_like : (ks : List Kind) (t : Token) → among ks t ≡ among ks (like t)
+pub among_like : (ks : List TokenKind) (t : Token) → among ks t ≡ among ks (like t)
 among_like [] t = refl
 among_like (k ∷ ks) t = rw (is_like k t, among_like ks t) refl
 
-none_like : (ks : List Kind) (t : Token) → not (among ks t) ≡ not (among ks (like t))
+none_like : (ks : List TokenKind) (t : Token) → not (among ks t) ≡ not (among ks (like t))
 none_like ks t = ap not (among_like ks t)
 
 pub quiet_like : (n : ℕ) (h : Bool) (t : Token) → quiet n h t ≡ quiet n h (like t)
@@ -138,26 +138,26 @@ quiet_like n h (Token.Label x) = refl
 quiet_like n h (Token.Text x) = refl
 quiet_like n h (Token.Mark m) = refl
 
-pub calm_like : (h : Bool) (r : Row) (t : Token) → calm h r t ≡ calm h r (like t)
-calm_like true Row.File (Token.Name x) = refl
+pub calm_like : (h : Bool) (r : GrammarRow) (t : Token) → calm h r t ≡ calm h r (like t)
+calm_like true GrammarRow.File (Token.Name x) = refl
 calm_like true _ (Token.Name x) = refl
-calm_like false Row.File (Token.Name x) = refl
+calm_like false GrammarRow.File (Token.Name x) = refl
 calm_like false _ (Token.Name x) = refl
-calm_like true Row.File (Token.Number v None) = refl
+calm_like true GrammarRow.File (Token.Number v None) = refl
 calm_like true _ (Token.Number v None) = refl
-calm_like false Row.File (Token.Number v None) = refl
+calm_like false GrammarRow.File (Token.Number v None) = refl
 calm_like false _ (Token.Number v None) = refl
-calm_like true Row.File (Token.Number v (Some k)) = refl
+calm_like true GrammarRow.File (Token.Number v (Some k)) = refl
 calm_like true _ (Token.Number v (Some k)) = refl
-calm_like false Row.File (Token.Number v (Some k)) = refl
+calm_like false GrammarRow.File (Token.Number v (Some k)) = refl
 calm_like false _ (Token.Number v (Some k)) = refl
-calm_like true Row.File (Token.Label x) = refl
+calm_like true GrammarRow.File (Token.Label x) = refl
 calm_like true _ (Token.Label x) = refl
-calm_like false Row.File (Token.Label x) = refl
+calm_like false GrammarRow.File (Token.Label x) = refl
 calm_like false _ (Token.Label x) = refl
-calm_like true Row.File (Token.Text x) = refl
+calm_like true GrammarRow.File (Token.Text x) = refl
 calm_like true _ (Token.Text x) = refl
-calm_like false Row.File (Token.Text x) = refl
+calm_like false GrammarRow.File (Token.Text x) = refl
 calm_like false _ (Token.Text x) = refl
 calm_like h r (Token.Word w) = refl
 calm_like h r (Token.Mark m) = refl
@@ -221,15 +221,15 @@ follow_by _ n h st y (Token.Text x) = refl
 follow_by _ n h st y (Token.Word w) = refl
 follow_by _ n h st y (Token.Mark m) = refl
 
-pub follow_like : (c : Place) (y : Shape) (t : Token) → follow c y t ≡ follow c y (like t)
+pub follow_like : (c : GrammarPlace) (y : Shape) (t : Token) → follow c y t ≡ follow c y (like t)
 follow_like c y t = follow_by c.sort c.least c.head c.start y t
 
-pub idle_like : (h : Bool) (q : Rest) (t : Token) → idle h q t ≡ idle h q (like t)
+pub idle_like : (h : Bool) (q : GrammarRest) (t : Token) → idle h q t ≡ idle h q (like t)
 idle_like h q t = rw (move_like q t, opens_like h q t) refl
 
-calm_at_like : (h : Bool) (o : Option Row) (t : Token) → calm_at h o t ≡ calm_at h o (like t)
+calm_at_like : (h : Bool) (o : Option GrammarRow) (t : Token) → calm_at h o t ≡ calm_at h o (like t)
 calm_at_like h None t = refl
 calm_at_like h (Some x) t = calm_like h x t
 
-pub acts_like : (h : Bool) (q : Rest) (t : Token) → acts h q t ≡ acts h q (like t)
+pub acts_like : (h : Bool) (q : GrammarRest) (t : Token) → acts h q t ≡ acts h q (like t)
 acts_like h q t = rw (idle_like h q t, calm_at_like h (made q) t) refl

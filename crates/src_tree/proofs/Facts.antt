@@ -3,14 +3,14 @@ use Rattle.std.proofs.Common.{◌≡◌, ℕ, Bool, true, false, ◌&&◌, ◌||
 use Rattle.std.proofs.lemmas.Bool.{and_parts, and_from, eqb-true}
 use Rattle.src_token.specs.declared.token.Token.{Token}
 use Rattle.src_token.specs.declared.mark.Mark.{Mark}
-use Rattle.src_tree.specs.declared.row.Row.{Row}
+use Rattle.src_tree.specs.declared.row.GrammarRow.{GrammarRow}
 use Rattle.src_tree.specs.declared.row.Sort.{Sort}
 use Rattle.src_tree.specs.declared.place.Start.{Start}
-use Rattle.src_tree.specs.declared.place.Place.{Place}
+use Rattle.src_tree.specs.declared.place.GrammarPlace.{GrammarPlace}
 use Rattle.src_tree.specs.declared.place.Seen.{Seen}
-use Rattle.src_tree.specs.declared.place.Part.{Part}
-use Rattle.src_tree.specs.declared.kind.Kind.{Kind}
-use Rattle.src_tree.specs.Grammar.{sort_number, seen, allowed, may_begin, may_be, begins_by, place_of, Rest, ends, token, either, part, maybe, list, more, many, items, alternatives, statements, arms, arm_body, after_break, is, comma, move, due, behind, behind_statement, behind_arm, behind_body, behind_break, made, Entry, entry, Joined, joined}
+use Rattle.src_tree.specs.declared.place.GrammarPart.{GrammarPart}
+use Rattle.src_tree.specs.declared.kind.TokenKind.{TokenKind}
+use Rattle.src_tree.specs.Grammar.{sort_number, seen, allowed, may_begin, may_be, begins_by, place_of, GrammarRest, ends, token, either, part, maybe, list, more, many, items, alternatives, statements, arms, arm_body, after_break, is, comma, move, due, behind, behind_statement, behind_arm, behind_body, behind_break, made, NodeBeginning, entry, Joined, joined}
 use Rattle.src_tree.specs.Reading.{opens, joins}
 use Rattle.src_tree.proofs.Samples.{samples, rows, every, nth, like, of_samples, of_rows}
 use Rattle.src_tree.proofs.Follow.{calm, calm_at, shape, example, follow, idle, acts, is_none, implies, hangs_on_shape, shapes, tried, Shape, Ended, Brace, Braced, Labelled, OneArm, OneLastArm, Open, places, start_number, same_bool, same_place, is_known, ends_well, part_well, parts_well, here, ok, all_ends, stands, same_seen, joins_well, begins_well, good, entry_ok, joined_ok}
@@ -30,7 +30,7 @@ every_all f h [] = refl
 every_all f h (x ∷ xs) = and_from (f x) (every f xs) (h x) (every_all f h xs)
 
 -- a rest by itself
-pub here_of : (h : Bool) (q : Rest) → ok h q ≡ true → here h q ≡ true
+pub here_of : (h : Bool) (q : GrammarRest) → ok h q ≡ true → here h q ≡ true
 here_of h (ends r) o = and_from (ends_well h (ends r)) true (every_all _ (λ t. implies_true (calm h r t)) samples) refl
 here_of h (token k after) o = refl
 here_of h (either k after other) o = (and_parts (here h (either k after other)) _ o).0
@@ -56,7 +56,7 @@ picks P false x o y e p q = q e
 pub no_more : {X : Type 0} (P : Type 0) (y : X) → None ≡ Some y → P
 no_more P y e = absurd (cc)
 
-pub ok_move : (h : Bool) (q : Rest) (t : Token) (q1 : Rest) → ok h q ≡ true → move q t ≡ Some q1 → ok h q1 ≡ true
+pub ok_move : (h : Bool) (q : GrammarRest) (t : Token) (q1 : GrammarRest) → ok h q ≡ true → move q t ≡ Some q1 → ok h q1 ≡ true
 ok_move h (ends r) t q1 o e = no_more _ q1 e
 ok_move h (token k after) t q1 o e = picks (λ q. ok h q ≡ true) (is k t) after None q1 e o (no_more _ q1)
 ok_move h (either k after other) t q1 o e =
@@ -69,8 +69,8 @@ ok_move h (list p later dots close after) t q1 o e =
     let a = and_parts (here h (list p later dots close after)) _ o in
     let b = and_parts (here h (more later dots close after)) _ a.1 in
     let c = and_parts (here h (list later later dots close after)) (ok h after) b.1 in
-    picks (λ q. ok h q ≡ true) (is close t) after (if dots && is (Kind.Mark Mark.DotDot) t then Some (token close after) else None) q1 e c.1
-    (λ f. picks (λ q. ok h q ≡ true) (dots && is (Kind.Mark Mark.DotDot) t) (token close after) None q1 f c.1 (no_more _ q1))
+    picks (λ q. ok h q ≡ true) (is close t) after (if dots && is (TokenKind.Mark Mark.DotDot) t then Some (token close after) else None) q1 e c.1
+    (λ f. picks (λ q. ok h q ≡ true) (dots && is (TokenKind.Mark Mark.DotDot) t) (token close after) None q1 f c.1 (no_more _ q1))
 ok_move h (more p dots close after) t q1 o e =
     let a = and_parts (here h (more p dots close after)) _ o in
     let b = and_parts (here h (list p p dots close after)) (ok h after) a.1 in
@@ -80,42 +80,42 @@ ok_move h (more p dots close after) t q1 o e =
 ok_move h (many p close after) t q1 o e = picks (λ q. ok h q ≡ true) (is close t) after None q1 e (and_parts (here h (many p close after)) _ o).1 (no_more _ q1)
 ok_move h items t q1 o e = no_more _ q1 e
 ok_move h alternatives t q1 o e =
-    picks (λ q. ok h q ≡ true) (is (Kind.Mark Mark.Or) t) _ None q1 e (and_from _ _ (and_parts (here h alternatives) _ o).1 o) (no_more _ q1)
-ok_move h (statements s) t q1 o e = picks (λ q. ok h q ≡ true) (is (Kind.Mark Mark.CloseBrace) t) (ends Row.Block) None q1 e refl (no_more _ q1)
-ok_move h (arms s) t q1 o e = picks (λ q. ok h q ≡ true) (s && is (Kind.Mark Mark.CloseBrace) t) (ends Row.Match) None q1 e refl (no_more _ q1)
+    picks (λ q. ok h q ≡ true) (is (TokenKind.Mark Mark.Or) t) _ None q1 e (and_from _ _ (and_parts (here h alternatives) _ o).1 o) (no_more _ q1)
+ok_move h (statements s) t q1 o e = picks (λ q. ok h q ≡ true) (is (TokenKind.Mark Mark.CloseBrace) t) (ends GrammarRow.Block) None q1 e refl (no_more _ q1)
+ok_move h (arms s) t q1 o e = picks (λ q. ok h q ≡ true) (s && is (TokenKind.Mark Mark.CloseBrace) t) (ends GrammarRow.Match) None q1 e refl (no_more _ q1)
 ok_move h arm_body t q1 o e = no_more _ q1 e
 ok_move h after_break t q1 o e = no_more _ q1 e
 
-ok_statement : (h : Bool) (r : Row) → ok h (statements false) ≡ true → ok h (behind_statement r) ≡ true
-ok_statement h Row.Let o = o
-ok_statement h Row.Semi o = o
-ok_statement h Row.Empty o = o
-ok_statement h Row.Block o = o
-ok_statement h Row.If o = o
-ok_statement h Row.Match o = o
-ok_statement h Row.Loop o = o
-ok_statement h Row.While o = o
+ok_statement : (h : Bool) (r : GrammarRow) → ok h (statements false) ≡ true → ok h (behind_statement r) ≡ true
+ok_statement h GrammarRow.Let o = o
+ok_statement h GrammarRow.Semi o = o
+ok_statement h GrammarRow.Empty o = o
+ok_statement h GrammarRow.Block o = o
+ok_statement h GrammarRow.If o = o
+ok_statement h GrammarRow.Match o = o
+ok_statement h GrammarRow.Loop o = o
+ok_statement h GrammarRow.While o = o
 ok_statement h _ o = refl
 
-ok_arm : (h : Bool) (r : Row) → ok h (arms true) ≡ true → ok h (behind_arm r) ≡ true
-ok_arm h Row.Arm o = o
+ok_arm : (h : Bool) (r : GrammarRow) → ok h (arms true) ≡ true → ok h (behind_arm r) ≡ true
+ok_arm h GrammarRow.Arm o = o
 ok_arm h _ o = refl
 
-ok_block_body : (h : Bool) → ok h arm_body ≡ true → ok h (either comma (ends Row.Arm) (ends Row.Arm)) ≡ true
-ok_block_body h o = and_from _ _ (and_parts (here h (either comma (ends Row.Arm) (ends Row.Arm))) _ (and_parts (here h arm_body) _ o).1).0 refl
+ok_block_body : (h : Bool) → ok h arm_body ≡ true → ok h (either comma (ends GrammarRow.Arm) (ends GrammarRow.Arm)) ≡ true
+ok_block_body h o = and_from _ _ (and_parts (here h (either comma (ends GrammarRow.Arm) (ends GrammarRow.Arm))) _ (and_parts (here h arm_body) _ o).1).0 refl
 
-ok_other_body : (h : Bool) → ok h arm_body ≡ true → ok h (either comma (ends Row.Arm) (ends Row.LastArm)) ≡ true
-ok_other_body h o = and_from _ _ (and_parts (here h (either comma (ends Row.Arm) (ends Row.Arm))) _ (and_parts (here h arm_body) _ o).1).1 refl
+ok_other_body : (h : Bool) → ok h arm_body ≡ true → ok h (either comma (ends GrammarRow.Arm) (ends GrammarRow.LastArm)) ≡ true
+ok_other_body h o = and_from _ _ (and_parts (here h (either comma (ends GrammarRow.Arm) (ends GrammarRow.Arm))) _ (and_parts (here h arm_body) _ o).1).1 refl
 
-ok_body : (h : Bool) (r : Row) → ok h arm_body ≡ true → ok h (behind_body r) ≡ true
-ok_body h Row.Block o = ok_block_body h o
+ok_body : (h : Bool) (r : GrammarRow) → ok h arm_body ≡ true → ok h (behind_body r) ≡ true
+ok_body h GrammarRow.Block o = ok_block_body h o
 ok_body h _ o = ok_other_body h o
 
-ok_break : (h : Bool) (r : Row) → ok h after_break ≡ true → ok h (behind_break r) ≡ true
-ok_break h Row.LabelName o = and_from _ _ (and_parts (here h after_break) _ o).1 refl
+ok_break : (h : Bool) (r : GrammarRow) → ok h after_break ≡ true → ok h (behind_break r) ≡ true
+ok_break h GrammarRow.LabelName o = and_from _ _ (and_parts (here h after_break) _ o).1 refl
 ok_break h _ o = refl
 
-pub ok_behind : (h : Bool) (q : Rest) (r : Row) → ok h q ≡ true → ok h (behind q r) ≡ true
+pub ok_behind : (h : Bool) (q : GrammarRest) (r : GrammarRow) → ok h q ≡ true → ok h (behind q r) ≡ true
 ok_behind h (ends x) r o = o
 ok_behind h (token k after) r o = o
 ok_behind h (either k after other) r o = ok_behind h other r (and_parts (ok h after) (ok h other) (and_parts (here h (either k after other)) _ o).1).1
@@ -138,40 +138,40 @@ ok_behind h arm_body r o = ok_body h r o
 ok_behind h after_break r o = ok_break h r o
 
 -- a calm token does nothing at a rest that may end
-pub idle_calm : (h : Bool) (q : Rest) (x : Row) (t : Token) → here h q ≡ true → made q ≡ Some x → calm h x t ≡ true → idle h q t ≡ true
+pub idle_calm : (h : Bool) (q : GrammarRest) (x : GrammarRow) (t : Token) → here h q ≡ true → made q ≡ Some x → calm h x t ≡ true → idle h q t ≡ true
 idle_calm h q x t w m c =
     let e = of_samples (λ t. implies (calm_at h (made q) t) (idle h q t)) (and_parts (ends_well h q) _ w).0 t in
     let f : implies (calm_at h (Some x) (like t)) (idle h q (like t)) ≡ true = subst (λ o. implies (calm_at h o (like t)) (idle h q (like t)) ≡ true) m e in
     idle_like h q t ∙ implied (calm h x (like t)) (idle h q (like t)) f (sym (calm_like h x t) ∙ c)
 
-part_here : (h : Bool) (q : Rest) (p : Part) → here h q ≡ true → due q ≡ Some p → part_well h q p ≡ true
+part_here : (h : Bool) (q : GrammarRest) (p : GrammarPart) → here h q ≡ true → due q ≡ Some p → part_well h q p ≡ true
 part_here h q p w d = subst (λ o. parts_well h q o ≡ true) d (and_parts (ends_well h q) _ w).1
 
 -- a token that begins a part
-pub opens_alone : (h : Bool) (q : Rest) (p : Part) (t : Token) → here h q ≡ true → due q ≡ Some p → is_none (opens h q t) ≡ false → is_none (move q t) ≡ true
+pub opens_alone : (h : Bool) (q : GrammarRest) (p : GrammarPart) (t : Token) → here h q ≡ true → due q ≡ Some p → is_none (opens h q t) ≡ false → is_none (move q t) ≡ true
 opens_alone h q p t w d e =
     let b = and_parts (is_known places (place_of h p)) _ (part_here h q p w d) in
     let f = of_samples (λ t. implies (not (is_none (opens h q t))) (is_none (move q t))) (and_parts _ _ b.1).0 t in
     ap (λ o. is_none o) (move_like q t)
     ∙ implied _ _ f (ap not (ap (λ o. is_none o) (sym (opens_like h q t)) ∙ e))
 
-behind_statement_alike : (r : Row) → behind_statement r ≡ behind_statement (example (shape r))
-behind_statement_alike Row.File = refl
+behind_statement_alike : (r : GrammarRow) → behind_statement r ≡ behind_statement (example (shape r))
+behind_statement_alike GrammarRow.File = refl
 behind_statement_alike _ = refl
 
-behind_arm_alike : (r : Row) → behind_arm r ≡ behind_arm (example (shape r))
-behind_arm_alike Row.File = refl
+behind_arm_alike : (r : GrammarRow) → behind_arm r ≡ behind_arm (example (shape r))
+behind_arm_alike GrammarRow.File = refl
 behind_arm_alike _ = refl
 
-behind_body_alike : (r : Row) → behind_body r ≡ behind_body (example (shape r))
-behind_body_alike Row.File = refl
+behind_body_alike : (r : GrammarRow) → behind_body r ≡ behind_body (example (shape r))
+behind_body_alike GrammarRow.File = refl
 behind_body_alike _ = refl
 
-behind_break_alike : (r : Row) → behind_break r ≡ behind_break (example (shape r))
-behind_break_alike Row.File = refl
+behind_break_alike : (r : GrammarRow) → behind_break r ≡ behind_break (example (shape r))
+behind_break_alike GrammarRow.File = refl
 behind_break_alike _ = refl
 
-behind_alike : (q : Rest) (r : Row) → behind q r ≡ behind q (example (shape r))
+behind_alike : (q : GrammarRest) (r : GrammarRow) → behind q r ≡ behind q (example (shape r))
 behind_alike (statements s) r = behind_statement_alike r
 behind_alike (arms s) r = behind_arm_alike r
 behind_alike arm_body r = behind_body_alike r
@@ -205,20 +205,20 @@ follow_by_place Sort.Pattern n h Start.IsArm y t e = absurd (cc)
 follow_by_place Sort.Pattern n h _ y t e = refl
 follow_by_place _ n h b y t e = refl
 
-abbrev hangs : Bool → Part → Bool
+abbrev hangs : Bool → GrammarPart → Bool
 hangs h p = hangs_on_shape (place_of h p).start
 
-not_there : {X : Type 0} (h : Bool) (x p : Part) → hangs h x ≡ true → Some x ≡ Some p → hangs h p ≡ false → X
+not_there : {X : Type 0} (h : Bool) (x p : GrammarPart) → hangs h x ≡ true → Some x ≡ Some p → hangs h p ≡ false → X
 not_there h x p there e elsewhere =
     let same : x ≡ p = cc in
     let both : true ≡ false = sym (subst (λ p. hangs h p ≡ true) same there) ∙ elsewhere in
     absurd (cc)
 
-hangs_behind_break : (h : Bool) → hangs h Part.AfterBreak ≡ true
+hangs_behind_break : (h : Bool) → hangs h GrammarPart.AfterBreak ≡ true
 hangs_behind_break false = refl
 hangs_behind_break true = refl
 
-behind_by_place : (h : Bool) (q : Rest) (p : Part) (r : Row) → due q ≡ Some p → hangs h p ≡ false → behind q r ≡ behind q Row.Path
+behind_by_place : (h : Bool) (q : GrammarRest) (p : GrammarPart) (r : GrammarRow) → due q ≡ Some p → hangs h p ≡ false → behind q r ≡ behind q GrammarRow.Path
 behind_by_place h (either k after other) p r d elsewhere = behind_by_place h other p r d elsewhere
 behind_by_place h (statements false) p r d elsewhere = not_there h _ p refl d elsewhere
 behind_by_place h (statements true) p r d elsewhere = not_there h _ p refl d elsewhere
@@ -228,7 +228,7 @@ behind_by_place h after_break p r d elsewhere = not_there h _ p (hangs_behind_br
 behind_by_place h _ p r d elsewhere = refl
 
 -- what goes on behind a part may stand behind it
-pub follows_on : (h : Bool) (q : Rest) (p : Part) (y : Row) (t : Token) → here h q ≡ true → due q ≡ Some p → acts h (behind q y) t ≡ true → follow (place_of h p) (shape y) t ≡ true
+pub follows_on : (h : Bool) (q : GrammarRest) (p : GrammarPart) (y : GrammarRow) (t : Token) → here h q ≡ true → due q ≡ Some p → acts h (behind q y) t ≡ true → follow (place_of h p) (shape y) t ≡ true
 follows_on h q p y t w d a =
     let b = and_parts (is_known places (place_of h p)) _ (part_here h q p w d) in
     go (hangs h p) refl (and_parts _ _ b.1).1
@@ -284,10 +284,10 @@ same_bools true false h = absurd (cc)
 same_bools false true h = absurd (cc)
 same_bools false false h = refl
 
-abbrev make : Sort → ℕ → Bool → Start → Place
+abbrev make : Sort → ℕ → Bool → Start → GrammarPlace
 make s n h b = record { sort = s; least = n; head = h; start = b }
 
-pub same_places : (c d : Place) → same_place c d ≡ true → c ≡ d
+pub same_places : (c d : GrammarPlace) → same_place c d ≡ true → c ≡ d
 same_places c d h =
     let p = and_parts (nat_eq (sort_number c.sort) (sort_number d.sort)) _ h in
     let q = and_parts (nat_eq c.least d.least) _ p.1 in
@@ -308,7 +308,7 @@ seen_alike a b h =
     ∙ ap (λ x. make_seen b.sort x a.start) (same_bools a.head b.head r.0)
     ∙ ap (λ x. make_seen b.sort b.head x) (same_start a.start b.start r.1)
 
-known_good : (ds : List Place) (c : Place) → every good ds ≡ true → is_known ds c ≡ true → good c ≡ true
+known_good : (ds : List GrammarPlace) (c : GrammarPlace) → every good ds ≡ true → is_known ds c ≡ true → good c ≡ true
 known_good [] c g k = absurd (cc)
 known_good (d ∷ ds) c g k = let p = and_parts (good d) (every good ds) g in go (known_good ds c p.1) p.0 (same_place d c) refl
   where
@@ -317,7 +317,7 @@ known_good (d ∷ ds) c g k = let p = and_parts (good d) (every good ds) g in go
     go ih x false e = ih (subst (λ b. (b || is_known ds c) ≡ true) e k)
 
 -- a part stands at a good place
-pub good_part : (h : Bool) (q : Rest) (p : Part) → here h q ≡ true → due q ≡ Some p → good (place_of h p) ≡ true
+pub good_part : (h : Bool) (q : GrammarRest) (p : GrammarPart) → here h q ≡ true → due q ≡ Some p → good (place_of h p) ≡ true
 good_part h q p w d = known_good places (place_of h p) places_good (and_parts (is_known places (place_of h p)) _ (part_here h q p w d)).0
 
 is_none_is : {X : Type 0} (o : Option X) → is_none o ≡ true → o ≡ None
@@ -325,7 +325,7 @@ is_none_is None h = refl
 is_none_is (Some x) h = absurd (cc)
 
 -- what may stand behind a tree leaves its inside alone, and joins it to nothing
-pub stands_behind : (c : Place) (y : Row) (t : Token) → good c ≡ true → allowed c y ≡ true → follow c (shape y) t ≡ true → (calm c.head y t ≡ true) × (joins c y t ≡ None)
+pub stands_behind : (c : GrammarPlace) (y : GrammarRow) (t : Token) → good c ≡ true → allowed c y ≡ true → follow c (shape y) t ≡ true → (calm c.head y t ≡ true) × (joins c y t ≡ None)
 stands_behind c y t g a f =
     let all = of_rows (λ y. implies (allowed c y) (every (stands c y) samples)) (and_parts _ _ g).0 y in
     let e = of_samples (stands c y) (implied (allowed c y) (every (stands c y) samples) all a) t in
@@ -334,37 +334,37 @@ stands_behind c y t g a f =
     (calm_like c.head y t ∙ p.0, joins_like c y t ∙ is_none_is _ p.1)
 
 -- how a tree there is joined to others
-pub joins_as : (c : Place) (t : Token) (j : Joined) → good c ≡ true → joined (seen c) t ≡ Some j → joins_well c t (Some j) ≡ true
+pub joins_as : (c : GrammarPlace) (t : Token) (j : Joined) → good c ≡ true → joined (seen c) t ≡ Some j → joins_well c t (Some j) ≡ true
 joins_as c t j g e =
     let f = of_samples (λ t. joins_well c t (joined (seen c) t) && begins_well c (entry (seen c) t)) (and_parts _ _ g).1 t in
     let p = (and_parts (joins_well c (like t) (joined (seen c) (like t))) _ f).0 in
     calm_in t j (subst (λ o. joins_well c (like t) o ≡ true) (sym (joined_alike c t) ∙ e) p)
   where
-    rows_alike : (t : Token) (j : Joined) (ys : List Row) → every (λ y. implies (allowed j.place y) (may_begin c y && calm c.head y t)) ys ≡ every (λ y. implies (allowed j.place y) (may_begin c y && calm c.head y (like t))) ys
+    rows_alike : (t : Token) (j : Joined) (ys : List GrammarRow) → every (λ y. implies (allowed j.place y) (may_begin c y && calm c.head y t)) ys ≡ every (λ y. implies (allowed j.place y) (may_begin c y && calm c.head y (like t))) ys
     rows_alike t j [] = refl
     rows_alike t j (y ∷ ys) = rw (calm_like c.head y t, rows_alike t j ys) refl
 
     calm_in : (t : Token) (j : Joined) → joins_well c (like t) (Some j) ≡ true → joins_well c t (Some j) ≡ true
     calm_in t j h = rw (rows_alike t j rows) h
 
-pub begins_as : (c : Place) (t : Token) (e : Entry) → good c ≡ true → entry (seen c) t ≡ Some e → begins_well c (Some e) ≡ true
+pub begins_as : (c : GrammarPlace) (t : Token) (e : NodeBeginning) → good c ≡ true → entry (seen c) t ≡ Some e → begins_well c (Some e) ≡ true
 begins_as c t x g e =
     let f = of_samples (λ t. joins_well c t (joined (seen c) t) && begins_well c (entry (seen c) t)) (and_parts _ _ g).1 t in
     let p = (and_parts (joins_well c (like t) (joined (seen c) (like t))) _ f).1 in
     subst (λ o. begins_well c o ≡ true) (sym (entry_alike c t) ∙ e) p
 
-pub entry_is_ok : (c : Place) (t : Token) (e : Entry) → entry (seen c) t ≡ Some e → ok c.head e.rest ≡ true
+pub entry_is_ok : (c : GrammarPlace) (t : Token) (e : NodeBeginning) → entry (seen c) t ≡ Some e → ok c.head e.rest ≡ true
 entry_is_ok c t x e =
     let f = of_samples (λ t. entry_ok c.head (entry (seen c) t)) (entries_ok c.sort c.head (seen c).start) t in
     subst (λ o. entry_ok c.head o ≡ true) (sym (entry_alike c t) ∙ e) f
 
-pub joined_is_ok : (c : Place) (t : Token) (j : Joined) → joined (seen c) t ≡ Some j → ok c.head j.rest ≡ true
+pub joined_is_ok : (c : GrammarPlace) (t : Token) (j : Joined) → joined (seen c) t ≡ Some j → ok c.head j.rest ≡ true
 joined_is_ok c t x e =
     let f = of_samples (λ t. joined_ok c.head (joined (seen c) t)) (joined_all_ok c.sort c.head (seen c).start) t in
     subst (λ o. joined_ok c.head o ≡ true) (sym (joined_alike c t) ∙ e) f
 
 -- a row that may stand there may begin there
-pub begin_if_allowed : (c : Place) (r : Row) → allowed c r ≡ true → may_begin c r ≡ true
+pub begin_if_allowed : (c : GrammarPlace) (r : GrammarRow) → allowed c r ≡ true → may_begin c r ≡ true
 begin_if_allowed c r a =
     let p = and_parts (Rattle.src_tree.specs.Grammar.belongs c.sort r) _ a in
     let q = and_parts (nat_le c.least (Rattle.src_tree.specs.Grammar.level r)) (may_be c.start r) p.1 in
@@ -379,7 +379,7 @@ begin_if_allowed c r a =
     go Start.IsParam h = or_left (may_be Start.IsParam r) _ h
     go _ h = h
 
-pub join_rows : (c : Place) (t : Token) (j : Joined) → joins_well c t (Some j) ≡ true → may_begin c j.row ≡ true → (seen j.place ≡ seen c) × ((y : Row) → allowed j.place y ≡ true → (may_begin c y ≡ true) × (calm c.head y t ≡ true))
+pub join_rows : (c : GrammarPlace) (t : Token) (j : Joined) → joins_well c t (Some j) ≡ true → may_begin c j.row ≡ true → (seen j.place ≡ seen c) × ((y : GrammarRow) → allowed j.place y ≡ true → (may_begin c y ≡ true) × (calm c.head y t ≡ true))
 join_rows c t j w b =
     let a = and_parts (implies (may_begin c j.row) (same_seen (seen j.place) (seen c) && every (λ y. implies (allowed j.place y) (may_begin c y && calm c.head y t)) rows)) _ w in
     let p = and_parts (same_seen (seen j.place) (seen c)) _ (implied (may_begin c j.row) _ a.0 b) in (
@@ -387,9 +387,9 @@ join_rows c t j w b =
       λ y h. and_parts (may_begin c y) (calm c.head y t) (implied (allowed j.place y) _ (of_rows (λ y. implies (allowed j.place y) (may_begin c y && calm c.head y t)) p.1 y) h),
     )
 
-pub join_begins : (c : Place) (t : Token) (j : Joined) → joins_well c t (Some j) ≡ true → all_ends (λ x. implies (may_begin c x) (may_begin c j.row)) j.rest ≡ true
+pub join_begins : (c : GrammarPlace) (t : Token) (j : Joined) → joins_well c t (Some j) ≡ true → all_ends (λ x. implies (may_begin c x) (may_begin c j.row)) j.rest ≡ true
 join_begins c t j w = (and_parts (implies (may_begin c j.row) (same_seen (seen j.place) (seen c) && every (λ y. implies (allowed j.place y) (may_begin c y && calm c.head y t)) rows)) _ w).1
 
 -- a part stands at a place that is known
-pub known_part : (h : Bool) (q : Rest) (p : Part) → here h q ≡ true → due q ≡ Some p → is_known places (place_of h p) ≡ true
+pub known_part : (h : Bool) (q : GrammarRest) (p : GrammarPart) → here h q ≡ true → due q ≡ Some p → is_known places (place_of h p) ≡ true
 known_part h q p w d = (and_parts (is_known places (place_of h p)) _ (part_here h q p w d)).0

@@ -3,22 +3,22 @@ use Rattle.std.proofs.Common.{ℕ, Bool, true, false, ◌&&◌, ◌||◌, not, n
 use Rattle.src_token.specs.declared.token.Token.{Token}
 use Rattle.src_token.specs.declared.word.Word.{Word}
 use Rattle.src_token.specs.declared.mark.Mark.{Mark}
-use Rattle.src_tree.specs.declared.row.Row.{Row}
+use Rattle.src_tree.specs.declared.row.GrammarRow.{GrammarRow}
 use Rattle.src_tree.specs.declared.row.Sort.{Sort}
 use Rattle.src_tree.specs.declared.place.Start.{Start}
-use Rattle.src_tree.specs.declared.place.Place.{Place}
+use Rattle.src_tree.specs.declared.place.GrammarPlace.{GrammarPlace}
 use Rattle.src_tree.specs.declared.place.Seen.{Seen}
-use Rattle.src_tree.specs.declared.place.Part.{Part}
-use Rattle.src_tree.specs.declared.kind.Kind.{Kind}
-use Rattle.src_tree.specs.Grammar.{sort_number, seen, allowed, may_begin, place_of, Rest, ends, token, either, part, maybe, list, more, many, items, alternatives, statements, arms, arm_body, after_break, is, comma, pattern1, move, due, behind, made, Entry, entry, Joined, joined}
+use Rattle.src_tree.specs.declared.place.GrammarPart.{GrammarPart}
+use Rattle.src_tree.specs.declared.kind.TokenKind.{TokenKind}
+use Rattle.src_tree.specs.Grammar.{sort_number, seen, allowed, may_begin, place_of, GrammarRest, ends, token, either, part, maybe, list, more, many, items, alternatives, statements, arms, arm_body, after_break, is, comma, pattern1, move, due, behind, made, NodeBeginning, entry, Joined, joined}
 use Rattle.src_tree.specs.Reading.{opens, joins}
 use Rattle.src_tree.proofs.Samples.{samples, rows, every}
 
-abbrev pub among : List Kind → Token → Bool
+abbrev pub among : List TokenKind → Token → Bool
 among [] t = false
 among (k ∷ ks) t = is k t || among ks t
 
-abbrev pub none_of : List Kind → Token → Bool
+abbrev pub none_of : List TokenKind → Token → Bool
 none_of ks t = not (among ks t)
 
 -- a token that lets an expression be whose last operand has this least level
@@ -46,111 +46,111 @@ quiet right head (Token.Mark Mark.Slash) = nat_le 7 right
 quiet right head (Token.Mark Mark.Percent) = nat_le 7 right
 quiet right head _ = false
 
-abbrev open_brace : Kind
-open_brace = Kind.Mark Mark.OpenBrace
+abbrev open_brace : TokenKind
+open_brace = TokenKind.Mark Mark.OpenBrace
 
-abbrev separators : List Kind
-separators = comma ∷ Kind.Mark Mark.CloseBrace ∷ []
+abbrev separators : List TokenKind
+separators = comma ∷ TokenKind.Mark Mark.CloseBrace ∷ []
 
-abbrev behind_patterns : List Kind
+abbrev behind_patterns : List TokenKind
 behind_patterns =
-    comma ∷ Kind.Mark Mark.CloseParenthesis ∷ Kind.Mark Mark.CloseBracket ∷ Kind.Mark Mark.CloseBrace ∷ Kind.Mark Mark.FatArrow ∷ Kind.Word Word.If ∷ Kind.Mark Mark.Eq ∷ []
+    comma ∷ TokenKind.Mark Mark.CloseParenthesis ∷ TokenKind.Mark Mark.CloseBracket ∷ TokenKind.Mark Mark.CloseBrace ∷ TokenKind.Mark Mark.FatArrow ∷ TokenKind.Word Word.If ∷ TokenKind.Mark Mark.Eq ∷ []
 
 -- it goes on with no node inside a node of this row
-abbrev pub calm : Bool → Row → Token → Bool
-calm h Row.File t = false
-calm h Row.Field t = none_of (Kind.Mark Mark.Lt ∷ []) t
-calm h Row.Variant t = among separators t
-calm h Row.NamedType t = none_of (Kind.Mark Mark.Lt ∷ []) t
-calm h Row.RefType t = none_of (Kind.Mark Mark.Lt ∷ []) t
-calm h Row.Param t = none_of (Kind.Mark Mark.Lt ∷ []) t
-calm h Row.BindPattern t = none_of (Kind.Mark Mark.PathSep ∷ Kind.Mark Mark.OpenParenthesis ∷ open_brace ∷ []) t
-calm h Row.PathPattern t = none_of (Kind.Mark Mark.PathSep ∷ Kind.Mark Mark.OpenParenthesis ∷ open_brace ∷ []) t
-calm h Row.OrPattern t = among behind_patterns t
-calm h Row.FieldPattern t = among separators t
-calm h Row.FieldInit t = among separators t
-calm h Row.If t = none_of (Kind.Word Word.Else ∷ []) t
-calm h Row.Arm t = none_of (comma ∷ []) t
-calm h Row.LastArm t = is (Kind.Mark Mark.CloseBrace) t
-calm h Row.Return t = quiet 0 h t
-calm h Row.Break t = quiet 0 h t
-calm h Row.Continue t = none_of (Kind.Label ∷ Kind.Mark Mark.Colon ∷ []) t
-calm h Row.LabelName t = none_of (Kind.Mark Mark.Colon ∷ []) t
-calm h Row.Assign t = quiet 0 h t
-calm h Row.Or t = quiet 3 h t
-calm h Row.And t = quiet 4 h t
-calm h Row.Compare t = quiet 5 h t
-calm h Row.Sum t = quiet 6 h t
-calm h Row.Product t = quiet 7 h t
-calm h Row.Prefix t = quiet 7 h t
-calm h Row.FieldAccess t = none_of (Kind.Mark Mark.OpenParenthesis ∷ []) t
-calm false Row.Path t = none_of (Kind.Mark Mark.PathSep ∷ Kind.Mark Mark.Not ∷ open_brace ∷ []) t
-calm true Row.Path t = none_of (Kind.Mark Mark.PathSep ∷ Kind.Mark Mark.Not ∷ []) t
+abbrev pub calm : Bool → GrammarRow → Token → Bool
+calm h GrammarRow.File t = false
+calm h GrammarRow.Field t = none_of (TokenKind.Mark Mark.Lt ∷ []) t
+calm h GrammarRow.Variant t = among separators t
+calm h GrammarRow.NamedType t = none_of (TokenKind.Mark Mark.Lt ∷ []) t
+calm h GrammarRow.RefType t = none_of (TokenKind.Mark Mark.Lt ∷ []) t
+calm h GrammarRow.Param t = none_of (TokenKind.Mark Mark.Lt ∷ []) t
+calm h GrammarRow.BindPattern t = none_of (TokenKind.Mark Mark.PathSep ∷ TokenKind.Mark Mark.OpenParenthesis ∷ open_brace ∷ []) t
+calm h GrammarRow.PathPattern t = none_of (TokenKind.Mark Mark.PathSep ∷ TokenKind.Mark Mark.OpenParenthesis ∷ open_brace ∷ []) t
+calm h GrammarRow.OrPattern t = among behind_patterns t
+calm h GrammarRow.FieldPattern t = among separators t
+calm h GrammarRow.FieldInit t = among separators t
+calm h GrammarRow.If t = none_of (TokenKind.Word Word.Else ∷ []) t
+calm h GrammarRow.Arm t = none_of (comma ∷ []) t
+calm h GrammarRow.LastArm t = is (TokenKind.Mark Mark.CloseBrace) t
+calm h GrammarRow.Return t = quiet 0 h t
+calm h GrammarRow.Break t = quiet 0 h t
+calm h GrammarRow.Continue t = none_of (TokenKind.Label ∷ TokenKind.Mark Mark.Colon ∷ []) t
+calm h GrammarRow.LabelName t = none_of (TokenKind.Mark Mark.Colon ∷ []) t
+calm h GrammarRow.Assign t = quiet 0 h t
+calm h GrammarRow.Or t = quiet 3 h t
+calm h GrammarRow.And t = quiet 4 h t
+calm h GrammarRow.Compare t = quiet 5 h t
+calm h GrammarRow.Sum t = quiet 6 h t
+calm h GrammarRow.Product t = quiet 7 h t
+calm h GrammarRow.Prefix t = quiet 7 h t
+calm h GrammarRow.FieldAccess t = none_of (TokenKind.Mark Mark.OpenParenthesis ∷ []) t
+calm false GrammarRow.Path t = none_of (TokenKind.Mark Mark.PathSep ∷ TokenKind.Mark Mark.Not ∷ open_brace ∷ []) t
+calm true GrammarRow.Path t = none_of (TokenKind.Mark Mark.PathSep ∷ TokenKind.Mark Mark.Not ∷ []) t
 calm h _ t = true
 
 -- rows behind which the same may stand
 pub data Shape : Type 0 where
   Ended Brace Braced Labelled OneArm OneLastArm Open : Shape
 
-abbrev pub shape : Row → Shape
-shape Row.Let = Ended
-shape Row.Semi = Ended
-shape Row.Empty = Ended
-shape Row.Block = Brace
-shape Row.If = Braced
-shape Row.Match = Braced
-shape Row.Loop = Braced
-shape Row.While = Braced
-shape Row.LabelName = Labelled
-shape Row.Arm = OneArm
-shape Row.LastArm = OneLastArm
+abbrev pub shape : GrammarRow → Shape
+shape GrammarRow.Let = Ended
+shape GrammarRow.Semi = Ended
+shape GrammarRow.Empty = Ended
+shape GrammarRow.Block = Brace
+shape GrammarRow.If = Braced
+shape GrammarRow.Match = Braced
+shape GrammarRow.Loop = Braced
+shape GrammarRow.While = Braced
+shape GrammarRow.LabelName = Labelled
+shape GrammarRow.Arm = OneArm
+shape GrammarRow.LastArm = OneLastArm
 shape _ = Open
 
-abbrev pub example : Shape → Row
-example Ended = Row.Semi
-example Brace = Row.Block
-example Braced = Row.If
-example Labelled = Row.LabelName
-example OneArm = Row.Arm
-example OneLastArm = Row.LastArm
-example Open = Row.Path
+abbrev pub example : Shape → GrammarRow
+example Ended = GrammarRow.Semi
+example Brace = GrammarRow.Block
+example Braced = GrammarRow.If
+example Labelled = GrammarRow.LabelName
+example OneArm = GrammarRow.Arm
+example OneLastArm = GrammarRow.LastArm
+example Open = GrammarRow.Path
 
 abbrev behind_a_statement : Shape → Token → Bool
 behind_a_statement Ended t = true
-behind_a_statement Brace t = none_of (Kind.Mark Mark.Semi ∷ Kind.Word Word.Else ∷ []) t
-behind_a_statement Braced t = none_of (Kind.Mark Mark.Semi ∷ Kind.Word Word.Else ∷ []) t
-behind_a_statement _ t = is (Kind.Mark Mark.CloseBrace) t
+behind_a_statement Brace t = none_of (TokenKind.Mark Mark.Semi ∷ TokenKind.Word Word.Else ∷ []) t
+behind_a_statement Braced t = none_of (TokenKind.Mark Mark.Semi ∷ TokenKind.Word Word.Else ∷ []) t
+behind_a_statement _ t = is (TokenKind.Mark Mark.CloseBrace) t
 
 abbrev behind_a_body : Shape → Token → Bool
 behind_a_body Brace t = true
 behind_a_body _ t = among separators t
 
 abbrev behind_a_jump : ℕ → Bool → Shape → Token → Bool
-behind_a_jump least head Labelled t = none_of (Kind.Mark Mark.Colon ∷ []) t
+behind_a_jump least head Labelled t = none_of (TokenKind.Mark Mark.Colon ∷ []) t
 behind_a_jump least head _ t = quiet least head t
 
 abbrev behind_an_arm : Shape → Token → Bool
 behind_an_arm OneArm t = none_of (comma ∷ []) t
-behind_an_arm _ t = is (Kind.Mark Mark.CloseBrace) t
+behind_an_arm _ t = is (TokenKind.Mark Mark.CloseBrace) t
 
-abbrev behind_an_expr : Place → Start → Shape → Token → Bool
+abbrev behind_an_expr : GrammarPlace → Start → Shape → Token → Bool
 behind_an_expr c Start.Statement y t = behind_a_statement y t
 behind_an_expr c Start.NextStatement y t = behind_a_statement y t
 behind_an_expr c Start.ArmBody y t = behind_a_body y t
 behind_an_expr c Start.OnlyBlock y t = true
-behind_an_expr c Start.BlockOrIf y t = none_of (Kind.Word Word.Else ∷ []) t
+behind_an_expr c Start.BlockOrIf y t = none_of (TokenKind.Word Word.Else ∷ []) t
 behind_an_expr c Start.Jump y t = behind_a_jump c.least c.head y t
 behind_an_expr c Start.JumpInHead y t = behind_a_jump c.least c.head y t
 behind_an_expr c _ y t = quiet c.least c.head t
 
-abbrev behind_a_pattern : Place → Start → Shape → Token → Bool
+abbrev behind_a_pattern : GrammarPlace → Start → Shape → Token → Bool
 behind_a_pattern c Start.IsArm y t = behind_an_arm y t
-behind_a_pattern c Start.IsParam y t = among (comma ∷ Kind.Mark Mark.CloseParenthesis ∷ Kind.Mark Mark.Or ∷ []) t
+behind_a_pattern c Start.IsParam y t = among (comma ∷ TokenKind.Mark Mark.CloseParenthesis ∷ TokenKind.Mark Mark.Or ∷ []) t
 behind_a_pattern c _ y t =
-    among behind_patterns t || (nat_le 1 c.least && among (Kind.Mark Mark.Or ∷ Kind.Mark Mark.Colon ∷ Kind.Mark Mark.Semi ∷ []) t)
+    among behind_patterns t || (nat_le 1 c.least && among (TokenKind.Mark Mark.Or ∷ TokenKind.Mark Mark.Colon ∷ TokenKind.Mark Mark.Semi ∷ []) t)
 
 -- it may stand behind a tree there
-abbrev pub follow : Place → Shape → Token → Bool
+abbrev pub follow : GrammarPlace → Shape → Token → Bool
 follow c y t = elim c.sort [
   | Sort.File ↦ false
   | Sort.Item ↦ true
@@ -159,12 +159,12 @@ follow c y t = elim c.sort [
   | Sort.Field ↦ among separators t
   | Sort.Variant ↦ among separators t
   | Sort.Name ↦ true
-  | Sort.Type_ ↦ none_of (Kind.Mark Mark.Lt ∷ []) t
+  | Sort.Type_ ↦ none_of (TokenKind.Mark Mark.Lt ∷ []) t
   | Sort.Pattern ↦ behind_a_pattern c c.start y t
   | Sort.FieldPattern ↦ among separators t
   | Sort.Expr ↦ behind_an_expr c c.start y t
   | Sort.FieldInit ↦ among separators t
-  | Sort.Label ↦ none_of (Kind.Mark Mark.Colon ∷ []) t
+  | Sort.Label ↦ none_of (TokenKind.Mark Mark.Colon ∷ []) t
 ]
 
 abbrev pub implies : Bool → Bool → Bool
@@ -175,14 +175,14 @@ is_none None = true
 is_none (Some x) = false
 
 -- it does nothing there, and it does something there or lets what ends there be
-abbrev pub idle : Bool → Rest → Token → Bool
+abbrev pub idle : Bool → GrammarRest → Token → Bool
 idle h q t = is_none (move q t) && is_none (opens h q t)
 
-abbrev pub calm_at : Bool → Option Row → Token → Bool
+abbrev pub calm_at : Bool → Option GrammarRow → Token → Bool
 calm_at h None t = false
 calm_at h (Some x) t = calm h x t
 
-abbrev pub acts : Bool → Rest → Token → Bool
+abbrev pub acts : Bool → GrammarRest → Token → Bool
 acts h q t = not (idle h q t) || calm_at h (made q) t
 
 abbrev pub shapes : List Shape
@@ -205,10 +205,10 @@ tried false = Open ∷ []
 
 -- Places where a part may stand.
 
-abbrev in_place : Sort → ℕ → Bool → Start → Place
+abbrev in_place : Sort → ℕ → Bool → Start → GrammarPlace
 in_place s n h b = record { sort = s; least = n; head = h; start = b }
 
-abbrev pub places : List Place
+abbrev pub places : List GrammarPlace
 places =
     in_place Sort.Item 0 false Start.Anything ∷ in_place Sort.Method 0 false Start.Anything ∷ in_place Sort.Head 0 false Start.Anything ∷ in_place Sort.Field 0 false Start.Anything
     ∷ in_place Sort.Variant 0 false Start.Anything ∷ in_place Sort.Name 0 false Start.Anything ∷ in_place Sort.Type_ 0 false Start.Anything ∷ in_place Sort.Pattern 0 false Start.Anything
@@ -241,35 +241,35 @@ abbrev pub same_bool : Bool → Bool → Bool
 same_bool true b = b
 same_bool false b = not b
 
-abbrev pub same_place : Place → Place → Bool
+abbrev pub same_place : GrammarPlace → GrammarPlace → Bool
 same_place c d =
     nat_eq (sort_number c.sort) (sort_number d.sort) && (nat_eq c.least d.least && (same_bool c.head d.head && nat_eq (start_number c.start) (start_number d.start)))
 
-abbrev pub is_known : List Place → Place → Bool
+abbrev pub is_known : List GrammarPlace → GrammarPlace → Bool
 is_known [] c = false
 is_known (d ∷ ds) c = same_place d c || is_known ds c
 
 -- One rest: what ends there is left alone by a calm token; a token that begins a part goes on with nothing else; and
 -- what follows the part may stand behind it.
 
-abbrev pub ends_well : Bool → Rest → Bool
+abbrev pub ends_well : Bool → GrammarRest → Bool
 ends_well h q = every (λ t. implies (calm_at h (made q) t) (idle h q t)) samples
 
-abbrev pub part_well : Bool → Rest → Part → Bool
+abbrev pub part_well : Bool → GrammarRest → GrammarPart → Bool
 part_well h q p =
     is_known places (place_of h p)
     && (every (λ t. implies (not (is_none (opens h q t))) (is_none (move q t))) samples
     && every (λ y. every (λ t. implies (acts h (behind q (example y)) t) (follow (place_of h p) y t)) samples) (tried (hangs_on_shape (place_of h p).start)))
 
-abbrev pub parts_well : Bool → Rest → Option Part → Bool
+abbrev pub parts_well : Bool → GrammarRest → Option GrammarPart → Bool
 parts_well h q None = true
 parts_well h q (Some p) = part_well h q p
 
-abbrev pub here : Bool → Rest → Bool
+abbrev pub here : Bool → GrammarRest → Bool
 here h q = ends_well h q && parts_well h q (due q)
 
 -- a rest and all that comes of it
-abbrev pub ok : Bool → Rest → Bool
+abbrev pub ok : Bool → GrammarRest → Bool
 ok h (ends r) = true
 ok h (token k after) = ok h after
 ok h (either k after other) = here h (either k after other) && (ok h after && ok h other)
@@ -283,11 +283,11 @@ ok h items = here h items
 ok h alternatives = here h alternatives && here h (part pattern1 alternatives)
 ok h (statements o) = here h (statements false) && here h (statements true)
 ok h (arms s) = here h (arms false) && here h (arms true)
-ok h arm_body = here h arm_body && (here h (either comma (ends Row.Arm) (ends Row.Arm)) && here h (either comma (ends Row.Arm) (ends Row.LastArm)))
-ok h after_break = here h after_break && here h (maybe Part.AfterReturn (ends Row.Break) Row.Break)
+ok h arm_body = here h arm_body && (here h (either comma (ends GrammarRow.Arm) (ends GrammarRow.Arm)) && here h (either comma (ends GrammarRow.Arm) (ends GrammarRow.LastArm)))
+ok h after_break = here h after_break && here h (maybe GrammarPart.AfterReturn (ends GrammarRow.Break) GrammarRow.Break)
 
 -- all rows that it may end as
-abbrev pub all_ends : (Row → Bool) → Rest → Bool
+abbrev pub all_ends : (GrammarRow → Bool) → GrammarRest → Bool
 all_ends f (ends r) = f r
 all_ends f (token k after) = all_ends f after
 all_ends f (either k after other) = all_ends f after && all_ends f other
@@ -296,39 +296,39 @@ all_ends f (maybe p after r) = f r && all_ends f after
 all_ends f (list p later dots close after) = all_ends f after
 all_ends f (more p dots close after) = all_ends f after
 all_ends f (many p close after) = all_ends f after
-all_ends f items = f Row.File
-all_ends f alternatives = f Row.OrPattern
-all_ends f (statements o) = f Row.Block
-all_ends f (arms s) = f Row.Match
-all_ends f arm_body = f Row.Arm && f Row.LastArm
-all_ends f after_break = f Row.Break
+all_ends f items = f GrammarRow.File
+all_ends f alternatives = f GrammarRow.OrPattern
+all_ends f (statements o) = f GrammarRow.Block
+all_ends f (arms s) = f GrammarRow.Match
+all_ends f arm_body = f GrammarRow.Arm && f GrammarRow.LastArm
+all_ends f after_break = f GrammarRow.Break
 
 -- One place: what may stand behind a tree there lets its inside be, and joins it to nothing; a token that joins it to
 -- something lets its inside be; and a row that begins there may begin by its first name.
 
-abbrev pub stands : Place → Row → Token → Bool
+abbrev pub stands : GrammarPlace → GrammarRow → Token → Bool
 stands c y t = implies (follow c (shape y) t) (calm c.head y t && is_none (joins c y t))
 
 abbrev pub same_seen : Seen → Seen → Bool
 same_seen a b = nat_eq (sort_number a.sort) (sort_number b.sort) && (same_bool a.head b.head && nat_eq (start_number a.start) (start_number b.start))
 
-abbrev pub joins_well : Place → Token → Option Joined → Bool
+abbrev pub joins_well : GrammarPlace → Token → Option Joined → Bool
 joins_well c t None = true
 joins_well c t (Some j) =
     implies (may_begin c j.row)
     (same_seen (seen j.place) (seen c) && every (λ y. implies (allowed j.place y) (may_begin c y && calm c.head y t)) rows)
     && all_ends (λ x. implies (may_begin c x) (may_begin c j.row)) j.rest
 
-abbrev pub begins_well : Place → Option Entry → Bool
+abbrev pub begins_well : GrammarPlace → Option NodeBeginning → Bool
 begins_well c None = true
 begins_well c (Some e) = all_ends (λ x. implies (may_begin c x) (may_begin c e.row)) e.rest
 
-abbrev pub good : Place → Bool
+abbrev pub good : GrammarPlace → Bool
 good c =
     every (λ y. implies (allowed c y) (every (stands c y) samples)) rows
     && every (λ t. joins_well c t (joined (seen c) t) && begins_well c (entry (seen c) t)) samples
 
-abbrev pub entry_ok : Bool → Option Entry → Bool
+abbrev pub entry_ok : Bool → Option NodeBeginning → Bool
 entry_ok h None = true
 entry_ok h (Some e) = ok h e.rest
 

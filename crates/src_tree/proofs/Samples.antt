@@ -4,7 +4,7 @@ use Rattle.mir_base.specs.declared.int_kind.IntKind.{IntKind}
 use Rattle.src_token.specs.declared.token.Token.{Token}
 use Rattle.src_token.specs.declared.word.Word.{Word}
 use Rattle.src_token.specs.declared.mark.Mark.{Mark}
-use Rattle.src_tree.specs.declared.row.Row.{Row}
+use Rattle.src_tree.specs.declared.row.GrammarRow.{GrammarRow}
 use Rattle.src_tree.specs.Grammar.{is_text}
 
 abbrev pub derive_text : List ℕ
@@ -252,83 +252,83 @@ of_samples f h (Token.Label n) = every_nth f 5 samples _ refl h
 of_samples f h (Token.Text n) = every_nth f 6 samples _ refl h
 of_samples f h (Token.Mark m) = every_nth f (mark_at m) samples _ (mark_is_there m) h
 
-abbrev pub rows : List Row
+abbrev pub rows : List GrammarRow
 rows =
-    Row.File ∷ Row.Struct ∷ Row.Enum ∷ Row.Trait ∷ Row.Impl ∷ Row.Fn ∷ Row.Method ∷ Row.Head ∷ Row.Field ∷ Row.Variant ∷ Row.Ident ∷ Row.NamedType ∷ Row.GenericType ∷ Row.DynType ∷ Row.SelfType ∷ Row.TupleType ∷ Row.ArrayType ∷ Row.NeverType ∷ Row.RefType ∷ Row.WildPattern ∷ Row.BindPattern ∷ Row.NumberPattern ∷ Row.BoolPattern ∷ Row.PathPattern ∷ Row.CallPattern ∷ Row.StructPattern ∷ Row.TuplePattern ∷ Row.ArrayPattern ∷ Row.OrPattern ∷ Row.FieldPattern ∷ Row.Param ∷ Row.SelfParam ∷ Row.Let ∷ Row.Empty ∷ Row.Semi ∷ Row.Block ∷ Row.If ∷ Row.Match ∷ Row.Arm ∷ Row.LastArm ∷ Row.Loop ∷ Row.While ∷ Row.Return ∷ Row.Break ∷ Row.Continue ∷ Row.LabelName ∷ Row.Closure ∷ Row.Panic ∷ Row.Assign ∷ Row.Or ∷ Row.And ∷ Row.Compare ∷ Row.Sum ∷ Row.Product ∷ Row.Prefix ∷ Row.FieldAccess ∷ Row.MethodCall ∷ Row.TupleField ∷ Row.Call ∷ Row.Index ∷ Row.Number ∷ Row.Truth ∷ Row.SelfValue ∷ Row.Path ∷ Row.StructExpr ∷ Row.FieldInit ∷ Row.Round ∷ Row.Square ∷ []
+    GrammarRow.File ∷ GrammarRow.Struct ∷ GrammarRow.Enum ∷ GrammarRow.Trait ∷ GrammarRow.Impl ∷ GrammarRow.Fn ∷ GrammarRow.Method ∷ GrammarRow.Head ∷ GrammarRow.Field ∷ GrammarRow.Variant ∷ GrammarRow.Ident ∷ GrammarRow.NamedType ∷ GrammarRow.GenericType ∷ GrammarRow.DynType ∷ GrammarRow.SelfType ∷ GrammarRow.TupleType ∷ GrammarRow.ArrayType ∷ GrammarRow.NeverType ∷ GrammarRow.RefType ∷ GrammarRow.WildPattern ∷ GrammarRow.BindPattern ∷ GrammarRow.NumberPattern ∷ GrammarRow.BoolPattern ∷ GrammarRow.PathPattern ∷ GrammarRow.CallPattern ∷ GrammarRow.StructPattern ∷ GrammarRow.TuplePattern ∷ GrammarRow.ArrayPattern ∷ GrammarRow.OrPattern ∷ GrammarRow.FieldPattern ∷ GrammarRow.Param ∷ GrammarRow.SelfParam ∷ GrammarRow.Let ∷ GrammarRow.Empty ∷ GrammarRow.Semi ∷ GrammarRow.Block ∷ GrammarRow.If ∷ GrammarRow.Match ∷ GrammarRow.Arm ∷ GrammarRow.LastArm ∷ GrammarRow.Loop ∷ GrammarRow.While ∷ GrammarRow.Return ∷ GrammarRow.Break ∷ GrammarRow.Continue ∷ GrammarRow.LabelName ∷ GrammarRow.Closure ∷ GrammarRow.Panic ∷ GrammarRow.Assign ∷ GrammarRow.Or ∷ GrammarRow.And ∷ GrammarRow.Compare ∷ GrammarRow.Sum ∷ GrammarRow.Product ∷ GrammarRow.Prefix ∷ GrammarRow.FieldAccess ∷ GrammarRow.MethodCall ∷ GrammarRow.TupleField ∷ GrammarRow.Call ∷ GrammarRow.Index ∷ GrammarRow.Number ∷ GrammarRow.Truth ∷ GrammarRow.SelfValue ∷ GrammarRow.Path ∷ GrammarRow.StructExpr ∷ GrammarRow.FieldInit ∷ GrammarRow.Round ∷ GrammarRow.Square ∷ []
 
-abbrev row_at : Row → ℕ
-row_at Row.File = 0
-row_at Row.Struct = 1
-row_at Row.Enum = 2
-row_at Row.Trait = 3
-row_at Row.Impl = 4
-row_at Row.Fn = 5
-row_at Row.Method = 6
-row_at Row.Head = 7
-row_at Row.Field = 8
-row_at Row.Variant = 9
-row_at Row.Ident = 10
-row_at Row.NamedType = 11
-row_at Row.GenericType = 12
-row_at Row.DynType = 13
-row_at Row.SelfType = 14
-row_at Row.TupleType = 15
-row_at Row.ArrayType = 16
-row_at Row.NeverType = 17
-row_at Row.RefType = 18
-row_at Row.WildPattern = 19
-row_at Row.BindPattern = 20
-row_at Row.NumberPattern = 21
-row_at Row.BoolPattern = 22
-row_at Row.PathPattern = 23
-row_at Row.CallPattern = 24
-row_at Row.StructPattern = 25
-row_at Row.TuplePattern = 26
-row_at Row.ArrayPattern = 27
-row_at Row.OrPattern = 28
-row_at Row.FieldPattern = 29
-row_at Row.Param = 30
-row_at Row.SelfParam = 31
-row_at Row.Let = 32
-row_at Row.Empty = 33
-row_at Row.Semi = 34
-row_at Row.Block = 35
-row_at Row.If = 36
-row_at Row.Match = 37
-row_at Row.Arm = 38
-row_at Row.LastArm = 39
-row_at Row.Loop = 40
-row_at Row.While = 41
-row_at Row.Return = 42
-row_at Row.Break = 43
-row_at Row.Continue = 44
-row_at Row.LabelName = 45
-row_at Row.Closure = 46
-row_at Row.Panic = 47
-row_at Row.Assign = 48
-row_at Row.Or = 49
-row_at Row.And = 50
-row_at Row.Compare = 51
-row_at Row.Sum = 52
-row_at Row.Product = 53
-row_at Row.Prefix = 54
-row_at Row.FieldAccess = 55
-row_at Row.MethodCall = 56
-row_at Row.TupleField = 57
-row_at Row.Call = 58
-row_at Row.Index = 59
-row_at Row.Number = 60
-row_at Row.Truth = 61
-row_at Row.SelfValue = 62
-row_at Row.Path = 63
-row_at Row.StructExpr = 64
-row_at Row.FieldInit = 65
-row_at Row.Round = 66
-row_at Row.Square = 67
+abbrev row_at : GrammarRow → ℕ
+row_at GrammarRow.File = 0
+row_at GrammarRow.Struct = 1
+row_at GrammarRow.Enum = 2
+row_at GrammarRow.Trait = 3
+row_at GrammarRow.Impl = 4
+row_at GrammarRow.Fn = 5
+row_at GrammarRow.Method = 6
+row_at GrammarRow.Head = 7
+row_at GrammarRow.Field = 8
+row_at GrammarRow.Variant = 9
+row_at GrammarRow.Ident = 10
+row_at GrammarRow.NamedType = 11
+row_at GrammarRow.GenericType = 12
+row_at GrammarRow.DynType = 13
+row_at GrammarRow.SelfType = 14
+row_at GrammarRow.TupleType = 15
+row_at GrammarRow.ArrayType = 16
+row_at GrammarRow.NeverType = 17
+row_at GrammarRow.RefType = 18
+row_at GrammarRow.WildPattern = 19
+row_at GrammarRow.BindPattern = 20
+row_at GrammarRow.NumberPattern = 21
+row_at GrammarRow.BoolPattern = 22
+row_at GrammarRow.PathPattern = 23
+row_at GrammarRow.CallPattern = 24
+row_at GrammarRow.StructPattern = 25
+row_at GrammarRow.TuplePattern = 26
+row_at GrammarRow.ArrayPattern = 27
+row_at GrammarRow.OrPattern = 28
+row_at GrammarRow.FieldPattern = 29
+row_at GrammarRow.Param = 30
+row_at GrammarRow.SelfParam = 31
+row_at GrammarRow.Let = 32
+row_at GrammarRow.Empty = 33
+row_at GrammarRow.Semi = 34
+row_at GrammarRow.Block = 35
+row_at GrammarRow.If = 36
+row_at GrammarRow.Match = 37
+row_at GrammarRow.Arm = 38
+row_at GrammarRow.LastArm = 39
+row_at GrammarRow.Loop = 40
+row_at GrammarRow.While = 41
+row_at GrammarRow.Return = 42
+row_at GrammarRow.Break = 43
+row_at GrammarRow.Continue = 44
+row_at GrammarRow.LabelName = 45
+row_at GrammarRow.Closure = 46
+row_at GrammarRow.Panic = 47
+row_at GrammarRow.Assign = 48
+row_at GrammarRow.Or = 49
+row_at GrammarRow.And = 50
+row_at GrammarRow.Compare = 51
+row_at GrammarRow.Sum = 52
+row_at GrammarRow.Product = 53
+row_at GrammarRow.Prefix = 54
+row_at GrammarRow.FieldAccess = 55
+row_at GrammarRow.MethodCall = 56
+row_at GrammarRow.TupleField = 57
+row_at GrammarRow.Call = 58
+row_at GrammarRow.Index = 59
+row_at GrammarRow.Number = 60
+row_at GrammarRow.Truth = 61
+row_at GrammarRow.SelfValue = 62
+row_at GrammarRow.Path = 63
+row_at GrammarRow.StructExpr = 64
+row_at GrammarRow.FieldInit = 65
+row_at GrammarRow.Round = 66
+row_at GrammarRow.Square = 67
 
-row_is_there : (r : Row) → nth (row_at r) rows ≡ Some r
-row_is_there Row.File = refl
+row_is_there : (r : GrammarRow) → nth (row_at r) rows ≡ Some r
+row_is_there GrammarRow.File = refl
 row_is_there _ = refl
 
-pub of_rows : (f : Row → Bool) → every f rows ≡ true → (r : Row) → f r ≡ true
+pub of_rows : (f : GrammarRow → Bool) → every f rows ≡ true → (r : GrammarRow) → f r ≡ true
 of_rows f h r = every_nth f (row_at r) rows r (row_is_there r) h

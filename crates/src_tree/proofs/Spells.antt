@@ -1,12 +1,12 @@
 -- What stands behind the tokens of a tree.
 use Rattle.std.proofs.Common.{◌≡◌, List, [], ◌∷◌, ◌++◌, refl, sym, ap, ◌∙◌, append_assoc, max, arith}
 use Rattle.src_token.specs.declared.token.Token.{Token}
-use Rattle.src_tree.specs.Layout.{Node, node, Parts, end, tok, sub, spell, spell_parts, parts_depth}
+use Rattle.src_tree.specs.Layout.{SyntaxNode, node, Parts, end, tok, sub, spell, spell_parts, parts_depth}
 use Rattle.src_tree.specs.View.{Single, a_token, a_node, parts_from}
 
 module _ {L : Type 0} where
   mutual
-    pub spell_behind : (g : Node L) (k : List Token) → spell g k ≡ spell g [] ++ k
+    pub spell_behind : (g : SyntaxNode L) (k : List Token) → spell g k ≡ spell g [] ++ k
     spell_behind (node at row parts) k = parts_behind parts k
 
     pub parts_behind : (ps : Parts L) (k : List Token) → spell_parts ps k ≡ spell_parts ps [] ++ k

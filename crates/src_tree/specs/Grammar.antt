@@ -1,139 +1,140 @@
--- The grammar: which tokens and parts make a node. A row is followed token by token and part by part (`Rest`); `entry`
--- says how a node begins that begins with a token, `joined` how one begins that begins with a part, as `a + b` does.
+-- The grammar: which tokens and parts make a node. A row is followed token by token and part by part (`GrammarRest`);
+-- `entry` says how a node begins that begins with a token, `joined` how one begins that begins with a part, as `a + b`
+-- does.
 use Rattle.std.specs.Prelude.{ℕ, Bool, true, false, ◌&&◌, ◌||◌, not, nat_le, nat_eq, Option, Some, None, if◌then◌else◌, List, [], ◌∷◌}
 use Rattle.src_token.specs.declared.token.Token.{Token}
-use Rattle.src_tree.specs.declared.row.Row.{Row}
+use Rattle.src_tree.specs.declared.row.GrammarRow.{GrammarRow}
 use Rattle.src_tree.specs.declared.row.Sort.{Sort}
 use Rattle.src_tree.specs.declared.place.Start.{Start}
-use Rattle.src_tree.specs.declared.place.Place.{Place}
+use Rattle.src_tree.specs.declared.place.GrammarPlace.{GrammarPlace}
 use Rattle.src_tree.specs.declared.place.Seen.{Seen}
-use Rattle.src_tree.specs.declared.place.Part.{Part}
-use Rattle.src_tree.specs.declared.kind.Kind.{Kind}
+use Rattle.src_tree.specs.declared.place.GrammarPart.{GrammarPart}
+use Rattle.src_tree.specs.declared.kind.TokenKind.{TokenKind}
 use Rattle.src_token.specs.declared.word.Word.{Word}
 use Rattle.src_token.specs.declared.mark.Mark.{Mark}
 
-abbrev pub sort_of : Row → Sort
-sort_of Row.File = Sort.File
-sort_of Row.Struct = Sort.Item
-sort_of Row.Enum = Sort.Item
-sort_of Row.Trait = Sort.Item
-sort_of Row.Impl = Sort.Item
-sort_of Row.Fn = Sort.Item
-sort_of Row.Method = Sort.Method
-sort_of Row.Head = Sort.Head
-sort_of Row.Field = Sort.Field
-sort_of Row.Variant = Sort.Variant
-sort_of Row.Ident = Sort.Name
-sort_of Row.NamedType = Sort.Type_
-sort_of Row.GenericType = Sort.Type_
-sort_of Row.DynType = Sort.Type_
-sort_of Row.SelfType = Sort.Type_
-sort_of Row.TupleType = Sort.Type_
-sort_of Row.ArrayType = Sort.Type_
-sort_of Row.NeverType = Sort.Type_
-sort_of Row.RefType = Sort.Type_
-sort_of Row.WildPattern = Sort.Pattern
-sort_of Row.BindPattern = Sort.Pattern
-sort_of Row.NumberPattern = Sort.Pattern
-sort_of Row.BoolPattern = Sort.Pattern
-sort_of Row.PathPattern = Sort.Pattern
-sort_of Row.CallPattern = Sort.Pattern
-sort_of Row.StructPattern = Sort.Pattern
-sort_of Row.TuplePattern = Sort.Pattern
-sort_of Row.ArrayPattern = Sort.Pattern
-sort_of Row.OrPattern = Sort.Pattern
-sort_of Row.Param = Sort.Pattern
-sort_of Row.SelfParam = Sort.Pattern
-sort_of Row.Arm = Sort.Pattern
-sort_of Row.LastArm = Sort.Pattern
-sort_of Row.FieldPattern = Sort.FieldPattern
-sort_of Row.FieldInit = Sort.FieldInit
-sort_of Row.LabelName = Sort.Label
+abbrev pub sort_of : GrammarRow → Sort
+sort_of GrammarRow.File = Sort.File
+sort_of GrammarRow.Struct = Sort.Item
+sort_of GrammarRow.Enum = Sort.Item
+sort_of GrammarRow.Trait = Sort.Item
+sort_of GrammarRow.Impl = Sort.Item
+sort_of GrammarRow.Fn = Sort.Item
+sort_of GrammarRow.Method = Sort.Method
+sort_of GrammarRow.Head = Sort.Head
+sort_of GrammarRow.Field = Sort.Field
+sort_of GrammarRow.Variant = Sort.Variant
+sort_of GrammarRow.Ident = Sort.Name
+sort_of GrammarRow.NamedType = Sort.Type_
+sort_of GrammarRow.GenericType = Sort.Type_
+sort_of GrammarRow.DynType = Sort.Type_
+sort_of GrammarRow.SelfType = Sort.Type_
+sort_of GrammarRow.TupleType = Sort.Type_
+sort_of GrammarRow.ArrayType = Sort.Type_
+sort_of GrammarRow.NeverType = Sort.Type_
+sort_of GrammarRow.RefType = Sort.Type_
+sort_of GrammarRow.WildPattern = Sort.Pattern
+sort_of GrammarRow.BindPattern = Sort.Pattern
+sort_of GrammarRow.NumberPattern = Sort.Pattern
+sort_of GrammarRow.BoolPattern = Sort.Pattern
+sort_of GrammarRow.PathPattern = Sort.Pattern
+sort_of GrammarRow.CallPattern = Sort.Pattern
+sort_of GrammarRow.StructPattern = Sort.Pattern
+sort_of GrammarRow.TuplePattern = Sort.Pattern
+sort_of GrammarRow.ArrayPattern = Sort.Pattern
+sort_of GrammarRow.OrPattern = Sort.Pattern
+sort_of GrammarRow.Param = Sort.Pattern
+sort_of GrammarRow.SelfParam = Sort.Pattern
+sort_of GrammarRow.Arm = Sort.Pattern
+sort_of GrammarRow.LastArm = Sort.Pattern
+sort_of GrammarRow.FieldPattern = Sort.FieldPattern
+sort_of GrammarRow.FieldInit = Sort.FieldInit
+sort_of GrammarRow.LabelName = Sort.Label
 sort_of _ = Sort.Expr
 
 -- Levels, from the loosest. The levels of patterns are theirs alone: 0 for alternatives, 1 for one pattern.
 -- A field has a level of its own, since no call has it as callee.
-abbrev pub level : Row → ℕ
-level Row.Return = 0
-level Row.Break = 0
-level Row.Closure = 0
-level Row.Let = 0
-level Row.Empty = 0
-level Row.Semi = 0
-level Row.LabelName = 0
-level Row.Arm = 0
-level Row.LastArm = 0
-level Row.OrPattern = 0
-level Row.Assign = 1
-level Row.Or = 2
-level Row.And = 3
-level Row.Compare = 4
-level Row.Sum = 5
-level Row.Product = 6
-level Row.Prefix = 7
-level Row.FieldAccess = 8
-level Row.MethodCall = 9
-level Row.TupleField = 9
-level Row.Call = 9
-level Row.Index = 9
+abbrev pub level : GrammarRow → ℕ
+level GrammarRow.Return = 0
+level GrammarRow.Break = 0
+level GrammarRow.Closure = 0
+level GrammarRow.Let = 0
+level GrammarRow.Empty = 0
+level GrammarRow.Semi = 0
+level GrammarRow.LabelName = 0
+level GrammarRow.Arm = 0
+level GrammarRow.LastArm = 0
+level GrammarRow.OrPattern = 0
+level GrammarRow.Assign = 1
+level GrammarRow.Or = 2
+level GrammarRow.And = 3
+level GrammarRow.Compare = 4
+level GrammarRow.Sum = 5
+level GrammarRow.Product = 6
+level GrammarRow.Prefix = 7
+level GrammarRow.FieldAccess = 8
+level GrammarRow.MethodCall = 9
+level GrammarRow.TupleField = 9
+level GrammarRow.Call = 9
+level GrammarRow.Index = 9
 level _ = 10
 
 -- a node counts for the nesting
-abbrev pub counts : Row → ℕ
-counts Row.File = 0
-counts Row.Method = 0
-counts Row.Head = 0
-counts Row.Field = 0
-counts Row.Variant = 0
-counts Row.Ident = 0
-counts Row.FieldPattern = 0
-counts Row.Param = 0
-counts Row.SelfParam = 0
-counts Row.Let = 0
-counts Row.Empty = 0
-counts Row.Semi = 0
-counts Row.LabelName = 0
-counts Row.FieldInit = 0
+abbrev pub counts : GrammarRow → ℕ
+counts GrammarRow.File = 0
+counts GrammarRow.Method = 0
+counts GrammarRow.Head = 0
+counts GrammarRow.Field = 0
+counts GrammarRow.Variant = 0
+counts GrammarRow.Ident = 0
+counts GrammarRow.FieldPattern = 0
+counts GrammarRow.Param = 0
+counts GrammarRow.SelfParam = 0
+counts GrammarRow.Let = 0
+counts GrammarRow.Empty = 0
+counts GrammarRow.Semi = 0
+counts GrammarRow.LabelName = 0
+counts GrammarRow.FieldInit = 0
 counts _ = 1
 
-abbrev pub is_block : Row → Bool
-is_block Row.Block = true
+abbrev pub is_block : GrammarRow → Bool
+is_block GrammarRow.Block = true
 is_block _ = false
 
-abbrev pub is_blocklike : Row → Bool
-is_blocklike Row.Block = true
-is_blocklike Row.If = true
-is_blocklike Row.Match = true
-is_blocklike Row.Loop = true
-is_blocklike Row.While = true
+abbrev pub is_blocklike : GrammarRow → Bool
+is_blocklike GrammarRow.Block = true
+is_blocklike GrammarRow.If = true
+is_blocklike GrammarRow.Match = true
+is_blocklike GrammarRow.Loop = true
+is_blocklike GrammarRow.While = true
 is_blocklike _ = false
 
 -- a node that stands only where its list has it: statements, labels, parameters, arms
-abbrev pub is_plain : Row → Bool
-is_plain Row.Let = false
-is_plain Row.Empty = false
-is_plain Row.Semi = false
-is_plain Row.LabelName = false
-is_plain Row.Param = false
-is_plain Row.SelfParam = false
-is_plain Row.Arm = false
-is_plain Row.LastArm = false
+abbrev pub is_plain : GrammarRow → Bool
+is_plain GrammarRow.Let = false
+is_plain GrammarRow.Empty = false
+is_plain GrammarRow.Semi = false
+is_plain GrammarRow.LabelName = false
+is_plain GrammarRow.Param = false
+is_plain GrammarRow.SelfParam = false
+is_plain GrammarRow.Arm = false
+is_plain GrammarRow.LastArm = false
 is_plain _ = true
 
-abbrev pub is_statement : Row → Bool
-is_statement Row.Let = true
-is_statement Row.Semi = true
+abbrev pub is_statement : GrammarRow → Bool
+is_statement GrammarRow.Let = true
+is_statement GrammarRow.Semi = true
 is_statement r = is_plain r
 
-abbrev pub is_label : Row → Bool
-is_label Row.LabelName = true
+abbrev pub is_label : GrammarRow → Bool
+is_label GrammarRow.LabelName = true
 is_label _ = false
 
-abbrev pub is_empty : Row → Bool
-is_empty Row.Empty = true
+abbrev pub is_empty : GrammarRow → Bool
+is_empty GrammarRow.Empty = true
 is_empty _ = false
 
-abbrev pub may_be : Start → Row → Bool
+abbrev pub may_be : Start → GrammarRow → Bool
 may_be Start.Anything r = is_plain r
 may_be Start.Statement r = is_statement r || is_empty r
 may_be Start.NextStatement r = is_statement r
@@ -144,16 +145,16 @@ may_be Start.NotBlock r = is_plain r && not (is_block r)
 may_be Start.Jump r = is_plain r || is_label r
 may_be Start.JumpInHead r = (is_plain r && not (is_block r)) || is_label r
 may_be Start.OnlyLabel r = is_label r
-may_be Start.OnlyBlock Row.Block = true
+may_be Start.OnlyBlock GrammarRow.Block = true
 may_be Start.OnlyBlock _ = false
-may_be Start.BlockOrIf Row.Block = true
-may_be Start.BlockOrIf Row.If = true
+may_be Start.BlockOrIf GrammarRow.Block = true
+may_be Start.BlockOrIf GrammarRow.If = true
 may_be Start.BlockOrIf _ = false
-may_be Start.IsArm Row.Arm = true
-may_be Start.IsArm Row.LastArm = true
+may_be Start.IsArm GrammarRow.Arm = true
+may_be Start.IsArm GrammarRow.LastArm = true
 may_be Start.IsArm _ = false
-may_be Start.IsParam Row.Param = true
-may_be Start.IsParam Row.SelfParam = true
+may_be Start.IsParam GrammarRow.Param = true
+may_be Start.IsParam GrammarRow.SelfParam = true
 may_be Start.IsParam _ = false
 
 -- what an operand that stands first may begin with
@@ -169,7 +170,7 @@ first _ = Start.Anything
 
 -- Where a node stands: what it is, the least level that it has, whether no struct expression may stand in it outside
 -- brackets (and, for a pattern, whether it may be `self`), and what it may begin with.
-abbrev pub seen : Place → Seen
+abbrev pub seen : GrammarPlace → Seen
 seen c = record { sort = c.sort; head = c.head; start = first c.start }
 
 abbrev pub sort_number : Sort → ℕ
@@ -188,60 +189,65 @@ sort_number Sort.FieldInit = 11
 sort_number Sort.Label = 12
 
 -- a label stands behind `continue`, and where an operand of `break` may stand
-abbrev pub belongs : Sort → Row → Bool
-belongs Sort.Expr Row.LabelName = true
+abbrev pub belongs : Sort → GrammarRow → Bool
+belongs Sort.Expr GrammarRow.LabelName = true
 belongs s r = nat_eq (sort_number s) (sort_number (sort_of r))
 
-abbrev pub allowed : Place → Row → Bool
+abbrev pub allowed : GrammarPlace → GrammarRow → Bool
 allowed c r = belongs c.sort r && (nat_le c.least (level r) && may_be c.start r)
 
 -- a row begins there, perhaps to be a part of what stands there
-abbrev pub begins_by : Start → Row → Bool
+abbrev pub begins_by : Start → GrammarRow → Bool
 begins_by Start.IsArm r = may_be Start.IsArm r || is_plain r
 begins_by Start.IsParam r = may_be Start.IsParam r || is_plain r
 begins_by s r = may_be s r
 
-abbrev pub may_begin : Place → Row → Bool
+abbrev pub may_begin : GrammarPlace → GrammarRow → Bool
 may_begin c r = belongs c.sort r && (nat_le c.least (level r) && begins_by c.start r)
 
 -- The part that is due: at a place of its own, or at one that goes by where the node stands.
-abbrev pub expr : Bool → Start → Place
+abbrev pub expr : Bool → Start → GrammarPlace
 expr head start = record { sort = Sort.Expr; least = 0; head = head; start = start }
 
-abbrev pub place_of : Bool → Part → Place
-place_of head (Part.At c) = c
-place_of head (Part.Operand least) = record { sort = Sort.Expr; least = least; head = head; start = Start.Anything }
-place_of head Part.AfterBreak = expr head (if head then Start.JumpInHead else Start.Jump)
-place_of head Part.AfterReturn = expr head (if head then Start.NotBlock else Start.Anything)
+abbrev pub place_of : Bool → GrammarPart → GrammarPlace
+place_of head (GrammarPart.At c) = c
+place_of head (GrammarPart.Operand least) = record {
+  sort = Sort.Expr;
+  least = least;
+  head = head;
+  start = Start.Anything;
+}
+place_of head GrammarPart.AfterBreak = expr head (if head then Start.JumpInHead else Start.Jump)
+place_of head GrammarPart.AfterReturn = expr head (if head then Start.NotBlock else Start.Anything)
 
-abbrev pub of_sort : Sort → Part
-of_sort s = Part.At record { sort = s; least = 0; head = false; start = Start.Anything }
+abbrev pub of_sort : Sort → GrammarPart
+of_sort s = GrammarPart.At record { sort = s; least = 0; head = false; start = Start.Anything }
 
-abbrev pub any_expr : Part
-any_expr = Part.At (expr false Start.Anything)
+abbrev pub any_expr : GrammarPart
+any_expr = GrammarPart.At (expr false Start.Anything)
 
-abbrev pub head_expr : Part
-head_expr = Part.At (expr true Start.Anything)
+abbrev pub head_expr : GrammarPart
+head_expr = GrammarPart.At (expr true Start.Anything)
 
-abbrev pub block : Part
-block = Part.At (expr false Start.OnlyBlock)
+abbrev pub block : GrammarPart
+block = GrammarPart.At (expr false Start.OnlyBlock)
 
-abbrev pub a_pattern : Part
+abbrev pub a_pattern : GrammarPart
 a_pattern = of_sort Sort.Pattern
 
-abbrev pub pattern1 : Part
-pattern1 = Part.At record { sort = Sort.Pattern; least = 1; head = false; start = Start.Anything }
+abbrev pub pattern1 : GrammarPart
+pattern1 = GrammarPart.At record { sort = Sort.Pattern; least = 1; head = false; start = Start.Anything }
 
-abbrev pub a_param : Bool → Part
-a_param self = Part.At record { sort = Sort.Pattern; least = 1; head = self; start = Start.IsParam }
+abbrev pub a_param : Bool → GrammarPart
+a_param self = GrammarPart.At record { sort = Sort.Pattern; least = 1; head = self; start = Start.IsParam }
 
-abbrev pub a_type : Part
+abbrev pub a_type : GrammarPart
 a_type = of_sort Sort.Type_
 
-abbrev pub a_label : Part
-a_label = Part.At record { sort = Sort.Label; least = 0; head = false; start = Start.OnlyLabel }
+abbrev pub a_label : GrammarPart
+a_label = GrammarPart.At record { sort = Sort.Label; least = 0; head = false; start = Start.OnlyLabel }
 
-abbrev pub a_name : Part
+abbrev pub a_name : GrammarPart
 a_name = of_sort Sort.Name
 
 abbrev pub mark_number : Mark → ℕ
@@ -300,69 +306,70 @@ is_text [] [] = true
 is_text (a ∷ as_) (b ∷ bs) = nat_eq a b && is_text as_ bs
 is_text _ _ = false
 
-abbrev pub is : Kind → Token → Bool
-is (Kind.Mark m) (Token.Mark n) = nat_eq (mark_number m) (mark_number n)
-is (Kind.Word w) (Token.Word v) = nat_eq (word_number w) (word_number v)
-is Kind.Name (Token.Name n) = true
-is Kind.Number (Token.Number value suffix) = true
-is Kind.Digits (Token.Number value None) = true
-is Kind.Label (Token.Label n) = true
-is Kind.Text (Token.Text n) = true
-is Kind.Derive (Token.Name n) = is_text n (100 ∷ 101 ∷ 114 ∷ 105 ∷ 118 ∷ 101 ∷ [])
+abbrev pub is : TokenKind → Token → Bool
+is (TokenKind.Mark m) (Token.Mark n) = nat_eq (mark_number m) (mark_number n)
+is (TokenKind.Word w) (Token.Word v) = nat_eq (word_number w) (word_number v)
+is TokenKind.Name (Token.Name n) = true
+is TokenKind.Number (Token.Number value suffix) = true
+is TokenKind.Digits (Token.Number value None) = true
+is TokenKind.Label (Token.Label n) = true
+is TokenKind.Text (Token.Text n) = true
+is TokenKind.Derive (Token.Name n) = is_text n (100 ∷ 101 ∷ 114 ∷ 105 ∷ 118 ∷ 101 ∷ [])
 is _ _ = false
 
 -- What a node still has to have.
-pub data Rest : Type 0 where
+pub data GrammarRest : Type 0 where
   -- it ends
-  ends : (r : Row) → Rest
+  ends : (r : GrammarRow) → GrammarRest
   -- a token of a kind; one of a kind, or else what else is
-  token : (k : Kind) (after : Rest) → Rest
-  either : (k : Kind) (after other : Rest) → Rest
+  token : (k : TokenKind) (after : GrammarRest) → GrammarRest
+  either : (k : TokenKind) (after other : GrammarRest) → GrammarRest
   -- a part; a part, or else its end
-  part : (p : Part) (after : Rest) → Rest
-  maybe : (p : Part) (after : Rest) (r : Row) → Rest
+  part : (p : GrammarPart) (after : GrammarRest) → GrammarRest
+  maybe : (p : GrammarPart) (after : GrammarRest) (r : GrammarRow) → GrammarRest
   -- parts, each but the last with a comma behind it, up to a closing token; `dots` says whether `..` may stand last
-  list : (p later : Part) (dots : Bool) (close : Kind) (after : Rest) → Rest
-  more : (p : Part) (dots : Bool) (close : Kind) (after : Rest) → Rest
+  list : (p later : GrammarPart) (dots : Bool) (close : TokenKind) (after : GrammarRest) → GrammarRest
+  more : (p : GrammarPart) (dots : Bool) (close : TokenKind) (after : GrammarRest) → GrammarRest
   -- parts without commas, up to a closing token, or to the end of the text
-  many : (p : Part) (close : Kind) (after : Rest) → Rest
-  items : Rest
+  many : (p : GrammarPart) (close : TokenKind) (after : GrammarRest) → GrammarRest
+  items : GrammarRest
   -- alternatives
-  alternatives : Rest
+  alternatives : GrammarRest
   -- statements; behind one that ended by its brace
-  statements : (open_ : Bool) → Rest
+  statements : (open_ : Bool) → GrammarRest
   -- arms, of which there is one at least
-  arms : (some : Bool) → Rest
-  arm_body : Rest
-  after_break : Rest
+  arms : (some : Bool) → GrammarRest
+  arm_body : GrammarRest
+  after_break : GrammarRest
 
-abbrev pub comma : Kind
-comma = Kind.Mark Mark.Comma
+abbrev pub comma : TokenKind
+comma = TokenKind.Mark Mark.Comma
 
-abbrev pub listed : Part → Kind → Rest → Rest
+abbrev pub listed : GrammarPart → TokenKind → GrammarRest → GrammarRest
 listed p close after = list p p false close after
 
 -- the rest behind a token; `None` where the token is none of it
-abbrev pub move : Rest → Token → Option Rest
+abbrev pub move : GrammarRest → Token → Option GrammarRest
 move (ends r) t = None
 move (token k after) t = if is k t then Some after else None
 move (either k after other) t = if is k t then Some after else move other t
 move (part p after) t = None
 move (maybe p after r) t = None
 move (list p later dots close after) t =
-    if is close t then Some after else (if dots && is (Kind.Mark Mark.DotDot) t then Some (token close after) else None)
+    if is close t then Some after else (if dots && is (TokenKind.Mark Mark.DotDot) t then Some (token close after) else
+    None)
 move (more p dots close after) t =
     if is close t then Some after else (if is comma t then Some (list p p dots close after) else None)
 move (many p close after) t = if is close t then Some after else None
 move items t = None
-move alternatives t = if is (Kind.Mark Mark.Or) t then Some (part pattern1 alternatives) else None
-move (statements open_) t = if is (Kind.Mark Mark.CloseBrace) t then Some (ends Row.Block) else None
-move (arms some) t = if some && is (Kind.Mark Mark.CloseBrace) t then Some (ends Row.Match) else None
+move alternatives t = if is (TokenKind.Mark Mark.Or) t then Some (part pattern1 alternatives) else None
+move (statements open_) t = if is (TokenKind.Mark Mark.CloseBrace) t then Some (ends GrammarRow.Block) else None
+move (arms some) t = if some && is (TokenKind.Mark Mark.CloseBrace) t then Some (ends GrammarRow.Match) else None
 move arm_body t = None
 move after_break t = None
 
 -- the part that may come next
-abbrev pub due : Rest → Option Part
+abbrev pub due : GrammarRest → Option GrammarPart
 due (ends r) = None
 due (token k after) = None
 due (either k after other) = due other
@@ -373,35 +380,35 @@ due (more p dots close after) = None
 due (many p close after) = Some p
 due items = Some (of_sort Sort.Item)
 due alternatives = None
-due (statements open_) = Some (Part.At (expr false (if open_ then Start.NextStatement else Start.Statement)))
-due (arms some) = Some (Part.At record { sort = Sort.Pattern; least = 0; head = false; start = Start.IsArm })
-due arm_body = Some (Part.At (expr false Start.ArmBody))
-due after_break = Some Part.AfterBreak
+due (statements open_) = Some (GrammarPart.At (expr false (if open_ then Start.NextStatement else Start.Statement)))
+due (arms some) = Some (GrammarPart.At record { sort = Sort.Pattern; least = 0; head = false; start = Start.IsArm })
+due arm_body = Some (GrammarPart.At (expr false Start.ArmBody))
+due after_break = Some GrammarPart.AfterBreak
 
-abbrev pub close_block : Rest
-close_block = token (Kind.Mark Mark.CloseBrace) (ends Row.Block)
+abbrev pub close_block : GrammarRest
+close_block = token (TokenKind.Mark Mark.CloseBrace) (ends GrammarRow.Block)
 
 -- behind a statement, an arm, the body of an arm, and what stands behind `break`
-abbrev pub behind_statement : Row → Rest
-behind_statement Row.Let = statements false
-behind_statement Row.Semi = statements false
-behind_statement Row.Empty = statements false
+abbrev pub behind_statement : GrammarRow → GrammarRest
+behind_statement GrammarRow.Let = statements false
+behind_statement GrammarRow.Semi = statements false
+behind_statement GrammarRow.Empty = statements false
 behind_statement r = if is_blocklike r then statements true else close_block
 
-abbrev pub behind_arm : Row → Rest
-behind_arm Row.Arm = arms true
-behind_arm _ = token (Kind.Mark Mark.CloseBrace) (ends Row.Match)
+abbrev pub behind_arm : GrammarRow → GrammarRest
+behind_arm GrammarRow.Arm = arms true
+behind_arm _ = token (TokenKind.Mark Mark.CloseBrace) (ends GrammarRow.Match)
 
-abbrev pub behind_body : Row → Rest
-behind_body Row.Block = either comma (ends Row.Arm) (ends Row.Arm)
-behind_body _ = either comma (ends Row.Arm) (ends Row.LastArm)
+abbrev pub behind_body : GrammarRow → GrammarRest
+behind_body GrammarRow.Block = either comma (ends GrammarRow.Arm) (ends GrammarRow.Arm)
+behind_body _ = either comma (ends GrammarRow.Arm) (ends GrammarRow.LastArm)
 
-abbrev pub behind_break : Row → Rest
-behind_break Row.LabelName = maybe Part.AfterReturn (ends Row.Break) Row.Break
-behind_break _ = ends Row.Break
+abbrev pub behind_break : GrammarRow → GrammarRest
+behind_break GrammarRow.LabelName = maybe GrammarPart.AfterReturn (ends GrammarRow.Break) GrammarRow.Break
+behind_break _ = ends GrammarRow.Break
 
 -- the rest behind a part
-abbrev pub behind : Rest → Row → Rest
+abbrev pub behind : GrammarRest → GrammarRow → GrammarRest
 behind (part p after) r = after
 behind (maybe p after end) r = after
 behind (either k after other) r = behind other r
@@ -415,259 +422,277 @@ behind after_break r = behind_break r
 behind q r = q
 
 -- the node that it is where it ends here
-abbrev pub made : Rest → Option Row
+abbrev pub made : GrammarRest → Option GrammarRow
 made (ends r) = Some r
 made (either k after other) = made other
 made (maybe p after r) = Some r
-made items = Some Row.File
-made alternatives = Some Row.OrPattern
-made after_break = Some Row.Break
+made items = Some GrammarRow.File
+made alternatives = Some GrammarRow.OrPattern
+made after_break = Some GrammarRow.Break
 made _ = None
 
 -- How a node begins: the first row that it can be, and what follows its first token.
-pub record Entry : Type 0 where
-  pub row : Row
-  pub rest : Rest
+pub record NodeBeginning : Type 0 where
+  pub row : GrammarRow
+  pub rest : GrammarRest
 
-abbrev pub by_row : Row → Rest → Option Entry
+abbrev pub by_row : GrammarRow → GrammarRest → Option NodeBeginning
 by_row r q = Some record { row = r; rest = q }
 
-abbrev pub mark : Mark → Rest → Rest
-mark m after = token (Kind.Mark m) after
+abbrev pub mark : Mark → GrammarRest → GrammarRest
+mark m after = token (TokenKind.Mark m) after
 
-abbrev pub word : Word → Rest → Rest
-word w after = token (Kind.Word w) after
+abbrev pub word : Word → GrammarRest → GrammarRest
+word w after = token (TokenKind.Word w) after
 
-abbrev pub if_mark : Mark → Rest → Rest → Rest
-if_mark m after other = either (Kind.Mark m) after other
+abbrev pub if_mark : Mark → GrammarRest → GrammarRest → GrammarRest
+if_mark m after other = either (TokenKind.Mark m) after other
 
-abbrev pub if_word : Word → Rest → Rest → Rest
-if_word w after other = either (Kind.Word w) after other
+abbrev pub if_word : Word → GrammarRest → GrammarRest → GrammarRest
+if_word w after other = either (TokenKind.Word w) after other
 
 -- Items.
 
-abbrev pub fields : Rest → Rest
-fields after = listed (of_sort Sort.Field) (Kind.Mark Mark.CloseBrace) after
+abbrev pub fields : GrammarRest → GrammarRest
+fields after = listed (of_sort Sort.Field) (TokenKind.Mark Mark.CloseBrace) after
 
-abbrev pub types : Rest → Rest
-types after = listed a_type (Kind.Mark Mark.CloseParenthesis) after
+abbrev pub types : GrammarRest → GrammarRest
+types after = listed a_type (TokenKind.Mark Mark.CloseParenthesis) after
 
-abbrev pub struct_rest : Rest
+abbrev pub struct_rest : GrammarRest
 struct_rest =
-    part a_name (if_mark Mark.Semi (ends Row.Struct)
-    (if_mark Mark.OpenParenthesis (types (mark Mark.Semi (ends Row.Struct)))
-    (mark Mark.OpenBrace (fields (ends Row.Struct)))))
+    part a_name (if_mark Mark.Semi (ends GrammarRow.Struct)
+    (if_mark Mark.OpenParenthesis (types (mark Mark.Semi (ends GrammarRow.Struct)))
+    (mark Mark.OpenBrace (fields (ends GrammarRow.Struct)))))
 
-abbrev pub enum_rest : Rest
+abbrev pub enum_rest : GrammarRest
 enum_rest =
-    part a_name (mark Mark.OpenBrace (listed (of_sort Sort.Variant) (Kind.Mark Mark.CloseBrace) (ends Row.Enum)))
+    part a_name (mark Mark.OpenBrace (listed (of_sort Sort.Variant) (TokenKind.Mark Mark.CloseBrace)
+    (ends GrammarRow.Enum)))
 
-abbrev pub derived : Rest
+abbrev pub derived : GrammarRest
 derived =
-    mark Mark.OpenBracket (token Kind.Derive (mark Mark.OpenParenthesis (listed a_name (Kind.Mark Mark.CloseParenthesis)
+    mark Mark.OpenBracket (token TokenKind.Derive
+    (mark Mark.OpenParenthesis (listed a_name (TokenKind.Mark Mark.CloseParenthesis)
     (mark Mark.CloseBracket (if_word Word.Struct struct_rest (word Word.Enum enum_rest))))))
 
 -- a head, with what stands first among its parameters and what follows it
-abbrev pub head_rest : Bool → Rest → Rest
+abbrev pub head_rest : Bool → GrammarRest → GrammarRest
 head_rest self after =
-    part a_name (mark Mark.OpenParenthesis (list (a_param self) (a_param false) false (Kind.Mark Mark.CloseParenthesis)
+    part a_name (mark Mark.OpenParenthesis (list (a_param self) (a_param false) false
+    (TokenKind.Mark Mark.CloseParenthesis)
     (if_mark Mark.RArrow (part a_type after) after)))
 
-abbrev pub impl_rest : Rest
-impl_rest = mark Mark.OpenBrace (many (of_sort Sort.Method) (Kind.Mark Mark.CloseBrace) (ends Row.Impl))
+abbrev pub impl_rest : GrammarRest
+impl_rest = mark Mark.OpenBrace (many (of_sort Sort.Method) (TokenKind.Mark Mark.CloseBrace) (ends GrammarRow.Impl))
 
-abbrev pub item : Token → Option Entry
-item (Token.Mark Mark.Pound) = by_row Row.Struct derived
-item (Token.Word Word.Struct) = by_row Row.Struct struct_rest
-item (Token.Word Word.Enum) = by_row Row.Enum enum_rest
-item (Token.Word Word.Trait) = by_row Row.Trait
-    (part a_name (mark Mark.OpenBrace (many (of_sort Sort.Head) (Kind.Mark Mark.CloseBrace) (ends Row.Trait))))
-item (Token.Word Word.Impl) = by_row Row.Impl (part a_name (if_word Word.For (part a_name impl_rest) impl_rest))
-item (Token.Word Word.Fn) = by_row Row.Fn (head_rest false (part block (ends Row.Fn)))
+abbrev pub item : Token → Option NodeBeginning
+item (Token.Mark Mark.Pound) = by_row GrammarRow.Struct derived
+item (Token.Word Word.Struct) = by_row GrammarRow.Struct struct_rest
+item (Token.Word Word.Enum) = by_row GrammarRow.Enum enum_rest
+item (Token.Word Word.Trait) = by_row GrammarRow.Trait
+    (part a_name (mark Mark.OpenBrace (many (of_sort Sort.Head) (TokenKind.Mark Mark.CloseBrace)
+    (ends GrammarRow.Trait))))
+item (Token.Word Word.Impl) = by_row GrammarRow.Impl (part a_name (if_word Word.For (part a_name impl_rest) impl_rest))
+item (Token.Word Word.Fn) = by_row GrammarRow.Fn (head_rest false (part block (ends GrammarRow.Fn)))
 item _ = None
 
-abbrev pub method : Token → Option Entry
-method (Token.Word Word.Fn) = by_row Row.Method (head_rest true (part block (ends Row.Method)))
+abbrev pub method : Token → Option NodeBeginning
+method (Token.Word Word.Fn) = by_row GrammarRow.Method (head_rest true (part block (ends GrammarRow.Method)))
 method _ = None
 
-abbrev pub head : Token → Option Entry
-head (Token.Word Word.Fn) = by_row Row.Head (head_rest true (mark Mark.Semi (ends Row.Head)))
+abbrev pub head : Token → Option NodeBeginning
+head (Token.Word Word.Fn) = by_row GrammarRow.Head (head_rest true (mark Mark.Semi (ends GrammarRow.Head)))
 head _ = None
 
-abbrev pub named_field : Token → Option Entry
-named_field (Token.Name n) = by_row Row.Field (mark Mark.Colon (part a_type (ends Row.Field)))
+abbrev pub named_field : Token → Option NodeBeginning
+named_field (Token.Name n) = by_row GrammarRow.Field (mark Mark.Colon (part a_type (ends GrammarRow.Field)))
 named_field _ = None
 
-abbrev pub variant : Token → Option Entry
+abbrev pub variant : Token → Option NodeBeginning
 variant (Token.Name n) =
-    by_row Row.Variant (if_mark Mark.OpenParenthesis (types (ends Row.Variant))
-    (if_mark Mark.OpenBrace (fields (ends Row.Variant)) (ends Row.Variant)))
+    by_row GrammarRow.Variant (if_mark Mark.OpenParenthesis (types (ends GrammarRow.Variant))
+    (if_mark Mark.OpenBrace (fields (ends GrammarRow.Variant)) (ends GrammarRow.Variant)))
 variant _ = None
 
-abbrev pub name : Token → Option Entry
-name (Token.Name n) = by_row Row.Ident (ends Row.Ident)
+abbrev pub name : Token → Option NodeBeginning
+name (Token.Name n) = by_row GrammarRow.Ident (ends GrammarRow.Ident)
 name _ = None
 
-abbrev pub label : Token → Option Entry
-label (Token.Label n) = by_row Row.LabelName (ends Row.LabelName)
+abbrev pub label : Token → Option NodeBeginning
+label (Token.Label n) = by_row GrammarRow.LabelName (ends GrammarRow.LabelName)
 label _ = None
 
 -- Types.
 
-abbrev pub type_ : Token → Option Entry
+abbrev pub type_ : Token → Option NodeBeginning
 type_ (Token.Name n) =
-    by_row Row.NamedType (if_mark Mark.Lt
-    (if_word Word.Dyn (part a_name (mark Mark.Gt (ends Row.DynType)))
-    (part a_type (mark Mark.Gt (ends Row.GenericType)))) (ends Row.NamedType))
-type_ (Token.Word Word.SelfType) = by_row Row.SelfType (ends Row.SelfType)
-type_ (Token.Mark Mark.OpenParenthesis) = by_row Row.TupleType (types (ends Row.TupleType))
+    by_row GrammarRow.NamedType (if_mark Mark.Lt
+    (if_word Word.Dyn (part a_name (mark Mark.Gt (ends GrammarRow.DynType)))
+    (part a_type (mark Mark.Gt (ends GrammarRow.GenericType)))) (ends GrammarRow.NamedType))
+type_ (Token.Word Word.SelfType) = by_row GrammarRow.SelfType (ends GrammarRow.SelfType)
+type_ (Token.Mark Mark.OpenParenthesis) = by_row GrammarRow.TupleType (types (ends GrammarRow.TupleType))
 type_ (Token.Mark Mark.OpenBracket) =
-    by_row Row.ArrayType (part a_type (mark Mark.Semi
-    (token Kind.Number (mark Mark.CloseBracket (ends Row.ArrayType)))))
-type_ (Token.Mark Mark.Not) = by_row Row.NeverType (ends Row.NeverType)
+    by_row GrammarRow.ArrayType (part a_type (mark Mark.Semi
+    (token TokenKind.Number (mark Mark.CloseBracket (ends GrammarRow.ArrayType)))))
+type_ (Token.Mark Mark.Not) = by_row GrammarRow.NeverType (ends GrammarRow.NeverType)
 type_ (Token.Mark Mark.And) =
-    by_row Row.RefType (if_word Word.Mut (part a_type (ends Row.RefType)) (part a_type (ends Row.RefType)))
+    by_row GrammarRow.RefType (if_word Word.Mut (part a_type (ends GrammarRow.RefType))
+    (part a_type (ends GrammarRow.RefType)))
 type_ _ = None
 
 -- Patterns.
 
-abbrev pub patterns : Kind → Rest → Rest
+abbrev pub patterns : TokenKind → GrammarRest → GrammarRest
 patterns close after = list a_pattern a_pattern true close after
 
 -- behind a path, which is this row where it stands alone
-abbrev pub behind_path : Row → Rest
+abbrev pub behind_path : GrammarRow → GrammarRest
 behind_path r =
-    if_mark Mark.OpenParenthesis (patterns (Kind.Mark Mark.CloseParenthesis) (ends Row.CallPattern))
+    if_mark Mark.OpenParenthesis (patterns (TokenKind.Mark Mark.CloseParenthesis) (ends GrammarRow.CallPattern))
     (if_mark Mark.OpenBrace (list (of_sort Sort.FieldPattern) (of_sort Sort.FieldPattern) true
-    (Kind.Mark Mark.CloseBrace) (ends Row.StructPattern)) (ends r))
+    (TokenKind.Mark Mark.CloseBrace) (ends GrammarRow.StructPattern)) (ends r))
 
-abbrev pub path_pattern : Row → Rest
-path_pattern r = if_mark Mark.PathSep (part a_name (behind_path Row.PathPattern)) (behind_path r)
+abbrev pub path_pattern : GrammarRow → GrammarRest
+path_pattern r = if_mark Mark.PathSep (part a_name (behind_path GrammarRow.PathPattern)) (behind_path r)
 
-abbrev pub bind_or_self : Bool → Rest
-bind_or_self false = token Kind.Name (ends Row.BindPattern)
-bind_or_self true = if_word Word.SelfValue (ends Row.SelfParam) (token Kind.Name (ends Row.BindPattern))
+abbrev pub bind_or_self : Bool → GrammarRest
+bind_or_self false = token TokenKind.Name (ends GrammarRow.BindPattern)
+bind_or_self true = if_word Word.SelfValue (ends GrammarRow.SelfParam)
+    (token TokenKind.Name (ends GrammarRow.BindPattern))
 
-abbrev pub only : Bool → Option Entry → Option Entry
+abbrev pub only : Bool → Option NodeBeginning → Option NodeBeginning
 only false e = None
 only true e = e
 
-abbrev pub pattern : Bool → Token → Option Entry
-pattern self (Token.Mark Mark.Underscore) = by_row Row.WildPattern (ends Row.WildPattern)
-pattern self (Token.Word Word.Mut) = by_row Row.BindPattern (bind_or_self self)
-pattern self (Token.Name n) = by_row Row.BindPattern (path_pattern Row.BindPattern)
-pattern self (Token.Word Word.SelfType) = by_row Row.PathPattern (path_pattern Row.PathPattern)
-pattern self (Token.Number value suffix) = by_row Row.NumberPattern (ends Row.NumberPattern)
-pattern self (Token.Mark Mark.Minus) = by_row Row.NumberPattern (token Kind.Number (ends Row.NumberPattern))
-pattern self (Token.Word Word.True) = by_row Row.BoolPattern (ends Row.BoolPattern)
-pattern self (Token.Word Word.False) = by_row Row.BoolPattern (ends Row.BoolPattern)
+abbrev pub pattern : Bool → Token → Option NodeBeginning
+pattern self (Token.Mark Mark.Underscore) = by_row GrammarRow.WildPattern (ends GrammarRow.WildPattern)
+pattern self (Token.Word Word.Mut) = by_row GrammarRow.BindPattern (bind_or_self self)
+pattern self (Token.Name n) = by_row GrammarRow.BindPattern (path_pattern GrammarRow.BindPattern)
+pattern self (Token.Word Word.SelfType) = by_row GrammarRow.PathPattern (path_pattern GrammarRow.PathPattern)
+pattern self (Token.Number value suffix) = by_row GrammarRow.NumberPattern (ends GrammarRow.NumberPattern)
+pattern self (Token.Mark Mark.Minus) = by_row GrammarRow.NumberPattern
+    (token TokenKind.Number (ends GrammarRow.NumberPattern))
+pattern self (Token.Word Word.True) = by_row GrammarRow.BoolPattern (ends GrammarRow.BoolPattern)
+pattern self (Token.Word Word.False) = by_row GrammarRow.BoolPattern (ends GrammarRow.BoolPattern)
 pattern self (Token.Mark Mark.OpenParenthesis) =
-    by_row Row.TuplePattern (patterns (Kind.Mark Mark.CloseParenthesis) (ends Row.TuplePattern))
+    by_row GrammarRow.TuplePattern (patterns (TokenKind.Mark Mark.CloseParenthesis) (ends GrammarRow.TuplePattern))
 pattern self (Token.Mark Mark.OpenBracket) =
-    by_row Row.ArrayPattern (patterns (Kind.Mark Mark.CloseBracket) (ends Row.ArrayPattern))
-pattern self (Token.Word Word.SelfValue) = only self (by_row Row.SelfParam (ends Row.SelfParam))
+    by_row GrammarRow.ArrayPattern (patterns (TokenKind.Mark Mark.CloseBracket) (ends GrammarRow.ArrayPattern))
+pattern self (Token.Word Word.SelfValue) = only self (by_row GrammarRow.SelfParam (ends GrammarRow.SelfParam))
 pattern self (Token.Mark Mark.And) =
-    only self (by_row Row.SelfParam (if_word Word.Mut (word Word.SelfValue (ends Row.SelfParam))
-    (word Word.SelfValue (ends Row.SelfParam))))
+    only self (by_row GrammarRow.SelfParam (if_word Word.Mut (word Word.SelfValue (ends GrammarRow.SelfParam))
+    (word Word.SelfValue (ends GrammarRow.SelfParam))))
 pattern self _ = None
 
-abbrev pub field_pattern : Token → Option Entry
+abbrev pub field_pattern : Token → Option NodeBeginning
 field_pattern (Token.Name n) =
-    by_row Row.FieldPattern (if_mark Mark.Colon (part a_pattern (ends Row.FieldPattern)) (ends Row.FieldPattern))
-field_pattern (Token.Word Word.Mut) = by_row Row.FieldPattern (token Kind.Name (ends Row.FieldPattern))
+    by_row GrammarRow.FieldPattern (if_mark Mark.Colon (part a_pattern (ends GrammarRow.FieldPattern))
+    (ends GrammarRow.FieldPattern))
+field_pattern (Token.Word Word.Mut) = by_row GrammarRow.FieldPattern
+    (token TokenKind.Name (ends GrammarRow.FieldPattern))
 field_pattern _ = None
 
 -- Expressions.
 
-abbrev pub exprs : Mark → Rest → Rest
-exprs close after = listed any_expr (Kind.Mark close) after
+abbrev pub exprs : Mark → GrammarRest → GrammarRest
+exprs close after = listed any_expr (TokenKind.Mark close) after
 
-abbrev pub struct_or_path : Bool → Rest
-struct_or_path true = ends Row.Path
+abbrev pub struct_or_path : Bool → GrammarRest
+struct_or_path true = ends GrammarRow.Path
 struct_or_path false = if_mark Mark.OpenBrace
-    (listed (of_sort Sort.FieldInit) (Kind.Mark Mark.CloseBrace) (ends Row.StructExpr)) (ends Row.Path)
+    (listed (of_sort Sort.FieldInit) (TokenKind.Mark Mark.CloseBrace) (ends GrammarRow.StructExpr))
+    (ends GrammarRow.Path)
 
-abbrev pub path : Bool → Rest
+abbrev pub path : Bool → GrammarRest
 path in_head = if_mark Mark.PathSep (part a_name (struct_or_path in_head)) (struct_or_path in_head)
 
-abbrev pub panic_rest : Rest
+abbrev pub panic_rest : GrammarRest
 panic_rest = mark Mark.OpenParenthesis
-    (either Kind.Text (mark Mark.CloseParenthesis (ends Row.Panic)) (mark Mark.CloseParenthesis (ends Row.Panic)))
+    (either TokenKind.Text (mark Mark.CloseParenthesis (ends GrammarRow.Panic))
+    (mark Mark.CloseParenthesis (ends GrammarRow.Panic)))
 
 abbrev pub is_panic : List ℕ → Bool
 is_panic n = is_text n (112 ∷ 97 ∷ 110 ∷ 105 ∷ 99 ∷ [])
 
-abbrev pub named : Bool → Bool → Rest
+abbrev pub named : Bool → Bool → GrammarRest
 named true in_head = if_mark Mark.Not panic_rest (path in_head)
 named false in_head = path in_head
 
 -- a condition and a block, and what follows the block
-abbrev pub headed : Rest → Rest
+abbrev pub headed : GrammarRest → GrammarRest
 headed after =
     if_word Word.Let (part a_pattern (mark Mark.Eq (part head_expr (part block after))))
     (part head_expr (part block after))
 
-abbrev pub if_rest : Rest
-if_rest = headed (if_word Word.Else (part (Part.At (expr false Start.BlockOrIf)) (ends Row.If)) (ends Row.If))
+abbrev pub if_rest : GrammarRest
+if_rest = headed (if_word Word.Else (part (GrammarPart.At (expr false Start.BlockOrIf)) (ends GrammarRow.If))
+    (ends GrammarRow.If))
 
-abbrev pub loop_rest : Rest
-loop_rest = part block (ends Row.Loop)
+abbrev pub loop_rest : GrammarRest
+loop_rest = part block (ends GrammarRow.Loop)
 
-abbrev pub while_rest : Rest
-while_rest = headed (ends Row.While)
+abbrev pub while_rest : GrammarRest
+while_rest = headed (ends GrammarRow.While)
 
-abbrev pub labelled : Rest
-labelled = if_mark Mark.Colon (if_word Word.Loop loop_rest (word Word.While while_rest)) (ends Row.LabelName)
+abbrev pub labelled : GrammarRest
+labelled = if_mark Mark.Colon (if_word Word.Loop loop_rest (word Word.While while_rest)) (ends GrammarRow.LabelName)
 
-abbrev pub behind_params : Rest
-behind_params = if_mark Mark.RArrow (part a_type (part block (ends Row.Closure))) (part block (ends Row.Closure))
+abbrev pub behind_params : GrammarRest
+behind_params = if_mark Mark.RArrow (part a_type (part block (ends GrammarRow.Closure)))
+    (part block (ends GrammarRow.Closure))
 
-abbrev pub closure : Rest
+abbrev pub closure : GrammarRest
 closure =
-    mark Mark.OpenBracket (listed a_name (Kind.Mark Mark.CloseBracket) (if_mark Mark.OrOr behind_params
-    (mark Mark.Or (listed (a_param false) (Kind.Mark Mark.Or) behind_params))))
+    mark Mark.OpenBracket (listed a_name (TokenKind.Mark Mark.CloseBracket) (if_mark Mark.OrOr behind_params
+    (mark Mark.Or (listed (a_param false) (TokenKind.Mark Mark.Or) behind_params))))
 
-abbrev pub let_rest : Rest
+abbrev pub let_rest : GrammarRest
 let_rest =
-    let value = if_mark Mark.Eq (part any_expr (mark Mark.Semi (ends Row.Let))) (mark Mark.Semi (ends Row.Let)) in
+    let value = if_mark Mark.Eq (part any_expr (mark Mark.Semi (ends GrammarRow.Let)))
+    (mark Mark.Semi (ends GrammarRow.Let)) in
     part pattern1 (if_mark Mark.Colon (part a_type value) value)
 
-abbrev pub operand : Rest
-operand = part (Part.Operand 7) (ends Row.Prefix)
+abbrev pub operand : GrammarRest
+operand = part (GrammarPart.Operand 7) (ends GrammarRow.Prefix)
 
-abbrev pub expression : Bool → Token → Option Entry
-expression h (Token.Mark Mark.Semi) = by_row Row.Empty (ends Row.Empty)
-expression h (Token.Word Word.Let) = by_row Row.Let let_rest
-expression h (Token.Word Word.Return) = by_row Row.Return (maybe Part.AfterReturn (ends Row.Return) Row.Return)
-expression h (Token.Word Word.Break) = by_row Row.Break after_break
-expression h (Token.Word Word.Continue) = by_row Row.Continue (maybe a_label (ends Row.Continue) Row.Continue)
-expression h (Token.Word Word.Move) = by_row Row.Closure closure
-expression h (Token.Mark Mark.Minus) = by_row Row.Prefix operand
-expression h (Token.Mark Mark.Not) = by_row Row.Prefix operand
-expression h (Token.Mark Mark.Star) = by_row Row.Prefix operand
-expression h (Token.Mark Mark.And) = by_row Row.Prefix (if_word Word.Mut operand operand)
-expression h (Token.Number value suffix) = by_row Row.Number (ends Row.Number)
-expression h (Token.Word Word.True) = by_row Row.Truth (ends Row.Truth)
-expression h (Token.Word Word.False) = by_row Row.Truth (ends Row.Truth)
-expression h (Token.Word Word.SelfValue) = by_row Row.SelfValue (ends Row.SelfValue)
-expression h (Token.Name n) = by_row Row.Path (named (is_panic n) h)
-expression h (Token.Word Word.SelfType) = by_row Row.Path (path h)
-expression h (Token.Mark Mark.OpenParenthesis) = by_row Row.Round (exprs Mark.CloseParenthesis (ends Row.Round))
-expression h (Token.Mark Mark.OpenBracket) = by_row Row.Square (exprs Mark.CloseBracket (ends Row.Square))
-expression h (Token.Mark Mark.OpenBrace) = by_row Row.Block (statements false)
-expression h (Token.Word Word.If) = by_row Row.If if_rest
-expression h (Token.Word Word.Match) = by_row Row.Match (part head_expr (mark Mark.OpenBrace (arms false)))
-expression h (Token.Word Word.Loop) = by_row Row.Loop loop_rest
-expression h (Token.Word Word.While) = by_row Row.While while_rest
-expression h (Token.Label n) = by_row Row.Loop labelled
+abbrev pub expression : Bool → Token → Option NodeBeginning
+expression h (Token.Mark Mark.Semi) = by_row GrammarRow.Empty (ends GrammarRow.Empty)
+expression h (Token.Word Word.Let) = by_row GrammarRow.Let let_rest
+expression h (Token.Word Word.Return) = by_row GrammarRow.Return
+    (maybe GrammarPart.AfterReturn (ends GrammarRow.Return) GrammarRow.Return)
+expression h (Token.Word Word.Break) = by_row GrammarRow.Break after_break
+expression h (Token.Word Word.Continue) = by_row GrammarRow.Continue
+    (maybe a_label (ends GrammarRow.Continue) GrammarRow.Continue)
+expression h (Token.Word Word.Move) = by_row GrammarRow.Closure closure
+expression h (Token.Mark Mark.Minus) = by_row GrammarRow.Prefix operand
+expression h (Token.Mark Mark.Not) = by_row GrammarRow.Prefix operand
+expression h (Token.Mark Mark.Star) = by_row GrammarRow.Prefix operand
+expression h (Token.Mark Mark.And) = by_row GrammarRow.Prefix (if_word Word.Mut operand operand)
+expression h (Token.Number value suffix) = by_row GrammarRow.Number (ends GrammarRow.Number)
+expression h (Token.Word Word.True) = by_row GrammarRow.Truth (ends GrammarRow.Truth)
+expression h (Token.Word Word.False) = by_row GrammarRow.Truth (ends GrammarRow.Truth)
+expression h (Token.Word Word.SelfValue) = by_row GrammarRow.SelfValue (ends GrammarRow.SelfValue)
+expression h (Token.Name n) = by_row GrammarRow.Path (named (is_panic n) h)
+expression h (Token.Word Word.SelfType) = by_row GrammarRow.Path (path h)
+expression h (Token.Mark Mark.OpenParenthesis) =
+    by_row GrammarRow.Round (exprs Mark.CloseParenthesis (ends GrammarRow.Round))
+expression h (Token.Mark Mark.OpenBracket) = by_row GrammarRow.Square (exprs Mark.CloseBracket (ends GrammarRow.Square))
+expression h (Token.Mark Mark.OpenBrace) = by_row GrammarRow.Block (statements false)
+expression h (Token.Word Word.If) = by_row GrammarRow.If if_rest
+expression h (Token.Word Word.Match) = by_row GrammarRow.Match (part head_expr (mark Mark.OpenBrace (arms false)))
+expression h (Token.Word Word.Loop) = by_row GrammarRow.Loop loop_rest
+expression h (Token.Word Word.While) = by_row GrammarRow.While while_rest
+expression h (Token.Label n) = by_row GrammarRow.Loop labelled
 expression h _ = None
 
-abbrev pub field_init : Token → Option Entry
+abbrev pub field_init : Token → Option NodeBeginning
 field_init (Token.Name n) =
-    by_row Row.FieldInit (if_mark Mark.Colon (part any_expr (ends Row.FieldInit)) (ends Row.FieldInit))
+    by_row GrammarRow.FieldInit (if_mark Mark.Colon (part any_expr (ends GrammarRow.FieldInit))
+    (ends GrammarRow.FieldInit))
 field_init _ = None
 
-abbrev pub entry : Seen → Token → Option Entry
+abbrev pub entry : Seen → Token → Option NodeBeginning
 entry s t = elim s.sort [
   | Sort.File ↦ None
   | Sort.Item ↦ item t
@@ -686,52 +711,53 @@ entry s t = elim s.sort [
 
 -- How a node begins that begins with a part: its row, where the part stands, and what follows the token behind it.
 pub record Joined : Type 0 where
-  pub row : Row
-  pub place : Place
-  pub rest : Rest
+  pub row : GrammarRow
+  pub place : GrammarPlace
+  pub rest : GrammarRest
 
-abbrev pub joined_by : Seen → Row → ℕ → Rest → Option Joined
+abbrev pub joined_by : Seen → GrammarRow → ℕ → GrammarRest → Option Joined
 joined_by s r least q =
     Some record { row = r; place = record { sort = s.sort; least = least; head = s.head; start = s.start }; rest = q }
 
 -- an operator with the least levels of its operands
-abbrev pub infix_ : Seen → Row → ℕ → ℕ → Option Joined
-infix_ s r left right = joined_by s r left (part (Part.Operand right) (ends r))
+abbrev pub infix_ : Seen → GrammarRow → ℕ → ℕ → Option Joined
+infix_ s r left right = joined_by s r left (part (GrammarPart.Operand right) (ends r))
 
-abbrev pub dot : Rest
+abbrev pub dot : GrammarRest
 dot =
-    either Kind.Name (if_mark Mark.OpenParenthesis (exprs Mark.CloseParenthesis (ends Row.MethodCall))
-    (ends Row.FieldAccess))
-    (token Kind.Digits (ends Row.TupleField))
+    either TokenKind.Name (if_mark Mark.OpenParenthesis (exprs Mark.CloseParenthesis (ends GrammarRow.MethodCall))
+    (ends GrammarRow.FieldAccess))
+    (token TokenKind.Digits (ends GrammarRow.TupleField))
 
 abbrev pub infix_expr : Seen → Token → Option Joined
-infix_expr s (Token.Mark Mark.Eq) = infix_ s Row.Assign 2 0
-infix_expr s (Token.Mark Mark.OrOr) = infix_ s Row.Or 2 3
-infix_expr s (Token.Mark Mark.AndAnd) = infix_ s Row.And 3 4
-infix_expr s (Token.Mark Mark.EqEq) = infix_ s Row.Compare 5 5
-infix_expr s (Token.Mark Mark.Ne) = infix_ s Row.Compare 5 5
-infix_expr s (Token.Mark Mark.Lt) = infix_ s Row.Compare 5 5
-infix_expr s (Token.Mark Mark.Le) = infix_ s Row.Compare 5 5
-infix_expr s (Token.Mark Mark.Gt) = infix_ s Row.Compare 5 5
-infix_expr s (Token.Mark Mark.Ge) = infix_ s Row.Compare 5 5
-infix_expr s (Token.Mark Mark.Plus) = infix_ s Row.Sum 5 6
-infix_expr s (Token.Mark Mark.Minus) = infix_ s Row.Sum 5 6
-infix_expr s (Token.Mark Mark.Star) = infix_ s Row.Product 6 7
-infix_expr s (Token.Mark Mark.Slash) = infix_ s Row.Product 6 7
-infix_expr s (Token.Mark Mark.Percent) = infix_ s Row.Product 6 7
-infix_expr s (Token.Mark Mark.OpenParenthesis) = joined_by s Row.Call 9 (exprs Mark.CloseParenthesis (ends Row.Call))
-infix_expr s (Token.Mark Mark.Dot) = joined_by s Row.TupleField 8 dot
+infix_expr s (Token.Mark Mark.Eq) = infix_ s GrammarRow.Assign 2 0
+infix_expr s (Token.Mark Mark.OrOr) = infix_ s GrammarRow.Or 2 3
+infix_expr s (Token.Mark Mark.AndAnd) = infix_ s GrammarRow.And 3 4
+infix_expr s (Token.Mark Mark.EqEq) = infix_ s GrammarRow.Compare 5 5
+infix_expr s (Token.Mark Mark.Ne) = infix_ s GrammarRow.Compare 5 5
+infix_expr s (Token.Mark Mark.Lt) = infix_ s GrammarRow.Compare 5 5
+infix_expr s (Token.Mark Mark.Le) = infix_ s GrammarRow.Compare 5 5
+infix_expr s (Token.Mark Mark.Gt) = infix_ s GrammarRow.Compare 5 5
+infix_expr s (Token.Mark Mark.Ge) = infix_ s GrammarRow.Compare 5 5
+infix_expr s (Token.Mark Mark.Plus) = infix_ s GrammarRow.Sum 5 6
+infix_expr s (Token.Mark Mark.Minus) = infix_ s GrammarRow.Sum 5 6
+infix_expr s (Token.Mark Mark.Star) = infix_ s GrammarRow.Product 6 7
+infix_expr s (Token.Mark Mark.Slash) = infix_ s GrammarRow.Product 6 7
+infix_expr s (Token.Mark Mark.Percent) = infix_ s GrammarRow.Product 6 7
+infix_expr s (Token.Mark Mark.OpenParenthesis) =
+    joined_by s GrammarRow.Call 9 (exprs Mark.CloseParenthesis (ends GrammarRow.Call))
+infix_expr s (Token.Mark Mark.Dot) = joined_by s GrammarRow.TupleField 8 dot
 infix_expr s (Token.Mark Mark.OpenBracket) =
-    joined_by s Row.Index 8 (part any_expr (mark Mark.CloseBracket (ends Row.Index)))
+    joined_by s GrammarRow.Index 8 (part any_expr (mark Mark.CloseBracket (ends GrammarRow.Index)))
 infix_expr s (Token.Mark Mark.Semi) =
-    Some record { row = Row.Semi; place = expr s.head Start.Value; rest = ends Row.Semi }
+    Some record { row = GrammarRow.Semi; place = expr s.head Start.Value; rest = ends GrammarRow.Semi }
 infix_expr s _ = None
 
 abbrev pub infix_pattern : Seen → Token → Option Joined
-infix_pattern s (Token.Mark Mark.Or) = joined_by s Row.OrPattern 1 (part pattern1 alternatives)
-infix_pattern s (Token.Mark Mark.Colon) = joined_by s Row.Param 1 (part a_type (ends Row.Param))
-infix_pattern s (Token.Mark Mark.FatArrow) = joined_by s Row.Arm 0 arm_body
-infix_pattern s (Token.Word Word.If) = joined_by s Row.Arm 0 (part any_expr (mark Mark.FatArrow arm_body))
+infix_pattern s (Token.Mark Mark.Or) = joined_by s GrammarRow.OrPattern 1 (part pattern1 alternatives)
+infix_pattern s (Token.Mark Mark.Colon) = joined_by s GrammarRow.Param 1 (part a_type (ends GrammarRow.Param))
+infix_pattern s (Token.Mark Mark.FatArrow) = joined_by s GrammarRow.Arm 0 arm_body
+infix_pattern s (Token.Word Word.If) = joined_by s GrammarRow.Arm 0 (part any_expr (mark Mark.FatArrow arm_body))
 infix_pattern s _ = None
 
 abbrev pub joined : Seen → Token → Option Joined

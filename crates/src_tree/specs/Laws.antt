@@ -1,12 +1,12 @@
 -- The law of spelling.
 use Rattle.std.specs.Prelude.{◌≡◌, []}
 use Rattle.mir_base.specs.declared.place_in_text.Pos.{Pos}
-use Rattle.src_tree.specs.Layout.{Node, node, Parts, end, tok, sub, spell_parts, ItemsLevelled}
+use Rattle.src_tree.specs.Layout.{SyntaxNode, node, Parts, end, tok, sub, spell_parts, ItemsLevelled}
 
 -- a tree without its places
 module _ {L : Type 0} where
   abbrev mutual
-    pub unplaced : Node L → Node (Unit {0})
+    pub unplaced : SyntaxNode L → SyntaxNode (Unit {0})
     unplaced (node at row parts) = node tt row (unplaced_parts parts)
 
     pub unplaced_parts : Parts L → Parts (Unit {0})

@@ -2,73 +2,77 @@
 ghost use Rattle.std.specs.Prelude.{◌≡◌, Some, None, option_map};
 ghost use Rattle.src_tree.specs.Grammar.{sort_of as sort_is, level as level_is, sort_number as sort_number_is, mark_number as mark_number_is, word_number as word_number_is, is_text as is_text_of, is as is_kind, is_plain as is_plain_row, may_be as may_be_row, first as first_of, allowed as is_allowed, begins_by as begins_by_row, may_begin as may_begin_row, seen as seen_of, place_of as place_is, belongs as belongs_to, is_blocklike as is_blocklike_row};
 
-use crate::{Kind, Part, Place, Row, Seen, Sort, Start};
+use crate::{GrammarPart, GrammarPlace, GrammarRow, Seen, Sort, Start, TokenKind};
 use mir_base::Name;
 use src_token::{Mark, Token, Word};
 
-fn sort_of(row: Row) -> Sort
+fn sort_of(row: GrammarRow) -> Sort
     ensures { result ≡ sort_is row }
 {
     match row {
-        Row::File => Sort::File,
-        Row::Struct | Row::Enum | Row::Trait | Row::Impl | Row::Fn => Sort::Item,
-        Row::Method => Sort::Method,
-        Row::Head => Sort::Head,
-        Row::Field => Sort::Field,
-        Row::Variant => Sort::Variant,
-        Row::Ident => Sort::Name,
-        Row::NamedType
-        | Row::GenericType
-        | Row::DynType
-        | Row::SelfType
-        | Row::TupleType
-        | Row::ArrayType
-        | Row::NeverType
-        | Row::RefType => Sort::Type_,
-        Row::WildPattern
-        | Row::BindPattern
-        | Row::NumberPattern
-        | Row::BoolPattern
-        | Row::PathPattern
-        | Row::CallPattern
-        | Row::StructPattern
-        | Row::TuplePattern
-        | Row::ArrayPattern
-        | Row::OrPattern
-        | Row::Param
-        | Row::SelfParam
-        | Row::Arm
-        | Row::LastArm => Sort::Pattern,
-        Row::FieldPattern => Sort::FieldPattern,
-        Row::FieldInit => Sort::FieldInit,
-        Row::LabelName => Sort::Label,
+        GrammarRow::File => Sort::File,
+        GrammarRow::Struct
+        | GrammarRow::Enum
+        | GrammarRow::Trait
+        | GrammarRow::Impl
+        | GrammarRow::Fn => Sort::Item,
+        GrammarRow::Method => Sort::Method,
+        GrammarRow::Head => Sort::Head,
+        GrammarRow::Field => Sort::Field,
+        GrammarRow::Variant => Sort::Variant,
+        GrammarRow::Ident => Sort::Name,
+        GrammarRow::NamedType
+        | GrammarRow::GenericType
+        | GrammarRow::DynType
+        | GrammarRow::SelfType
+        | GrammarRow::TupleType
+        | GrammarRow::ArrayType
+        | GrammarRow::NeverType
+        | GrammarRow::RefType => Sort::Type_,
+        GrammarRow::WildPattern
+        | GrammarRow::BindPattern
+        | GrammarRow::NumberPattern
+        | GrammarRow::BoolPattern
+        | GrammarRow::PathPattern
+        | GrammarRow::CallPattern
+        | GrammarRow::StructPattern
+        | GrammarRow::TuplePattern
+        | GrammarRow::ArrayPattern
+        | GrammarRow::OrPattern
+        | GrammarRow::Param
+        | GrammarRow::SelfParam
+        | GrammarRow::Arm
+        | GrammarRow::LastArm => Sort::Pattern,
+        GrammarRow::FieldPattern => Sort::FieldPattern,
+        GrammarRow::FieldInit => Sort::FieldInit,
+        GrammarRow::LabelName => Sort::Label,
         _ => Sort::Expr,
     }
 }
 
-fn level(row: Row) -> u8
+fn level(row: GrammarRow) -> u8
     ensures { result ≡ level_is row }
 {
     match row {
-        Row::Return
-        | Row::Break
-        | Row::Closure
-        | Row::Let
-        | Row::Empty
-        | Row::Semi
-        | Row::LabelName
-        | Row::Arm
-        | Row::LastArm
-        | Row::OrPattern => 0,
-        Row::Assign => 1,
-        Row::Or => 2,
-        Row::And => 3,
-        Row::Compare => 4,
-        Row::Sum => 5,
-        Row::Product => 6,
-        Row::Prefix => 7,
-        Row::FieldAccess => 8,
-        Row::MethodCall | Row::TupleField | Row::Call | Row::Index => 9,
+        GrammarRow::Return
+        | GrammarRow::Break
+        | GrammarRow::Closure
+        | GrammarRow::Let
+        | GrammarRow::Empty
+        | GrammarRow::Semi
+        | GrammarRow::LabelName
+        | GrammarRow::Arm
+        | GrammarRow::LastArm
+        | GrammarRow::OrPattern => 0,
+        GrammarRow::Assign => 1,
+        GrammarRow::Or => 2,
+        GrammarRow::And => 3,
+        GrammarRow::Compare => 4,
+        GrammarRow::Sum => 5,
+        GrammarRow::Product => 6,
+        GrammarRow::Prefix => 7,
+        GrammarRow::FieldAccess => 8,
+        GrammarRow::MethodCall | GrammarRow::TupleField | GrammarRow::Call | GrammarRow::Index => 9,
         _ => 10,
     }
 }
@@ -141,70 +145,77 @@ pub(crate) fn is_text(name: &Name, text: &str) -> bool
 }
 
 /// Whether a token is of a kind.
-pub fn is(kind: Kind, token: &Token) -> bool
+pub fn is(kind: TokenKind, token: &Token) -> bool
     ensures { result ≡ is_kind kind token.now }
 {
     match (kind, token) {
-        (Kind::Mark(mark), Token::Mark(other)) => mark_number(mark) == mark_number(*other),
-        (Kind::Word(word), Token::Word(other)) => word_number(word) == word_number(*other),
-        (Kind::Name, Token::Name(_)) => true,
-        (Kind::Number, Token::Number { .. }) => true,
-        (Kind::Digits, Token::Number { suffix: None, .. }) => true,
-        (Kind::Label, Token::Label(_)) => true,
-        (Kind::Text, Token::Text(_)) => true,
-        (Kind::Derive, Token::Name(name)) => is_text(name, "derive"),
+        (TokenKind::Mark(mark), Token::Mark(other)) => mark_number(mark) == mark_number(*other),
+        (TokenKind::Word(word), Token::Word(other)) => word_number(word) == word_number(*other),
+        (TokenKind::Name, Token::Name(_)) => true,
+        (TokenKind::Number, Token::Number { .. }) => true,
+        (TokenKind::Digits, Token::Number { suffix: None, .. }) => true,
+        (TokenKind::Label, Token::Label(_)) => true,
+        (TokenKind::Text, Token::Text(_)) => true,
+        (TokenKind::Derive, Token::Name(name)) => is_text(name, "derive"),
         _ => false,
     }
 }
 
-fn is_blocklike(row: Row) -> bool
+fn is_blocklike(row: GrammarRow) -> bool
     ensures { result ≡ is_blocklike_row row }
 {
     matches!(
         row,
-        Row::Block | Row::If | Row::Match | Row::Loop | Row::While
+        GrammarRow::Block
+            | GrammarRow::If
+            | GrammarRow::Match
+            | GrammarRow::Loop
+            | GrammarRow::While
     )
 }
 
 /// Whether it may stand where nothing else is asked for.
-fn is_plain(row: Row) -> bool
+fn is_plain(row: GrammarRow) -> bool
     ensures { result ≡ is_plain_row row }
 {
     !matches!(
         row,
-        Row::Let
-            | Row::Empty
-            | Row::Semi
-            | Row::LabelName
-            | Row::Param
-            | Row::SelfParam
-            | Row::Arm
-            | Row::LastArm
+        GrammarRow::Let
+            | GrammarRow::Empty
+            | GrammarRow::Semi
+            | GrammarRow::LabelName
+            | GrammarRow::Param
+            | GrammarRow::SelfParam
+            | GrammarRow::Arm
+            | GrammarRow::LastArm
     )
 }
 
-fn may_be(start: Start, row: Row) -> bool
+fn may_be(start: Start, row: GrammarRow) -> bool
     ensures { result ≡ may_be_row start row }
 {
     match start {
         Start::Anything | Start::Value | Start::ArmBody => is_plain(row),
-        Start::Statement => { is_plain(row) || matches!(row, Row::Let | Row::Semi | Row::Empty) }
-        Start::NextStatement => is_plain(row) || matches!(row, Row::Let | Row::Semi),
-        Start::NotBlocklike => is_plain(row) && !is_blocklike(row),
-        Start::NotBlock => is_plain(row) && !matches!(row, Row::Block),
-        Start::Jump => is_plain(row) || matches!(row, Row::LabelName),
-        Start::JumpInHead => {
-            (is_plain(row) && !matches!(row, Row::Block)) || matches!(row, Row::LabelName)
+        Start::Statement => {
+            is_plain(row) || matches!(row, GrammarRow::Let | GrammarRow::Semi | GrammarRow::Empty)
         }
-        Start::OnlyLabel => matches!(row, Row::LabelName),
-        Start::OnlyBlock => matches!(row, Row::Block),
-        Start::BlockOrIf => matches!(row, Row::Block | Row::If),
-        Start::IsArm => matches!(row, Row::Arm | Row::LastArm),
-        Start::IsParam => matches!(row, Row::Param | Row::SelfParam),
+        Start::NextStatement => is_plain(row) || matches!(row, GrammarRow::Let | GrammarRow::Semi),
+        Start::NotBlocklike => is_plain(row) && !is_blocklike(row),
+        Start::NotBlock => is_plain(row) && !matches!(row, GrammarRow::Block),
+        Start::Jump => is_plain(row) || matches!(row, GrammarRow::LabelName),
+        Start::JumpInHead => {
+            (is_plain(row) && !matches!(row, GrammarRow::Block))
+                || matches!(row, GrammarRow::LabelName)
+        }
+        Start::OnlyLabel => matches!(row, GrammarRow::LabelName),
+        Start::OnlyBlock => matches!(row, GrammarRow::Block),
+        Start::BlockOrIf => matches!(row, GrammarRow::Block | GrammarRow::If),
+        Start::IsArm => matches!(row, GrammarRow::Arm | GrammarRow::LastArm),
+        Start::IsParam => matches!(row, GrammarRow::Param | GrammarRow::SelfParam),
     }
 }
 
-fn begins_by(start: Start, row: Row) -> bool
+fn begins_by(start: Start, row: GrammarRow) -> bool
     ensures { result ≡ begins_by_row start row }
 {
     match start {
@@ -233,24 +244,24 @@ fn sort_number(sort: Sort) -> u8
     }
 }
 
-fn belongs(sort: Sort, row: Row) -> bool
+fn belongs(sort: Sort, row: GrammarRow) -> bool
     ensures { result ≡ belongs_to sort row }
 {
     match (sort, row) {
-        (Sort::Expr, Row::LabelName) => true,
+        (Sort::Expr, GrammarRow::LabelName) => true,
         _ => sort_number(sort) == sort_number(sort_of(row)),
     }
 }
 
 /// Whether a node of a row may stand at a place.
-pub fn allowed(place: Place, row: Row) -> bool
+pub fn allowed(place: GrammarPlace, row: GrammarRow) -> bool
     ensures { result ≡ is_allowed place row }
 {
     belongs(place.sort, row) && place.least <= level(row) && may_be(place.start, row)
 }
 
 /// Whether a row may begin at a place, perhaps to be a part of what stands there.
-pub fn may_begin(place: Place, row: Row) -> bool
+pub fn may_begin(place: GrammarPlace, row: GrammarRow) -> bool
     ensures { result ≡ may_begin_row place row }
 {
     belongs(place.sort, row) && place.least <= level(row) && begins_by(place.start, row)
@@ -269,7 +280,7 @@ fn first(start: Start) -> Start
 }
 
 /// What the parts of a node see of its place.
-pub fn seen(place: Place) -> Seen
+pub fn seen(place: GrammarPlace) -> Seen
     ensures { result ≡ seen_of place }
 {
     Seen {
@@ -280,14 +291,14 @@ pub fn seen(place: Place) -> Seen
 }
 
 /// The place of a part of a node that stands in a head or not.
-pub fn place_of(head: bool, part: Part) -> Place
+pub fn place_of(head: bool, part: GrammarPart) -> GrammarPlace
     ensures { result ≡ place_is head part }
 {
     let (least, start) = match part {
-        Part::At(place) => return place,
-        Part::Operand(least) => (least, Start::Anything),
-        Part::AfterBreak => (0, if head { Start::JumpInHead } else { Start::Jump }),
-        Part::AfterReturn => (
+        GrammarPart::At(place) => return place,
+        GrammarPart::Operand(least) => (least, Start::Anything),
+        GrammarPart::AfterBreak => (0, if head { Start::JumpInHead } else { Start::Jump }),
+        GrammarPart::AfterReturn => (
             0,
             if head {
                 Start::NotBlock
@@ -296,7 +307,7 @@ pub fn place_of(head: bool, part: Part) -> Place
             },
         ),
     };
-    Place {
+    GrammarPlace {
         sort: Sort::Expr,
         least,
         head,

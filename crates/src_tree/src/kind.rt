@@ -2,7 +2,7 @@ use src_token::{Mark, Word};
 
 /// A kind of token that a row names.
 #[derive(Clone, Copy)]
-pub enum Kind {
+pub enum TokenKind {
     Mark(Mark),
     Word(Word),
     Name,

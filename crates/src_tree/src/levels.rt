@@ -9,24 +9,25 @@ ghost use Rattle.src_tree.specs.View.{layout_of, piece_of, parts_in, items_of};
 use crate::grammar::{allowed, place_of, seen};
 use crate::table::ITEMS;
 use crate::{
-    Node, Piece, Place, Point, Row, Seen, Tree, advance, behind, due, entry, joined, made,
+    GrammarPlace, GrammarPoint, GrammarRow, NodePiece, Seen, SyntaxNode, Tree, advance, behind,
+    due, entry, joined, made,
 };
 
 /// The number of a row, by which rows are told apart.
-fn row_number(row: Row) -> u8
+fn row_number(row: GrammarRow) -> u8
     ensures { result ≡ row_number_is row }
 {
     row as u8
 }
 
-fn is_row(row: Row, other: Row) -> bool
+fn is_row(row: GrammarRow, other: GrammarRow) -> bool
     ensures { result ≡ is_row_of row other }
 {
     row_number(row) == row_number(other)
 }
 
 #[cycle(levelled)]
-fn node_levelled(place: Place, node: &Node) -> bool
+fn node_levelled(place: GrammarPlace, node: &SyntaxNode) -> bool
     ensures { result ≡ levels (Some place) (layout_of node.now) }
 {
     allowed(place, node.row) && begun(seen(place), node)
@@ -35,19 +36,19 @@ fn node_levelled(place: Place, node: &Node) -> bool
 /// Whether the parts of a node make its row, where its parts see this of its place.
 #[cycle(levelled)]
 #[tactic(auto, using(crate::proofs::Tests::follows_none))]
-fn begun(seen: Seen, node: &Node) -> bool
+fn begun(seen: Seen, node: &SyntaxNode) -> bool
     ensures { result ≡ begun_of seen node.now.row (parts_in node.now.parts) }
 {
     match node.parts.as_slice().split_first() {
-        Some((Piece::Token(token), rest)) => match entry(seen, token) {
-            Some((_, at)) => follows(seen.head, Point::At(at), node.row, rest),
+        Some((NodePiece::Token(token), rest)) => match entry(seen, token) {
+            Some((_, at)) => follows(seen.head, GrammarPoint::At(at), node.row, rest),
             None => false,
         },
-        Some((Piece::Node(first), rest)) => match rest.split_first() {
-            Some((Piece::Token(token), rest)) => match joined(seen, token) {
+        Some((NodePiece::Node(first), rest)) => match rest.split_first() {
+            Some((NodePiece::Token(token), rest)) => match joined(seen, token) {
                 Some(begun) => {
                     node_levelled(begun.place, first)
-                        && follows(seen.head, Point::At(begun.at), node.row, rest)
+                        && follows(seen.head, GrammarPoint::At(begun.at), node.row, rest)
                 }
                 None => false,
             },
@@ -59,12 +60,12 @@ fn begun(seen: Seen, node: &Node) -> bool
 
 /// Where a node is behind a part of it; `None` where the part is not due.
 #[cycle(levelled)]
-fn past(head: bool, point: Point, piece: &Piece) -> Option<Point>
+fn past(head: bool, point: GrammarPoint, piece: &NodePiece) -> Option<GrammarPoint>
     ensures { option_map rest_of result ≡ past_of head (rest_of point) (piece_of piece.now) }
 {
     match piece {
-        Piece::Token(token) => advance(point, token),
-        Piece::Node(node) => match due(point) {
+        NodePiece::Token(token) => advance(point, token),
+        NodePiece::Node(node) => match due(point) {
             Some(part) if node_levelled(place_of(head, part), node) => {
                 Some(behind(point, node.row))
             }
@@ -76,7 +77,7 @@ fn past(head: bool, point: Point, piece: &Piece) -> Option<Point>
 /// Whether what is due from a point on, these parts are.
 #[cycle(levelled)]
 #[tactic(auto, using(crate::proofs::Tests::follows_none))]
-fn follows(head: bool, from: Point, row: Row, pieces: &[Piece]) -> bool
+fn follows(head: bool, from: GrammarPoint, row: GrammarRow, pieces: &[NodePiece]) -> bool
     ensures { result ≡ follows_of head (Some (rest_of from)) row (parts_in pieces.now) }
 {
     let mut point = from;
@@ -98,5 +99,10 @@ fn follows(head: bool, from: Point, row: Row, pieces: &[Piece]) -> bool
 pub fn levelled(tree: &Tree) -> bool
     ensures { IsTrue result ↔ ItemsLevelled (items_of tree.now) }
 {
-    follows(false, Point::At(ITEMS), Row::File, tree.items.as_slice())
+    follows(
+        false,
+        GrammarPoint::At(ITEMS),
+        GrammarRow::File,
+        tree.items.as_slice(),
+    )
 }

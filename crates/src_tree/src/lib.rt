@@ -17,13 +17,13 @@ mod table;
 
 pub use beginnings::{entry, joined};
 pub use grammar::{allowed, is, may_begin, place_of, seen};
-pub use kind::Kind;
+pub use kind::TokenKind;
 pub use law::law_of_spelling;
 pub use levels::levelled;
 pub use nesting::{counts, depth};
-pub use node::{Node, Piece, Tree};
-pub use place::{Part, Place, Seen, Start};
+pub use node::{NodePiece, SyntaxNode, Tree};
+pub use place::{GrammarPart, GrammarPlace, Seen, Start};
 pub use points::{advance, behind, due, made, step_at};
-pub use row::{Row, Sort};
+pub use row::{GrammarRow, Sort};
 pub use spelling::{copy_token, spell};
-pub use table::{Begun, ITEMS, Point, Step};
+pub use table::{GrammarPoint, GrammarStep, ITEMS, JoinedBeginning};

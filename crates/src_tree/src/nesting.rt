@@ -3,40 +3,40 @@ ghost use Rattle.src_tree.specs.Grammar.{counts as counts_of};
 ghost use Rattle.src_tree.specs.Layout.{depth as depth_of, parts_depth};
 ghost use Rattle.src_tree.specs.View.{layout_of, piece_of, parts_from, parts_in, items_of};
 
-use crate::{Node, Piece, Row, Tree};
+use crate::{GrammarRow, NodePiece, SyntaxNode, Tree};
 
 /// How much a node of a row adds to the nesting.
-pub fn counts(row: Row) -> u32
+pub fn counts(row: GrammarRow) -> u32
     ensures { result ≡ counts_of row }
 {
     match row {
-        Row::File
-        | Row::Method
-        | Row::Head
-        | Row::Field
-        | Row::Variant
-        | Row::Ident
-        | Row::FieldPattern
-        | Row::Param
-        | Row::SelfParam
-        | Row::Let
-        | Row::Empty
-        | Row::Semi
-        | Row::LabelName
-        | Row::FieldInit => 0,
+        GrammarRow::File
+        | GrammarRow::Method
+        | GrammarRow::Head
+        | GrammarRow::Field
+        | GrammarRow::Variant
+        | GrammarRow::Ident
+        | GrammarRow::FieldPattern
+        | GrammarRow::Param
+        | GrammarRow::SelfParam
+        | GrammarRow::Let
+        | GrammarRow::Empty
+        | GrammarRow::Semi
+        | GrammarRow::LabelName
+        | GrammarRow::FieldInit => 0,
         _ => 1,
     }
 }
 
 #[cycle(depth)]
-fn node_depth(node: &Node) -> u32
+fn node_depth(node: &SyntaxNode) -> u32
     ensures { result ≡ min (depth_of (layout_of node.now)) 4294967295 }
 {
     pieces_depth(node.parts.as_slice()).saturating_add(counts(node.row))
 }
 
 #[cycle(depth)]
-fn pieces_depth(pieces: &[Piece]) -> u32
+fn pieces_depth(pieces: &[NodePiece]) -> u32
     ensures { result ≡ min (parts_depth (parts_in pieces.now)) 4294967295 }
 {
     let mut deepest = 0;
@@ -47,12 +47,12 @@ fn pieces_depth(pieces: &[Piece]) -> u32
 }
 
 #[cycle(depth)]
-fn piece_depth(piece: &Piece) -> u32
+fn piece_depth(piece: &NodePiece) -> u32
     ensures { result ≡ min (parts_depth (parts_from (piece_of piece.now ∷ []))) 4294967295 }
 {
     match piece {
-        Piece::Token(_) => 0,
-        Piece::Node(node) => node_depth(node),
+        NodePiece::Token(_) => 0,
+        NodePiece::Node(node) => node_depth(node),
     }
 }
 

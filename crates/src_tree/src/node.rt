@@ -1,4 +1,4 @@
-use crate::Row;
+use crate::GrammarRow;
 use mir_base::{List, Pos};
 use src_token::Token;
 
@@ -6,28 +6,28 @@ use src_token::Token;
 /// tokens, parentheses and last commas among them.
 #[derive(Drop)]
 #[cycle(node)]
-pub struct Node {
+pub struct SyntaxNode {
     /// Which row of the grammar it is.
-    pub row: Row,
+    pub row: GrammarRow,
     /// Where its first token stands.
     pub at: Pos,
     /// Its tokens and nodes as they are written.
-    pub parts: List<Piece>,
+    pub parts: List<NodePiece>,
 }
 
 /// A part of a node.
 #[derive(Drop)]
 #[cycle(node)]
-pub enum Piece {
+pub enum NodePiece {
     Token(Token),
-    Node(Node),
+    Node(SyntaxNode),
 }
 
 /// The syntax tree of a text.
 #[derive(Drop)]
 pub struct Tree {
-    /// The items, each `Piece::Node` of a row of items.
-    pub items: List<Piece>,
+    /// The items, each `NodePiece::Node` of a row of items.
+    pub items: List<NodePiece>,
     /// The end of the text.
     pub end: Pos,
 }

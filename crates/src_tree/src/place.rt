@@ -30,7 +30,7 @@ pub enum Start {
 
 /// Where a node stands.
 #[derive(Clone, Copy)]
-pub struct Place {
+pub struct GrammarPlace {
     pub sort: Sort,
     /// The least level that it has.
     pub least: u8,
@@ -50,9 +50,9 @@ pub struct Seen {
 
 /// A part that is due.
 #[derive(Clone, Copy)]
-pub enum Part {
+pub enum GrammarPart {
     /// At a place of its own.
-    At(Place),
+    At(GrammarPlace),
     /// An operand of this level or above, in a head where its node is.
     Operand(u8),
     /// What may stand behind `break` and `return`.

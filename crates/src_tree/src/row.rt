@@ -1,7 +1,7 @@
 /// A row of the grammar: what a node is. The forms are those of The Rust Reference, "Items", "Statements and
 /// expressions", "Patterns" and "Type system", as far as the language has them.
 #[derive(Clone, Copy)]
-pub enum Row {
+pub enum GrammarRow {
     /// item*
     File,
     /// derive? `struct` NAME, then `;`, or `(` types `)` `;`, or `{` fields `}`

@@ -2,7 +2,7 @@ ghost use Rattle.std.specs.Prelude.{◌≡◌, ◌++◌, [], ◌∷◌, OnOk, If
 ghost use Rattle.src_tree.specs.Layout.{spell as spelled, spell_parts};
 ghost use Rattle.src_tree.specs.View.{layout_of, piece_of, parts_from, parts_in, items_of};
 
-use crate::{Node, Piece, Tree};
+use crate::{NodePiece, SyntaxNode, Tree};
 use mir_base::{List, NoMemory};
 use src_token::Token;
 use std::alloc::Global;
@@ -25,14 +25,14 @@ pub fn copy_token(alloc: Global, token: &Token) -> Result<Token, NoMemory>
 }
 
 #[cycle(spell)]
-fn spell_node(alloc: Global, node: &Node, out: &mut List<Token>) -> Result<(), NoMemory>
+fn spell_node(alloc: Global, node: &SyntaxNode, out: &mut List<Token>) -> Result<(), NoMemory>
     ensures { OnOk result (out.new ≡ out.old ++ spelled (layout_of node.now) []) }
 {
     spell_pieces(alloc, node.parts.as_slice(), out)
 }
 
 #[cycle(spell)]
-fn spell_pieces(alloc: Global, pieces: &[Piece], out: &mut List<Token>) -> Result<(), NoMemory>
+fn spell_pieces(alloc: Global, pieces: &[NodePiece], out: &mut List<Token>) -> Result<(), NoMemory>
     ensures { OnOk result (out.new ≡ out.old ++ spell_parts (parts_in pieces.now) []) }
 {
     for piece in pieces {
@@ -42,15 +42,15 @@ fn spell_pieces(alloc: Global, pieces: &[Piece], out: &mut List<Token>) -> Resul
 }
 
 #[cycle(spell)]
-fn spell_piece(alloc: Global, piece: &Piece, out: &mut List<Token>) -> Result<(), NoMemory>
+fn spell_piece(alloc: Global, piece: &NodePiece, out: &mut List<Token>) -> Result<(), NoMemory>
     ensures { OnOk result (out.new ≡ out.old ++ spell_parts (parts_from (piece_of piece.now ∷ [])) []) }
 {
     match piece {
-        Piece::Token(token) => {
+        NodePiece::Token(token) => {
             let copy = copy_token(alloc, token)?;
             out.push(copy)
         }
-        Piece::Node(node) => spell_node(alloc, node, out),
+        NodePiece::Node(node) => spell_node(alloc, node, out),
     }
 }
 

@@ -10,45 +10,45 @@ use Rattle.mir_base.specs.declared.trace.Why.{Why}
 use Rattle.store_model.specs.Places.Place.{Place}
 
 -- a place with the number of the node that uses it, which a refused use names
-pub record Site : Type 0 where
+pub record EffectSite : Type 0 where
   pub node : ℕ
   pub place : Place
 
 pub data Operand : Type 0 where
-  Copied : (site : Site) → Operand
-  Moved : (site : Site) → Operand
+  Copied : (site : EffectSite) → Operand
+  Moved : (site : EffectSite) → Operand
   Number : (value : ℤ) (kind : IntKind) → Operand
   Truth : (value : Bool) → Operand
   UnitValue : Operand
 
 -- what an aggregate is
-pub data Kind : Type 0 where
-  OfTuple : Kind
-  OfArray : Kind
-  OfVariant : (adt variant : ℕ) → Kind
-  OfClosure : (closure : ℕ) → Kind
+pub data AggregateKind : Type 0 where
+  OfTuple : AggregateKind
+  OfArray : AggregateKind
+  OfVariant : (adt variant : ℕ) → AggregateKind
+  OfClosure : (closure : ℕ) → AggregateKind
 
 pub data Action : Type 0 where
-  Put : (to : Site) (from : Operand) → Action
-  Compare : (to : Site) (operator : Cmp) (left right : Operand) → Action
-  Not : (to : Site) (operand : Operand) → Action
-  Build : (to : Site) (kind : Kind) (parts : List Operand) → Action
-  NewBox : (to : Site) (content : Operand) → Action
-  Unsize : (to : Site) (trait_no : ℕ) (operand : Operand) → Action
-  Borrow : (to : Site) (unique : Bool) (base : Site) → Action
-  Touch : (base : Site) → Action
+  Put : (to : EffectSite) (from : Operand) → Action
+  Compare : (to : EffectSite) (operator : Cmp) (left right : Operand) → Action
+  Not : (to : EffectSite) (operand : Operand) → Action
+  Build : (to : EffectSite) (kind : AggregateKind) (parts : List Operand) → Action
+  NewBox : (to : EffectSite) (content : Operand) → Action
+  Unsize : (to : EffectSite) (trait_no : ℕ) (operand : Operand) → Action
+  Borrow : (to : EffectSite) (unique : Bool) (base : EffectSite) → Action
+  Touch : (base : EffectSite) → Action
   Print : (operand : Operand) → Action
   Forget : (operand : Operand) → Action
-  Free : (box : Site) → Action
-  Compute : (to : Site) (operator : Math) (left right : Operand) → Action
-  Negate : (to : Site) (operand : Operand) → Action
+  Free : (box : EffectSite) → Action
+  Compute : (to : EffectSite) (operator : Math) (left right : Operand) → Action
+  Negate : (to : EffectSite) (operand : Operand) → Action
   Bounds : (index : Operand) (length : ℕ) → Action
-  Call : (to : Site) (body : ℕ) (args : List Operand) → Action
-  CallVirtual : (to : Site) (trait_no method : ℕ) (args : List Operand) → Action
-  Ask : (to : Site) → Action
+  Call : (to : EffectSite) (body : ℕ) (args : List Operand) → Action
+  CallVirtual : (to : EffectSite) (trait_no method : ℕ) (args : List Operand) → Action
+  Ask : (to : EffectSite) → Action
 
 -- the place into which an action stores, if it stores
-abbrev pub stored_by : Action → Option Site
+abbrev pub stored_by : Action → Option EffectSite
 stored_by (Put to from) = Some to
 stored_by (Compare to operator left right) = Some to
 stored_by (Not to operand) = Some to
@@ -68,12 +68,12 @@ stored_by (CallVirtual to trait_no method args) = Some to
 stored_by (Ask to) = Some to
 
 -- it stores into a place of which something holds
-abbrev pub stores_where : (Site → Bool) → Action → Bool
+abbrev pub stores_where : (EffectSite → Bool) → Action → Bool
 stores_where holds action = option_map_or holds (stored_by action) false
 
 pub data Test : Type 0 where
   IsTrue : (operand : Operand) → Test
-  HasVariant : (site : Site) (variant : ℕ) → Test
+  HasVariant : (site : EffectSite) (variant : ℕ) → Test
 
 -- a drop before a panic, and one that is made while a panic unwinds
 pub data Mode : Type 0 where
@@ -88,8 +88,8 @@ pub data Halt : Type 0 where
   OutOfTicks : Halt
   Stuck : Halt
   StuckAt : (body block : ℕ) → Halt
-  BadUse : (site : Site) → Halt
-  BadStore : (site : Site) → Halt
+  BadUse : (site : EffectSite) → Halt
+  BadStore : (site : EffectSite) → Halt
   NoChoice : Halt
   Infeasible : Halt
   Unreachable : Halt
@@ -108,10 +108,10 @@ pub data Choice (W : Type 0) : Type 0 where
 pub record Effects (W : Type 0) : Type 0 where
   pub act : Action → W → Out W
   pub choose : Test → W → Choice W
-  pub drop : Mode → Site → W → Out W
+  pub drop : Mode → EffectSite → W → Out W
   pub panic : Why → W → W
   pub tick : W → Out W
-  pub give : Site → W → Out W  -- a body ends with the value of its result
+  pub give : EffectSite → W → Out W  -- a body ends with the value of its result
 
 -- what comes next, where an effect goes on
 abbrev pub on_go : {W : Type 0} → Out W → (W → Out W) → Out W
@@ -137,6 +137,6 @@ DoesNotGoOn (Unwind w) = Unit {0}
 DoesNotGoOn (Halts halt w) = Unit {0}
 
 -- no action that stores into a place of the type `!` goes on
-abbrev pub StoresNoNever : {W : Type 0} → (W → Site → Bool) → Effects W → Type 0
+abbrev pub StoresNoNever : {W : Type 0} → (W → EffectSite → Bool) → Effects W → Type 0
 StoresNoNever {W} never_at p =
     (action : Action) (w : W) → stores_where (never_at w) action ≡ true → DoesNotGoOn (p.act action w)

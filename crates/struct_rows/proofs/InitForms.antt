@@ -2,16 +2,16 @@
 use Rattle.std.proofs.Common.{◌≡◌, refl, ap, ◌∙◌}
 use Rattle.mir_base.specs.declared.place_in_text.Pos.{Pos}
 use Rattle.mir_ty.specs.declared.adt.Variant.{Variant}
-use Rattle.src_tree.specs.declared.node.Node.{Node}
+use Rattle.src_tree.specs.declared.node.SyntaxNode.{SyntaxNode}
 use Rattle.src_ast.specs.Seen.{syn_of}
 use Rattle.src_ast.specs.Sorts.{init_part}
 use Rattle.src_ast.specs.Syntax.{Syn, syn, at_of, shape_of, Shape, Ident, LabelOf, Literal, TruthLiteral, Path, Minus, Bang, Star, Ampersand, Calculate, Compare, Both, Either, Store, CallOf, MethodOf, FieldOf, PartOf, ElementOf, StructOf, FieldInit, Parens, TupleOf, ArrayOf, Braces, IfElse, IfLetElse, MatchOn, ArmOf, LoopOf, WhileOf, WhileLetOf, BreakOf, ContinueOf, ReturnOf, MoveOf, PanicOf, LetOf, Empty, Semi, AnyPattern, BindPattern, LiteralPattern, TruthPattern, PathPattern, PartsPattern, FieldsPattern, FieldPattern, ParensPattern, TuplePattern, ArrayPattern, Alternatives, NamedType, GenericType, DynType, SelfType, ParensType, TupleType, ArrayType, NeverType, RefType, StructItem, EnumItem, FieldDecl, VariantDecl, TraitItem, ImplItem, FnItem, ParamOf, SelfParam, Odd}
 use Rattle.src_ast.proofs.Named.{seen_as}
-use Rattle.typing_rules.specs.Check.{State}
+use Rattle.typing_rules.specs.Check.{TypingState}
 use Rattle.typing_rules.specs.Scope.{Env}
 use Rattle.struct_rows.specs.Inits.{init_by, one_init}
 
-form_seen : (env : Env) (v : Variant) (at : Pos) (form : Shape) (s : State) → one_init env v (syn at form) s ≡ init_by env v at (init_part form) s
+form_seen : (env : Env) (v : Variant) (at : Pos) (form : Shape) (s : TypingState) → one_init env v (syn at form) s ≡ init_by env v at (init_part form) s
 form_seen env v at (Ident a) s = refl
 form_seen env v at (LabelOf a) s = refl
 form_seen env v at (Literal a b) s = refl
@@ -84,9 +84,9 @@ form_seen env v at (ParamOf a b) s = refl
 form_seen env v at (SelfParam a) s = refl
 form_seen env v at Odd s = refl
 
-by_form : (env : Env) (v : Variant) (x : Syn) (s : State) → one_init env v x s ≡ init_by env v (at_of x) (init_part (shape_of x)) s
+by_form : (env : Env) (v : Variant) (x : Syn) (s : TypingState) → one_init env v x s ≡ init_by env v (at_of x) (init_part (shape_of x)) s
 by_form env v (syn at form) s = form_seen env v at form s
 
-pub init_seen : (env : Env) (v : Variant) (n : Node) (s : State) → one_init env v (syn_of n) s ≡ init_by env v n.at (init_part (shape_of (syn_of n))) s
+pub init_seen : (env : Env) (v : Variant) (n : SyntaxNode) (s : TypingState) → one_init env v (syn_of n) s ≡ init_by env v n.at (init_part (shape_of (syn_of n))) s
 init_seen env v n s =
     by_form env v (syn_of n) s ∙ ap (λ (x : Syn). init_by env v (at_of x) (init_part (shape_of (syn_of n))) s) (seen_as n)

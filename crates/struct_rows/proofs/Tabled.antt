@@ -13,7 +13,7 @@ use Rattle.src_ast.specs.Syntax.{Word}
 use Rattle.struct_rows.specs.Fields.{variant_of}
 use Rattle.type_env.specs.Members.{adt_names}
 use Rattle.type_env.specs.declared.members.AdtNames.{AdtNames}
-use Rattle.type_rows.specs.Tables.{IsReady}
+use Rattle.type_rows.specs.Tables.{AreTablesOf}
 use Rattle.type_rows.specs.declared.tables.Tables.{Tables}
 use Rattle.typing_rules.specs.Scope.{field_named}
 use Rattle.typing_rules.specs.Typed.{no_variant}
@@ -45,14 +45,14 @@ module _ (variant : ℕ) where
       ap (λ names. option_map_or (λ names. names) names []) (slice_get-map (λ (v : Variant). v.field_names) def.variants variant)
       ∙ of_variant (slice_get def.variants variant)
 
-  names_are : (items : ItemTable) (t : Tables) (adt : ℕ) → IsReady items t → names_in t adt variant ≡ (variant_of items adt variant).field_names
+  names_are : (items : ItemTable) (t : Tables) (adt : ℕ) → AreTablesOf items t → names_in t adt variant ≡ (variant_of items adt variant).field_names
   unfolding by_names by_items
   names_are items t adt ready =
       ap by_names (ap (λ (ns : List AdtNames). slice_get ns adt) ready.members ∙ slice_get-map adt_names items.adts adt)
       ∙ same_names (slice_get items.adts adt)
 
 -- the variant of the items, by the tables
-pub variant_is : (items : ItemTable) (t : Tables) (adt variant : ℕ) (types : List TyId) → IsReady items t → types ≡ (variant_of items adt variant).fields →
+pub variant_is : (items : ItemTable) (t : Tables) (adt variant : ℕ) (types : List TyId) → AreTablesOf items t → types ≡ (variant_of items adt variant).fields →
     variant_by (variant_of items adt variant).name t adt variant types ≡ variant_of items adt variant
 variant_is items t adt variant types ready same =
     λ i. record { name = (variant_of items adt variant).name; fields = same i; field_names = names_are variant items t adt ready i }

@@ -10,7 +10,7 @@ use Rattle.src_ast.specs.Syntax.{Syn, syn, Syns, no_syn, a_syn, Shape, Ident, La
 use Rattle.struct_rows.specs.Fields.{numbered_by}
 use Rattle.type_rows.specs.Stand.{below, top}
 use Rattle.typed_tree.specs.Tree.{Node, Nodes, no_node, a_node, Fields, no_field, a_field}
-use Rattle.typing_rules.specs.Check.{Broken, Check, State, and_then, pure}
+use Rattle.typing_rules.specs.Check.{Broken, Check, TypingState, and_then, pure}
 use Rattle.typing_rules.specs.Rows.{Given}
 use Rattle.typing_rules.specs.Scope.{Env, field_named}
 use Rattle.typing_rules.specs.Typed.{field_want, init_value, or_zero, typed_inits}
@@ -80,12 +80,12 @@ all_before (g ∷ given) (a_node x xs) = ap (a_field (or_zero g) x) (all_before 
 abbrev with_rest : Env → Variant → Syns → Option ℕ × Node → Check (Fields × Given)
 with_rest env v rest n = λ t. and_then (typed_inits env v rest t) (λ fs. pure (a_field (or_zero n.0) n.1 fs.0, n.0 ∷ fs.1))
 
-named_first : (k : Option ℕ) (f : Option ℕ × Node → Check (Fields × Given)) (o : Result (Node × State) Broken) →
+named_first : (k : Option ℕ) (f : Option ℕ × Node → Check (Fields × Given)) (o : Result (Node × TypingState) Broken) →
     and_then o (λ n. f (k, n)) ≡ and_then (and_then o (λ n. pure (k, n))) f
 named_first k f (Ok n) = refl
 named_first k f (Err e) = refl
 
-with_form : (env : Env) (v : Variant) (at : Pos) (form : Shape) (rest : Syns) (s : State) →
+with_form : (env : Env) (v : Variant) (at : Pos) (form : Shape) (rest : Syns) (s : TypingState) →
     typed_inits env v (a_syn (syn at form) rest) s ≡ and_then (one_init env v (syn at form) s) (with_rest env v rest)
 with_form env v at (Ident a) rest s = refl
 with_form env v at (LabelOf a) rest s = refl
@@ -160,11 +160,11 @@ with_form env v at (ParamOf a b) rest s = refl
 with_form env v at (SelfParam a) rest s = refl
 with_form env v at Odd rest s = refl
 
-with_init : (env : Env) (v : Variant) (x : Syn) (rest : Syns) (s : State) →
+with_init : (env : Env) (v : Variant) (x : Syn) (rest : Syns) (s : TypingState) →
     typed_inits env v (a_syn x rest) s ≡ and_then (one_init env v x s) (with_rest env v rest)
 with_init env v (syn at form) rest s = with_form env v at form rest s
 
-one_behind : (given : Given) (number : Option ℕ) (ns ms : List Node) (o : Result ((Fields × Given) × State) Broken) → below ms ≡ ns →
+one_behind : (given : Given) (number : Option ℕ) (ns ms : List Node) (o : Result ((Fields × Given) × TypingState) Broken) → below ms ≡ ns →
     behind_inits given ns (and_then o (λ fs. pure (a_field (or_zero number) (top ms) fs.0, number ∷ fs.1))) ≡ behind_inits (given ++ number ∷ []) ms o
 one_behind given number ns ms (Ok a) h =
     ap (λ (l : List Node). Ok ((fields_before given (last_nodes (length given) l) (a_field (or_zero number) (top ms) a.0.0), given ++ number ∷ a.0.1), a.1)) (sym h)
@@ -172,7 +172,7 @@ one_behind given number ns ms (Ok a) h =
 one_behind given number ns ms (Err e) h = refl
 
 -- one more field
-pub one_field : (env : Env) (v : Variant) (whole : Result ((Fields × Given) × State) Broken) (given : Given) (number : Option ℕ) (ns ms : List Node) (ss : Syns) (x : Syn) (xs : Syns) (s t : State) →
+pub one_field : (env : Env) (v : Variant) (whole : Result ((Fields × Given) × TypingState) Broken) (given : Given) (number : Option ℕ) (ns ms : List Node) (ss : Syns) (x : Syn) (xs : Syns) (s t : TypingState) →
     whole ≡ behind_inits given ns (typed_inits env v ss s) → a_syn x xs ≡ ss → one_init env v x s ≡ Ok ((number, top ms), t) → below ms ≡ ns →
     whole ≡ behind_inits (given ++ number ∷ []) ms (typed_inits env v xs t)
 one_field env v whole given number ns ms ss x xs s t h split here under =
@@ -182,7 +182,7 @@ one_field env v whole given number ns ms ss x xs s t h split here under =
     ∙ one_behind given number ns ms (typed_inits env v xs t) under
 
 -- no more fields
-pub no_more : (env : Env) (v : Variant) (whole : Result ((Fields × Given) × State) Broken) (given : Given) (ns : List Node) (ss : Syns) (s : State) →
+pub no_more : (env : Env) (v : Variant) (whole : Result ((Fields × Given) × TypingState) Broken) (given : Given) (ns : List Node) (ss : Syns) (s : TypingState) →
     whole ≡ behind_inits given ns (typed_inits env v ss s) → no_syn ≡ ss → whole ≡ Ok ((numbered_by given (last_nodes (length given) ns), given), s)
 no_more env v whole given ns ss s h is =
     h ∙ ap (λ z. behind_inits given ns (typed_inits env v z s)) (sym is)
@@ -193,14 +193,14 @@ pub below_more : (given : Given) (number : Option ℕ) (ms : List Node) → belo
 below_more given number ms = ap (λ k. below_all k ms) (one_longer given number)
 
 -- a field that is refused
-refuses_behind : (given : Given) (ns : List Node) (o : Result ((Option ℕ × Node) × State) Broken) (f : Option ℕ × Node → Check (Fields × Given)) (e : RuleError) → Refuses o e →
+refuses_behind : (given : Given) (ns : List Node) (o : Result ((Option ℕ × Node) × TypingState) Broken) (f : Option ℕ × Node → Check (Fields × Given)) (e : RuleError) → Refuses o e →
     Refuses (behind_inits given ns (and_then o f)) e
 refuses_behind given ns o f (RuleError.Broken rule at) h = ap (λ r. behind_inits given ns (and_then r f)) h
 refuses_behind given ns o f RuleError.Memory h = tt
 
-pub field_refused : (env : Env) (v : Variant) (whole : Result ((Fields × Given) × State) Broken) (given : Given) (ns : List Node) (ss : Syns) (x : Syn) (xs : Syns) (s : State) (e : RuleError) →
+pub field_refused : (env : Env) (v : Variant) (whole : Result ((Fields × Given) × TypingState) Broken) (given : Given) (ns : List Node) (ss : Syns) (x : Syn) (xs : Syns) (s : TypingState) (e : RuleError) →
     whole ≡ behind_inits given ns (typed_inits env v ss s) → a_syn x xs ≡ ss → Refuses (one_init env v x s) e → Refuses whole e
 field_refused env v whole given ns ss x xs s e h split refused =
-    subst (λ (o : Result ((Fields × Given) × State) Broken). Refuses o e)
+    subst (λ (o : Result ((Fields × Given) × TypingState) Broken). Refuses o e)
     (sym (h ∙ ap (λ z. behind_inits given ns (typed_inits env v z s)) (sym split) ∙ ap (behind_inits given ns) (with_init env v x xs s)))
     (refuses_behind given ns (one_init env v x s) (with_rest env v xs) e refused)

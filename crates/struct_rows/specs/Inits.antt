@@ -15,7 +15,7 @@ use Rattle.type_rows.specs.Stand.{Stays, stack, state, top}
 use Rattle.type_rows.specs.declared.checker.Checker.{Checker}
 use Rattle.type_rows.specs.declared.tables.Tables.{Tables}
 use Rattle.typed_tree.specs.Tree.{Node, Nodes, no_node, a_node, Fields, a_field}
-use Rattle.typing_rules.specs.Check.{Broken, Check, State, ◌>>=◌, breaks, pure}
+use Rattle.typing_rules.specs.Check.{Broken, Check, TypingState, ◌>>=◌, breaks, pure}
 use Rattle.typing_rules.specs.Rows.{Given}
 use Rattle.typing_rules.specs.Scope.{Env, field_named}
 use Rattle.typing_rules.specs.Typed.{field_want, init_value, or_zero}
@@ -47,7 +47,7 @@ init_by env v at (Some (FieldInit name init)) = do
   pure (field_named v name, n)
 init_by env v at _ = breaks Rule.T20 at
 
-abbrev pub GivesInit : Result ((Option ℕ × Node) × State) Broken → Result (Option ℕ) RuleError → Checker → Type 0
+abbrev pub GivesInit : Result ((Option ℕ × Node) × TypingState) Broken → Result (Option ℕ) RuleError → Checker → Type 0
 GivesInit outcome (Ok number) after = outcome ≡ Ok ((number, top (stack after)), state after)
 GivesInit outcome (Err e) after = Refuses outcome e
 
@@ -61,13 +61,14 @@ fields_before (number ∷ given) (a_node first rest) others =
     a_field (or_zero number) first (fields_before given rest others)
 
 -- what is given of the rest, behind the fields of these numbers, whose nodes are the last ones
-abbrev pub behind_inits : Given → List Node → Result ((Fields × Given) × State) Broken → Result ((Fields × Given) × State)
+abbrev pub behind_inits : Given → List Node → Result ((Fields × Given) × TypingState) Broken →
+    Result ((Fields × Given) × TypingState)
     Broken
 behind_inits given ns (Ok a) = Ok ((fields_before given (last_nodes (length given) ns) a.0.0, given ++ a.0.1), a.1)
 behind_inits given ns (Err e) = Err e
 
 -- the last nodes are the fields of these numbers, which a check gives
-abbrev pub GivesInits : Result ((Fields × Given) × State) Broken → Result Given RuleError → Checker → Type 0
+abbrev pub GivesInits : Result ((Fields × Given) × TypingState) Broken → Result Given RuleError → Checker → Type 0
 GivesInits outcome (Ok given) after =
     outcome ≡ Ok ((numbered_by given (last_nodes (length given) (stack after)), given), state after)
 GivesInits outcome (Err e) after = Refuses outcome e

@@ -9,7 +9,7 @@ use Rattle.type_rows.specs.Stand.{state}
 use Rattle.type_rows.specs.declared.checker.Checker.{Checker}
 use Rattle.typed_tree.specs.Tree as tree
 use Rattle.typed_tree.specs.Tree.{Node, Fields}
-use Rattle.typing_rules.specs.Check.{Check, State, ◌>>=◌, ◌>>◌, pure, obeys}
+use Rattle.typing_rules.specs.Check.{Check, TypingState, ◌>>=◌, ◌>>◌, pure, obeys}
 use Rattle.typing_rules.specs.Places.{a_node_of}
 use Rattle.typing_rules.specs.Rows.{Given, all_given, are_known, fitted}
 
@@ -25,7 +25,8 @@ struct_rest id at adt variant ty count want fs =
     made_rest id at adt variant ty (all_given count fs.1 && length fs.1 == count) want fs
 
 -- what a check gives with the fields of a value, whatever they are, is what they give, and then the rest behind them
-abbrev pub GivesFields : {B : Type 0} → (Check (Fields × Given) → Check Node) → State → (B → Fields × Given → Check Node)
+abbrev pub GivesFields : {B : Type 0} → (Check (Fields × Given) → Check Node) → TypingState →
+    (B → Fields × Given → Check Node)
     → Result B RuleError → Checker → Type 0
 GivesFields check before rest (Ok b) after =
     (fields : Check (Fields × Given)) → check fields before ≡ (fields >>= rest b) (state after)

@@ -3,11 +3,11 @@ use Rattle.std.proofs.Common.{◌≡◌, Bool, true, false, ◌&&◌, ◌⊎◌,
 use Rattle.std.proofs.lemmas.Bool.{and_parts}
 use Rattle.src_token.specs.declared.mark.Mark.{Mark}
 use Rattle.src_token.specs.declared.token.Token.{Token}
-use Rattle.src_tree.specs.declared.kind.Kind.{Kind}
-use Rattle.src_tree.specs.declared.place.Part.{Part}
-use Rattle.src_tree.specs.declared.place.Place.{Place}
-use Rattle.src_tree.specs.declared.row.Row.{Row}
-use Rattle.src_tree.specs.Grammar.{place_of, Rest, ends, token, either, part, maybe, list, more, many, items, alternatives, statements, arms, arm_body, after_break, is, comma, move, behind, behind_statement, behind_arm, behind_body, behind_break, made}
+use Rattle.src_tree.specs.declared.kind.TokenKind.{TokenKind}
+use Rattle.src_tree.specs.declared.place.GrammarPart.{GrammarPart}
+use Rattle.src_tree.specs.declared.place.GrammarPlace.{GrammarPlace}
+use Rattle.src_tree.specs.declared.row.GrammarRow.{GrammarRow}
+use Rattle.src_tree.specs.Grammar.{place_of, GrammarRest, ends, token, either, part, maybe, list, more, many, items, alternatives, statements, arms, arm_body, after_break, is, comma, move, behind, behind_statement, behind_arm, behind_body, behind_break, made}
 use Rattle.src_tree.specs.Layout.{node, end, tok, sub, row_of, due_place, Levelled, Follows}
 use Rattle.tree_shapes.proofs.Good.{Tree, Held, IsQuiet, IsExpr, IsLabel, IsItem, RowIs, Stands, Each, EachBut}
 use Rattle.tree_shapes.proofs.Tokens.{IsPlain, TokenDue, token_due}
@@ -30,40 +30,40 @@ IsLoose (tok t rest) = IsTrue (is_loose t) × IsLoose rest
 IsLoose (sub g rest) = IsLoose rest
 
 abbrev pub Claims : Type 1
-Claims = Row → Held → Type 0
+Claims = GrammarRow → Held → Type 0
 
-abbrev pub Due : Bool → Rest → (Row → Held → Type 0) → Type 0
-Due head (ends r) C = C r end
-Due head (token k after) C = TokenDue k (λ t. Due head after (λ r rest. C r (tok t rest)))
-Due head (either k after other) C = TokenDue k (λ t. Due head after (λ r rest. C r (tok t rest))) × Due head other C
-Due head (part p after) C = (g : Tree) → Stands (place_of head p) g → Due head after (λ r rest. C r (sub g rest))
-Due head (maybe p after r) C =
-    C r end × ((g : Tree) → Stands (place_of head p) g → Due head after (λ r rest. C r (sub g rest)))
-Due head (list p later dots close after) C =
+abbrev pub DuePart : Bool → GrammarRest → (GrammarRow → Held → Type 0) → Type 0
+DuePart head (ends r) C = C r end
+DuePart head (token k after) C = TokenDue k (λ t. DuePart head after (λ r rest. C r (tok t rest)))
+DuePart head (either k after other) C = TokenDue k (λ t. DuePart head after (λ r rest. C r (tok t rest))) × DuePart head other C
+DuePart head (part p after) C = (g : Tree) → Stands (place_of head p) g → DuePart head after (λ r rest. C r (sub g rest))
+DuePart head (maybe p after r) C =
+    C r end × ((g : Tree) → Stands (place_of head p) g → DuePart head after (λ r rest. C r (sub g rest)))
+DuePart head (list p later dots close after) C =
     (gs : Held) → EachBut (Stands (place_of head p)) (Stands (place_of head later)) gs → IsLoose gs → TokenDue close (λ
-    t. Due head after (λ r rest. C r (gs ⊕ tok t rest)))
-Due head (more p dots close after) C =
-    (gs : Held) → Each (Stands (place_of head p)) gs → IsLoose gs → TokenDue close (λ t. Due head after (λ r rest. C r
+    t. DuePart head after (λ r rest. C r (gs ⊕ tok t rest)))
+DuePart head (more p dots close after) C =
+    (gs : Held) → Each (Stands (place_of head p)) gs → IsLoose gs → TokenDue close (λ t. DuePart head after (λ r rest. C r
     (gs ⊕ tok t rest)))
-Due head (many p close after) C =
-    (gs : Held) → Each (Stands (place_of head p)) gs → IsLoose gs → TokenDue close (λ t. Due head after (λ r rest. C r
+DuePart head (many p close after) C =
+    (gs : Held) → Each (Stands (place_of head p)) gs → IsLoose gs → TokenDue close (λ t. DuePart head after (λ r rest. C r
     (gs ⊕ tok t rest)))
-Due head items C = (gs : Held) → Each IsItem gs → C Row.File gs
-Due head alternatives C = (gs : Held) → Each IsQuiet gs → C Row.OrPattern gs
-Due head (statements o) C = (gs : Held) → Each IsExpr gs → C Row.Block gs
-Due head (arms some) C = (gs : Held) → Each IsExpr gs → C Row.Match gs
-Due head arm_body C =
-    (g : Tree) → IsExpr g → (C Row.Arm (sub g end) × C Row.Arm (sub g (tok (Token.Mark Mark.Comma) end)))
-    × C Row.LastArm (sub g end)
-Due head after_break C =
-    C Row.Break end × ((g : Tree) → IsExpr g ⊎ IsLabel g → C Row.Break (sub g end)) × ((g v : Tree) → IsLabel g → IsExpr
-    v → C Row.Break (sub g (sub v end)))
+DuePart head items C = (gs : Held) → Each IsItem gs → C GrammarRow.File gs
+DuePart head alternatives C = (gs : Held) → Each IsQuiet gs → C GrammarRow.OrPattern gs
+DuePart head (statements o) C = (gs : Held) → Each IsExpr gs → C GrammarRow.Block gs
+DuePart head (arms some) C = (gs : Held) → Each IsExpr gs → C GrammarRow.Match gs
+DuePart head arm_body C =
+    (g : Tree) → IsExpr g → (C GrammarRow.Arm (sub g end) × C GrammarRow.Arm (sub g (tok (Token.Mark Mark.Comma) end)))
+    × C GrammarRow.LastArm (sub g end)
+DuePart head after_break C =
+    C GrammarRow.Break end × ((g : Tree) → IsExpr g ⊎ IsLabel g → C GrammarRow.Break (sub g end)) × ((g v : Tree) → IsLabel g → IsExpr
+    v → C GrammarRow.Break (sub g (sub v end)))
 
 -- ---- a part that is there
 
 -- a node is what it is by its row, wherever it may stand
 abbrev pub Fits : Tree → Type 0
-Fits g = (c : Place) → Levelled (Some c) g → Stands c g × RowIs c.head (row_of g) g
+Fits g = (c : GrammarPlace) → Levelled (Some c) g → Stands c g × RowIs c.head (row_of g) g
 
 abbrev pub Subs : Held → Type 0
 Subs end = Unit {0}
@@ -73,7 +73,7 @@ Subs (sub g rest) = Fits g × Subs rest
 no_node : (g : Tree) → Levelled None g → ⊥
 no_node (node at r parts) h = h
 
-no_follow : (head : Bool) (r : Row) (parts : Held) → Follows head None r parts → ⊥
+no_follow : (head : Bool) (r : GrammarRow) (parts : Held) → Follows head None r parts → ⊥
 no_follow head r end h = h
 no_follow head r (tok t rest) h = h
 no_follow head r (sub g rest) h = h
@@ -94,11 +94,11 @@ each_of_both F (sub g rest) h = h
 is_comma : (t : Token) → is comma t ≡ true → IsPlain t → IsTrue (is_loose t)
 is_comma t e p = token_due comma t (λ t. IsTrue (is_loose t)) e p refl
 
-is_dots : (t : Token) → is (Kind.Mark Mark.DotDot) t ≡ true → IsPlain t → IsTrue (is_loose t)
-is_dots t e p = token_due (Kind.Mark Mark.DotDot) t (λ t. IsTrue (is_loose t)) e p refl
+is_dots : (t : Token) → is (TokenKind.Mark Mark.DotDot) t ≡ true → IsPlain t → IsTrue (is_loose t)
+is_dots t e p = token_due (TokenKind.Mark Mark.DotDot) t (λ t. IsTrue (is_loose t)) e p refl
 
 module _ (head : Bool) where
-  due_end : (q : Rest) (C : Row → Held → Type 0) → Due head q C → (r : Row) → made q ≡ Some r → C r end
+  due_end : (q : GrammarRest) (C : GrammarRow → Held → Type 0) → DuePart head q C → (r : GrammarRow) → made q ≡ Some r → C r end
   due_end (ends x) C d r e = let s : x ≡ r = cc in subst (λ x. C x end) s d
   due_end (token k after) C d r e = none_is _ r e
   due_end (either k after other) C d r e = due_end other C d.1 r e
@@ -107,18 +107,18 @@ module _ (head : Bool) where
   due_end (list p later dots close after) C d r e = none_is _ r e
   due_end (more p dots close after) C d r e = none_is _ r e
   due_end (many p close after) C d r e = none_is _ r e
-  due_end items C d r e = let s : Row.File ≡ r = cc in subst (λ x. C x end) s (d end tt)
-  due_end alternatives C d r e = let s : Row.OrPattern ≡ r = cc in subst (λ x. C x end) s (d end tt)
+  due_end items C d r e = let s : GrammarRow.File ≡ r = cc in subst (λ x. C x end) s (d end tt)
+  due_end alternatives C d r e = let s : GrammarRow.OrPattern ≡ r = cc in subst (λ x. C x end) s (d end tt)
   due_end (statements o) C d r e = none_is _ r e
   due_end (arms some) C d r e = none_is _ r e
   due_end arm_body C d r e = none_is _ r e
-  due_end after_break C d r e = let s : Row.Break ≡ r = cc in subst (λ x. C x end) s d.0
+  due_end after_break C d r e = let s : GrammarRow.Break ≡ r = cc in subst (λ x. C x end) s d.0
 
   -- behind a token
-  abbrev Behind : (Row → Held → Type 0) → Token → Rest → Type 0
-  Behind C t q = Due head q (λ r rest. C r (tok t rest))
+  abbrev Behind : (GrammarRow → Held → Type 0) → Token → GrammarRest → Type 0
+  Behind C t q = DuePart head q (λ r rest. C r (tok t rest))
 
-  due_tok : (q : Rest) (C : Row → Held → Type 0) → Due head q C → (t : Token) → IsPlain t → (q1 : Rest) → move q t ≡
+  due_tok : (q : GrammarRest) (C : GrammarRow → Held → Type 0) → DuePart head q C → (t : Token) → IsPlain t → (q1 : GrammarRest) → move q t ≡
       Some q1 → Behind C t q1
   due_tok (ends x) C d t p q1 e = none_is _ q1 e
   due_tok (token k after) C d t p q1 e =
@@ -129,9 +129,9 @@ module _ (head : Bool) where
   due_tok (part x after) C d t p q1 e = none_is _ q1 e
   due_tok (maybe x after r) C d t p q1 e = none_is _ q1 e
   due_tok (list x later dots close after) C d t p q1 e =
-      choose (Behind C t) (is close t) after (if dots && is (Kind.Mark Mark.DotDot) t then Some (token close after) else
+      choose (Behind C t) (is close t) after (if dots && is (TokenKind.Mark Mark.DotDot) t then Some (token close after) else
       None) q1 e (λ i. token_due close t (λ t. Behind C t after) i p (d end tt tt))
-      (λ f. choose (Behind C t) (dots && is (Kind.Mark Mark.DotDot) t) (token close after) None q1 f (λ i. d (tok t end)
+      (λ f. choose (Behind C t) (dots && is (TokenKind.Mark Mark.DotDot) t) (token close after) None q1 f (λ i. d (tok t end)
       tt (is_dots t (and_parts dots _ i).1 p, tt)) (none_is _ q1))
   due_tok (more x dots close after) C d t p q1 e =
       choose (Behind C t) (is close t) after (if is comma t then Some (list x x dots close after) else None) q1 e
@@ -143,55 +143,55 @@ module _ (head : Bool) where
       tt)) (none_is _ q1)
   due_tok items C d t p q1 e = none_is _ q1 e
   due_tok alternatives C d t p q1 e =
-      choose (Behind C t) (is (Kind.Mark Mark.Or) t) _ None q1 e (λ i g k gs l. d (tok t (sub g gs)) (k, l)) (none_is _
+      choose (Behind C t) (is (TokenKind.Mark Mark.Or) t) _ None q1 e (λ i g k gs l. d (tok t (sub g gs)) (k, l)) (none_is _
       q1)
   due_tok (statements o) C d t p q1 e =
-      choose (Behind C t) (is (Kind.Mark Mark.CloseBrace) t) _ None q1 e (λ i. d (tok t end) tt) (none_is _ q1)
+      choose (Behind C t) (is (TokenKind.Mark Mark.CloseBrace) t) _ None q1 e (λ i. d (tok t end) tt) (none_is _ q1)
   due_tok (arms some) C d t p q1 e =
-      choose (Behind C t) (some && is (Kind.Mark Mark.CloseBrace) t) _ None q1 e (λ i. d (tok t end) tt) (none_is _ q1)
+      choose (Behind C t) (some && is (TokenKind.Mark Mark.CloseBrace) t) _ None q1 e (λ i. d (tok t end) tt) (none_is _ q1)
   due_tok arm_body C d t p q1 e = none_is _ q1 e
   due_tok after_break C d t p q1 e = none_is _ q1 e
 
   -- behind a part
-  abbrev Beyond : (Row → Held → Type 0) → Tree → Rest → Type 0
-  Beyond C g q = Due head q (λ r rest. C r (sub g rest))
+  abbrev Beyond : (GrammarRow → Held → Type 0) → Tree → GrammarRest → Type 0
+  Beyond C g q = DuePart head q (λ r rest. C r (sub g rest))
 
-  statement_due : (C : Row → Held → Type 0) → ((gs : Held) → Each IsExpr gs → C Row.Block gs) → (g : Tree) → IsExpr g
-      → (r : Row) → Beyond C g (behind_statement r)
-  statement_due C d g k Row.Let = λ gs e. d (sub g gs) (k, e)
-  statement_due C d g k Row.Semi = λ gs e. d (sub g gs) (k, e)
-  statement_due C d g k Row.Empty = λ gs e. d (sub g gs) (k, e)
-  statement_due C d g k Row.Block = λ gs e. d (sub g gs) (k, e)
-  statement_due C d g k Row.If = λ gs e. d (sub g gs) (k, e)
-  statement_due C d g k Row.Match = λ gs e. d (sub g gs) (k, e)
-  statement_due C d g k Row.Loop = λ gs e. d (sub g gs) (k, e)
-  statement_due C d g k Row.While = λ gs e. d (sub g gs) (k, e)
+  statement_due : (C : GrammarRow → Held → Type 0) → ((gs : Held) → Each IsExpr gs → C GrammarRow.Block gs) → (g : Tree) → IsExpr g
+      → (r : GrammarRow) → Beyond C g (behind_statement r)
+  statement_due C d g k GrammarRow.Let = λ gs e. d (sub g gs) (k, e)
+  statement_due C d g k GrammarRow.Semi = λ gs e. d (sub g gs) (k, e)
+  statement_due C d g k GrammarRow.Empty = λ gs e. d (sub g gs) (k, e)
+  statement_due C d g k GrammarRow.Block = λ gs e. d (sub g gs) (k, e)
+  statement_due C d g k GrammarRow.If = λ gs e. d (sub g gs) (k, e)
+  statement_due C d g k GrammarRow.Match = λ gs e. d (sub g gs) (k, e)
+  statement_due C d g k GrammarRow.Loop = λ gs e. d (sub g gs) (k, e)
+  statement_due C d g k GrammarRow.While = λ gs e. d (sub g gs) (k, e)
   statement_due C d g k _ = d (sub g (tok (Token.Mark Mark.CloseBrace) end)) (k, tt)
 
-  arm_due : (C : Row → Held → Type 0) → ((gs : Held) → Each IsExpr gs → C Row.Match gs) → (g : Tree) → IsExpr g → (r :
-      Row) → Beyond C g (behind_arm r)
-  arm_due C d g k Row.Arm = λ gs e. d (sub g gs) (k, e)
+  arm_due : (C : GrammarRow → Held → Type 0) → ((gs : Held) → Each IsExpr gs → C GrammarRow.Match gs) → (g : Tree) → IsExpr g → (r :
+      GrammarRow) → Beyond C g (behind_arm r)
+  arm_due C d g k GrammarRow.Arm = λ gs e. d (sub g gs) (k, e)
   arm_due C d g k _ = d (sub g (tok (Token.Mark Mark.CloseBrace) end)) (k, tt)
 
-  body_due : (C : Row → Held → Type 0) → Due head arm_body C → (g : Tree) → IsExpr g → (r : Row) → Beyond C g
+  body_due : (C : GrammarRow → Held → Type 0) → DuePart head arm_body C → (g : Tree) → IsExpr g → (r : GrammarRow) → Beyond C g
       (behind_body r)
-  body_due C d g k Row.Block = let a = (d g k).0 in (a.1, a.0)
+  body_due C d g k GrammarRow.Block = let a = (d g k).0 in (a.1, a.0)
   body_due C d g k _ = let a = d g k in (a.0.1, a.1)
 
-  either_part : (head : Bool) (g : Tree) → Stands (place_of head Part.AfterBreak) g → IsExpr g ⊎ IsLabel g
+  either_part : (head : Bool) (g : Tree) → Stands (place_of head GrammarPart.AfterBreak) g → IsExpr g ⊎ IsLabel g
   either_part true g k = k
   either_part false g k = k
 
-  pub value_part : (head : Bool) (g : Tree) → Stands (place_of head Part.AfterReturn) g → IsExpr g
+  pub value_part : (head : Bool) (g : Tree) → Stands (place_of head GrammarPart.AfterReturn) g → IsExpr g
   value_part true g k = k
   value_part false g k = k
 
-  break_due : (C : Row → Held → Type 0) → Due head after_break C → (g : Tree) → IsExpr g ⊎ IsLabel g → (r : Row) →
+  break_due : (C : GrammarRow → Held → Type 0) → DuePart head after_break C → (g : Tree) → IsExpr g ⊎ IsLabel g → (r : GrammarRow) →
       RowIs head r g → Beyond C g (behind_break r)
-  break_due C d g k Row.LabelName l = (d.1 g k, λ v e. d.2 g v l (value_part head v e))
+  break_due C d g k GrammarRow.LabelName l = (d.1 g k, λ v e. d.2 g v l (value_part head v e))
   break_due C d g k _ l = d.1 g k
 
-  due_sub : (q : Rest) (C : Row → Held → Type 0) → Due head q C → (g : Tree) → Fits g → Levelled (due_place head q) g →
+  due_sub : (q : GrammarRest) (C : GrammarRow → Held → Type 0) → DuePart head q C → (g : Tree) → Fits g → Levelled (due_place head q) g →
       Beyond C g (behind q (row_of g))
   due_sub (ends x) C d g f h = absurd (no_node g h)
   due_sub (token k after) C d g f h = absurd (no_node g h)
@@ -209,15 +209,15 @@ module _ (head : Bool) where
   due_sub arm_body C d g f h = body_due C d g (f _ h).0 (row_of g)
   due_sub after_break C d g f h = break_due C d g (either_part head g (f _ h).0) (row_of g) (f _ h).1
 
-  on_token : (q : Rest) (t : Token) (r : Row) (rest : Held) → Follows head (move q t) r rest → (X : Type 0) → ((q1 :
-      Rest) → move q t ≡ Some q1 → Follows head (Some q1) r rest → X) → X
+  on_token : (q : GrammarRest) (t : Token) (r : GrammarRow) (rest : Held) → Follows head (move q t) r rest → (X : Type 0) → ((q1 :
+      GrammarRest) → move q t ≡ Some q1 → Follows head (Some q1) r rest → X) → X
   on_token q t r rest h X f = by (move q t) refl h
     where
-      by : (o : Option Rest) → move q t ≡ o → Follows head o r rest → X
+      by : (o : Option GrammarRest) → move q t ≡ o → Follows head o r rest → X
       by None e k = absurd (no_follow head r rest k)
       by (Some q1) e k = f q1 e k
 
-  pub due_ok : (q : Rest) (C : Row → Held → Type 0) → Due head q C → (r : Row) (parts : Held) → Follows head (Some q) r
+  pub due_ok : (q : GrammarRest) (C : GrammarRow → Held → Type 0) → DuePart head q C → (r : GrammarRow) (parts : Held) → Follows head (Some q) r
       parts → Subs parts → C r parts
   due_ok q C d r end h s = due_end q C d r h
   due_ok q C d r (tok t rest) h s =

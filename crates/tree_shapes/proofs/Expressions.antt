@@ -5,22 +5,22 @@ use Rattle.mir_base.specs.declared.place_in_text.Pos.{Pos}
 use Rattle.src_token.specs.declared.mark.Mark.{Mark}
 use Rattle.src_token.specs.declared.token.Token.{Token}
 use Rattle.src_token.specs.declared.word.Word.{Word as Keyword}
-use Rattle.src_tree.specs.declared.kind.Kind.{Kind as TokenKind}
-use Rattle.src_tree.specs.declared.place.Part.{Part}
+use Rattle.src_tree.specs.declared.kind.TokenKind.{TokenKind}
+use Rattle.src_tree.specs.declared.place.GrammarPart.{GrammarPart}
 use Rattle.src_tree.specs.declared.place.Start.{Start}
-use Rattle.src_tree.specs.declared.row.Row.{Row}
+use Rattle.src_tree.specs.declared.row.GrammarRow.{GrammarRow}
 use Rattle.src_tree.specs.declared.row.Sort.{Sort}
 use Rattle.src_tree.specs.declared.place.Seen.{Seen}
 use Rattle.src_tree.specs.Grammar as grammar
-use Rattle.src_tree.specs.Grammar.{Entry, Joined, Rest, first}
+use Rattle.src_tree.specs.Grammar.{NodeBeginning, Joined, GrammarRest, first}
 use Rattle.src_tree.specs.Layout.{node, end, tok, sub}
 use Rattle.src_ast.specs.Syntax.{Word, Syn, syn, Shape, Braces, Parens, TupleOf, Syns, no_syn, a_syn, MaybeSyn, nothing, just}
 use Rattle.src_ast.specs.View.{view, tokens_in, views, has, has_mark, ident_in, ident_name, first_of, rest_of, last_of, but_last, is_label, label_name, is_statement, block_by, round}
-use Rattle.typing_rules.specs.Written.{Around}
+use Rattle.typing_rules.specs.Written.{WrittenScope}
 use Rattle.well_typed.specs.Claim.{Holds}
 use Rattle.typing_soundness.specs.Closures.{BodySyn, closures_of, closures_in, closures_among, closures_if_any}
 use Rattle.typing_soundness.specs.Shapes.{is_plain, is_block, shaped_form, all_shaped, maybe_shaped}
-use Rattle.tree_shapes.proofs.Due.{◌⊕◌, IsLoose, Due, value_part}
+use Rattle.tree_shapes.proofs.Due.{◌⊕◌, IsLoose, DuePart, value_part}
 use Rattle.tree_shapes.proofs.Functions.{closure_due}
 use Rattle.tree_shapes.proofs.Good.{Tree, Held, Tells, IsName, IsQuiet, IsExpr, IsLabel, IsBlock, RowIs, AtExpr, AtPattern, Stands, Each, EachBut}
 use Rattle.tree_shapes.proofs.Telling.{quiet, expr, of_quiet, each_join, each_map, each_of, has_behind, round_part}
@@ -43,7 +43,7 @@ name_plain g k = subst (λ v. IsTrue (is_plain (ident_name (just v)))) (sym k.is
 
 -- ---- blocks
 
-last_closures : (around : Around) (ss : Syns) (rest : List BodySyn) → closures_among around ss rest ≡ closures_among
+last_closures : (around : WrittenScope) (ss : Syns) (rest : List BodySyn) → closures_among around ss rest ≡ closures_among
     around (but_last ss) (closures_if_any around (last_of ss) rest)
 last_closures around no_syn rest = refl
 last_closures around (a_syn a no_syn) rest = refl
@@ -55,7 +55,7 @@ last_shape no_syn h = (refl, refl)
 last_shape (a_syn a no_syn) h = (refl, h.0)
 last_shape (a_syn a (a_syn b ss)) h = let k = last_shape (a_syn b ss) h.1 in ((h.0, k.0), k.1)
 
-block_closures : (around : Around) (ss : Syns) (last : MaybeSyn) → ((rest : List BodySyn) → closures_among around ss
+block_closures : (around : WrittenScope) (ss : Syns) (last : MaybeSyn) → ((rest : List BodySyn) → closures_among around ss
     rest ≡ closures_among around (but_last ss) (closures_if_any around last rest)) → (rest : List BodySyn) →
     closures_among around ss rest ≡ closures_in around (block_by ss last) rest
 block_closures around ss nothing h rest = refl
@@ -84,7 +84,7 @@ block_is P h ss (just last) = by (is_statement last)
     by true = h ss nothing
     by false = h (but_last ss) (just last)
 
-block_row : (at : Pos) (parts : Held) → Each IsExpr parts → IsBlock (node at Row.Block parts)
+block_row : (at : Pos) (parts : Held) → Each IsExpr parts → IsBlock (node at GrammarRow.Block parts)
 block_row at parts e =
     let ss = views parts in
     let shapes = all_shape parts e in
@@ -97,7 +97,7 @@ block_row at parts e =
 
 -- ---- parentheses
 
-round_closures : (around : Around) (ts : List Token) (ss : Syns) (rest : List BodySyn) → closures_among around ss rest ≡
+round_closures : (around : WrittenScope) (ts : List Token) (ss : Syns) (rest : List BodySyn) → closures_among around ss rest ≡
     closures_in around (round Parens TupleOf ts ss) rest
 round_closures around ts no_syn rest = refl
 round_closures around ts (a_syn a no_syn) rest = by (has_mark Mark.Comma ts || has_mark Mark.DotDot ts)
@@ -116,7 +116,7 @@ round_shape ts (a_syn a no_syn) h = by (has_mark Mark.Comma ts || has_mark Mark.
     by false = h.0
 round_shape ts (a_syn a (a_syn b ss)) h = h
 
-round_row : (at : Pos) (gs : Held) → EachBut IsExpr IsExpr gs → IsExpr (node at Row.Round (tok (Token.Mark
+round_row : (at : Pos) (gs : Held) → EachBut IsExpr IsExpr gs → IsExpr (node at GrammarRow.Round (tok (Token.Mark
     Mark.OpenParenthesis) (gs ⊕ tok (Token.Mark Mark.CloseParenthesis) end)))
 round_row at gs e =
     let parts = tok (Token.Mark Mark.OpenParenthesis) (gs ⊕ tok (Token.Mark Mark.CloseParenthesis) end) in
@@ -128,7 +128,7 @@ round_row at gs e =
 
 -- ---- `break`
 
-module _ (around : Around) (l v : Syn) (rest : List BodySyn) where
+module _ (around : WrittenScope) (l v : Syn) (rest : List BodySyn) where
   if_label : (b : Bool) → is_label l ≡ b → (ss tt_ : Syns) → closures_if_any around (first_of (if is_label l then ss else
       tt_)) rest ≡ closures_if_any around (first_of (if b then ss else tt_)) rest
   if_label b e ss tt_ = ap (λ b. closures_if_any around (first_of (if b then ss else tt_)) rest) e
@@ -137,7 +137,7 @@ if_shape : (l : Syn) (b : Bool) → is_label l ≡ b → (ss tt_ : Syns) → Hol
     tt_))) → Holds (maybe_shaped (first_of (if is_label l then ss else tt_)))
 if_shape l b e ss tt_ h = subst (λ b. Holds (maybe_shaped (first_of (if b then ss else tt_)))) (sym e) h
 
-break_row : (at : Pos) (g : Tree) → IsExpr g ⊎ IsLabel g → IsExpr (node at Row.Break (tok (Token.Word Keyword.Break)
+break_row : (at : Pos) (g : Tree) → IsExpr g ⊎ IsLabel g → IsExpr (node at GrammarRow.Break (tok (Token.Word Keyword.Break)
     (sub g end)))
 break_row at g (inl k) =
     expr refl (k.tells, tt) (λ a r. sym (if_label a (view g) (view g) r false k.no_label no_syn (a_syn (view g) no_syn)))
@@ -146,7 +146,7 @@ break_row at g (inr k) =
     expr refl (k.tells, tt) (λ a r. k.silent a r ∙ sym (if_label a (view g) (view g) r true k.is no_syn (a_syn (view g)
     no_syn))) (if_shape (view g) true k.is no_syn (a_syn (view g) no_syn) refl) refl refl
 
-break_value : (at : Pos) (g v : Tree) → IsLabel g → IsExpr v → IsExpr (node at Row.Break (tok (Token.Word Keyword.Break)
+break_value : (at : Pos) (g v : Tree) → IsLabel g → IsExpr v → IsExpr (node at GrammarRow.Break (tok (Token.Word Keyword.Break)
     (sub g (sub v end))))
 break_value at g v k e =
     let one = a_syn (view v) no_syn in
@@ -155,7 +155,7 @@ break_value at g v k e =
 
 -- ---- struct expressions
 
-module _ (around : Around) (rest : List BodySyn) (b : Bool) (e : b ≡ false) where
+module _ (around : WrittenScope) (rest : List BodySyn) (b : Bool) (e : b ≡ false) where
   inits_closures : (ss : Syns) → closures_among around ss rest ≡ closures_among around (if b then rest_of ss else ss) rest
   inits_closures ss = sym (ap (λ b. closures_among around (if b then rest_of ss else ss) rest) e)
 
@@ -164,14 +164,14 @@ inits_shape : (b : Bool) → b ≡ false → (ss : Syns) → Holds (all_shaped s
 inits_shape b e ss h = subst (λ b. Holds (all_shaped (if b then rest_of ss else ss))) (sym e) h
 
 struct_name : (at : Pos) (n : Word) → IsTrue (is_plain (Some n)) → (gs : Held) → EachBut IsExpr IsExpr gs → IsLoose gs → IsExpr (node at
-    Row.StructExpr (tok (Token.Name n) (tok (Token.Mark Mark.OpenBrace) (gs ⊕ tok (Token.Mark Mark.CloseBrace) end))))
+    GrammarRow.StructExpr (tok (Token.Name n) (tok (Token.Mark Mark.OpenBrace) (gs ⊕ tok (Token.Mark Mark.CloseBrace) end))))
 struct_name at n p gs e l =
     let rest = gs ⊕ tok (Token.Mark Mark.CloseBrace) end in
     let b : has (TokenKind.Mark Mark.PathSep) (tokens_in rest) ≡ false = has_behind (TokenKind.Mark Mark.PathSep) gs
     (tok (Token.Mark Mark.CloseBrace) end) refl refl l in
     expr refl (tells_list gs _ e) (λ a r. inits_closures a r _ b (views rest)) (inits_shape _ b (views rest) (shape_list gs _ e)) refl refl
 
-path_name : (at : Pos) (self : Bool) (n : Word) → IsTrue (is_plain (Some n)) → Due self (grammar.path self) (λ r rest. RowIs self r (node at r (tok (Token.Name n) rest)))
+path_name : (at : Pos) (self : Bool) (n : Word) → IsTrue (is_plain (Some n)) → DuePart self (grammar.path self) (λ r rest. RowIs self r (node at r (tok (Token.Name n) rest)))
 path_name at true n p = (
   λ g k. expr refl (k.tells, tt) (λ a r. k.silent a r) (p, name_plain g k) refl refl,
   expr refl tt (λ a r. refl) (p, refl) refl refl,
@@ -188,14 +188,14 @@ path_name at false n p = (
 )
 
 struct_self : (at : Pos) → (gs : Held) → EachBut IsExpr IsExpr gs → IsLoose gs → IsExpr (node at
-    Row.StructExpr (tok (Token.Word Keyword.SelfType) (tok (Token.Mark Mark.OpenBrace) (gs ⊕ tok (Token.Mark Mark.CloseBrace) end))))
+    GrammarRow.StructExpr (tok (Token.Word Keyword.SelfType) (tok (Token.Mark Mark.OpenBrace) (gs ⊕ tok (Token.Mark Mark.CloseBrace) end))))
 struct_self at gs e l =
     let rest = gs ⊕ tok (Token.Mark Mark.CloseBrace) end in
     let b : has (TokenKind.Mark Mark.PathSep) (tokens_in rest) ≡ false = has_behind (TokenKind.Mark Mark.PathSep) gs
     (tok (Token.Mark Mark.CloseBrace) end) refl refl l in
     expr refl (tells_list gs _ e) (λ a r. inits_closures a r _ b (views rest)) (inits_shape _ b (views rest) (shape_list gs _ e)) refl refl
 
-path_self : (at : Pos) (self : Bool) → Due self (grammar.path self) (λ r rest. RowIs self r (node at r (tok (Token.Word Keyword.SelfType) rest)))
+path_self : (at : Pos) (self : Bool) → DuePart self (grammar.path self) (λ r rest. RowIs self r (node at r (tok (Token.Word Keyword.SelfType) rest)))
 path_self at true = (
   λ g k. expr refl (k.tells, tt) (λ a r. k.silent a r) (refl, name_plain g k) refl refl,
   expr refl tt (λ a r. refl) (refl, refl) refl refl,
@@ -213,26 +213,26 @@ path_self at false = (
 
 -- ---- entries
 
-let_value : (at : Pos) (p : Tree) → IsQuiet p → (self : Bool) → Due self (grammar.if_mark Mark.Eq (grammar.part
-    grammar.any_expr (grammar.mark Mark.Semi (grammar.ends Row.Let))) (grammar.mark Mark.Semi (grammar.ends Row.Let)))
+let_value : (at : Pos) (p : Tree) → IsQuiet p → (self : Bool) → DuePart self (grammar.if_mark Mark.Eq (grammar.part
+    grammar.any_expr (grammar.mark Mark.Semi (grammar.ends GrammarRow.Let))) (grammar.mark Mark.Semi (grammar.ends GrammarRow.Let)))
     (λ r rest. RowIs self r (node at r (tok (Token.Word Keyword.Let) (sub p rest))))
 let_value at p k self = (
   λ v e. expr refl (k.tells, (e.tells, tt)) (λ a r. k.silent a _) e.shape refl refl,
   expr refl (k.tells, tt) (λ a r. k.silent a r) refl refl refl,
 )
 
-let_typed : (at : Pos) (p ty : Tree) → IsQuiet p → IsQuiet ty → (self : Bool) → Due self (grammar.if_mark Mark.Eq
-    (grammar.part grammar.any_expr (grammar.mark Mark.Semi (grammar.ends Row.Let))) (grammar.mark Mark.Semi (grammar.ends
-    Row.Let))) (λ r rest. RowIs self r (node at r (tok (Token.Word Keyword.Let) (sub p (tok (Token.Mark Mark.Colon) (sub
+let_typed : (at : Pos) (p ty : Tree) → IsQuiet p → IsQuiet ty → (self : Bool) → DuePart self (grammar.if_mark Mark.Eq
+    (grammar.part grammar.any_expr (grammar.mark Mark.Semi (grammar.ends GrammarRow.Let))) (grammar.mark Mark.Semi (grammar.ends
+    GrammarRow.Let))) (λ r rest. RowIs self r (node at r (tok (Token.Word Keyword.Let) (sub p (tok (Token.Mark Mark.Colon) (sub
     ty rest))))))
 let_typed at p ty k kt self = (
   λ v e. expr refl (k.tells, (kt.tells, (e.tells, tt))) (λ a r. k.silent a _ ∙ kt.silent a _) e.shape refl refl,
   expr refl (k.tells, (kt.tells, tt)) (λ a r. k.silent a _ ∙ kt.silent a r) refl refl refl,
 )
 
-if_let : (at : Pos) (p s b : Tree) → IsQuiet p → IsExpr s → IsBlock b → (self : Bool) → Due self (grammar.if_word
-    Keyword.Else (grammar.part (Part.At (grammar.expr false Start.BlockOrIf)) (grammar.ends Row.If))
-    (grammar.ends Row.If)) (λ r rest. RowIs self r (node at r (tok (Token.Word Keyword.If) (tok (Token.Word Keyword.Let)
+if_let : (at : Pos) (p s b : Tree) → IsQuiet p → IsExpr s → IsBlock b → (self : Bool) → DuePart self (grammar.if_word
+    Keyword.Else (grammar.part (GrammarPart.At (grammar.expr false Start.BlockOrIf)) (grammar.ends GrammarRow.If))
+    (grammar.ends GrammarRow.If)) (λ r rest. RowIs self r (node at r (tok (Token.Word Keyword.If) (tok (Token.Word Keyword.Let)
     (sub p (tok (Token.Mark Mark.Eq) (sub s (sub b rest))))))))
 if_let at p s b k ks kb self = (
   λ e ke. expr refl (k.tells, (ks.tells, (kb.expr.tells, (ke.tells, tt)))) (λ a r. k.silent a _) (
@@ -273,7 +273,7 @@ expression_due at self (Token.Word Keyword.False) p = expr refl tt (λ a r. refl
 expression_due at self (Token.Word Keyword.SelfValue) p = expr refl tt (λ a r. refl) (refl, refl) refl refl
 expression_due at self (Token.Name n) p = by (grammar.is_panic n)
   where
-    by : (b : Bool) → Due self (grammar.named b self) (λ r rest. RowIs self r (node at r (tok (Token.Name n) rest)))
+    by : (b : Bool) → DuePart self (grammar.named b self) (λ r rest. RowIs self r (node at r (tok (Token.Name n) rest)))
     by true = (
       (λ text. expr refl tt (λ a r. refl) refl refl refl, expr refl tt (λ a r. refl) refl refl refl),
       path_name at self n p.plain,
@@ -323,7 +323,7 @@ field_init_due at self _ p = tt
 
 abbrev pub JoinedDue : Pos → Bool → Token → Option Joined → Type 0
 JoinedDue at self t None = Unit {0}
-JoinedDue at self t (Some j) = (g : Tree) → Stands j.place g → Due self j.rest (λ r rest. RowIs self r (node at r (sub
+JoinedDue at self t (Some j) = (g : Tree) → Stands j.place g → DuePart self j.rest (λ r rest. RowIs self r (node at r (sub
     g (tok t rest))))
 
 first_expr : (start : Start) (g : Tree) → AtExpr (first start) g → IsExpr g

@@ -5,20 +5,20 @@ use Rattle.mir_base.specs.declared.place_in_text.Pos.{Pos}
 use Rattle.src_token.specs.declared.mark.Mark.{Mark}
 use Rattle.src_token.specs.declared.token.Token.{Token}
 use Rattle.src_token.specs.declared.word.Word.{Word as Keyword}
-use Rattle.src_tree.specs.declared.kind.Kind.{Kind as TokenKind}
-use Rattle.src_tree.specs.declared.row.Row.{Row}
+use Rattle.src_tree.specs.declared.kind.TokenKind.{TokenKind}
+use Rattle.src_tree.specs.declared.row.GrammarRow.{GrammarRow}
 use Rattle.src_tree.specs.Grammar as grammar
 use Rattle.src_tree.specs.Layout.{node, end, tok, sub}
 use Rattle.src_ast.specs.Syntax.{Syn, syn, Shape, MoveOf, FnItem, Syns, no_syn, a_syn, MaybeSyn, nothing, just}
 use Rattle.src_ast.specs.View.{view, made, tokens_in, views, has, is_ident, ident_in, label_name, named, idents, behind_idents, behind_params, fn_row, closure_row, syns_of}
 use Rattle.typing_rules.specs.Items.{bodies_among}
-use Rattle.typing_rules.specs.Written.{Around}
+use Rattle.typing_rules.specs.Written.{WrittenScope}
 use Rattle.well_typed.specs.Claim.{Holds}
 use Rattle.typing_soundness.specs.Closures.{BodySyn, closures_of, closures_in, closures_among, function_text}
 use Rattle.typing_soundness.specs.Heads.{body_text, bodies_text}
 use Rattle.typing_soundness.specs.Named.{is_own_name, head_named}
 use Rattle.typing_soundness.specs.Shapes.{is_block, no_self, shaped, shaped_form, function_shaped}
-use Rattle.tree_shapes.proofs.Due.{◌⊕◌, IsLoose, Due}
+use Rattle.tree_shapes.proofs.Due.{◌⊕◌, IsLoose, DuePart}
 use Rattle.tree_shapes.proofs.Good.{Tree, Held, Tells, IsName, IsParam, IsExpr, IsBlock, IsMethod, RowIs, Each, EachBut}
 use Rattle.tree_shapes.proofs.Lists.{◌⧺◌, views_join, silent_behind, behind_plain, behind_typed, behind_unnamed, behind_names, unnamed_join, IsUnnamed, params_free, params_first}
 use Rattle.tree_shapes.proofs.Tokens.{IsPlain}
@@ -32,10 +32,10 @@ own_name g k = subst (λ v. IsTrue (is_own_name (named v).1)) (sym k.is) k.named
 
 -- ---- closures
 
-closure_is : (at : Pos) (parts : Held) (captures ps : Syns) (answer : MaybeSyn) (block : Syn) → made Row.Closure
-    (tokens_in parts) (views parts) ≡ MoveOf captures ps answer block → Each Tells parts → ((around : Around) (rest :
+closure_is : (at : Pos) (parts : Held) (captures ps : Syns) (answer : MaybeSyn) (block : Syn) → made GrammarRow.Closure
+    (tokens_in parts) (views parts) ≡ MoveOf captures ps answer block → Each Tells parts → ((around : WrittenScope) (rest :
     List BodySyn) → closures_among around (views parts) rest ≡ closures_of around block rest) → IsTrue (is_block block)
-    → IsTrue (no_self ps) → Holds (shaped block) → IsExpr (node at Row.Closure parts)
+    → IsTrue (no_self ps) → Holds (shaped block) → IsExpr (node at GrammarRow.Closure parts)
 closure_is at parts captures ps answer block e h k b n s = record {
   tells = λ around rest.
       ap (λ x. body_text around (syn at x) (bodies_text around (bodies_among parts) rest)) e
@@ -69,14 +69,14 @@ module _ (at : Pos) (gs m : Held) (names : Each IsName gs) (loose : IsLoose gs) 
   all_tell : Each Tells (gs ⊕ m)
   all_tell = each_join Tells gs m (each_map (λ g k. k.tells) gs names) tells
 
-  module _ (ps : Syns) (b : Tree) (kb : IsBlock b) (no : IsTrue (no_self ps)) (silent : (around : Around) (rest : List
+  module _ (ps : Syns) (b : Tree) (kb : IsBlock b) (no : IsTrue (no_self ps)) (silent : (around : WrittenScope) (rest : List
       BodySyn) → closures_among around (views m) rest ≡ closures_of around (view b) rest) where
-    only_block : (around : Around) (rest : List BodySyn) → closures_among around (views whole) rest ≡ closures_of around
+    only_block : (around : WrittenScope) (rest : List BodySyn) → closures_among around (views whole) rest ≡ closures_of around
         (view b) rest
     only_block around rest =
         silent_behind around gs m (each_map (λ g k. of_name k) gs names) rest ∙ silent around rest
 
-    closure_plain : has arrow (tokens_in m) ≡ false → views m ≡ ps ⧺ a_syn (view b) no_syn → IsExpr (node at Row.Closure
+    closure_plain : has arrow (tokens_in m) ≡ false → views m ≡ ps ⧺ a_syn (view b) no_syn → IsExpr (node at GrammarRow.Closure
         whole)
     closure_plain a v =
         let is_row = ap (λ x. closure_row x (views (gs ⊕ m))) (has_behind arrow gs m refl refl loose ∙ a) in
@@ -84,7 +84,7 @@ module _ (at : Pos) (gs m : Held) (names : Each IsName gs) (loose : IsLoose gs) 
         moves) (behind ∙ v) ∙ behind_plain moves ps (view b)) all_tell only_block kb.block no kb.expr.shape
 
     closure_typed : (ty : Syn) → has arrow (tokens_in m) ≡ true → views m ≡ ps ⧺ a_syn ty (a_syn (view b) no_syn) → IsExpr
-        (node at Row.Closure whole)
+        (node at GrammarRow.Closure whole)
     closure_typed ty a v =
         let is_row = ap (λ x. closure_row x (views (gs ⊕ m))) (has_behind arrow gs m refl refl loose ∙ a) in
         closure_is at whole (syns_of (idents (views (gs ⊕ m)))) ps (just ty) (view b) (is_row ∙ ap (behind_params true
@@ -96,7 +96,7 @@ param_named self end h = tt
 param_named self (tok t gs) h = param_named self gs h
 param_named self (sub g gs) h = (h.0.quiet.no_name, each_map (λ g k. k.quiet.no_name) gs h.1)
 
-pub closure_due : (at : Pos) (self : Bool) → Due self grammar.closure (λ r rest. RowIs self r (node at r (tok (Token.Word
+pub closure_due : (at : Pos) (self : Bool) → DuePart self grammar.closure (λ r rest. RowIs self r (node at r (tok (Token.Word
     Keyword.Move) rest)))
 closure_due at self = λ gs e l.
     let names = each_of IsName gs e in (
@@ -165,9 +165,9 @@ module _ (at : Pos) (self : Bool) (name : Tree) (kn : IsName name) (gs : Held) (
       ∙ behind_typed fn_form (views gs) (view ty) (view b)
 
   -- bodies and form of a function with its block
-  pub fn_tells : (m : Held) (b : Tree) → IsBlock b → Each Tells m → ((around : Around) (rest : List BodySyn) → closures_among
+  pub fn_tells : (m : Held) (b : Tree) → IsBlock b → Each Tells m → ((around : WrittenScope) (rest : List BodySyn) → closures_among
       around (views m) rest ≡ closures_of around (view b) rest) → (answer : MaybeSyn) (form : Shape) → form ≡ fn_form
-      (views gs) answer (view b) → (around : Around) (rest : List BodySyn) → bodies_text around (syn at form ∷
+      (views gs) answer (view b) → (around : WrittenScope) (rest : List BodySyn) → bodies_text around (syn at form ∷
       bodies_among (Headed name gs m)) rest ≡ function_text around (syn at form) rest
   fn_tells m b kb h k answer form e around rest =
       let tail = tok (Token.Mark Mark.CloseParenthesis) m in
@@ -182,10 +182,10 @@ module _ (at : Pos) (self : Bool) (name : Tree) (kn : IsName name) (gs : Held) (
   fn_shape b kb answer form e =
       subst (λ x. Holds (function_shaped (syn at x))) (sym e) (params_first self gs params, (kb.block, kb.expr.shape))
 
-  pub method_is : (m : Held) (b : Tree) → IsBlock b → Each Tells m → ((around : Around) (rest : List BodySyn) →
-      closures_among around (views m) rest ≡ closures_of around (view b) rest) → (answer : MaybeSyn) → made Row.Method
+  pub method_is : (m : Held) (b : Tree) → IsBlock b → Each Tells m → ((around : WrittenScope) (rest : List BodySyn) →
+      closures_among around (views m) rest ≡ closures_of around (view b) rest) → (answer : MaybeSyn) → made GrammarRow.Method
       (tokens_in (Headed name gs m)) (views (Headed name gs m)) ≡ fn_form (views gs) answer (view b) → IsMethod (node at
-      Row.Method (Headed name gs m))
+      GrammarRow.Method (Headed name gs m))
   method_is m b kb h k answer e = record {
     tells = fn_tells m b kb h k answer _ e;
     no_name = ap (λ x. is_some (ident_in x)) e;

@@ -1,16 +1,16 @@
 -- What is so of the nodes of a text, by where they stand and by their rows.
 use Rattle.std.proofs.Common.{◌≡◌, Bool, true, false, List, ◌⊎◌, IsTrue}
 use Rattle.mir_base.specs.declared.place_in_text.Pos.{Pos}
-use Rattle.src_tree.specs.declared.place.Place.{Place}
+use Rattle.src_tree.specs.declared.place.GrammarPlace.{GrammarPlace}
 use Rattle.src_tree.specs.declared.place.Start.{Start}
-use Rattle.src_tree.specs.declared.row.Row.{Row}
+use Rattle.src_tree.specs.declared.row.GrammarRow.{GrammarRow}
 use Rattle.src_tree.specs.declared.row.Sort.{Sort}
 use Rattle.src_tree.specs.Grammar.{sort_of}
-use Rattle.src_tree.specs.Layout.{Node, Parts, end, tok, sub}
+use Rattle.src_tree.specs.Layout.{SyntaxNode, Parts, end, tok, sub}
 use Rattle.src_ast.specs.Syntax.{Word, syn, Ident, Syns, a_syn}
 use Rattle.src_ast.specs.View.{view, is_ident, is_label}
 use Rattle.typing_rules.specs.Items.{bodies_in}
-use Rattle.typing_rules.specs.Written.{Around}
+use Rattle.typing_rules.specs.Written.{WrittenScope}
 use Rattle.well_typed.specs.Claim.{Holds}
 use Rattle.typing_soundness.specs.Closures.{BodySyn, closures_of, function_text}
 use Rattle.typing_soundness.specs.Heads.{bodies_text, inner_text}
@@ -19,18 +19,18 @@ use Rattle.typing_soundness.specs.Shapes.{shaped, is_block, no_self, variant_sha
 use Rattle.tree_shapes.proofs.Tokens.{IsTextName}
 
 abbrev pub Tree : Type 0
-Tree = Node Pos
+Tree = SyntaxNode Pos
 
 abbrev pub Held : Type 0
 Held = Parts Pos
 
 -- its bodies are the closures in it, in their order
 abbrev pub Tells : Tree → Type 0
-Tells g = (around : Around) (rest : List BodySyn) → bodies_text around (bodies_in g) rest ≡ closures_of around (view g) rest
+Tells g = (around : WrittenScope) (rest : List BodySyn) → bodies_text around (bodies_in g) rest ≡ closures_of around (view g) rest
 
 -- there are no closures in it
 abbrev pub IsSilent : Tree → Type 0
-IsSilent g = (around : Around) (rest : List BodySyn) → closures_of around (view g) rest ≡ rest
+IsSilent g = (around : WrittenScope) (rest : List BodySyn) → closures_of around (view g) rest ≡ rest
 
 pub record IsName (g : Tree) : Type 0 where
   pub tells : Tells g
@@ -79,14 +79,14 @@ pub record IsBlock (g : Tree) : Type 0 where
   pub block : IsTrue (is_block (view g))
 
 pub record IsMethod (g : Tree) : Type 0 where
-  pub tells : (around : Around) (rest : List BodySyn) → bodies_text around (bodies_in g) rest ≡ function_text around (view
+  pub tells : (around : WrittenScope) (rest : List BodySyn) → bodies_text around (bodies_in g) rest ≡ function_text around (view
       g) rest
   pub no_name : is_ident (view g) ≡ false
   pub shape : Holds (function_shaped (view g))
   pub name : Holds (head_named (view g))
 
 pub record IsItem (g : Tree) : Type 0 where
-  pub tells : (around : Around) (rest : List BodySyn) → bodies_text around (bodies_in g) rest ≡ inner_text around (view
+  pub tells : (around : WrittenScope) (rest : List BodySyn) → bodies_text around (bodies_in g) rest ≡ inner_text around (view
       g) rest
   pub shape : Holds (item_shaped (view g))
   pub names : Holds (item_named (view g))
@@ -94,18 +94,18 @@ pub record IsItem (g : Tree) : Type 0 where
 -- ---- by row
 
 -- `self` stands where it may
-abbrev pub PatternIs : Bool → Row → Tree → Type 0
-PatternIs self Row.Param g = IsParam false g
-PatternIs self Row.SelfParam g = IsParam self g
-PatternIs self Row.Arm g = IsExpr g
-PatternIs self Row.LastArm g = IsExpr g
+abbrev pub PatternIs : Bool → GrammarRow → Tree → Type 0
+PatternIs self GrammarRow.Param g = IsParam false g
+PatternIs self GrammarRow.SelfParam g = IsParam self g
+PatternIs self GrammarRow.Arm g = IsExpr g
+PatternIs self GrammarRow.LastArm g = IsExpr g
 PatternIs self _ g = IsQuiet g
 
-abbrev pub ExprIs : Row → Tree → Type 0
-ExprIs Row.Block g = IsBlock g
+abbrev pub ExprIs : GrammarRow → Tree → Type 0
+ExprIs GrammarRow.Block g = IsBlock g
 ExprIs _ g = IsExpr g
 
-abbrev pub SortIs : Bool → Sort → Row → Tree → Type 0
+abbrev pub SortIs : Bool → Sort → GrammarRow → Tree → Type 0
 SortIs self Sort.File r g = Unit {0}
 SortIs self Sort.Item r g = IsItem g
 SortIs self Sort.Method r g = IsMethod g
@@ -120,7 +120,7 @@ SortIs self Sort.Expr r g = ExprIs r g
 SortIs self Sort.FieldInit r g = IsExpr g
 SortIs self Sort.Label r g = IsLabel g
 
-abbrev pub RowIs : Bool → Row → Tree → Type 0
+abbrev pub RowIs : Bool → GrammarRow → Tree → Type 0
 RowIs self r g = SortIs self (sort_of r) r g
 
 -- ---- by place
@@ -152,7 +152,7 @@ AtSort Sort.Expr start self g = AtExpr start g
 AtSort Sort.FieldInit start self g = IsExpr g
 AtSort Sort.Label start self g = IsLabel g
 
-abbrev pub Stands : Place → Tree → Type 0
+abbrev pub Stands : GrammarPlace → Tree → Type 0
 Stands c g = AtSort c.sort c.start c.head g
 
 -- ---- parts

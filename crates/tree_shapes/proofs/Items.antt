@@ -5,22 +5,22 @@ use Rattle.mir_base.specs.declared.place_in_text.Pos.{Pos}
 use Rattle.src_token.specs.declared.mark.Mark.{Mark}
 use Rattle.src_token.specs.declared.token.Token.{Token}
 use Rattle.src_token.specs.declared.word.Word.{Word as Keyword}
-use Rattle.src_tree.specs.declared.kind.Kind.{Kind as TokenKind}
-use Rattle.src_tree.specs.declared.row.Row.{Row}
+use Rattle.src_tree.specs.declared.kind.TokenKind.{TokenKind}
+use Rattle.src_tree.specs.declared.row.GrammarRow.{GrammarRow}
 use Rattle.src_tree.specs.declared.row.Sort.{Sort}
 use Rattle.src_tree.specs.Grammar as grammar
 use Rattle.src_tree.specs.Layout.{node, end, tok, sub}
-use Rattle.src_ast.specs.Syntax.{Named, Kind, Syn, syn, Shape, StructItem, EnumItem, FnItem, ImplItem, Syns, no_syn, a_syn, list_of, MaybeSyn, nothing, just}
+use Rattle.src_ast.specs.Syntax.{Named, FieldsKind, Syn, syn, Shape, StructItem, EnumItem, FnItem, ImplItem, Syns, no_syn, a_syn, list_of, MaybeSyn, nothing, just}
 use Rattle.src_ast.specs.View.{view, made, tokens_in, views, has_mark, ident_in, named, idents, behind_idents, last_of, but_last, fn_row, with_last_name, kind_of, kind_by, behind_word, impl_row}
 use Rattle.typing_rules.specs.Items.{bodies_in, bodies_among, is_body_row}
 use Rattle.typing_rules.specs.Promises.{is_plain_name}
-use Rattle.typing_rules.specs.Written.{Around}
+use Rattle.typing_rules.specs.Written.{WrittenScope}
 use Rattle.well_typed.specs.Claim.{Holds, each}
 use Rattle.typing_soundness.specs.Closures.{BodySyn, closures_of, closures_in, closures_among, functions_text, function_text}
 use Rattle.typing_soundness.specs.Heads.{bodies_text, inner_text}
 use Rattle.typing_soundness.specs.Named.{is_type_name, is_own_name, field_named, variant_named, head_named, item_named}
 use Rattle.typing_soundness.specs.Shapes.{has_kind, function_shaped, variant_shaped, item_shaped}
-use Rattle.tree_shapes.proofs.Due.{◌⊕◌, IsLoose, is_loose, Due}
+use Rattle.tree_shapes.proofs.Due.{◌⊕◌, IsLoose, is_loose, DuePart}
 use Rattle.tree_shapes.proofs.Functions.{own_name, Headed, fn_plain, fn_typed, fn_tells, has_arrow, param_still}
 use Rattle.tree_shapes.proofs.Good.{Tree, Held, Tells, IsName, IsQuiet, IsParam, IsBlock, IsMethod, IsHead, IsVariant, IsItem, RowIs, Each, EachBut}
 use Rattle.tree_shapes.proofs.Lists.{◌⧺◌, views_join, join_none, last_one, but_one, behind_unnamed, behind_names, idents_names, idents_unnamed, names_in, unnamed_join, IsUnnamed, params_first}
@@ -39,8 +39,8 @@ type_name g k = subst (λ v. IsTrue (is_type_name (named v).1)) (sym k.is) k.nam
 -- ---- heads of traits
 
 head_is : (at : Pos) (name : Tree) (kn : IsName name) (gs m : Held) → EachBut (IsParam true) (IsParam false) gs → Each
-    IsStill m → (answer : MaybeSyn) → made Row.Head (tokens_in (Headed name gs m)) (views (Headed name gs m)) ≡ FnItem
-    (named (view name)) (views gs) answer nothing → IsHead (node at Row.Head (Headed name gs m))
+    IsStill m → (answer : MaybeSyn) → made GrammarRow.Head (tokens_in (Headed name gs m)) (views (Headed name gs m)) ≡ FnItem
+    (named (view name)) (views gs) answer nothing → IsHead (node at GrammarRow.Head (Headed name gs m))
 head_is at name kn gs m params still answer e =
     let tail = tok (Token.Mark Mark.CloseParenthesis) m in
     record {
@@ -73,16 +73,16 @@ head_due at self _ p = tt
 -- ---- functions that are items
 
 fn_both : (at : Pos) (form : Shape) (name : Named) (ps : Syns) (answer block : MaybeSyn) → form ≡ FnItem name ps answer
-    block → (around : Around) (rest : List BodySyn) → function_text around (syn at form) rest ≡ inner_text around (syn at
+    block → (around : WrittenScope) (rest : List BodySyn) → function_text around (syn at form) rest ≡ inner_text around (syn at
     form) rest
 fn_both at form name ps answer block e around rest =
     ap (λ x. function_text around (syn at x) rest) e ∙ sym (ap (λ x. inner_text around (syn at x) rest) e)
 
 fn_is : (at : Pos) (name : Tree) (kn : IsName name) (gs : Held) (params : EachBut (IsParam false) (IsParam false) gs)
-    (loose : IsLoose gs) (m : Held) (b : Tree) → IsBlock b → Each Tells m → ((around : Around) (rest : List BodySyn) →
-    closures_among around (views m) rest ≡ closures_of around (view b) rest) → (answer : MaybeSyn) → made Row.Fn
+    (loose : IsLoose gs) (m : Held) (b : Tree) → IsBlock b → Each Tells m → ((around : WrittenScope) (rest : List BodySyn) →
+    closures_among around (views m) rest ≡ closures_of around (view b) rest) → (answer : MaybeSyn) → made GrammarRow.Fn
     (tokens_in (Headed name gs m)) (views (Headed name gs m)) ≡ FnItem (named (view name)) (views gs) answer (just (view
-    b)) → IsItem (node at Row.Fn (Headed name gs m))
+    b)) → IsItem (node at GrammarRow.Fn (Headed name gs m))
 fn_is at name kn gs params loose m b kb h k answer e = record {
   tells = λ around rest. fn_tells at false name kn gs params loose m b kb h k answer _ e around rest ∙ fn_both at _ _ _ _
       _ e around rest;
@@ -90,8 +90,8 @@ fn_is at name kn gs params loose m b kb h k answer e = record {
   names = subst (λ x. Holds (item_named (syn at x))) (sym e) (own_name name kn);
 }
 
-fn_due : (at : Pos) (self : Bool) → Due self (grammar.head_rest false (grammar.part grammar.block (grammar.ends
-    Row.Fn))) (λ r rest. RowIs self r (node at r (tok (Token.Word Keyword.Fn) rest)))
+fn_due : (at : Pos) (self : Bool) → DuePart self (grammar.head_rest false (grammar.part grammar.block (grammar.ends
+    GrammarRow.Fn))) (λ r rest. RowIs self r (node at r (tok (Token.Word Keyword.Fn) rest)))
 fn_due at self = λ name kn gs e l. (
   λ ty kt b kb. fn_is at name kn gs e l (tok (Token.Mark Mark.RArrow) (sub ty (sub b end))) b kb (
     kt.tells,
@@ -151,9 +151,9 @@ word_behind w (tok t gs) m l =
 word_behind w (sub g gs) m l = word_behind w gs m l
 
 -- an item without bodies
-still_item : (at : Pos) (r : Row) (parts : Held) → is_body_row r ≡ false → Each IsStill parts → ((around : Around) (rest
+still_item : (at : Pos) (r : GrammarRow) (parts : Held) → is_body_row r ≡ false → Each IsStill parts → ((around : WrittenScope) (rest
     : List BodySyn) → inner_text around (syn at (made r (tokens_in parts) (views parts))) rest ≡ rest) → (around :
-    Around) (rest : List BodySyn) → bodies_text around (bodies_in (node at r parts)) rest ≡ inner_text around (view (node
+    WrittenScope) (rest : List BodySyn) → bodies_text around (bodies_in (node at r parts)) rest ≡ inner_text around (view (node
     at r parts)) rest
 still_item at r parts e h k around rest =
     no_body at r parts around e rest ∙ tell_all around parts (still_tells parts h) rest ∙ silent_all around parts
@@ -162,15 +162,15 @@ still_item at r parts e h k around rest =
 struct_is : (at : Pos) (parts m : Held) (ds : List Named) (name : Tree) → IsName name → Each IsStill parts → idents
     (views parts) ≡ ds ++ named (view name) ∷ [] → behind_idents (views parts) ≡ views m → behind_word Keyword.Struct
     (tokens_in parts) ≡ tokens_in m → IsTrue (has_kind (kind_of (tokens_in m)) (views m)) → Each IsQuiet m → IsItem
-    (node at Row.Struct parts)
+    (node at GrammarRow.Struct parts)
 struct_is at parts m ds name kn still is_named is_behind is_word kind quiets =
-    let form = λ (kind : Kind) (fields : Syns) (ds : List Named) (n : Named). StructItem ds n kind fields in
+    let form = λ (kind : FieldsKind) (fields : Syns) (ds : List Named) (n : Named). StructItem ds n kind fields in
     let e = ap (with_last_name (form (kind_of (behind_word Keyword.Struct (tokens_in parts))) (behind_idents (views
     parts)))) is_named ∙ last_name_is (form (kind_of (behind_word Keyword.Struct (tokens_in parts))) (behind_idents (views
     parts))) ds (named (view name)) ∙ ap (λ x. StructItem ds (named (view name)) (kind_of x) (behind_idents (views
     parts))) is_word ∙ ap (StructItem ds (named (view name)) (kind_of (tokens_in m))) is_behind in
     record {
-      tells = still_item at Row.Struct parts refl still (λ a r. ap (λ x. inner_text a (syn at x) r) e);
+      tells = still_item at GrammarRow.Struct parts refl still (λ a r. ap (λ x. inner_text a (syn at x) r) e);
       shape = subst (λ x. Holds (item_shaped (syn at x))) (sym e) (plain_name name kn, kind);
       names = subst (λ x. Holds (item_named (syn at x))) (sym e) (type_name name kn, (own_name name kn, fields_named m quiets));
     }
@@ -187,13 +187,13 @@ variants_named (sub g gs) h = (h.0.name, variants_named gs h.1)
 
 enum_is : (at : Pos) (parts m : Held) (ds : List Named) (name : Tree) → IsName name → Each IsStill parts → idents (views
     parts) ≡ ds ++ named (view name) ∷ [] → behind_idents (views parts) ≡ views m → Each IsVariant m → IsItem (node at
-    Row.Enum parts)
+    GrammarRow.Enum parts)
 enum_is at parts m ds name kn still is_named is_behind variants =
     let form = λ (ds : List Named) (n : Named). EnumItem ds n (behind_idents (views parts)) in
     let e = ap (with_last_name form) is_named ∙ last_name_is form ds (named (view name)) ∙ ap (EnumItem ds (named (view
     name))) is_behind in
     record {
-      tells = still_item at Row.Enum parts refl still (λ a r. ap (λ x. inner_text a (syn at x) r) e);
+      tells = still_item at GrammarRow.Enum parts refl still (λ a r. ap (λ x. inner_text a (syn at x) r) e);
       shape = subst (λ x. Holds (item_shaped (syn at x))) (sym e) (plain_name name kn, all_variants m variants);
       names = subst (λ x. Holds (item_named (syn at x))) (sym e) (type_name name kn, (own_name name kn, variants_named m variants));
     }
@@ -224,7 +224,7 @@ quiet_unnamed : (gs m : Held) → Each IsQuiet gs → IsUnnamed (views m) → Is
 quiet_unnamed gs m h u = unnamed_join gs m (each_map (λ g k. k.no_name) gs h) u
 
 -- a struct and an enum by themselves
-struct_due : (at : Pos) (self : Bool) → Due self grammar.struct_rest (λ r rest. RowIs self r (node at r (tok (Token.Word
+struct_due : (at : Pos) (self : Bool) → DuePart self grammar.struct_rest (λ r rest. RowIs self r (node at r (tok (Token.Word
     Keyword.Struct) rest)))
 struct_due at self = λ name kn. (
   struct_is at _ (tok (Token.Mark Mark.Semi) end) [] name kn (of_name kn, tt) (own_names name kn (tok (Token.Mark
@@ -248,7 +248,7 @@ struct_due at self = λ name kn. (
   ),
 )
 
-enum_due : (at : Pos) (self : Bool) → Due self grammar.enum_rest (λ r rest. RowIs self r (node at r (tok (Token.Word
+enum_due : (at : Pos) (self : Bool) → DuePart self grammar.enum_rest (λ r rest. RowIs self r (node at r (tok (Token.Word
     Keyword.Enum) rest)))
 enum_due at self = λ name kn gs e l.
     let tail = tok (Token.Mark Mark.CloseBrace) end in
@@ -259,7 +259,7 @@ enum_due at self = λ name kn gs e l.
     (own_names name kn m u) (own_behind name kn m u) (each_join IsVariant gs tail all tt)
 
 -- with what is derived
-derived_due : (at : Pos) (self : Bool) → Due self grammar.derived (λ r rest. RowIs self r (node at r (tok (Token.Mark
+derived_due : (at : Pos) (self : Bool) → DuePart self grammar.derived (λ r rest. RowIs self r (node at r (tok (Token.Mark
     Mark.Pound) rest)))
 derived_due at self = λ d ns f k.
     let names = each_of IsName ns f in
@@ -324,7 +324,7 @@ methods_named end h = refl
 methods_named (tok t gs) h = methods_named gs h
 methods_named (sub g gs) h = (h.0.name, methods_named gs h.1)
 
-methods_tell : (around : Around) (gs : Held) → Each IsMethod gs → (rest : List BodySyn) → bodies_text around
+methods_tell : (around : WrittenScope) (gs : Held) → Each IsMethod gs → (rest : List BodySyn) → bodies_text around
     (bodies_among gs) rest ≡ functions_text around (list_of (views gs)) rest
 methods_tell around end h rest = refl
 methods_tell around (tok t gs) h rest = methods_tell around gs h rest
@@ -332,13 +332,13 @@ methods_tell around (sub g gs) h rest =
     text_join around (bodies_in g) (bodies_among gs) rest ∙ ap (bodies_text around (bodies_in g)) (methods_tell around gs
     h.1 rest) ∙ h.0.tells around _
 
-trait_due : (at : Pos) (self : Bool) → Due self (grammar.part grammar.a_name (grammar.mark Mark.OpenBrace (grammar.many
-    (grammar.of_sort Sort.Head) (TokenKind.Mark Mark.CloseBrace) (grammar.ends Row.Trait)))) (λ r rest. RowIs self r
+trait_due : (at : Pos) (self : Bool) → DuePart self (grammar.part grammar.a_name (grammar.mark Mark.OpenBrace (grammar.many
+    (grammar.of_sort Sort.Head) (TokenKind.Mark Mark.CloseBrace) (grammar.ends GrammarRow.Trait)))) (λ r rest. RowIs self r
     (node at r (tok (Token.Word Keyword.Trait) rest)))
 trait_due at self = λ name kn gs e l.
     let tail = tok (Token.Mark Mark.CloseBrace) end in
     record {
-      tells = still_item at Row.Trait (tok (Token.Word Keyword.Trait) (sub name (tok (Token.Mark Mark.OpenBrace) (gs ⊕
+      tells = still_item at GrammarRow.Trait (tok (Token.Word Keyword.Trait) (sub name (tok (Token.Mark Mark.OpenBrace) (gs ⊕
           tail)))) refl (
             of_name kn,
             each_join IsStill gs tail (each_map (λ g k. of_quiet k.quiet)
@@ -348,14 +348,14 @@ trait_due at self = λ name kn gs e l.
       names = (own_name name kn, heads_named (gs ⊕ tail) (each_join IsHead gs tail e tt));
     }
 
-skip_name : (around : Around) (name : Tree) → IsName name → (bodies : List Syn) (rest : List BodySyn) → bodies_text
+skip_name : (around : WrittenScope) (name : Tree) → IsName name → (bodies : List Syn) (rest : List BodySyn) → bodies_text
     around (bodies_in name ++ bodies) rest ≡ bodies_text around bodies rest
 skip_name around name kn bodies rest =
     text_join around (bodies_in name) bodies rest ∙ kn.tells around _ ∙ kn.silent around _
 
-impl_is : (at : Pos) (parts m : Held) (trait_ : Option Named) (owner : Named) → IsTrue (is_own_name owner.1) → Each IsMethod m → made Row.Impl (tokens_in
-    parts) (views parts) ≡ ImplItem trait_ owner (views m) → ((around : Around) (rest : List BodySyn) → bodies_text
-    around (bodies_among parts) rest ≡ bodies_text around (bodies_among m) rest) → IsItem (node at Row.Impl parts)
+impl_is : (at : Pos) (parts m : Held) (trait_ : Option Named) (owner : Named) → IsTrue (is_own_name owner.1) → Each IsMethod m → made GrammarRow.Impl (tokens_in
+    parts) (views parts) ≡ ImplItem trait_ owner (views m) → ((around : WrittenScope) (rest : List BodySyn) → bodies_text
+    around (bodies_among parts) rest ≡ bodies_text around (bodies_among m) rest) → IsItem (node at GrammarRow.Impl parts)
 impl_is at parts m trait_ owner own methods e h = record {
   tells = λ around rest.
       h around rest ∙ methods_tell around m methods rest ∙ sym (ap (λ x. inner_text around (syn at x) rest) e);
@@ -363,7 +363,7 @@ impl_is at parts m trait_ owner own methods e h = record {
   names = subst (λ x. Holds (item_named (syn at x))) (sym e) (own, methods_named m methods);
 }
 
-impl_due : (at : Pos) (self : Bool) → Due self (grammar.part grammar.a_name (grammar.if_word Keyword.For (grammar.part
+impl_due : (at : Pos) (self : Bool) → DuePart self (grammar.part grammar.a_name (grammar.if_word Keyword.For (grammar.part
     grammar.a_name grammar.impl_rest) grammar.impl_rest)) (λ r rest. RowIs self r (node at r (tok (Token.Word
     Keyword.Impl) rest)))
 impl_due at self = λ name kn. (

@@ -3,7 +3,7 @@ use Rattle.std.proofs.Common.{◌≡◌, Bool, true, false, List, [], ◌∷◌,
 use Rattle.src_tree.specs.Layout.{end, tok, sub}
 use Rattle.src_ast.specs.Syntax.{Named, Syn, syn, Shape, SelfParam, Syns, no_syn, a_syn, MaybeSyn, nothing, just}
 use Rattle.src_ast.specs.View.{view, views, is_ident, named, idents, behind_idents, last_of, but_last, from_just, behind_params}
-use Rattle.typing_rules.specs.Written.{Around}
+use Rattle.typing_rules.specs.Written.{WrittenScope}
 use Rattle.typing_soundness.specs.Closures.{BodySyn, closures_among}
 use Rattle.typing_soundness.specs.Shapes.{no_self, self_first}
 use Rattle.tree_shapes.proofs.Due.{◌⊕◌}
@@ -38,7 +38,7 @@ join_two : (ss : Syns) (x y : Syn) → ss ⧺ a_syn x (a_syn y no_syn) ≡ (ss �
 join_two no_syn x y = refl
 join_two (a_syn a ss) x y = ap (a_syn a) (join_two ss x y)
 
-pub silent_behind : (around : Around) (gs m : Held) → Each IsStill gs → (rest : List BodySyn) → closures_among around
+pub silent_behind : (around : WrittenScope) (gs m : Held) → Each IsStill gs → (rest : List BodySyn) → closures_among around
     (views (gs ⊕ m)) rest ≡ closures_among around (views m) rest
 silent_behind around end m h rest = refl
 silent_behind around (tok t gs) m h rest = silent_behind around gs m h rest

@@ -18,7 +18,7 @@ use Rattle.src_token.specs.declared.token.Token.{Token}
 use Rattle.src_token.specs.declared.word.Word.{Word as Keyword}
 use Rattle.src_token.specs.Marks.{mark_of}
 use Rattle.src_token.specs.Numbers.{number_of, number_reading}
-use Rattle.src_token.specs.Rows.{Row, blank, line_comment, comment, open_comment, slash, mark, word, number, label, no_label, text, open_text, other, text_with}
+use Rattle.src_token.specs.Rows.{TokenRow, blank, line_comment, comment, open_comment, slash, mark, word, number, label, no_label, text, open_text, other, text_with}
 use Rattle.src_token.specs.Tokens.{Tokens, Cut, Cutting, token_of, tokens_of}
 use Rattle.src_token.specs.Words.{keyword_of, marked, worded}
 use Rattle.well_typed.specs.Names.{is_word}
@@ -171,7 +171,7 @@ text_plain : (inside : List ℕ) (o : Option ℕ) → ReadsPlain (text_with insi
 text_plain inside None = tt
 text_plain inside (Some n) = tt
 
-row_plain : (piece : List ℕ) (reading : Reading) → Row piece reading → ReadsPlain reading
+row_plain : (piece : List ℕ) (reading : Reading) → TokenRow piece reading → ReadsPlain reading
 row_plain _ _ (blank c e) = tt
 row_plain _ _ (line_comment line e) = tt
 row_plain _ _ (comment inside e) = tt

@@ -4,14 +4,14 @@ use Rattle.std.specs.Prelude.{is_some}
 use Rattle.mir_base.specs.declared.place_in_text.Pos.{Pos}
 use Rattle.src_token.specs.declared.mark.Mark.{Mark}
 use Rattle.src_token.specs.declared.token.Token.{Token}
-use Rattle.src_tree.specs.declared.kind.Kind.{Kind as TokenKind}
-use Rattle.src_tree.specs.declared.row.Row.{Row}
+use Rattle.src_tree.specs.declared.kind.TokenKind.{TokenKind}
+use Rattle.src_tree.specs.declared.row.GrammarRow.{GrammarRow}
 use Rattle.src_tree.specs.Grammar.{is}
 use Rattle.src_tree.specs.Layout.{node, end, tok, sub}
 use Rattle.src_ast.specs.Syntax.{Syn, syn, Shape, Syns, no_syn, a_syn}
 use Rattle.src_ast.specs.View.{view, views, made, tokens_in, has, has_mark, ident_in, label_name, round}
 use Rattle.typing_rules.specs.Items.{bodies_in, bodies_among, is_body_row, with_body}
-use Rattle.typing_rules.specs.Written.{Around}
+use Rattle.typing_rules.specs.Written.{WrittenScope}
 use Rattle.well_typed.specs.Claim.{Holds}
 use Rattle.typing_soundness.specs.Closures.{BodySyn, closures_in, closures_among}
 use Rattle.typing_soundness.specs.Heads.{body_text, bodies_text}
@@ -20,12 +20,12 @@ use Rattle.typing_soundness.specs.Shapes.{shaped_form}
 use Rattle.tree_shapes.proofs.Due.{◌⊕◌, IsLoose, is_loose}
 use Rattle.tree_shapes.proofs.Good.{Tree, Held, Tells, IsSilent, IsName, IsQuiet, IsExpr, Each, EachBut}
 
-pub text_join : (around : Around) (xs ys : List Syn) (rest : List BodySyn) → bodies_text around (xs ++ ys) rest ≡
+pub text_join : (around : WrittenScope) (xs ys : List Syn) (rest : List BodySyn) → bodies_text around (xs ++ ys) rest ≡
     bodies_text around xs (bodies_text around ys rest)
 text_join around [] ys rest = refl
 text_join around (x ∷ xs) ys rest = ap (body_text around x) (text_join around xs ys rest)
 
-pub tell_all : (around : Around) (parts : Held) → Each Tells parts → (rest : List BodySyn) → bodies_text around
+pub tell_all : (around : WrittenScope) (parts : Held) → Each Tells parts → (rest : List BodySyn) → bodies_text around
     (bodies_among parts) rest ≡ closures_among around (views parts) rest
 tell_all around end h rest = refl
 tell_all around (tok t parts) h rest = tell_all around parts h rest
@@ -33,7 +33,7 @@ tell_all around (sub g parts) h rest =
     text_join around (bodies_in g) (bodies_among parts) rest ∙ ap (bodies_text around (bodies_in g)) (tell_all around
     parts h.1 rest) ∙ h.0 around (closures_among around (views parts) rest)
 
-pub silent_all : (around : Around) (parts : Held) → Each IsSilent parts → (rest : List BodySyn) → closures_among around
+pub silent_all : (around : WrittenScope) (parts : Held) → Each IsSilent parts → (rest : List BodySyn) → closures_among around
     (views parts) rest ≡ rest
 silent_all around end h rest = refl
 silent_all around (tok t parts) h rest = silent_all around parts h rest
@@ -93,18 +93,18 @@ has_behind kind (sub g gs) m a b l = has_behind kind gs m a b l
 
 -- ---- rows
 
-module _ (at : Pos) (r : Row) (parts : Held) where
-  pub no_body : (around : Around) → is_body_row r ≡ false → (rest : List BodySyn) → bodies_text around (bodies_in (node at r
+module _ (at : Pos) (r : GrammarRow) (parts : Held) where
+  pub no_body : (around : WrittenScope) → is_body_row r ≡ false → (rest : List BodySyn) → bodies_text around (bodies_in (node at r
       parts)) rest ≡ bodies_text around (bodies_among parts) rest
   no_body around e rest = ap (λ b. bodies_text around (with_body b (view (node at r parts)) (bodies_among parts)) rest) e
 
-  pub row_tells : is_body_row r ≡ false → Each Tells parts → ((around : Around) (rest : List BodySyn) → closures_among
+  pub row_tells : is_body_row r ≡ false → Each Tells parts → ((around : WrittenScope) (rest : List BodySyn) → closures_among
       around (views parts) rest ≡ closures_in around (made r (tokens_in parts) (views parts)) rest) → Tells (node at r
       parts)
   row_tells e h k around rest = no_body around e rest ∙ tell_all around parts h rest ∙ k around rest
 
-module _ {at : Pos} {r : Row} {parts : Held} where
-  pub quiet : is_body_row r ≡ false → Each IsStill parts → ((around : Around) (rest : List BodySyn) → closures_in around
+module _ {at : Pos} {r : GrammarRow} {parts : Held} where
+  pub quiet : is_body_row r ≡ false → Each IsStill parts → ((around : WrittenScope) (rest : List BodySyn) → closures_in around
       (made r (tokens_in parts) (views parts)) rest ≡ rest) → is_some (ident_in (made r (tokens_in parts) (views
       parts))) ≡ false → Holds (field_named (syn at (made r (tokens_in parts) (views parts)))) → IsQuiet (node at r parts)
   quiet e h k n f = record {
@@ -115,7 +115,7 @@ module _ {at : Pos} {r : Row} {parts : Held} where
     field = f;
   }
 
-  pub expr : is_body_row r ≡ false → Each Tells parts → ((around : Around) (rest : List BodySyn) → closures_among
+  pub expr : is_body_row r ≡ false → Each Tells parts → ((around : WrittenScope) (rest : List BodySyn) → closures_among
       around (views parts) rest ≡ closures_in around (made r (tokens_in parts) (views parts)) rest) → Holds (shaped_form
       (made r (tokens_in parts) (views parts))) → is_some (ident_in (made r (tokens_in parts) (views parts))) ≡ false →
       is_some (label_name (made r (tokens_in parts) (views parts))) ≡ false → IsExpr (node at r parts)

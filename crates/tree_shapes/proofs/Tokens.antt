@@ -5,7 +5,7 @@ use Rattle.mir_base.specs.declared.int_kind.IntKind.{IntKind}
 use Rattle.src_token.specs.declared.mark.Mark.{Mark}
 use Rattle.src_token.specs.declared.token.Token.{Token}
 use Rattle.src_token.specs.declared.word.Word.{Word as Keyword}
-use Rattle.src_tree.specs.declared.kind.Kind.{Kind}
+use Rattle.src_tree.specs.declared.kind.TokenKind.{TokenKind}
 use Rattle.src_tree.specs.Grammar.{is, mark_number, word_number}
 use Rattle.src_tree.proofs.Samples.{nth}
 use Rattle.src_ast.specs.Syntax.{Word}
@@ -82,23 +82,23 @@ word_due Keyword.Fn _ C e d = absurd (false≢true e)
 word_due _ v C e d = d v
 
 -- what is so of each token of a kind
-abbrev pub TokenDue : Kind → (Token → Type 0) → Type 0
-TokenDue (Kind.Mark m) C = C (Token.Mark m)
-TokenDue (Kind.Word w) C = WordDue w C
-TokenDue Kind.Name C = (n : Word) → IsTrue (is_plain_name n) → C (Token.Name n)
-TokenDue Kind.Number C = (value : ℕ) (suffix : Option IntKind) → C (Token.Number value suffix)
-TokenDue Kind.Digits C = (value : ℕ) → C (Token.Number value None)
-TokenDue Kind.Label C = (n : Word) → C (Token.Label n)
-TokenDue Kind.Text C = (n : Word) → C (Token.Text n)
-TokenDue Kind.Derive C = (n : Word) → C (Token.Name n)
+abbrev pub TokenDue : TokenKind → (Token → Type 0) → Type 0
+TokenDue (TokenKind.Mark m) C = C (Token.Mark m)
+TokenDue (TokenKind.Word w) C = WordDue w C
+TokenDue TokenKind.Name C = (n : Word) → IsTrue (is_plain_name n) → C (Token.Name n)
+TokenDue TokenKind.Number C = (value : ℕ) (suffix : Option IntKind) → C (Token.Number value suffix)
+TokenDue TokenKind.Digits C = (value : ℕ) → C (Token.Number value None)
+TokenDue TokenKind.Label C = (n : Word) → C (Token.Label n)
+TokenDue TokenKind.Text C = (n : Word) → C (Token.Text n)
+TokenDue TokenKind.Derive C = (n : Word) → C (Token.Name n)
 
-pub token_due : (k : Kind) (t : Token) (C : Token → Type 0) → is k t ≡ true → IsPlain t → TokenDue k C → C t
-token_due (Kind.Mark m) (Token.Mark n) C e p d = subst (λ x. C (Token.Mark x)) (same_mark m n e) d
-token_due (Kind.Word w) (Token.Word v) C e p d = word_due w v C e d
-token_due Kind.Name (Token.Name n) C e p d = d n p.plain
-token_due Kind.Number (Token.Number value suffix) C e p d = d value suffix
-token_due Kind.Digits (Token.Number value None) C e p d = d value
-token_due Kind.Label (Token.Label n) C e p d = d n
-token_due Kind.Text (Token.Text n) C e p d = d n
-token_due Kind.Derive (Token.Name n) C e p d = d n
+pub token_due : (k : TokenKind) (t : Token) (C : Token → Type 0) → is k t ≡ true → IsPlain t → TokenDue k C → C t
+token_due (TokenKind.Mark m) (Token.Mark n) C e p d = subst (λ x. C (Token.Mark x)) (same_mark m n e) d
+token_due (TokenKind.Word w) (Token.Word v) C e p d = word_due w v C e d
+token_due TokenKind.Name (Token.Name n) C e p d = d n p.plain
+token_due TokenKind.Number (Token.Number value suffix) C e p d = d value suffix
+token_due TokenKind.Digits (Token.Number value None) C e p d = d value
+token_due TokenKind.Label (Token.Label n) C e p d = d n
+token_due TokenKind.Text (Token.Text n) C e p d = d n
+token_due TokenKind.Derive (Token.Name n) C e p d = d n
 token_due _ _ C e p d = absurd (false≢true e)

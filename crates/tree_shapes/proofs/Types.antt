@@ -6,24 +6,24 @@ use Rattle.mir_base.specs.declared.place_in_text.Pos.{Pos}
 use Rattle.src_token.specs.declared.mark.Mark.{Mark}
 use Rattle.src_token.specs.declared.token.Token.{Token}
 use Rattle.src_token.specs.declared.word.Word.{Word as Keyword}
-use Rattle.src_tree.specs.declared.row.Row.{Row}
+use Rattle.src_tree.specs.declared.row.GrammarRow.{GrammarRow}
 use Rattle.src_tree.specs.Grammar as grammar
-use Rattle.src_tree.specs.Grammar.{Entry, Rest}
+use Rattle.src_tree.specs.Grammar.{NodeBeginning, GrammarRest}
 use Rattle.src_tree.specs.Layout.{node, end, tok}
 use Rattle.src_ast.specs.Syntax.{syn, ParensType, TupleType, ParensPattern, TuplePattern}
 use Rattle.src_ast.specs.View.{tokens_in, views, has_mark, ident_in}
 use Rattle.well_typed.specs.Claim.{Holds}
 use Rattle.typing_soundness.specs.Closures.{closures_in}
 use Rattle.typing_soundness.specs.Named.{field_named}
-use Rattle.tree_shapes.proofs.Due.{◌⊕◌, Due}
+use Rattle.tree_shapes.proofs.Due.{◌⊕◌, DuePart}
 use Rattle.tree_shapes.proofs.Good.{Held, IsQuiet, IsParam, RowIs}
 use Rattle.tree_shapes.proofs.Telling.{quiet, quiet_list, of_quiet, of_name, round_part}
 use Rattle.tree_shapes.proofs.Tokens.{IsPlain}
 
 -- how a node begins by a token
-abbrev pub EntryDue : Pos → Bool → Token → Option Entry → Type 0
+abbrev pub EntryDue : Pos → Bool → Token → Option NodeBeginning → Type 0
 EntryDue at self t None = Unit {0}
-EntryDue at self t (Some e) = Due self e.rest (λ r rest. RowIs self r (node at r (tok t rest)))
+EntryDue at self t (Some e) = DuePart self e.rest (λ r rest. RowIs self r (node at r (tok t rest)))
 
 pub type_due : (at : Pos) (self : Bool) (t : Token) → IsPlain t → EntryDue at self t (grammar.type_ t)
 type_due at self (Token.Name n) p = (
@@ -47,7 +47,7 @@ type_due at self _ p = tt
 
 -- ---- patterns
 
-self_param : {at : Pos} {parts : Held} → IsQuiet (node at Row.SelfParam parts) → IsParam true (node at Row.SelfParam
+self_param : {at : Pos} {parts : Held} → IsQuiet (node at GrammarRow.SelfParam parts) → IsParam true (node at GrammarRow.SelfParam
     parts)
 self_param h = record { quiet = h; other = λ e rest. absurd (true≢false e) }
 

@@ -28,8 +28,8 @@ pub record IsAcceptedText (text : List ℕ) (p : ProgramTree) : Type 0 where
   pub is_tree : IsTree tokens end_ tree
   pub typed : typed_program (items_of tree) tree.end ≡ Ok p
 
--- A program that is well typed, among items that are ready; each body has its head and each closure its body, and names of
--- structs, enums, variants and methods are words.
+-- A program that is well typed, among items that are ready; each body has its head and each closure its body, and names
+-- of structs, enums, variants and methods are words.
 pub record IsTypedProgram (p : ProgramTree) : Type 0 where
   pub heads : HaveHeads p.items.bodies p.bodies
   pub closures : AreClosures p.items

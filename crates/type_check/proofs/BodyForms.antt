@@ -1,17 +1,17 @@
 -- The bodies of items by their forms.
 use Rattle.std.proofs.Common.{◌≡◌, refl, ap, ◌∙◌}
 use Rattle.mir_base.specs.declared.place_in_text.Pos.{Pos}
-use Rattle.src_tree.specs.declared.node.Node.{Node}
+use Rattle.src_tree.specs.declared.node.SyntaxNode.{SyntaxNode}
 use Rattle.src_ast.specs.Seen.{syn_of}
 use Rattle.src_ast.specs.Sorts.{item_part}
 use Rattle.src_ast.specs.Syntax.{Syn, syn, Shape, at_of, shape_of, Ident, LabelOf, Literal, TruthLiteral, Path, Minus, Bang, Star, Ampersand, Calculate, Compare, Both, Either, Store, CallOf, MethodOf, FieldOf, PartOf, ElementOf, StructOf, FieldInit, Parens, TupleOf, ArrayOf, Braces, IfElse, IfLetElse, MatchOn, ArmOf, LoopOf, WhileOf, WhileLetOf, BreakOf, ContinueOf, ReturnOf, MoveOf, PanicOf, LetOf, Empty, Semi, AnyPattern, BindPattern, LiteralPattern, TruthPattern, PathPattern, PartsPattern, FieldsPattern, FieldPattern, ParensPattern, TuplePattern, ArrayPattern, Alternatives, NamedType, GenericType, DynType, SelfType, ParensType, TupleType, ArrayType, NeverType, RefType, StructItem, EnumItem, FieldDecl, VariantDecl, TraitItem, ImplItem, FnItem, ParamOf, SelfParam, Odd}
 use Rattle.src_ast.proofs.Named.{seen_as}
-use Rattle.typing_rules.specs.Check.{State}
+use Rattle.typing_rules.specs.Check.{TypingState}
 use Rattle.typing_rules.specs.Program.{bodies_of, fn_rules}
 use Rattle.typing_rules.specs.Scope.{Env}
 use Rattle.type_check.specs.Forms.{bodies_by, fn_by}
 
-form_fn : (w : Env) (at : Pos) (form : Shape) (s : State) → fn_rules w (syn at form) s ≡ fn_by w at (item_part form) s
+form_fn : (w : Env) (at : Pos) (form : Shape) (s : TypingState) → fn_rules w (syn at form) s ≡ fn_by w at (item_part form) s
 form_fn w at (Ident a) s = refl
 form_fn w at (LabelOf a) s = refl
 form_fn w at (Literal a b) s = refl
@@ -84,14 +84,14 @@ form_fn w at (ParamOf a b) s = refl
 form_fn w at (SelfParam a) s = refl
 form_fn w at Odd s = refl
 
-as_fn : (w : Env) (x : Syn) (s : State) → fn_rules w x s ≡ fn_by w (at_of x) (item_part (shape_of x)) s
+as_fn : (w : Env) (x : Syn) (s : TypingState) → fn_rules w x s ≡ fn_by w (at_of x) (item_part (shape_of x)) s
 as_fn w (syn at form) s = form_fn w at form s
 
 -- a method is known by its form
-pub fn_seen : (w : Env) (n : Node) (s : State) → fn_rules w (syn_of n) s ≡ fn_by w n.at (item_part (shape_of (syn_of n))) s
+pub fn_seen : (w : Env) (n : SyntaxNode) (s : TypingState) → fn_rules w (syn_of n) s ≡ fn_by w n.at (item_part (shape_of (syn_of n))) s
 fn_seen w n s = as_fn w (syn_of n) s ∙ ap (λ (x : Syn). fn_by w (at_of x) (item_part (shape_of (syn_of n))) s) (seen_as n)
 
-form_bodies : (w : Env) (at : Pos) (form : Shape) (s : State) → bodies_of w (syn at form) s ≡ bodies_by w at (item_part form) s
+form_bodies : (w : Env) (at : Pos) (form : Shape) (s : TypingState) → bodies_of w (syn at form) s ≡ bodies_by w at (item_part form) s
 form_bodies w at (Ident a) s = refl
 form_bodies w at (LabelOf a) s = refl
 form_bodies w at (Literal a b) s = refl
@@ -164,10 +164,10 @@ form_bodies w at (ParamOf a b) s = refl
 form_bodies w at (SelfParam a) s = refl
 form_bodies w at Odd s = refl
 
-as_bodies : (w : Env) (x : Syn) (s : State) → bodies_of w x s ≡ bodies_by w (at_of x) (item_part (shape_of x)) s
+as_bodies : (w : Env) (x : Syn) (s : TypingState) → bodies_of w x s ≡ bodies_by w (at_of x) (item_part (shape_of x)) s
 as_bodies w (syn at form) s = form_bodies w at form s
 
 -- an item is known by its form
-pub bodies_seen : (w : Env) (n : Node) (s : State) → bodies_of w (syn_of n) s ≡ bodies_by w n.at (item_part (shape_of (syn_of n))) s
+pub bodies_seen : (w : Env) (n : SyntaxNode) (s : TypingState) → bodies_of w (syn_of n) s ≡ bodies_by w n.at (item_part (shape_of (syn_of n))) s
 bodies_seen w n s =
     as_bodies w (syn_of n) s ∙ ap (λ (x : Syn). bodies_by w (at_of x) (item_part (shape_of (syn_of n))) s) (seen_as n)

@@ -1,7 +1,7 @@
 -- How the parts of variants and items are written: what is asked of a node is asked of its form alone.
 use Rattle.std.proofs.Common.{◌≡◌, [], ◌∷◌, refl}
 use Rattle.mir_base.specs.declared.place_in_text.Pos.{Pos}
-use Rattle.src_tree.specs.declared.node.Node.{Node}
+use Rattle.src_tree.specs.declared.node.SyntaxNode.{SyntaxNode}
 use Rattle.src_ast.specs.Seen.{syn_of}
 use Rattle.src_ast.specs.Sorts.{item_part, variant_part}
 use Rattle.src_ast.specs.Syntax.{Syn, syn, Shape, shape_of, Ident, LabelOf, Literal, TruthLiteral, Path, Minus, Bang, Star, Ampersand, Calculate, Compare, Both, Either, Store, CallOf, MethodOf, FieldOf, PartOf, ElementOf, StructOf, FieldInit, Parens, TupleOf, ArrayOf, Braces, IfElse, IfLetElse, MatchOn, ArmOf, LoopOf, WhileOf, WhileLetOf, BreakOf, ContinueOf, ReturnOf, MoveOf, PanicOf, LetOf, Empty, Semi, AnyPattern, BindPattern, LiteralPattern, TruthPattern, PathPattern, PartsPattern, FieldsPattern, FieldPattern, ParensPattern, TuplePattern, ArrayPattern, Alternatives, NamedType, GenericType, DynType, SelfType, ParensType, TupleType, ArrayType, NeverType, RefType, StructItem, EnumItem, FieldDecl, VariantDecl, TraitItem, ImplItem, FnItem, ParamOf, SelfParam, Odd}
@@ -160,8 +160,8 @@ item_as (syn at form) = item_form at form
 variant_as : (x : Syn) → kind_in x ≡ kind_by (variant_part (shape_of x))
 variant_as (syn at form) = variant_form at form
 
-pub item_seen : (n : Node) → all_kinds (syn_of n ∷ []) ≡ kinds_by (item_part (shape_of (syn_of n)))
+pub item_seen : (n : SyntaxNode) → all_kinds (syn_of n ∷ []) ≡ kinds_by (item_part (shape_of (syn_of n)))
 item_seen n = item_as (syn_of n)
 
-pub variant_seen : (n : Node) → kind_in (syn_of n) ≡ kind_by (variant_part (shape_of (syn_of n)))
+pub variant_seen : (n : SyntaxNode) → kind_in (syn_of n) ≡ kind_by (variant_part (shape_of (syn_of n)))
 variant_seen n = variant_as (syn_of n)

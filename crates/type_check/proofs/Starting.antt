@@ -4,15 +4,15 @@ use Rattle.mir_ty.specs.declared.ty.TyId.{TyId}
 use Rattle.mir_ty.specs.ItemTable.{ItemTable}
 use Rattle.type_env.specs.Scope.{around_of}
 use Rattle.type_rows.specs.Stand.{env_in, stack_of}
-use Rattle.type_rows.specs.Tables.{IsReady, all_kinds_of}
+use Rattle.type_rows.specs.Tables.{AreTablesOf, all_kinds_of}
 use Rattle.type_rows.specs.declared.surroundings.Surroundings.{Surroundings}
 use Rattle.type_rows.specs.declared.tables.Tables.{Tables}
 use Rattle.typed_tree.specs.declared.node.Node.{Node}
 use Rattle.typing_rules.specs.Items.{adt_names, all_kinds, trait_names}
 use Rattle.typing_rules.specs.Places.{unit}
 use Rattle.typing_rules.specs.Program.{outermost}
-use Rattle.typing_rules.specs.Scope.{Around, Entry, Env}
-use Rattle.src_ast.specs.Syntax.{Kind, Syn, Word}
+use Rattle.typing_rules.specs.Scope.{LabelledLoop, NamedEntry, Env}
+use Rattle.src_ast.specs.Syntax.{FieldsKind, Syn, Word}
 use Rattle.type_check.specs.Start.{HasItemTables, HasImplTables}
 use Rattle.type_check.specs.declared.start.TextTables.{TextTables}
 use Rattle.type_check.specs.declared.start.ItemTables.{ItemTables}
@@ -34,7 +34,7 @@ together text of_items impls =
     }
 
 pub ready : (items : ItemTable) (text : TextTables) (of_items : ItemTables) (impls : ImplTables) →
-    HasItemTables items of_items → HasImplTables items impls → IsReady items (together text of_items impls)
+    HasItemTables items of_items → HasImplTables items impls → AreTablesOf items (together text of_items impls)
 ready items text of_items impls known done =
     record {
       adts = known.adts;
@@ -46,7 +46,7 @@ ready items text of_items impls known done =
       drops = done.drops;
     }
 
-abbrev made : List Word → List Word → List (List Kind) → Option ℕ → List Entry → List Around → TyId → Env
+abbrev made : List Word → List Word → List (List FieldsKind) → Option ℕ → List NamedEntry → List LabelledLoop → TyId → Env
 made adts traits kinds self_adt variables loops answer =
     record {
       adts = adts;

@@ -4,7 +4,7 @@ use Rattle.std.specs.List.{list_any}
 use Rattle.mir_ty.specs.ItemTable.{ItemTable}
 use Rattle.name_table.specs.declared.known_names.NameSort.{NameSort}
 use Rattle.src_ast.specs.Syntax.{Word}
-use Rattle.src_tree.specs.declared.node.Piece.{Piece}
+use Rattle.src_tree.specs.declared.node.NodePiece.{NodePiece}
 use Rattle.src_tree.specs.View.{parts_in}
 use Rattle.type_env.specs.Coerced.{HasImpls}
 use Rattle.type_env.specs.Members.{all_names}
@@ -15,11 +15,11 @@ use Rattle.type_check.specs.declared.start.TextTables.{TextTables}
 use Rattle.type_check.specs.declared.start.ItemTables.{ItemTables}
 use Rattle.type_check.specs.declared.start.ImplTables.{ImplTables}
 
-abbrev pub HasNamesOf : NameSort → List Piece → List Word → Type 0
+abbrev pub HasNamesOf : NameSort → List NodePiece → List Word → Type 0
 HasNamesOf NameSort.Adts pieces names = names ≡ adt_names (item_syns (items_of (parts_in pieces)))
 HasNamesOf NameSort.Traits pieces names = names ≡ trait_names (item_syns (items_of (parts_in pieces)))
 
-pub record HasTextTables (pieces : List Piece) (tables : TextTables) : Type 0 where
+pub record HasTextTables (pieces : List NodePiece) (tables : TextTables) : Type 0 where
   pub adts : tables.adts ≡ adt_names (item_syns (items_of (parts_in pieces)))
   pub traits : tables.traits ≡ trait_names (item_syns (items_of (parts_in pieces)))
   pub kinds : all_kinds_of tables.kinds ≡ all_kinds (item_syns (items_of (parts_in pieces)))

@@ -12,7 +12,7 @@ use item_check::{enter_impl, leave_impl};
 use item_heads::broken;
 use mir_base::{Pos, Rule, RuleError};
 use src_ast::{Function, ItemForm, Nodes, item_form, name_of};
-use src_tree::Node;
+use src_tree::SyntaxNode;
 use type_rows::Checker;
 
 /// The body of a function or a method.
@@ -31,7 +31,7 @@ fn own_body(checker: &mut Checker, at: Pos, function: Function) -> Result<(), Ru
 }
 
 /// The body of a method.
-fn method_body(checker: &mut Checker, node: &Node) -> Result<(), RuleError>
+fn method_body(checker: &mut Checker, node: &SyntaxNode) -> Result<(), RuleError>
     requires { (env checker.old).variables ≡ [] }
     ensures gives { GivesValue (λ u. u) (rules.fn_rules (env checker.old) (syn_of node.now) (state checker.old)) result checker.new }
     ensures same { OnOk result (Same checker.old checker.new) }
@@ -69,7 +69,7 @@ fn impl_bodies(checker: &mut Checker, owner: &str, nodes: Nodes) -> Result<(), R
 }
 
 /// The bodies of one item.
-pub fn bodies_of(checker: &mut Checker, node: &Node) -> Result<(), RuleError>
+pub fn bodies_of(checker: &mut Checker, node: &SyntaxNode) -> Result<(), RuleError>
     requires { (env checker.old).variables ≡ [] }
     ensures gives { GivesValue (λ u. u) (rules.bodies_of (env checker.old) (syn_of node.now) (state checker.old)) result checker.new }
     ensures same { OnOk result (Same checker.old checker.new) }

@@ -12,7 +12,7 @@ use crate::checker_of;
 use crate::walk::all_items;
 use mir_base::{NoMemory, RuleError};
 use mir_ty::Items;
-use src_tree::{Piece, Tree};
+use src_tree::{NodePiece, Tree};
 use std::alloc::Global;
 use type_rows::Checker;
 use typed_tree::Typed;
@@ -26,7 +26,7 @@ fn typed_of(checker: Checker) -> Typed
 }
 
 /// The program that a checker gives that stands outside all items.
-fn walked(checker: Checker, pieces: &[Piece]) -> Result<Typed, RuleError>
+fn walked(checker: Checker, pieces: &[NodePiece]) -> Result<Typed, RuleError>
     requires { (env checker).variables ≡ [] }
     ensures { Checks (rules.program_in (rules.all_items (env checker) (record { methods = []; impls = [] }) (item_syns (items_of (parts_in pieces.now))) (state checker))) result }
 {

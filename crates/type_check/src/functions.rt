@@ -13,14 +13,14 @@ use item_heads::broken;
 use mir_base::{Pos, Rule, RuleError};
 use mir_ty::TyId;
 use src_ast::Nodes;
-use src_tree::Node;
+use src_tree::SyntaxNode;
 use type_rows::Checker;
 
 /// The block of a function or a method, which has one.
 fn block_of(
     checker: &mut Checker,
     at: Pos,
-    block: Option<&Node>,
+    block: Option<&SyntaxNode>,
     answer: TyId,
 ) -> Result<(), RuleError>
     ensures gives { Gives (program.block_of (maybe_of block.entry) at (env checker.old) (Some answer) (state checker.old)) result checker.new }
@@ -44,8 +44,8 @@ pub fn fn_body(
     checker: &mut Checker,
     at: Pos,
     params: Nodes,
-    answer: Option<&Node>,
-    block: Option<&Node>,
+    answer: Option<&SyntaxNode>,
+    block: Option<&SyntaxNode>,
 ) -> Result<(), RuleError>
     ensures gives { GivesValue (λ u. u) (unvalued (bodies.fn_body (alone (env checker.old)) at (nodes_of params.entry) (maybe_of answer.entry) (program.block_of (maybe_of block.entry) at)) (state checker.old)) result checker.new }
     ensures same { OnOk result (Same checker.old checker.new) }

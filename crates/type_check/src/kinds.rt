@@ -9,11 +9,11 @@ ghost use Rattle.type_check.specs.Kinds.{kind_in, kinds_at, kinds_in};
 
 use mir_base::{List, NoMemory};
 use src_ast::{FieldKind, ItemForm, Nodes, item_form, variant_form};
-use src_tree::{Node, Piece};
+use src_tree::{NodePiece, SyntaxNode};
 use std::alloc::Global;
 
 #[tactic(auto, using(crate::proofs::KindForms::variant_seen))]
-fn variant_kind(node: &Node) -> FieldKind
+fn variant_kind(node: &SyntaxNode) -> FieldKind
     ensures { kind_seen result ≡ kind_in (syn_of node.now) }
 {
     match variant_form(node) {
@@ -45,7 +45,11 @@ fn struct_kind(alloc: Global, kind: FieldKind) -> Result<List<FieldKind>, NoMemo
 
 /// How the parts of a struct or an enum are written, behind those of others; other items have none.
 #[tactic(auto, using(crate::proofs::KindForms::item_seen))]
-fn add_item(alloc: Global, node: &Node, kinds: &mut List<List<FieldKind>>) -> Result<(), NoMemory>
+fn add_item(
+    alloc: Global,
+    node: &SyntaxNode,
+    kinds: &mut List<List<FieldKind>>,
+) -> Result<(), NoMemory>
     ensures { OnOk result (all_kinds_of kinds.new ≡ all_kinds_of kinds.old ++ all_kinds (syn_of node.now ∷ [])) }
 {
     match item_form(node) {
@@ -61,14 +65,14 @@ fn add_item(alloc: Global, node: &Node, kinds: &mut List<List<FieldKind>>) -> Re
 #[tactic(auto, using(crate::proofs::KindWalk::at_token, crate::proofs::KindWalk::at_node))]
 fn add_piece(
     alloc: Global,
-    piece: &Piece,
+    piece: &NodePiece,
     kinds: &mut List<List<FieldKind>>,
 ) -> Result<(), NoMemory>
     ensures { OnOk result (all_kinds_of kinds.new ≡ all_kinds_of kinds.old ++ kinds_at (piece_of piece.now)) }
 {
     match piece {
-        Piece::Node(node) => add_item(alloc, node, kinds),
-        Piece::Token(_) => Ok(()),
+        NodePiece::Node(node) => add_item(alloc, node, kinds),
+        NodePiece::Token(_) => Ok(()),
     }
 }
 
@@ -77,7 +81,7 @@ fn add_piece(
 /// # Errors
 ///
 /// [`NoMemory`] where memory is wanted.
-pub fn kinds(alloc: Global, pieces: &[Piece]) -> Result<List<List<FieldKind>>, NoMemory>
+pub fn kinds(alloc: Global, pieces: &[NodePiece]) -> Result<List<List<FieldKind>>, NoMemory>
     ensures { IfOk result (λ kinds. all_kinds_of kinds ≡ all_kinds (item_syns (items_of (parts_in pieces.now)))) }
 {
     let mut kinds = List::new(alloc);

@@ -7,7 +7,7 @@ ghost use Rattle.typing_rules.specs.Places.{unit};
 ghost use Rattle.typing_rules.specs.Program.{outermost};
 ghost use Rattle.type_env.specs.Walked.{state_of};
 ghost use Rattle.type_rows.specs.Stand.{env, stack, state};
-ghost use Rattle.type_rows.specs.Tables.{IsReady, all_kinds_of};
+ghost use Rattle.type_rows.specs.Tables.{AreTablesOf, all_kinds_of};
 ghost use Rattle.type_check.specs.Start.{HasImplTables, HasItemTables, HasTextTables, HasNamesOf};
 
 use crate::drops::drop_bodies;
@@ -18,7 +18,7 @@ use mir_base::{List, NoMemory};
 use mir_ty::{Items, TyId};
 use name_table::{NameSort, names_of};
 use src_ast::FieldKind;
-use src_tree::Piece;
+use src_tree::NodePiece;
 use std::alloc::Global;
 use std::collections::HashSet;
 use type_env::{AdtNames, ImplPair, Variables, Walk, impl_pairs, member_names};
@@ -49,7 +49,7 @@ struct ImplTables {
     drop_bodies: HashSet<u32>,
 }
 
-fn names(alloc: Global, sort: NameSort, pieces: &[Piece]) -> Result<NameTable, NoMemory>
+fn names(alloc: Global, sort: NameSort, pieces: &[NodePiece]) -> Result<NameTable, NoMemory>
     ensures { IfOk result (λ names. HasNamesOf sort pieces.now names) }
 {
     match names_of(alloc, sort, pieces) {
@@ -58,7 +58,7 @@ fn names(alloc: Global, sort: NameSort, pieces: &[Piece]) -> Result<NameTable, N
     }
 }
 
-fn text_tables(alloc: Global, pieces: &[Piece]) -> Result<TextTables, NoMemory>
+fn text_tables(alloc: Global, pieces: &[NodePiece]) -> Result<TextTables, NoMemory>
     ensures { IfOk result (λ tables. HasTextTables pieces.now tables) }
 {
     let adts = names(alloc, NameSort::Adts, pieces)?;
@@ -137,8 +137,8 @@ fn put_together(text: TextTables, of_items: ItemTables, impls: ImplTables) -> Ta
     }
 }
 
-fn tables(alloc: Global, pieces: &[Piece], items: &Items) -> Result<Tables, NoMemory>
-    ensures ready { IfOk result (λ tables. IsReady items.now tables) }
+fn tables(alloc: Global, pieces: &[NodePiece], items: &Items) -> Result<Tables, NoMemory>
+    ensures ready { IfOk result (λ tables. AreTablesOf items.now tables) }
     ensures adts { IfOk result (λ tables. tables.adts ≡ names_of_adts (item_syns (items_of (parts_in pieces.now)))) }
     ensures traits { IfOk result (λ tables. tables.traits ≡ names_of_traits (item_syns (items_of (parts_in pieces.now)))) }
     ensures kinds { IfOk result (λ tables. all_kinds_of tables.kinds ≡ all_kinds (item_syns (items_of (parts_in pieces.now)))) }
@@ -187,7 +187,7 @@ fn beginning(alloc: Global, items: Items) -> Walk
 /// # Errors
 ///
 /// [`NoMemory`] where memory is wanted.
-pub fn checker_of(alloc: Global, pieces: &[Piece], items: Items) -> Result<Checker, NoMemory>
+pub fn checker_of(alloc: Global, pieces: &[NodePiece], items: Items) -> Result<Checker, NoMemory>
     ensures place { IfOk result (λ checker. env checker ≡ outermost (item_syns (items_of (parts_in pieces.now)))) }
     ensures state { IfOk result (λ checker. state checker ≡ starting_with items) }
     ensures empty { IfOk result (λ checker. stack checker ≡ []) }

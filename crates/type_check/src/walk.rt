@@ -11,11 +11,11 @@ ghost use Rattle.type_check.specs.Forms.{item_and_bodies, piece_and_bodies};
 use crate::bodies::bodies_of;
 use item_check::{Before, NamePairs, item_rules};
 use mir_base::RuleError;
-use src_tree::{Node, Piece};
+use src_tree::{NodePiece, SyntaxNode};
 use type_rows::Checker;
 
 /// One item, and then its bodies.
-fn item(checker: &mut Checker, before: &mut Before, node: &Node) -> Result<(), RuleError>
+fn item(checker: &mut Checker, before: &mut Before, node: &SyntaxNode) -> Result<(), RuleError>
     requires { (env checker.old).variables ≡ [] }
     ensures gives { GivesValue (λ u. had before.new) (item_and_bodies (env checker.old) (had before.old) (syn_of node.now) (state checker.old)) result checker.new }
     ensures same { OnOk result (Same checker.old checker.new) }
@@ -25,19 +25,23 @@ fn item(checker: &mut Checker, before: &mut Before, node: &Node) -> Result<(), R
 }
 
 #[tactic(auto, using(crate::proofs::EachItem::at_token, crate::proofs::EachItem::at_node))]
-fn piece_of_text(checker: &mut Checker, before: &mut Before, piece: &Piece) -> Result<(), RuleError>
+fn piece_of_text(
+    checker: &mut Checker,
+    before: &mut Before,
+    piece: &NodePiece,
+) -> Result<(), RuleError>
     requires { (env checker.old).variables ≡ [] }
     ensures gives { GivesValue (λ u. had before.new) (piece_and_bodies (env checker.old) (had before.old) (piece_of piece.now) (state checker.old)) result checker.new }
     ensures same { OnOk result (Same checker.old checker.new) }
 {
     match piece {
-        Piece::Node(node) => item(checker, before, node),
-        Piece::Token(_) => Ok(()),
+        NodePiece::Node(node) => item(checker, before, node),
+        NodePiece::Token(_) => Ok(()),
     }
 }
 
 /// All items of a text: of each its head, and then its bodies.
-pub fn all_items(checker: &mut Checker, pieces: &[Piece]) -> Result<(), RuleError>
+pub fn all_items(checker: &mut Checker, pieces: &[NodePiece]) -> Result<(), RuleError>
     requires { (env checker.old).variables ≡ [] }
     ensures gives { GivesValue (λ u. u) (rules.all_items (env checker.old) (record { methods = []; impls = [] }) (item_syns (items_of (parts_in pieces.now))) (state checker.old)) result checker.new }
     ensures same { OnOk result (Same checker.old checker.new) }

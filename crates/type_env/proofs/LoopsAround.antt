@@ -6,19 +6,19 @@ use Rattle.mir_ty.specs.declared.ty.TyId.{TyId}
 use Rattle.src_ast.specs.Syntax.{Word}
 use Rattle.type_env.specs.Scope.{around_of, is_left}
 use Rattle.type_env.specs.declared.loops.LoopAround.{LoopAround}
-use Rattle.typing_rules.specs.Scope.{Around, jumps_to}
+use Rattle.typing_rules.specs.Scope.{LabelledLoop, jumps_to}
 
-abbrev around_with : Option Word → ℕ → Bool → Option TyId → Around
+abbrev around_with : Option Word → ℕ → Bool → Option TyId → LabelledLoop
 around_with label loop has_value want = record { label = label; loop = loop; has_value = has_value; want = want }
 
-here : (own : Option Word) (loop : ℕ) (has_value : Bool) (want : Option TyId) (as_ : List Around) (label : Option Word) → is_left own label ≡ true →
+here : (own : Option Word) (loop : ℕ) (has_value : Bool) (want : Option TyId) (as_ : List LabelledLoop) (label : Option Word) → is_left own label ≡ true →
     jumps_to (around_with own loop has_value want ∷ as_) label ≡ Some (around_with own loop has_value want)
 here own loop has_value want as_ None is = refl
 here None loop has_value want as_ (Some name) is = absurd (cc)
 here (Some own) loop has_value want as_ (Some name) is =
     ap (λ z. cond z (Some (around_with (Some own) loop has_value want)) (jumps_to as_ (Some name))) is
 
-beyond : (own : Option Word) (loop : ℕ) (has_value : Bool) (want : Option TyId) (as_ : List Around) (label : Option Word) → is_left own label ≡ false →
+beyond : (own : Option Word) (loop : ℕ) (has_value : Bool) (want : Option TyId) (as_ : List LabelledLoop) (label : Option Word) → is_left own label ≡ false →
     jumps_to (around_with own loop has_value want ∷ as_) label ≡ jumps_to as_ label
 beyond own loop has_value want as_ None is = absurd (cc)
 beyond None loop has_value want as_ (Some name) is = refl
@@ -27,7 +27,7 @@ beyond (Some own) loop has_value want as_ (Some name) is =
 
 module _ (loops : List LoopAround) (d : LoopAround) (label : Option Word) where
   -- what a jump leaves of the first loops
-  abbrev pub of_first : ℕ → Option Around
+  abbrev pub of_first : ℕ → Option LabelledLoop
   of_first n = jumps_to (reverse (map around_of (take n loops))) label
 
   parts : (n : ℕ) → n < length loops → reverse (map around_of (take (suc n) loops)) ≡ around_of (get_or loops n d) ∷ reverse (map around_of (take n loops))

@@ -20,4 +20,5 @@ is_impl trait_no adt def = def.trait_no == trait_no && def.adt == adt
 
 -- the pairs are those of the impls
 abbrev pub HasImpls : {S : Type 0} → HashSet ImplPair S → List ImplDef → Type 0
-HasImpls pairs impls = (trait_no adt : ℕ) → list_any (is_pair trait_no adt) pairs.keys ≡ list_any (is_impl trait_no adt) impls
+HasImpls pairs impls = (trait_no adt : ℕ) → list_any (is_pair trait_no adt) pairs.keys ≡
+    list_any (is_impl trait_no adt) impls

@@ -6,22 +6,22 @@ use Rattle.std.specs.Str.{bytes_eq}
 use Rattle.std.specs.declared.string.String.{String}
 use Rattle.mir_base.specs.declared.place_in_text.Key.{Key}
 use Rattle.src_ast.specs.Syntax.{Word}
-use Rattle.type_env.specs.declared.variables.Meaning as rust
+use Rattle.type_env.specs.declared.variables.VariableMeaning as rust
 use Rattle.type_env.specs.declared.variables.Slot.{Slot}
 use Rattle.type_env.specs.declared.variables.Variable.{Variable}
 use Rattle.type_env.specs.declared.loops.LoopAround.{LoopAround}
 use Rattle.typing_rules.specs.Scope as scope
-use Rattle.typing_rules.specs.Scope.{Entry, Local, Capture, InGuard, Around}
+use Rattle.typing_rules.specs.Scope.{NamedEntry, Local, Capture, InGuard, LabelledLoop}
 
-abbrev pub meaning_of : rust.Meaning → scope.Meaning
-meaning_of (rust.Meaning.Local key) = Local key.0
-meaning_of (rust.Meaning.Capture closure part) = Capture closure.0 part
-meaning_of (rust.Meaning.InGuard key) = InGuard key.0
+abbrev pub meaning_of : rust.VariableMeaning → scope.VariableMeaning
+meaning_of (rust.VariableMeaning.Local key) = Local key.0
+meaning_of (rust.VariableMeaning.Capture closure part) = Capture closure.0 part
+meaning_of (rust.VariableMeaning.InGuard key) = InGuard key.0
 
-abbrev pub entry_of : Variable → Entry
+abbrev pub entry_of : Variable → NamedEntry
 entry_of v = record { name = v.name; ty = v.ty; meaning = meaning_of v.meaning }
 
-abbrev pub entry_in : Slot → Entry
+abbrev pub entry_in : Slot → NamedEntry
 entry_in s = entry_of s.variable
 
 -- ---- slots, the youngest first
@@ -46,7 +46,7 @@ abbrev pub word_in : Option (Bor (List ℕ)) → Option Word
 word_in None = None
 word_in (Some word) = Some word.now
 
-abbrev pub around_of : LoopAround → Around
+abbrev pub around_of : LoopAround → LabelledLoop
 around_of l = record { label = l.label; loop = l.id.0; has_value = l.has_value; want = l.want }
 
 -- a label is this one; a loop may be left by a jump with this label, or by one without

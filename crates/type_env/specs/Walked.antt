@@ -8,7 +8,7 @@ use Rattle.item_heads.specs.Answers.{Refuses}
 use Rattle.type_env.specs.declared.walk.BreakOut.{BreakOut}
 use Rattle.type_env.specs.declared.walk.Walk.{Walk}
 use Rattle.typed_tree.specs.View.{body_of}
-use Rattle.typing_rules.specs.Check.{State, Broken}
+use Rattle.typing_rules.specs.Check.{TypingState, Broken}
 
 abbrev pub node_no : NodeId → ℕ
 node_no id = id.0
@@ -16,7 +16,7 @@ node_no id = id.0
 abbrev pub break_of : BreakOut → ℕ × TyId
 break_of b = (b.from.0, b.ty)
 
-abbrev pub state_of : Walk → State
+abbrev pub state_of : Walk → TypingState
 state_of walk =
     record {
       items = walk.items;
@@ -27,7 +27,7 @@ state_of walk =
     }
 
 -- what a step gives is what a call answers, and the walk has come as far; want of memory says nothing
-abbrev pub Gives : {A B : Type 0} → (B → A) → Result (A × State) Broken → Result B RuleError → Walk → Type 0
+abbrev pub Gives : {A B : Type 0} → (B → A) → Result (A × TypingState) Broken → Result B RuleError → Walk → Type 0
 Gives view outcome (Ok b) after = outcome ≡ Ok (view b, state_of after)
 Gives view outcome (Err e) after = Refuses outcome e
 

@@ -18,5 +18,5 @@ pub use types::{
     adt_of, agrees, array_of, boxed_of, closure_of, fits, inside_of, is_bool, is_dyn, is_enum,
     is_int, is_never, is_reference, is_unit, kind_of, one_of_two, reference_of, taking, trait_of,
 };
-pub use variables::{Meaning, Variable, Variables};
+pub use variables::{Variable, VariableMeaning, Variables};
 pub use walk::{BreakOut, Walk};

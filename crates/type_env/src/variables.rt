@@ -12,7 +12,7 @@ use std::marker::Model;
 
 /// What a variable is.
 #[derive(Clone, Copy)]
-pub enum Meaning {
+pub enum VariableMeaning {
     /// An entry of the body.
     Local(Key),
     /// A captured variable: the key of the closure's value, and its number among the captures.
@@ -26,7 +26,7 @@ pub enum Meaning {
 pub struct Variable {
     pub name: Name,
     pub ty: TyId,
-    pub meaning: Meaning,
+    pub meaning: VariableMeaning,
 }
 
 /// A variable, and the place of the one that it hides, if there is one.
@@ -48,10 +48,10 @@ pub struct Variables {
 
 impl Model for Variables {
     ghost use Rattle.std.specs.Prelude.{List as Listed, reverse, map};
-    ghost use Rattle.typing_rules.specs.Scope.{Entry};
+    ghost use Rattle.typing_rules.specs.Scope.{NamedEntry};
     ghost use Rattle.type_env.specs.Scope.{IsIndexed, entry_in};
 
-    ghost Value = { Listed Entry };
+    ghost Value = { Listed NamedEntry };
 
     ghost view = { λ v. map entry_in (reverse v.slots) };
 

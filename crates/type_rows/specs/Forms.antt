@@ -7,7 +7,7 @@ use Rattle.type_rows.specs.declared.forms.Four as four
 use Rattle.type_rows.specs.declared.forms.Leaf as leaf
 use Rattle.type_rows.specs.declared.forms.One as one
 use Rattle.type_rows.specs.declared.forms.Three as three
-use Rattle.type_rows.specs.declared.forms.Two as two
+use Rattle.type_rows.specs.declared.forms.TwoParts as two
 
 abbrev pub one_form : one.One → Node → Form
 one_form (one.One.Field number) part = tree.Field part number
@@ -26,19 +26,19 @@ one_form one.One.Loop part = tree.Loop part
 one_form (one.One.Break from) part = tree.Break from.0 (present part)
 one_form one.One.Return part = tree.Return (present part)
 
-abbrev pub two_form : two.Two → Node → Node → Form
-two_form (two.Two.Index count) first second = tree.Index first second count
-two_form (two.Two.Arithmetic operator) first second = tree.Arithmetic operator first second
-two_form (two.Two.Comparison operator) first second = tree.Comparison operator first second
-two_form (two.Two.ArithmeticLast operator) first second = tree.Arithmetic operator second first
-two_form (two.Two.ComparisonLast operator) first second = tree.Comparison operator second first
-two_form two.Two.And first second = tree.And first second
-two_form two.Two.Or first second = tree.Or first second
-two_form two.Two.Assign first second = tree.Assign (used Use.Store first) second
-two_form two.Two.If first second = tree.If first second absent
-two_form two.Two.While first second = tree.While first second
-two_form two.Two.Let first second = tree.Let second (present first)
-two_form two.Two.Arm first second = tree.Arm first absent second
+abbrev pub two_form : two.TwoParts → Node → Node → Form
+two_form (two.TwoParts.Index count) first second = tree.Index first second count
+two_form (two.TwoParts.Arithmetic operator) first second = tree.Arithmetic operator first second
+two_form (two.TwoParts.Comparison operator) first second = tree.Comparison operator first second
+two_form (two.TwoParts.ArithmeticLast operator) first second = tree.Arithmetic operator second first
+two_form (two.TwoParts.ComparisonLast operator) first second = tree.Comparison operator second first
+two_form two.TwoParts.And first second = tree.And first second
+two_form two.TwoParts.Or first second = tree.Or first second
+two_form two.TwoParts.Assign first second = tree.Assign (used Use.Store first) second
+two_form two.TwoParts.If first second = tree.If first second absent
+two_form two.TwoParts.While first second = tree.While first second
+two_form two.TwoParts.Let first second = tree.Let second (present first)
+two_form two.TwoParts.Arm first second = tree.Arm first absent second
 
 abbrev pub three_form : three.Three → Node → Node → Node → Form
 three_form three.Three.If first second third = tree.If first second (present third)

@@ -9,7 +9,7 @@ use Rattle.typed_tree.specs.Tree as tree
 use Rattle.typed_tree.specs.Tree.{node}
 use Rattle.typed_tree.specs.View.{tree_of}
 use Rattle.typed_tree.specs.declared.node.Node.{Node}
-use Rattle.typing_rules.specs.Check.{State, Broken}
+use Rattle.typing_rules.specs.Check.{TypingState, Broken}
 use Rattle.typing_rules.specs.Scope.{Env}
 use Rattle.type_rows.specs.Tables.{all_kinds_of}
 use Rattle.type_rows.specs.declared.checker.Checker.{Checker}
@@ -58,13 +58,13 @@ env c = env_in c.tables c.around
 abbrev pub stack : Checker → List tree.Node
 stack c = stack_of c.walk.made
 
-abbrev pub state : Checker → State
+abbrev pub state : Checker → TypingState
 state c = state_of c.walk
 
 -- ---- what a call answers
 
 -- the last node is what a check gives, and the walk has come as far; want of memory says nothing
-abbrev pub Gives : Result (tree.Node × State) Broken → Result (Unit {0}) RuleError → Checker → Type 0
+abbrev pub Gives : Result (tree.Node × TypingState) Broken → Result (Unit {0}) RuleError → Checker → Type 0
 Gives outcome (Ok u) after = outcome ≡ Ok (top (stack after), state after)
 Gives outcome (Err e) after = Refuses outcome e
 
@@ -82,6 +82,7 @@ abbrev pub Same : Checker → Checker → Type 0
 Same before after = (stack after ≡ stack before) × Stays before after
 
 -- a step that makes no node
-abbrev pub GivesValue : {A B : Type 0} → (B → A) → Result (A × State) Broken → Result B RuleError → Checker → Type 0
+abbrev pub GivesValue : {A B : Type 0} → (B → A) → Result (A × TypingState) Broken → Result B RuleError → Checker →
+    Type 0
 GivesValue view outcome (Ok b) after = outcome ≡ Ok (view b, state after)
 GivesValue view outcome (Err e) after = Refuses outcome e

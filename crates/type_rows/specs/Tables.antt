@@ -6,7 +6,7 @@ use Rattle.mir_ty.specs.declared.def.Sig.{Sig}
 use Rattle.mir_ty.specs.declared.def.TraitDef.{TraitDef}
 use Rattle.mir_ty.specs.ItemTable.{ItemTable}
 use Rattle.src_ast.specs.ItemForms.{kind_seen}
-use Rattle.src_ast.specs.Syntax.{Kind, Word}
+use Rattle.src_ast.specs.Syntax.{FieldsKind, Word}
 use Rattle.src_ast.specs.declared.item.FieldKind.{FieldKind}
 use Rattle.well_typed.specs.Nodes.{is_drop_body}
 use Rattle.type_env.specs.Coerced.{HasImpls}
@@ -25,11 +25,11 @@ body_words items = map (λ (sig : Sig). sig.name) items.bodies
 abbrev pub method_words : TraitDef → List Word
 method_words def = map (λ (sig : Sig). sig.name) def.methods
 
-abbrev pub all_kinds_of : List (List FieldKind) → List (List Kind)
+abbrev pub all_kinds_of : List (List FieldKind) → List (List FieldsKind)
 all_kinds_of kinds = map (map kind_seen) kinds
 
 -- the tables are those of the items
-pub record IsReady (items : ItemTable) (tables : Tables) : Type 0 where
+pub record AreTablesOf (items : ItemTable) (tables : Tables) : Type 0 where
   pub adts : tables.adt_names ≡ adt_words items
   pub traits : tables.trait_names ≡ trait_words items
   pub bodies : tables.body_names ≡ body_words items

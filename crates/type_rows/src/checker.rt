@@ -1,5 +1,5 @@
 //! A checker of bodies.
-ghost use Rattle.type_rows.specs.Tables.{IsReady};
+ghost use Rattle.type_rows.specs.Tables.{AreTablesOf};
 
 use crate::surroundings::Surroundings;
 use crate::tables::Tables;
@@ -14,5 +14,5 @@ pub struct Checker {
     pub walk: Walk,
     pub around: Surroundings,
     pub tables: Tables,
-    ghost ready: { IsReady walk.items tables },
+    ghost ready: { AreTablesOf walk.items tables },
 }

@@ -6,7 +6,7 @@ ghost use Rattle.type_rows.specs.Forms.{four_form, leaf_form, one_form, three_fo
 ghost use Rattle.type_rows.specs.Stand.{Gives, Keeps, below, stack, state, top};
 
 use crate::checker::Checker;
-use crate::forms::{Four, Leaf, One, Three, Two};
+use crate::forms::{Four, Leaf, One, Three, TwoParts};
 use mir_base::{NodeId, Pos, RuleError};
 use mir_ty::TyId;
 
@@ -49,7 +49,7 @@ impl Checker {
         id: NodeId,
         at: Pos,
         ty: TyId,
-        two: Two,
+        two: TwoParts,
         want: Option<TyId>,
     ) -> Result<(), RuleError>
         ensures gives { Gives (rows.fitted want (a_node_of id.0 at ty
@@ -98,7 +98,7 @@ impl Checker {
         id: NodeId,
         at: Pos,
         ty: TyId,
-        two: Two,
+        two: TwoParts,
         want: Option<TyId>,
     ) -> Result<(), RuleError>
         ensures gives { Gives (rows.settled want (a_node_of id.0 at ty

@@ -31,7 +31,7 @@ pub enum One {
 
 /// A form with two parts, in the order in which they are made.
 #[derive(Clone, Copy)]
-pub enum Two {
+pub enum TwoParts {
     /// The array, and its index.
     Index(u32),
     Arithmetic(Math),
@@ -152,61 +152,61 @@ fn stored(mut place: Box<Node, Global>) -> Box<Node, Global>
 }
 
 /// A form with these parts.
-pub fn form_of_two(two: Two, first: Box<Node, Global>, second: Box<Node, Global>) -> Form
+pub fn form_of_two(two: TwoParts, first: Box<Node, Global>, second: Box<Node, Global>) -> Form
     ensures { form_of result ≡ two_form two (tree_of first.value) (tree_of second.value) }
 {
     match two {
-        Two::Index(length) => Form::Index {
+        TwoParts::Index(length) => Form::Index {
             base: first,
             index: second,
             length,
         },
-        Two::Arithmetic(operator) => Form::Arithmetic {
+        TwoParts::Arithmetic(operator) => Form::Arithmetic {
             operator,
             left: first,
             right: second,
         },
-        Two::Comparison(operator) => Form::Comparison {
+        TwoParts::Comparison(operator) => Form::Comparison {
             operator,
             left: first,
             right: second,
         },
-        Two::ArithmeticLast(operator) => Form::Arithmetic {
-            operator,
-            left: second,
-            right: first,
-        },
-        Two::ComparisonLast(operator) => Form::Comparison {
+        TwoParts::ArithmeticLast(operator) => Form::Arithmetic {
             operator,
             left: second,
             right: first,
         },
-        Two::And => Form::And {
+        TwoParts::ComparisonLast(operator) => Form::Comparison {
+            operator,
+            left: second,
+            right: first,
+        },
+        TwoParts::And => Form::And {
             left: first,
             right: second,
         },
-        Two::Or => Form::Or {
+        TwoParts::Or => Form::Or {
             left: first,
             right: second,
         },
-        Two::Assign => Form::Assign {
+        TwoParts::Assign => Form::Assign {
             place: stored(first),
             value: second,
         },
-        Two::If => Form::If {
+        TwoParts::If => Form::If {
             condition: first,
             then: second,
             otherwise: None,
         },
-        Two::While => Form::While {
+        TwoParts::While => Form::While {
             condition: first,
             body: second,
         },
-        Two::Let => Form::Let {
+        TwoParts::Let => Form::Let {
             pattern: second,
             initialiser: Some(first),
         },
-        Two::Arm => Form::Arm {
+        TwoParts::Arm => Form::Arm {
             pattern: first,
             guard: None,
             body: second,

@@ -14,7 +14,7 @@ mod tables;
 mod taken;
 
 pub use checker::Checker;
-pub use forms::{Four, Leaf, One, Three, Two};
+pub use forms::{Four, Leaf, One, Three, TwoParts};
 pub use literals::{int, is_signed, literal_value, most};
 pub use surroundings::Surroundings;
 pub use tables::Tables;

@@ -9,7 +9,7 @@ ghost use Rattle.type_rows.specs.Stand.{Stays, below, node_if_any, stack, state,
 
 use crate::checker::Checker;
 use crate::forms::{
-    Four, Leaf, One, Three, Two, form_of_four, form_of_leaf, form_of_one, form_of_three,
+    Four, Leaf, One, Three, TwoParts, form_of_four, form_of_leaf, form_of_one, form_of_three,
     form_of_two,
 };
 use mir_base::{List, NoMemory, NodeId, Pos, RuleError};
@@ -211,7 +211,13 @@ impl Checker {
     }
 
     /// A node without a use around the last two.
-    pub fn wrap_two(&mut self, id: NodeId, at: Pos, ty: TyId, two: Two) -> Result<(), RuleError>
+    pub fn wrap_two(
+        &mut self,
+        id: NodeId,
+        at: Pos,
+        ty: TyId,
+        two: TwoParts,
+    ) -> Result<(), RuleError>
         ensures made { OnOk result (stack self.new ≡
             places.a_node_of id.0 at ty (two_form two (top (below (stack self.old))) (top (stack self.old)))
             ∷ below (below (stack self.old))) }

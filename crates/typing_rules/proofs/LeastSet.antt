@@ -7,7 +7,7 @@ use Rattle.std.specs.List.{list_all, list_any, filter}
 use Rattle.mir_ty.specs.ItemTable.{ItemTable}
 use Rattle.well_typed.proofs.ClaimLemmas.{and_true, true_left, true_right}
 use Rattle.well_typed.proofs.ItemLemmas.{all_of}
-use Rattle.typing_rules.specs.Replaced.{Param, Facts, is_param, is_among, is_replaced, bodies_of, param_of, after, all_facts, Replaceable, by_store, by_call, RoundsFindTheLeast}
+use Rattle.typing_rules.specs.Replaced.{BodyParameter, Facts, is_param, is_among, is_replaced, bodies_of, param_of, after, all_facts, Replaceable, by_store, by_call, RoundsFindTheLeast}
 
 -- ---- truth values and lists
 
@@ -200,14 +200,14 @@ module _ (items : ItemTable) (facts : List Facts) where
 
   -- ---- the rules
 
-  param_is : (number body : ℕ) (q : Param) → IsTrue (is_param body number q) → (q.number ≡ number) × (q.body ≡ body)
+  param_is : (number body : ℕ) (q : BodyParameter) → IsTrue (is_param body number q) → (q.number ≡ number) × (q.body ≡ body)
   param_is number body q h = (
     eqb-true q.number number (true_right (q.body == body) (q.number == number) h),
     eqb-true q.body body (true_left
         (q.body == body) (q.number == number) h),
   )
 
-  param_self : (q : Param) → IsTrue (is_param q.body q.number q)
+  param_self : (q : BodyParameter) → IsTrue (is_param q.body q.number q)
   param_self q = grind (arith, common_steps)
 
   -- what a round finds is there by the rules

@@ -10,8 +10,8 @@ use Rattle.mir_base.specs.declared.rule.Rule.{Rule}
 use Rattle.src_token.specs.declared.mark.Mark.{Mark}
 use Rattle.src_token.specs.declared.token.Token.{Token}
 use Rattle.src_token.specs.declared.word.Word.{Word as Keyword}
-use Rattle.src_tree.specs.Layout.{Node, node}
-use Rattle.src_tree.specs.Reading.{and_then, State, step, whole, start}
+use Rattle.src_tree.specs.Layout.{SyntaxNode, node}
+use Rattle.src_tree.specs.Reading.{and_then, ParserState, step, whole, start}
 use Rattle.typed_tree.specs.Tree.{ProgramTree}
 use Rattle.well_typed.specs.Program.{is_well_typed}
 use Rattle.typing_rules.specs.Check.{Broken}
@@ -167,7 +167,7 @@ abbrev pub lines : List (List ℕ) → List ℕ
 lines [] = []
 lines (l ∷ ls) = l ++ 10 ∷ lines ls
 
-abbrev read : List Spelled → Option (State Pos) → Option (State Pos)
+abbrev read : List Spelled → Option (ParserState Pos) → Option (ParserState Pos)
 read [] o = o
 read (t ∷ ts) o = read ts (and_then o (λ s. step s t.0 t.1))
 
@@ -180,11 +180,11 @@ abbrev outcome_of : Result ProgramTree Broken → Outcome
 outcome_of (Ok p) = Typed p
 outcome_of (Err e) = Refused e.rule e.at
 
-abbrev of_tree : Pos → Option (Node Pos) → Outcome
+abbrev of_tree : Pos → Option (SyntaxNode Pos) → Outcome
 of_tree end None = NoTree
 of_tree end (Some (node at row parts)) = outcome_of (read_typed parts end)
 
-abbrev tree_of : List ℕ → Option (Node Pos)
+abbrev tree_of : List ℕ → Option (SyntaxNode Pos)
 tree_of text = and_then (read (tokens text (place 1 1) None) (Some (start (place 1 1)))) (λ s. whole s)
 
 -- what comes of a text

@@ -9,62 +9,62 @@ use Rattle.typed_tree.specs.Tree.{Node, node, Nodes, no_node, a_node, Fields, no
 -- ---- places
 
 -- a part, or the content of a box or what a reference names
-pub data Step : Type 0 where
-  ToPart : (number : ℕ) → Step
-  ToContent : Step
+pub data AccessStep : Type 0 where
+  ToPart : (number : ℕ) → AccessStep
+  ToContent : AccessStep
 
 -- A variable by its key, and steps inwards. An index ends the steps: the whole array is meant, and nothing behind it.
-pub record Place : Type 0 where
+pub record AccessPlace : Type 0 where
   pub key : ℕ
-  pub steps : List Step
+  pub steps : List AccessStep
   pub has_ended : Bool
 
-abbrev pub variable_place : ℕ → Place
+abbrev pub variable_place : ℕ → AccessPlace
 variable_place key = record { key = key; steps = []; has_ended = false }
 
-abbrev pub with_step : Step → Place → Place
+abbrev pub with_step : AccessStep → AccessPlace → AccessPlace
 with_step step p = if p.has_ended then p else record p { steps = p.steps ++ step ∷ [] }
 
-abbrev pub with_end : Place → Place
+abbrev pub with_end : AccessPlace → AccessPlace
 with_end p = record p { has_ended = true }
 
-abbrev pub is_same_step : Step → Step → Bool
+abbrev pub is_same_step : AccessStep → AccessStep → Bool
 is_same_step (ToPart a) (ToPart b) = a == b
 is_same_step ToContent ToContent = true
 is_same_step _ _ = false
 
 -- the one begins with the other
-abbrev pub begin_alike : List Step → List Step → Bool
+abbrev pub begin_alike : List AccessStep → List AccessStep → Bool
 begin_alike [] steps = true
 begin_alike steps [] = true
 begin_alike (a ∷ as_) (b ∷ bs) = is_same_step a b && begin_alike as_ bs
 
-abbrev pub overlap : Place → Place → Bool
+abbrev pub overlap : AccessPlace → AccessPlace → Bool
 overlap a b = a.key == b.key && begin_alike a.steps b.steps
 
 -- a temporary overlaps nothing
-abbrev pub overlap_if_any : Option Place → Option Place → Bool
+abbrev pub overlap_if_any : Option AccessPlace → Option AccessPlace → Bool
 overlap_if_any (Some a) (Some b) = overlap a b
 overlap_if_any _ _ = false
 
 -- Inside a guard the name of a binding of its arm stands for the matched part of the scrutinee, which may be a
 -- temporary.
 abbrev pub Aliases : Type 0
-Aliases = List (ℕ × Option Place)
+Aliases = List (ℕ × Option AccessPlace)
 
-abbrev pub or_variable : ℕ → Option (ℕ × Option Place) → Option Place
+abbrev pub or_variable : ℕ → Option (ℕ × Option AccessPlace) → Option AccessPlace
 or_variable key None = Some (variable_place key)
 or_variable key (Some alias) = alias.1
 
-abbrev pub place_of_key : Aliases → ℕ → Option Place
-place_of_key aliases key = or_variable key (find (λ (a : ℕ × Option Place). a.0 == key) aliases)
+abbrev pub place_of_key : Aliases → ℕ → Option AccessPlace
+place_of_key aliases key = or_variable key (find (λ (a : ℕ × Option AccessPlace). a.0 == key) aliases)
 
 module _ (aliases : Aliases) where
   abbrev mutual
-    pub place_of : Node → Option Place
+    pub place_of : Node → Option AccessPlace
     place_of (node id at ty by form) = place_of_form form
 
-    pub place_of_form : Form → Option Place
+    pub place_of_form : Form → Option AccessPlace
     place_of_form (Variable key) = place_of_key aliases key
     place_of_form (Captured closure part name) = option_map (with_step (ToPart part)) (place_of_key aliases closure)
     place_of_form (Field base part) = option_map (with_step (ToPart part)) (place_of base)
@@ -97,7 +97,7 @@ pub data Access : Type 0 where
 -- an access to a place, whose root is a variable, and where it stands
 pub record Accessed : Type 0 where
   pub access : Access
-  pub place : Option Place
+  pub place : Option AccessPlace
   pub root : Option ℕ
   pub at : Pos
 
@@ -114,22 +114,22 @@ replaces BorrowsUniquely = true
 replaces _ = false
 
 -- What an expression does to places, and where it conflicts within itself.
-pub record Told : Type 0 where
+pub record ToldAccesses : Type 0 where
   pub accesses : List Accessed
   pub conflicts : List Pos
 
-abbrev pub quiet : Told
+abbrev pub quiet : ToldAccesses
 quiet = record { accesses = []; conflicts = [] }
 
 infixr 5 ◌⊕◌
-abbrev pub ◌⊕◌ : Told → Told → Told
+abbrev pub ◌⊕◌ : ToldAccesses → ToldAccesses → ToldAccesses
 a ⊕ b = record { accesses = a.accesses ++ b.accesses; conflicts = a.conflicts ++ b.conflicts }
 
-abbrev pub one : Access → Option Place → Option ℕ → Pos → Told
+abbrev pub one : Access → Option AccessPlace → Option ℕ → Pos → ToldAccesses
 one access place root at =
     record { accesses = record { access = access; place = place; root = root; at = at } ∷ []; conflicts = [] }
 
-abbrev pub conflicting : List Pos → Told
+abbrev pub conflicting : List Pos → ToldAccesses
 conflicting at = record { accesses = []; conflicts = at }
 
 abbrev pub access_by : Option Use → Option Access
@@ -139,7 +139,7 @@ access_by (Some Use.Borrow) = Some Borrows
 access_by (Some Use.BorrowMut) = Some BorrowsUniquely
 access_by _ = None
 
-abbrev pub own_access : Option Access → Option Place → Option ℕ → Pos → Told
+abbrev pub own_access : Option Access → Option AccessPlace → Option ℕ → Pos → ToldAccesses
 own_access None place root at = quiet
 own_access (Some access) place root at = one access place root at
 
@@ -147,14 +147,14 @@ own_access (Some access) place root at = one access place root at
 
 -- a reference argument names a place, or a temporary; a receiver that is borrowed is one too
 pub record Referring : Type 0 where
-  pub place : Option Place
+  pub place : Option AccessPlace
   pub unique : Bool
 
 pub record Argument : Type 0 where
   pub refers : Option Referring
   pub is_receiver : Bool
   pub at : Pos
-  pub told : Told
+  pub told : ToldAccesses
 
 abbrev pub refers_by : Aliases → Form → Option Referring
 refers_by aliases (Borrow unique base) = Some record { place = place_of aliases base; unique = unique }
@@ -166,10 +166,10 @@ overlap_together r None = false
 overlap_together r (Some s) = (r.unique || s.unique) && overlap_if_any r.place s.place
 
 -- an access that a reference before it does not allow: a change; behind an explicit `&mut` any access
-abbrev pub is_against : Bool → Option Place → Accessed → Bool
+abbrev pub is_against : Bool → Option AccessPlace → Accessed → Bool
 is_against allows_none place a = (allows_none || changes a.access) && overlap_if_any place a.place
 
-abbrev pub against : Bool → Option Place → Accessed → Option Pos
+abbrev pub against : Bool → Option AccessPlace → Accessed → Option Pos
 against allows_none place a = if is_against allows_none place a then Some a.at else None
 
 abbrev pub at_if : Bool → Pos → List Pos
@@ -189,11 +189,11 @@ abbrev pub conflicts_among : List Argument → List Pos
 conflicts_among [] = []
 conflicts_among (a ∷ as_) = against_all a.is_receiver a.refers as_ ++ conflicts_among as_
 
-abbrev pub all_told : List Argument → Told
+abbrev pub all_told : List Argument → ToldAccesses
 all_told [] = quiet
 all_told (a ∷ as_) = a.told ⊕ all_told as_
 
-abbrev pub passed_together : List Argument → Told
+abbrev pub passed_together : List Argument → ToldAccesses
 passed_together args = all_told args ⊕ conflicting (conflicts_among args)
 
 -- ---- patterns
@@ -204,10 +204,10 @@ access_of_binding _ = Reads
 
 -- the parts that the bindings of a pattern take, each with the binding's key
 abbrev mutual
-  pub bound : Option Place → Node → List (ℕ × Accessed)
+  pub bound : Option AccessPlace → Node → List (ℕ × Accessed)
   bound place (node id at ty by form) = bound_by place id at by form
 
-  pub bound_by : Option Place → ℕ → Pos → Option Use → Form → List (ℕ × Accessed)
+  pub bound_by : Option AccessPlace → ℕ → Pos → Option Use → Form → List (ℕ × Accessed)
   bound_by place id at by (Binding name) =
       (id, record { access = access_of_binding by; place = place; root = None; at = at }) ∷ []
   bound_by place id at by (StructPattern fields) = bound_fields place fields
@@ -216,20 +216,20 @@ abbrev mutual
   bound_by place id at by (ArrayPattern elements) = bound_parts place 0 elements
   bound_by place id at by _ = []
 
-  pub bound_fields : Option Place → Fields → List (ℕ × Accessed)
+  pub bound_fields : Option AccessPlace → Fields → List (ℕ × Accessed)
   bound_fields place no_field = []
   bound_fields place (a_field number value rest) =
       bound (option_map (with_step (ToPart number)) place) value ++ bound_fields place rest
 
-  pub bound_parts : Option Place → ℕ → Nodes → List (ℕ × Accessed)
+  pub bound_parts : Option AccessPlace → ℕ → Nodes → List (ℕ × Accessed)
   bound_parts place k no_node = []
   bound_parts place k (a_node first rest) =
       bound (option_map (with_step (ToPart k)) place) first ++ bound_parts place (suc k) rest
 
-abbrev pub accesses_of : List (ℕ × Accessed) → Told
+abbrev pub accesses_of : List (ℕ × Accessed) → ToldAccesses
 accesses_of bounds = record { accesses = map (λ (b : ℕ × Accessed). b.1) bounds; conflicts = [] }
 
-abbrev pub alias_of : ℕ × Accessed → ℕ × Option Place
+abbrev pub alias_of : ℕ × Accessed → ℕ × Option AccessPlace
 alias_of b = (b.0, b.1.place)
 
 abbrev pub aliases_with : List (ℕ × Accessed) → Aliases → Aliases
@@ -245,13 +245,13 @@ abbrev pub is_bound : Option ℕ → List (ℕ × Accessed) → Bool
 is_bound root bounds = list_any (λ (b : ℕ × Accessed). is_key b.0 root) bounds
 
 -- A guard does not change a place that overlaps its scrutinee, nor store into or borrow by `&mut` a binding of its arm.
-abbrev pub against_guard : Option Place → List (ℕ × Accessed) → Accessed → Option Pos
+abbrev pub against_guard : Option AccessPlace → List (ℕ × Accessed) → Accessed → Option Pos
 against_guard scrutinee bounds a =
     if (changes a.access && overlap_if_any scrutinee a.place) || (replaces a.access && is_bound a.root bounds) then
     Some a.at
     else None
 
-abbrev pub of_guard : Option Place → List (ℕ × Accessed) → Told → Told
+abbrev pub of_guard : Option AccessPlace → List (ℕ × Accessed) → ToldAccesses → ToldAccesses
 of_guard scrutinee bounds told = told ⊕ conflicting (filter_map (against_guard scrutinee bounds) told.accesses)
 
 abbrev pub is_one_name : Node → Bool
@@ -259,29 +259,29 @@ is_one_name (node id at ty by (Binding name)) = true
 is_one_name _ = false
 
 -- a pattern with parts takes them out of the initialiser's place
-abbrev pub of_let : Aliases → Node → Node → Told
+abbrev pub of_let : Aliases → Node → Node → ToldAccesses
 of_let aliases pattern value =
     if is_one_name pattern then quiet else accesses_of (bound (place_of aliases value) pattern)
 
-abbrev pub of_scrutinee : Aliases → Node → Node → Told
+abbrev pub of_scrutinee : Aliases → Node → Node → ToldAccesses
 of_scrutinee aliases pattern scrutinee = accesses_of (bound (place_of aliases scrutinee) pattern)
 
-abbrev pub receiver_of : Aliases → Node → Told → Argument
+abbrev pub receiver_of : Aliases → Node → ToldAccesses → Argument
 receiver_of aliases (node id at ty by form) told =
     record { refers = refers_by aliases form; is_receiver = true; at = at; told = told }
 
 abbrev mutual
   -- an expression with the use of its place
-  pub told : Aliases → Node → Told
+  pub told : Aliases → Node → ToldAccesses
   told aliases (node id at ty by form) =
       told_form aliases at form ⊕ own_access (access_by by) (place_of aliases (node id at ty by form)) (root_of_form
       form) at
 
   -- what is inside a place, without its own use
-  pub inside : Aliases → Node → Told
+  pub inside : Aliases → Node → ToldAccesses
   inside aliases (node id at ty by form) = told_form aliases at form
 
-  pub told_form : Aliases → Pos → Form → Told
+  pub told_form : Aliases → Pos → Form → ToldAccesses
   told_form aliases at (Field base part) = inside aliases base
   told_form aliases at (Index base index count) =
       inside aliases base ⊕ told aliases index ⊕ one Borrows (option_map with_end (place_of aliases base)) (root_of
@@ -331,15 +331,15 @@ abbrev mutual
   told_form aliases at (Return value) = told_maybe aliases value
   told_form aliases at _ = quiet
 
-  pub told_all : Aliases → Nodes → Told
+  pub told_all : Aliases → Nodes → ToldAccesses
   told_all aliases no_node = quiet
   told_all aliases (a_node first rest) = told aliases first ⊕ told_all aliases rest
 
-  pub told_fields : Aliases → Fields → Told
+  pub told_fields : Aliases → Fields → ToldAccesses
   told_fields aliases no_field = quiet
   told_fields aliases (a_field number value rest) = told aliases value ⊕ told_fields aliases rest
 
-  pub told_maybe : Aliases → MaybeNode → Told
+  pub told_maybe : Aliases → MaybeNode → ToldAccesses
   told_maybe aliases absent = quiet
   told_maybe aliases (present value) = told aliases value
 
@@ -357,17 +357,17 @@ abbrev mutual
         (root_of_form form) at;
   }
 
-  pub told_arms : Aliases → Option Place → Nodes → Told
+  pub told_arms : Aliases → Option AccessPlace → Nodes → ToldAccesses
   told_arms aliases scrutinee no_node = quiet
   told_arms aliases scrutinee (a_node first rest) = told_arm aliases scrutinee first ⊕ told_arms aliases scrutinee rest
 
-  pub told_arm : Aliases → Option Place → Node → Told
+  pub told_arm : Aliases → Option AccessPlace → Node → ToldAccesses
   told_arm aliases scrutinee (node id at ty by (Arm pattern guard body)) =
       told_guard aliases scrutinee (bound scrutinee pattern) guard ⊕ accesses_of (bound scrutinee pattern) ⊕ told
       aliases body
   told_arm aliases scrutinee _ = quiet
 
-  pub told_guard : Aliases → Option Place → List (ℕ × Accessed) → MaybeNode → Told
+  pub told_guard : Aliases → Option AccessPlace → List (ℕ × Accessed) → MaybeNode → ToldAccesses
   told_guard aliases scrutinee bounds absent = quiet
   told_guard aliases scrutinee bounds (present guard) =
       of_guard scrutinee bounds (told (aliases_with bounds aliases) guard)

@@ -13,13 +13,13 @@ use Rattle.typing_rules.specs.Numbered.{in_text_order}
 use Rattle.typing_rules.specs.Patterns.{pattern}
 use Rattle.typing_rules.specs.Places.{used, a_node_of, unit, variable_place}
 use Rattle.typing_rules.specs.Rows.{Typer, Expected, taking, taken, fitted}
-use Rattle.typing_rules.specs.Scope.{Env, Entry, Local, Capture, variable, with_variables}
+use Rattle.typing_rules.specs.Scope.{Env, NamedEntry, Local, Capture, variable, with_variables}
 use Rattle.src_ast.specs.Syntax.{Word, Receiver, ByValue, ByShared, ByUnique, Syn, syn, Shape, Ident, AnyPattern, BindPattern, ParensPattern, ParamOf, SelfParam, Syns, no_syn, a_syn, MaybeSyn, nothing, just}
 use Rattle.src_ast.specs.View.{self_name}
 use Rattle.typing_rules.specs.Written as types_
 use Rattle.typing_rules.specs.Written.{written, written_param}
 
-abbrev pub all_rules : Env → types_.Around
+abbrev pub all_rules : Env → types_.WrittenScope
 all_rules env = record { has_limits = true; self_adt = env.self_adt; adts = env.adts; traits = env.traits }
 
 -- the type that is written, or `()`
@@ -40,11 +40,11 @@ receiver_ty env at receiver = do
   own ← interned (Ty.Adt n)
   self_ty receiver own
 
-abbrev pub name_entry : Word → TyId → ℕ → Entry
+abbrev pub name_entry : Word → TyId → ℕ → NamedEntry
 name_entry name ty key = record { name = name; ty = ty; meaning = Local key }
 
 -- a parameter that is one name
-abbrev pub name_param : Pos → Word → TyId → Check (ParamTree × Entry)
+abbrev pub name_param : Pos → Word → TyId → Check (ParamTree × NamedEntry)
 name_param at name ty = do
   id ← number
   items ← the_items
@@ -65,7 +65,7 @@ abbrev pub param_expected : Expected
 param_expected = record { is_fixed = false; takes_all = true }
 
 -- the type comes before the pattern, as in a `let`; a reference has a name or `_` for its pattern
-abbrev pub param : Env → (Syn → Check TyId) → Syn → List Entry → Check (ParamTree × List Entry)
+abbrev pub param : Env → (Syn → Check TyId) → Syn → List NamedEntry → Check (ParamTree × List NamedEntry)
 param env ty_of_param (syn at (ParamOf p ty)) earlier = do
   t ← ty_of_param ty
   items ← the_items
@@ -78,7 +78,7 @@ param env ty_of_param (syn at (SelfParam receiver)) earlier = do
   pure (p.0, earlier ++ p.1 ∷ [])
 param env ty_of_param (syn at _) earlier = breaks Rule.T20 at
 
-abbrev pub params_of : Env → (Syn → Check TyId) → Syns → List Entry → Check (List ParamTree × List Entry)
+abbrev pub params_of : Env → (Syn → Check TyId) → Syns → List NamedEntry → Check (List ParamTree × List NamedEntry)
 params_of env ty_of_param no_syn earlier = pure ([], earlier)
 params_of env ty_of_param (a_syn first rest) earlier = do
   p ← param env ty_of_param first earlier
@@ -96,7 +96,7 @@ within_limit at body = do
 abbrev pub body_of : ℕ → List ParamTree → TyId → Node → BodyTree
 body_of n params answer block = in_text_order (record { number = n; params = params; answer = answer; block = block })
 
-abbrev pub inside : Env → TyId → List Entry → Env
+abbrev pub inside : Env → TyId → List NamedEntry → Env
 inside env answer entries = with_variables entries (record env { loops = []; answer = answer })
 
 -- the body of a function or a method; it stands before those of its closures
@@ -112,10 +112,10 @@ fn_body env at params answer block = do
 -- ---- closures
 
 -- captures: each a use of a variable outside, which has a name of its own
-abbrev pub is_captured : Word → List Entry → Bool
+abbrev pub is_captured : Word → List NamedEntry → Bool
 is_captured name entries = is_some (variable entries name)
 
-abbrev pub capture : Env → ℕ → Syn → List Entry → Check (Node × List Entry)
+abbrev pub capture : Env → ℕ → Syn → List NamedEntry → Check (Node × List NamedEntry)
 capture env k (syn at (Ident name)) earlier = do
   obeys Rule.T01 at (is_captured name env.variables)
   obeys Rule.T02 at (not (is_captured name earlier))
@@ -125,21 +125,21 @@ capture env k (syn at (Ident name)) earlier = do
   pure (n, earlier ++ record { name = name; ty = x.ty; meaning = Capture 0 k } ∷ [])
 capture env k (syn at _) earlier = breaks Rule.T20 at
 
-abbrev pub captured : Env → ℕ → Syns → List Entry → Check (Nodes × List Entry)
+abbrev pub captured : Env → ℕ → Syns → List NamedEntry → Check (Nodes × List NamedEntry)
 captured env k no_syn earlier = pure (no_node, earlier)
 captured env k (a_syn first rest) earlier = do
   c ← capture env k first earlier
   cs ← captured env (suc k) rest c.1
   pure (a_node c.0 cs.0, cs.1)
 
-abbrev pub types_of : List Entry → List TyId
+abbrev pub types_of : List NamedEntry → List TyId
 types_of entries = map (λ x. x.ty) entries
 
 -- inside, the captured names are the parts of the closure's value, which is the first parameter
-abbrev pub inside_closure : Env → List Entry → Env
+abbrev pub inside_closure : Env → List NamedEntry → Env
 inside_closure env captures = with_variables captures (record env { variables = [] })
 
-abbrev pub closure_body : Env → Pos → ℕ → TyId → List Entry → Syns → MaybeSyn → (Env → Typer) → Check BodyTree
+abbrev pub closure_body : Env → Pos → ℕ → TyId → List NamedEntry → Syns → MaybeSyn → (Env → Typer) → Check BodyTree
 closure_body env at n ty captures params answer block = with_body (λ b. b) (in_new_body do
   self ← name_param at [] ty
   ps ← params_of (inside_closure env captures) (written (all_rules env)) params []

@@ -13,7 +13,7 @@ use Rattle.well_typed.specs.Nodes.{is_drop_body}
 use Rattle.typing_rules.specs.Accesses.{told}
 use Rattle.typing_rules.specs.Check.{Broken}
 use Rattle.typing_rules.specs.Program.{typed_program}
-use Rattle.typing_rules.specs.Replaced.{Param, Passing, stores, passings, is_replaced, replaceable}
+use Rattle.typing_rules.specs.Replaced.{BodyParameter, Passing, stores, passings, is_replaced, replaceable}
 
 abbrev pub broken : Rule → Pos → Broken
 broken rule at = record { rule = rule; at = at }
@@ -23,18 +23,18 @@ abbrev pub overlaps : BodyTree → List Broken
 overlaps body = map (broken Rule.T14) (told [] body.block).conflicts
 
 -- where a `Drop` body replaces what its `self` names
-abbrev pub replacing : ItemTable → List Param → Passing → Option Pos
+abbrev pub replacing : ItemTable → List BodyParameter → Passing → Option Pos
 replacing items params p = if is_replaced items params p then Some p.at else None
 
-abbrev pub replacements : ItemTable → List Param → ℕ → BodyTree → List Broken
+abbrev pub replacements : ItemTable → List BodyParameter → ℕ → BodyTree → List Broken
 replacements items params self body =
     map (broken Rule.T15) (stores self body ++ filter_map (replacing items params) (passings self body))
 
-abbrev pub of_self : ItemTable → List Param → BodyTree → List ParamTree → List Broken
+abbrev pub of_self : ItemTable → List BodyParameter → BodyTree → List ParamTree → List Broken
 of_self items params body [] = []
 of_self items params body (self ∷ rest) = replacements items params (number_of self.pattern) body
 
-abbrev pub replaced_self : ItemTable → List Param → BodyTree → List Broken
+abbrev pub replaced_self : ItemTable → List BodyParameter → BodyTree → List Broken
 replaced_self items params body = if is_drop_body items body.number then of_self items params body body.params else []
 
 abbrev pub all_broken : ProgramTree → List Broken

@@ -13,7 +13,7 @@ use Rattle.well_typed.specs.Items.{is_equal}
 
 -- the items so far; the next number of a node in the body, and of a body; the breaks of the body, each with its loop's
 -- number; the bodies that are whole
-pub record State : Type 0 where
+pub record TypingState : Type 0 where
   pub items : ItemTable
   pub next_node : ℕ
   pub next_body : ℕ
@@ -25,9 +25,9 @@ pub record Broken : Type 0 where
   pub at : Pos
 
 abbrev pub Check : Type 0 → Type 0
-Check A = State → Result (A × State) Broken
+Check A = TypingState → Result (A × TypingState) Broken
 
-abbrev pub and_then : {A B : Type 0} → Result (A × State) Broken → (A → Check B) → Result (B × State) Broken
+abbrev pub and_then : {A B : Type 0} → Result (A × TypingState) Broken → (A → Check B) → Result (B × TypingState) Broken
 and_then (Ok a) f = f a.0 a.1
 and_then (Err e) f = Err e
 
@@ -93,7 +93,7 @@ closure_added captures body =
     )
 
 -- within a body of its own
-abbrev pub within_body : {A : Type 0} → State → Result (A × State) Broken → Result (A × State) Broken
+abbrev pub within_body : {A : Type 0} → TypingState → Result (A × TypingState) Broken → Result (A × TypingState) Broken
 within_body outer (Ok a) = Ok (a.0, record (a.1) { next_node = outer.next_node; breaks = outer.breaks })
 within_body outer (Err e) = Err e
 
@@ -101,7 +101,8 @@ abbrev pub in_new_body : {A : Type 0} → Check A → Check A
 in_new_body check = λ s. within_body s (check (record s { next_node = 0; breaks = [] }))
 
 -- a body that is whole stands before those of the closures in it
-abbrev pub put_before : {A : Type 0} → List BodyTree → (A → BodyTree) → Result (A × State) Broken → Result (A × State)
+abbrev pub put_before : {A : Type 0} → List BodyTree → (A → BodyTree) → Result (A × TypingState) Broken →
+    Result (A × TypingState)
     Broken
 put_before earlier body (Ok a) = Ok (a.0, record (a.1) { bodies = earlier ++ body a.0 ∷ a.1.bodies })
 put_before earlier body (Err e) = Err e

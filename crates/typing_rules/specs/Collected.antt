@@ -17,11 +17,11 @@ use Rattle.mir_ty.specs.Parts.{held_by}
 use Rattle.src_tree.specs.Layout.{Parts}
 use Rattle.well_typed.specs.Names.{is_among, built_in}
 use Rattle.well_typed.specs.Types.{is_same}
-use Rattle.typing_rules.specs.Check.{Check, State, Broken, ◌>>=◌, ◌>>◌, pure, breaks, obeys, known, the_items, interned, each_checked}
+use Rattle.typing_rules.specs.Check.{Check, TypingState, Broken, ◌>>=◌, ◌>>◌, pure, breaks, obeys, known, the_items, interned, each_checked}
 use Rattle.typing_rules.specs.Items.{ItemSyn, items_of, item_syns, adt_names, trait_names, body_paths, method_body, drop_body, full_name, closure_name, impl_owner}
 use Rattle.typing_rules.specs.Places.{scalars, unit}
 use Rattle.src_ast.specs.Syntax.{number_word, Word, Named, Receiver, ByValue, ByShared, ByUnique, Syn, syn, MoveOf, StructItem, EnumItem, FieldDecl, VariantDecl, TraitItem, ImplItem, FnItem, ParamOf, SelfParam, Syns, no_syn, a_syn, list_of, MaybeSyn, nothing, just}
-use Rattle.typing_rules.specs.Written.{Around, written, written_param, or_unit, number_of}
+use Rattle.typing_rules.specs.Written.{WrittenScope, written, written_param, or_unit, number_of}
 
 -- ---- names of items
 
@@ -46,7 +46,7 @@ pub record Known : Type 0 where
   pub traits : List Word
   pub paths : List Word
 
-abbrev pub names_alone : Known → Option ℕ → Around
+abbrev pub names_alone : Known → Option ℕ → WrittenScope
 names_alone k self_adt = record { has_limits = false; self_adt = self_adt; adts = k.adts; traits = k.traits }
 
 abbrev pub is_derivable : Word → Bool
@@ -72,12 +72,12 @@ abbrev pub names_from : ℕ → List Syn → List Word
 names_from k [] = []
 names_from k (f ∷ fs) = field_name k f ∷ names_from (suc k) fs
 
-abbrev pub variant_of : Around → Word → Syns → Check Variant
+abbrev pub variant_of : WrittenScope → Word → Syns → Check Variant
 variant_of around name fields = do
   tys ← each_checked (λ f. written around (field_type f)) (list_of fields)
   pure (record { name = name; fields = tys; field_names = names_from 0 (list_of fields) })
 
-abbrev pub declared_variant : Around → Syn → Check Variant
+abbrev pub declared_variant : WrittenScope → Syn → Check Variant
 declared_variant around (syn at (VariantDecl name kind fields)) = variant_of around name fields
 declared_variant around (syn at _) = breaks Rule.T20 at
 
@@ -100,12 +100,12 @@ receiver_ty own ByValue = pure own
 receiver_ty own ByShared = interned (Ty.Shared own)
 receiver_ty own ByUnique = interned (Ty.Unique own)
 
-abbrev pub param_ty : Around → Check TyId → Syn → Check TyId
+abbrev pub param_ty : WrittenScope → Check TyId → Syn → Check TyId
 param_ty around self (syn at (ParamOf p ty)) = written_param around ty
 param_ty around self (syn at (SelfParam receiver)) = self >>= (λ own. receiver_ty own receiver)
 param_ty around self (syn at _) = breaks Rule.T20 at
 
-abbrev pub answer_ty : Around → MaybeSyn → Check TyId
+abbrev pub answer_ty : WrittenScope → MaybeSyn → Check TyId
 answer_ty around nothing = pure unit
 answer_ty around (just ty) = written around ty
 
@@ -114,7 +114,7 @@ own_ty at self_adt = do
   n ← known Rule.T01 at self_adt
   interned (Ty.Adt n)
 
-abbrev pub sig_of : Around → Check TyId → Word → Syns → MaybeSyn → Check Sig
+abbrev pub sig_of : WrittenScope → Check TyId → Word → Syns → MaybeSyn → Check Sig
 sig_of around self name params answer = do
   tys ← each_checked (param_ty around self) (list_of params)
   ty ← answer_ty around answer
@@ -138,7 +138,7 @@ behind_self (a_syn (syn at form) rest) = a_syn (syn at form) rest
 abbrev pub with_receiver : TyId → Sig → Sig
 with_receiver ty sig = record sig { params = ty ∷ sig.params }
 
-abbrev pub trait_head : Around → TyId → Syn → Check Sig
+abbrev pub trait_head : WrittenScope → TyId → Syn → Check Sig
 trait_head around own (syn at (FnItem name params answer block)) =
     if has_receiver params then sig_of around (pure own) name.1 params answer
     else (interned (Ty.Shared own) >>= (λ self. sig_of around (pure own) name.1 (behind_self params) answer >>= (λ
@@ -156,18 +156,18 @@ pub record Count : Type 0 where
 abbrev pub body_added : Sig → Check (Unit {0})
 body_added sig = added (λ items. with_body items sig)
 
-abbrev pub closure_param : Around → Syn → Check TyId
+abbrev pub closure_param : WrittenScope → Syn → Check TyId
 closure_param around (syn at (ParamOf p ty)) = or_unit (written around ty)
 closure_param around (syn at _) = pure unit
 
 -- the parameters of a closure, behind the closure itself
-abbrev pub closure_params : Around → ℕ → Syns → Check (List TyId)
+abbrev pub closure_params : WrittenScope → ℕ → Syns → Check (List TyId)
 closure_params around closures params = do
   self ← interned (Ty.Closure closures)
   tys ← each_checked (closure_param around) (list_of params)
   pure (self ∷ tys)
 
-abbrev pub closure_head : Around → ℕ → Word → Syns → MaybeSyn → Check (Unit {0})
+abbrev pub closure_head : WrittenScope → ℕ → Word → Syns → MaybeSyn → Check (Unit {0})
 closure_head around closures name params answer = do
   tys ← closure_params around closures params
   ty ← or_unit (answer_ty around answer)
@@ -303,10 +303,10 @@ collecting items end = do
 abbrev pub no_items : ItemTable
 no_items = record { types = scalars; adts = []; traits = []; impls = []; closures = []; bodies = [] }
 
-abbrev pub starting_with : ItemTable → State
+abbrev pub starting_with : ItemTable → TypingState
 starting_with items = record { items = items; next_node = 0; next_body = 0; breaks = []; bodies = [] }
 
-abbrev pub items_in : {A : Type 0} → Result (A × State) Broken → Result ItemTable Broken
+abbrev pub items_in : {A : Type 0} → Result (A × TypingState) Broken → Result ItemTable Broken
 items_in (Ok a) = Ok a.1.items
 items_in (Err e) = Err e
 

@@ -4,10 +4,10 @@ use Rattle.std.specs.Prelude.{ℕ, Bool, true, false, List, [], ◌∷◌, ◌++
 use Rattle.std.specs.List.{position as position_of, filter_map, flat_map}
 use Rattle.std.specs.Str.{bytes_eq}
 use Rattle.mir_base.specs.declared.place_in_text.Pos.{Pos}
-use Rattle.src_tree.specs.declared.row.Row.{Row}
+use Rattle.src_tree.specs.declared.row.GrammarRow.{GrammarRow}
 use Rattle.src_tree.specs.Layout as layout
 use Rattle.src_tree.specs.Layout.{node, Parts, end, tok, sub}
-use Rattle.src_ast.specs.Syntax.{number_word, Word, Kind, Unit_, Syn, syn, StructItem, EnumItem, VariantDecl, TraitItem, ImplItem, FnItem, Syns, no_syn, a_syn}
+use Rattle.src_ast.specs.Syntax.{number_word, Word, FieldsKind, Unit_, Syn, syn, StructItem, EnumItem, VariantDecl, TraitItem, ImplItem, FnItem, Syns, no_syn, a_syn}
 use Rattle.src_ast.specs.View.{view}
 
 -- ---- structs, enums and traits
@@ -21,15 +21,15 @@ abbrev pub trait_name : Syn → Option Word
 trait_name (syn at (TraitItem name heads)) = Some name.1
 trait_name _ = None
 
-abbrev variant_kind : Syn → Kind
+abbrev variant_kind : Syn → FieldsKind
 variant_kind (syn at (VariantDecl name kind fields)) = kind
 variant_kind _ = Unit_
 
-abbrev variant_kinds : Syns → List Kind
+abbrev variant_kinds : Syns → List FieldsKind
 variant_kinds no_syn = []
 variant_kinds (a_syn first rest) = variant_kind first ∷ variant_kinds rest
 
-abbrev kinds_of : Syn → Option (List Kind)
+abbrev kinds_of : Syn → Option (List FieldsKind)
 kinds_of (syn at (StructItem derives name kind fields)) = Some (kind ∷ [])
 kinds_of (syn at (EnumItem derives name variants)) = Some (variant_kinds variants)
 kinds_of _ = None
@@ -40,15 +40,15 @@ adt_names items = filter_map adt_name items
 abbrev pub trait_names : List Syn → List Word
 trait_names items = filter_map trait_name items
 
-abbrev pub all_kinds : List Syn → List (List Kind)
+abbrev pub all_kinds : List Syn → List (List FieldsKind)
 all_kinds items = filter_map kinds_of items
 
 -- ---- bodies
 
-abbrev pub is_body_row : Row → Bool
-is_body_row Row.Fn = true
-is_body_row Row.Method = true
-is_body_row Row.Closure = true
+abbrev pub is_body_row : GrammarRow → Bool
+is_body_row GrammarRow.Fn = true
+is_body_row GrammarRow.Method = true
+is_body_row GrammarRow.Closure = true
 is_body_row _ = false
 
 abbrev pub with_body : Bool → Syn → List Syn → List Syn
@@ -57,7 +57,7 @@ with_body false body bodies = bodies
 
 -- functions, methods and closures in text order: one before those inside it
 abbrev mutual
-  pub bodies_in : layout.Node Pos → List Syn
+  pub bodies_in : layout.SyntaxNode Pos → List Syn
   bodies_in (node at row parts) = with_body (is_body_row row) (view (node at row parts)) (bodies_among parts)
 
   pub bodies_among : Parts Pos → List Syn

@@ -12,19 +12,19 @@ use Rattle.mir_ty.specs.ItemTable.{ItemTable, type_at}
 use Rattle.well_typed.specs.Nodes.{is_drop_body}
 use Rattle.well_typed.specs.Types.{closure_of, is_enum, variant_at}
 use Rattle.typing_rules.specs.Rows.{Method, OfAdt, OfTrait}
-use Rattle.typing_rules.specs.Scope.{Env, Entry, variable, adt_named, body_named, method_of, variant_named, kind_at, adt_at_head}
-use Rattle.src_ast.specs.Syntax.{Word, Kind, Unit_, Tuple_, Syn, syn, Shape, Path, Parens}
+use Rattle.typing_rules.specs.Scope.{Env, NamedEntry, variable, adt_named, body_named, method_of, variant_named, kind_at, adt_at_head}
+use Rattle.src_ast.specs.Syntax.{Word, FieldsKind, Unit_, Tuple_, Syn, syn, Shape, Path, Parens}
 use Rattle.typing_rules.specs.Written.{is_box}
 
 abbrev pub is_built_in : Word → Bool
 is_built_in name =
     list_any (bytes_eq name) (codes "print" ∷ codes "ask" ∷ codes "drop" ∷ codes "forget" ∷ codes "Box" ∷ [])
 
-abbrev pub is_unit_kind : Kind → Bool
+abbrev pub is_unit_kind : FieldsKind → Bool
 is_unit_kind Unit_ = true
 is_unit_kind _ = false
 
-abbrev pub is_tuple_kind : Kind → Bool
+abbrev pub is_tuple_kind : FieldsKind → Bool
 is_tuple_kind Tuple_ = true
 is_tuple_kind _ = false
 
@@ -127,7 +127,7 @@ abbrev pub or_no_callee : Callee → Callee
 or_no_callee (Unnamed rule) = NoCallee
 or_no_callee c = c
 
-abbrev pub variable_callee : ItemTable → Env → Word → Option Entry → Callee
+abbrev pub variable_callee : ItemTable → Env → Word → Option NamedEntry → Callee
 variable_callee items env name None = body_callee items env name (body_named items name)
 variable_callee items env name (Some x) =
     if is_some (closure_of items x.ty) then AValue else or_no_callee (body_callee items env name (body_named items

@@ -16,12 +16,12 @@ use Rattle.well_typed.specs.Types.{is_same, is_unit, is_bool, is_dyn, kind_of, t
 use Rattle.typing_rules.specs.Check.{Check, ◌>>=◌, ◌>>◌, ◌<$>◌, pure, breaks, obeys, known, the_items, number, interned}
 use Rattle.typing_rules.specs.Places.{used, a_node_of, int}
 use Rattle.typing_rules.specs.Rows.{Expected, taking, literal_value, is_signed_kind, most, all_given, are_known, Given}
-use Rattle.typing_rules.specs.Scope.{Env, Entry, Local, variable, variant_named, field_named, kind_at, adt_at_head, adt_named}
-use Rattle.src_ast.specs.Syntax.{Word, Kind, Unit_, Fields_, Syn, syn, Shape, AnyPattern, BindPattern, LiteralPattern, TruthPattern, PathPattern, PartsPattern, FieldsPattern, FieldPattern, ParensPattern, TuplePattern, ArrayPattern, Alternatives, Syns, no_syn, a_syn, nothing, just}
+use Rattle.typing_rules.specs.Scope.{Env, NamedEntry, Local, variable, variant_named, field_named, kind_at, adt_at_head, adt_named}
+use Rattle.src_ast.specs.Syntax.{Word, FieldsKind, Unit_, Fields_, Syn, syn, Shape, AnyPattern, BindPattern, LiteralPattern, TruthPattern, PathPattern, PartsPattern, FieldsPattern, FieldPattern, ParensPattern, TuplePattern, ArrayPattern, Alternatives, Syns, no_syn, a_syn, nothing, just}
 
 -- what a pattern gives: its node, and the bindings so far
-abbrev pub Bound : Type 0
-Bound = Node × List Entry
+abbrev pub BoundPattern : Type 0
+BoundPattern = Node × List NamedEntry
 
 abbrev pub count_of : Syns → ℕ
 count_of no_syn = 0
@@ -49,26 +49,26 @@ truth_pattern at e ty value = do
   obeys Rule.T18 at (not e.takes_all)
   pure (used Use.Test (a_node_of id at ty (tree.TruthPattern value)))
 
-abbrev pub bind : Pos → Expected → TyId → Word → List Entry → Check Bound
+abbrev pub bind : Pos → Expected → TyId → Word → List NamedEntry → Check BoundPattern
 bind at e ty name earlier = do
   id ← number
   items ← the_items
   obeys Rule.T02 at (not (is_some (variable earlier name)))
   obeys Rule.T07 at (is_copy items ty || not (e.is_fixed || is_dyn items ty))
-  let entry : Entry = record { name = name; ty = ty; meaning = Local id }
+  let entry : NamedEntry = record { name = name; ty = ty; meaning = Local id }
   pure (used (taking items ty) (a_node_of id at ty (tree.Binding name)), earlier ++ entry ∷ [])
 
 -- ---- structs and variants
 
 -- what a path names: a struct, or a variant of an enum
-pub record Target : Type 0 where
+pub record PatternTarget : Type 0 where
   pub adt : ℕ
   pub variant : ℕ
 
-abbrev pub target : ℕ → ℕ → Target
+abbrev pub target : ℕ → ℕ → PatternTarget
 target adt variant = record { adt = adt; variant = variant }
 
-abbrev pub target_of : ItemTable → Env → Option Word → Option Word → Option Target
+abbrev pub target_of : ItemTable → Env → Option Word → Option Word → Option PatternTarget
 target_of items env first None =
     option_and_then (λ n. if is_enum items n then None else Some (target n 0)) (adt_at_head items env first)
 target_of items env first (Some second) =
@@ -78,14 +78,14 @@ target_of items env first (Some second) =
 abbrev pub variants_of : ItemTable → ℕ → ℕ
 variants_of items adt = option_map_or (λ def. length def.variants) (adt_at items adt) 0
 
-abbrev pub fields_of : ItemTable → Target → List TyId
+abbrev pub fields_of : ItemTable → PatternTarget → List TyId
 fields_of items t = option_map_or (λ v. v.fields) (variant_at items t.adt t.variant) []
 
 -- a variant of an enum with more than one is a test
-abbrev pub is_test : ItemTable → Target → Bool
+abbrev pub is_test : ItemTable → PatternTarget → Bool
 is_test items t = is_enum items t.adt && nat_lt 1 (variants_of items t.adt)
 
-abbrev pub parts_form : ItemTable → Target → Fields → Form
+abbrev pub parts_form : ItemTable → PatternTarget → Fields → Form
 parts_form items t fields =
     if is_enum items t.adt then tree.VariantPattern t.variant (is_test items t) fields else tree.StructPattern fields
 
@@ -97,8 +97,9 @@ abbrev pub inside_of : ItemTable → TyId → Expected → Expected
 inside_of items ty e = record e { is_fixed = e.is_fixed || has_drop_impl items ty }
 
 -- the place is of the type that the path names; then its parts, how many there are, and whether it may be a test
-abbrev pub of_target : Pos → Expected → TyId → Target → (Expected → List TyId → Check (Fields × List Entry × Bool ×
-    Bool)) → Check Bound
+abbrev pub of_target : Pos → Expected → TyId → PatternTarget →
+    (Expected → List TyId → Check (Fields × List NamedEntry × Bool ×
+    Bool)) → Check BoundPattern
 of_target at e ty t parts = do
   id ← number
   self ← interned (Ty.Adt t.adt)
@@ -112,30 +113,30 @@ of_target at e ty t parts = do
   pure (tested_if (is_test items t) (a_node_of id at ty (parts_form items t ps.0)), ps.1)
 
 -- a lone name: a unit struct's pattern, or a binding; a struct with fields has no such pattern
-abbrev pub is_unit_kind : Kind → Bool
+abbrev pub is_unit_kind : FieldsKind → Bool
 is_unit_kind Unit_ = true
 is_unit_kind _ = false
 
-abbrev pub no_parts : List Entry → Bool → Expected → List TyId → Check (Fields × List Entry × Bool × Bool)
+abbrev pub no_parts : List NamedEntry → Bool → Expected → List TyId → Check (Fields × List NamedEntry × Bool × Bool)
 no_parts earlier is_whole e tys = pure (tree.no_field, earlier, is_whole, true)
 
-abbrev pub lone_struct : Env → Pos → Expected → TyId → ℕ → List Entry → Check Bound
+abbrev pub lone_struct : Env → Pos → Expected → TyId → ℕ → List NamedEntry → Check BoundPattern
 lone_struct env at e ty adt earlier =
     if is_unit_kind (kind_at env.kinds adt 0) then of_target at e ty (target adt 0) (no_parts earlier true)
     else breaks Rule.T18 at
 
-abbrev pub lone_by : Env → Pos → Expected → TyId → Word → List Entry → Option ℕ → ItemTable → Check Bound
+abbrev pub lone_by : Env → Pos → Expected → TyId → Word → List NamedEntry → Option ℕ → ItemTable → Check BoundPattern
 lone_by env at e ty name earlier None items = bind at e ty name earlier
 lone_by env at e ty name earlier (Some adt) items =
     if is_enum items adt then bind at e ty name earlier else lone_struct env at e ty adt earlier
 
-abbrev pub lone_name : Env → Pos → Expected → TyId → Word → List Entry → Check Bound
+abbrev pub lone_name : Env → Pos → Expected → TyId → Word → List NamedEntry → Check BoundPattern
 lone_name env at e ty name earlier = do
   items ← the_items
   lone_by env at e ty name earlier (adt_named items name) items
 
 -- a path alone: `Self` as a lone name, a variant without parts
-abbrev pub path_alone : Env → Pos → Expected → TyId → Option Word → Option Word → List Entry → Check Bound
+abbrev pub path_alone : Env → Pos → Expected → TyId → Option Word → Option Word → List NamedEntry → Check BoundPattern
 path_alone env at e ty first None earlier = do
   adt ← known Rule.T01 at env.self_adt
   items ← the_items
@@ -150,11 +151,11 @@ path_alone env at e ty first (Some second) earlier = do
 abbrev pub is_count : Bool → ℕ → ℕ → Bool
 is_count dots given count = if dots then nat_le given count else given == count
 
-abbrev pub is_named_kind : Kind → Bool
+abbrev pub is_named_kind : FieldsKind → Bool
 is_named_kind Fields_ = true
 is_named_kind _ = false
 
-abbrev pub has_named_parts : Env → Target → Bool
+abbrev pub has_named_parts : Env → PatternTarget → Bool
 has_named_parts env t = is_named_kind (kind_at env.kinds t.adt t.variant)
 
 -- ---- tuples
@@ -162,7 +163,7 @@ has_named_parts env t = is_named_kind (kind_at env.kinds t.adt t.variant)
 abbrev pub tuple_types : ItemTable → TyId → Option (List TyId)
 tuple_types items ty = if is_unit items ty then Some [] else tuple_of items ty
 
-abbrev pub has_names : List Entry → List Entry → Bool
+abbrev pub has_names : List NamedEntry → List NamedEntry → Bool
 has_names earlier later = not (length earlier == length later)
 
 abbrev pub fields_from : ℕ → Nodes → Fields
@@ -189,24 +190,26 @@ are_given_once [] = true
 are_given_once (None ∷ given) = are_given_once given
 are_given_once (Some n ∷ given) = not (is_again n given) && are_given_once given
 
-abbrev pub with_number : ℕ → Bound → Option (ℕ × Node) × List Entry × Option ℕ
+abbrev pub with_number : ℕ → BoundPattern → Option (ℕ × Node) × List NamedEntry × Option ℕ
 with_number k b = (Some (k, b.0), b.1, Some k)
 
-abbrev pub field_at : List Entry → Option (ℕ × TyId) → (TyId → Check Bound) → Check (Option (ℕ × Node) × List Entry ×
+abbrev pub field_at : List NamedEntry → Option (ℕ × TyId) → (TyId → Check BoundPattern) →
+    Check (Option (ℕ × Node) × List NamedEntry ×
     Option ℕ)
 field_at earlier None typed = pure (None, earlier, None)
 field_at earlier (Some f) typed = with_number f.0 <$> typed f.1
 
-abbrev pub field_by : Variant → Word → List Entry → (TyId → Check Bound) → Check (Option (ℕ × Node) × List Entry ×
+abbrev pub field_by : Variant → Word → List NamedEntry → (TyId → Check BoundPattern) →
+    Check (Option (ℕ × Node) × List NamedEntry ×
     Option ℕ)
 field_by v name earlier typed = field_at earlier (field_ty v.fields (field_named v name)) typed
 
 abbrev mutual
   -- a pattern for a place of a type, after these bindings of the same pattern
-  pub pattern : Env → Expected → TyId → Syn → List Entry → Check Bound
+  pub pattern : Env → Expected → TyId → Syn → List NamedEntry → Check BoundPattern
   pattern env e ty (syn at form) earlier = pattern_form env e ty at form earlier
 
-  pub pattern_form : Env → Expected → TyId → Pos → Shape → List Entry → Check Bound
+  pub pattern_form : Env → Expected → TyId → Pos → Shape → List NamedEntry → Check BoundPattern
   pattern_form env e ty at AnyPattern earlier = do
     id ← number
     pure (a_node_of id at ty tree.Wildcard, earlier)
@@ -261,7 +264,7 @@ abbrev mutual
   pattern_form env e ty at _ earlier = breaks Rule.T20 at
 
   -- patterns of parts in their order; those past the last part are not typed
-  pub part_patterns : Env → Expected → List TyId → Syns → List Entry → Check (Nodes × List Entry)
+  pub part_patterns : Env → Expected → List TyId → Syns → List NamedEntry → Check (Nodes × List NamedEntry)
   part_patterns env e tys no_syn earlier = pure (no_node, earlier)
   part_patterns env e [] (a_syn first rest) earlier = pure (no_node, earlier)
   part_patterns env e (ty ∷ tys) (a_syn first rest) earlier = do
@@ -269,7 +272,7 @@ abbrev mutual
     ps ← part_patterns env e tys rest p.1
     pure (a_node p.0 ps.0, ps.1)
 
-  pub each_pattern : Env → Expected → TyId → Syns → List Entry → Check (Nodes × List Entry)
+  pub each_pattern : Env → Expected → TyId → Syns → List NamedEntry → Check (Nodes × List NamedEntry)
   each_pattern env e ty no_syn earlier = pure (no_node, earlier)
   each_pattern env e ty (a_syn first rest) earlier = do
     p ← pattern env e ty first earlier
@@ -277,14 +280,15 @@ abbrev mutual
     pure (a_node p.0 ps.0, ps.1)
 
   -- patterns of fields by their names; one for a field that is not there is not typed
-  pub field_patterns : Env → Expected → Variant → Syns → List Entry → Check (Fields × List Entry × Given)
+  pub field_patterns : Env → Expected → Variant → Syns → List NamedEntry → Check (Fields × List NamedEntry × Given)
   field_patterns env e v no_syn earlier = pure (tree.no_field, earlier, [])
   field_patterns env e v (a_syn first rest) earlier = do
     p ← field_pattern env e v first earlier
     ps ← field_patterns env e v rest p.1
     pure (with_field p.0 ps.0, ps.1, p.2 ∷ ps.2)
 
-  pub field_pattern : Env → Expected → Variant → Syn → List Entry → Check (Option (ℕ × Node) × List Entry × Option ℕ)
+  pub field_pattern : Env → Expected → Variant → Syn → List NamedEntry →
+      Check (Option (ℕ × Node) × List NamedEntry × Option ℕ)
   field_pattern env e v (syn at (FieldPattern name nothing)) earlier =
       field_by v name earlier (λ ty. bind at e ty name earlier)
   field_pattern env e v (syn at (FieldPattern name (just inside))) earlier =

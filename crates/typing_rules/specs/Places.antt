@@ -12,7 +12,7 @@ use Rattle.typed_tree.specs.Tree.{Node, node, Form, Variable, Captured, Field, I
 use Rattle.well_typed.specs.Places.{ty_of, is_place}
 use Rattle.well_typed.specs.Types.{fits, adt_of, tuple_of, boxed_of, trait_of, inside_of, reference_of, is_reference, implements, variant_at, is_enum}
 use Rattle.typing_rules.specs.Check.{Check, ◌>>=◌, pure, the_items, number}
-use Rattle.typing_rules.specs.Scope.{Entry, Meaning, Local, Capture, InGuard, field_named}
+use Rattle.typing_rules.specs.Scope.{NamedEntry, VariableMeaning, Local, Capture, InGuard, field_named}
 use Rattle.src_ast.specs.Syntax.{number_word, Word}
 
 abbrev pub place_in_text : Node → Pos
@@ -113,21 +113,21 @@ abbrev pub is_behind_shared : ItemTable → Node → Bool
 is_behind_shared items (node id at ty by form) = is_place form && is_shared_form items ty form
 
 -- the keys of the bindings in whose own guard the expression stands
-abbrev pub guard_key : Meaning → List ℕ → List ℕ
+abbrev pub guard_key : VariableMeaning → List ℕ → List ℕ
 guard_key (InGuard key) keys = key ∷ keys
 guard_key _ keys = keys
 
-abbrev pub in_own_guard : List Entry → List ℕ
+abbrev pub in_own_guard : List NamedEntry → List ℕ
 in_own_guard [] = []
 in_own_guard (x ∷ xs) = guard_key x.meaning (in_own_guard xs)
 
 -- what a name that is in scope stands for
-abbrev pub meaning_form : Word → Meaning → Form
+abbrev pub meaning_form : Word → VariableMeaning → Form
 meaning_form name (Local key) = Variable key
 meaning_form name (Capture closure part) = Captured closure part name
 meaning_form name (InGuard key) = Variable key
 
-abbrev pub variable_place : Pos → Entry → Check Node
+abbrev pub variable_place : Pos → NamedEntry → Check Node
 variable_place at x = do
   id ← number
   pure (a_node_of id at x.ty (meaning_form x.name x.meaning))

@@ -13,7 +13,7 @@ use Rattle.typed_tree.specs.Tree.{Node, ProgramTree}
 use Rattle.well_typed.specs.Names.{is_among}
 use Rattle.well_typed.specs.Types.{is_same, are_same, is_unit, reference_of}
 use Rattle.typing_rules.specs.Bodies.{all_rules, answer_of, params_of, fn_body}
-use Rattle.typing_rules.specs.Check.{Check, State, Broken, ◌>>=◌, ◌>>◌, pure, breaks, obeys, the_items, in_new_body}
+use Rattle.typing_rules.specs.Check.{Check, TypingState, Broken, ◌>>=◌, ◌>>◌, pure, breaks, obeys, the_items, in_new_body}
 use Rattle.typing_rules.specs.Collected.{collected, starting_with}
 use Rattle.typing_rules.specs.Items.{items_of, item_syns, adt_names, trait_names, all_kinds}
 use Rattle.typing_rules.specs.Places.{unit}
@@ -271,7 +271,7 @@ outermost items = record {
   answer = unit;
 }
 
-abbrev pub program_in : {A : Type 0} → Result (A × State) Broken → Result ProgramTree Broken
+abbrev pub program_in : {A : Type 0} → Result (A × TypingState) Broken → Result ProgramTree Broken
 program_in (Ok a) = Ok (record { items = a.1.items; bodies = a.1.bodies })
 program_in (Err e) = Err e
 

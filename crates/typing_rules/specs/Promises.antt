@@ -20,12 +20,12 @@ use Rattle.well_typed.specs.Patterns.{Matched, pattern, names_of, entries_of}
 use Rattle.well_typed.specs.Places.{InScope, LoopAround, Context, entry_with, loop_with, may_move, ty_of, form_of, is_place, Taken, Base}
 use Rattle.well_typed.specs.Program.{is_body}
 use Rattle.well_typed.specs.Types.{closure_in, fits, inside_of, is_reference, is_unit, variant_at}
-use Rattle.typing_rules.specs.Check.{Check, State, Broken}
+use Rattle.typing_rules.specs.Check.{Check, TypingState, Broken}
 use Rattle.typing_rules.specs.Named.{is_unit_kind}
 use Rattle.typing_rules.specs.Places.{scalars, agrees, is_fixed, is_shared_root, in_own_guard}
 use Rattle.typing_rules.specs.Rows.{Typer, Expected, Matcher}
-use Rattle.typing_rules.specs.Scope.{Env, Entry, Around, Meaning, Local, Capture, InGuard, kind_at}
-use Rattle.src_ast.specs.Syntax.{Word, Kind}
+use Rattle.typing_rules.specs.Scope.{Env, NamedEntry, LabelledLoop, VariableMeaning, Local, Capture, InGuard, kind_at}
+use Rattle.src_ast.specs.Syntax.{Word, FieldsKind}
 
 -- ---- later states
 
@@ -121,11 +121,11 @@ IsWhole items body = (later : ItemTable) → Extends items later → AreReady la
     body
 
 -- the loops of all breaks so far have numbers that are given out, and what they carry has a type of values
-abbrev pub AreBreaks : State → Type 0
+abbrev pub AreBreaks : TypingState → Type 0
 AreBreaks s = (b : ℕ × TyId) → Contains s.breaks b → (suc b.0 ≤ s.next_node) × IsAlone s.items b.1
 
 -- from a state to a later one
-pub record Grows (s t : State) : Type 0 where
+pub record Grows (s t : TypingState) : Type 0 where
   pub items : Extends s.items t.items
   pub ready : AreReady s.items → AreReady t.items
   pub breaks : (b : ℕ × TyId) → Contains s.breaks b → Contains t.breaks b
@@ -136,29 +136,29 @@ pub record Grows (s t : State) : Type 0 where
 -- ---- what a check gives
 
 -- what is so of a value and the state after it, where no rule is broken
-abbrev pub Then : {A : Type 0} → Result (A × State) Broken → (A → State → Type 0) → Type 0
+abbrev pub Then : {A : Type 0} → Result (A × TypingState) Broken → (A → TypingState → Type 0) → Type 0
 Then (Ok a) P = P a.0 a.1
 Then (Err e) P = Unit {0}
 
 -- a fact on a value, in a later state
 abbrev pub Fact : Type 0 → Type 1
-Fact A = State → A → Type 0
+Fact A = TypingState → A → Type 0
 
-abbrev pub Given : {A : Type 0} → State → Fact A → A → State → Type 0
-Given s Q a t = Grows s t × ((w : State) → Grows t w → Q w a)
+abbrev pub HoldsOnward : {A : Type 0} → TypingState → Fact A → A → TypingState → Type 0
+HoldsOnward s Q a t = Grows s t × ((w : TypingState) → Grows t w → Q w a)
 
-pub record Gives {A : Type 0} (s : State) (Q : Fact A) (r : Result (A × State) Broken) : Type 0 where
-  pub so : AreReady s.items → Then r (Given s Q)
+pub record Gives {A : Type 0} (s : TypingState) (Q : Fact A) (r : Result (A × TypingState) Broken) : Type 0 where
+  pub so : AreReady s.items → Then r (HoldsOnward s Q)
 
 -- ---- where a node stands
 
 -- the entries in scope, in the body of a closure the closure's value, and the loops around
-pub record Spot : Type 0 where
+pub record TypingSpot : Type 0 where
   pub entries : List InScope
   pub closure : Option InScope
   pub loops : List LoopAround
 
-abbrev pub at_spot : ItemTable → TyId → Spot → Context
+abbrev pub at_spot : ItemTable → TyId → TypingSpot → Context
 at_spot items answer p =
     record { items = items; entries = p.entries; closure = p.closure; loops = p.loops; answer = answer }
 
@@ -166,29 +166,29 @@ abbrev pub in_scope : ℕ → TyId → Bool → InScope
 in_scope key ty is_in_guard = record { key = key; ty = ty; is_in_guard = is_in_guard }
 
 -- what a variable is, is there
-abbrev pub Means : ItemTable → Spot → TyId → Meaning → Type 0
+abbrev pub Means : ItemTable → TypingSpot → TyId → VariableMeaning → Type 0
 Means items p ty (Local key) = entry_with key p.entries ≡ Some (in_scope key ty false)
 Means items p ty (InGuard key) = entry_with key p.entries ≡ Some (in_scope key ty true)
 Means items p ty (Capture closure part) =
     (x : InScope) × (p.closure ≡ Some x) × (x.key ≡ closure) × (field_ty items x.ty 0 part ≡ Some ty)
 
 -- the breaks out of a loop that may carry a value fit its type; another loop is `()`
-abbrev pub Carries : State → LoopAround → Bool → Type 0
+abbrev pub Carries : TypingState → LoopAround → Bool → Type 0
 Carries w l true = (b : ℕ × TyId) → Contains w.breaks b → b.0 ≡ l.loop → IsTrue (fits w.items l.ty b.1)
 Carries w l false = IsTrue (is_unit w.items l.ty)
 
-abbrev pub IsAround : State → Spot → Around → Type 0
+abbrev pub IsAround : TypingState → TypingSpot → LabelledLoop → Type 0
 IsAround w p a = (l : LoopAround) × (loop_with a.loop p.loops ≡ Some l) × (l.loop ≡ a.loop) × (l.has_value ≡
     a.has_value) × Carries w l a.has_value
 
 -- a spot whose names and loops are those of an environment, among items whose closures have their heads
-pub record Stands (env : Env) (w : State) (p : Spot) : Type 0 where
-  pub variables : (x : Entry) → Contains env.variables x → Means w.items p x.ty x.meaning
-  pub loops : (a : Around) → Contains env.loops a → IsAround w p a
+pub record Stands (env : Env) (w : TypingState) (p : TypingSpot) : Type 0 where
+  pub variables : (x : NamedEntry) → Contains env.variables x → Means w.items p x.ty x.meaning
+  pub loops : (a : LabelledLoop) → Contains env.loops a → IsAround w p a
   pub closures : AreClosures w.items
 
 -- numbers of a body are given out in their order, so those in an environment are below the next
-abbrev pub IsBelow : ℕ → Meaning → Type 0
+abbrev pub IsBelow : ℕ → VariableMeaning → Type 0
 IsBelow n (Local key) = suc key ≤ n
 IsBelow n (InGuard key) = suc key ≤ n
 IsBelow n (Capture closure part) = Unit {0}
@@ -200,7 +200,7 @@ is_plain_name name = not (list_any (λ byte. byte == 35) name)
 -- What the table of kinds and the names of items say of them: a struct has a variant, what is written without parts has
 -- none, there are as many names as fields, `Self` is there, and the first parameter of a body with a plain name is no
 -- closure.
-pub record KnowsItems (kinds : List (List Kind)) (self_adt : Option ℕ) (items : ItemTable) : Type 0 where
+pub record KnowsItems (kinds : List (List FieldsKind)) (self_adt : Option ℕ) (items : ItemTable) : Type 0 where
   pub structs : (n : ℕ) (def : Adt) → slice_get items.adts n ≡ Some def → def.is_enum ≡ false → (v : Variant) ×
       (variant_at items n 0 ≡ Some v)
   pub units : (n variant : ℕ) (v : Variant) → variant_at items n variant ≡ Some v → IsTrue (is_unit_kind (kind_at kinds
@@ -213,73 +213,73 @@ pub record KnowsItems (kinds : List (List Kind)) (self_adt : Option ℕ) (items 
       IsTrue (is_plain_name head.name) → head.params ≡ self ∷ rest → (ty : Ty) × (type_at items self ≡ Some ty) ×
       (closure_in ty ≡ None)
 
-pub record Knows (env : Env) (s : State) : Type 0 where
-  pub types : (x : Entry) → Contains env.variables x → IsReady s.items x.ty
-  pub keys : (x : Entry) → Contains env.variables x → IsBelow s.next_node x.meaning
-  pub loops : (a : Around) → Contains env.loops a → suc a.loop ≤ s.next_node
+pub record Knows (env : Env) (s : TypingState) : Type 0 where
+  pub types : (x : NamedEntry) → Contains env.variables x → IsReady s.items x.ty
+  pub keys : (x : NamedEntry) → Contains env.variables x → IsBelow s.next_node x.meaning
+  pub loops : (a : LabelledLoop) → Contains env.loops a → suc a.loop ≤ s.next_node
   pub breaks : AreBreaks s
   pub items : KnowsItems env.kinds env.self_adt s.items
 
 -- ---- nodes
 
 -- a value of a type that fits the required one
-pub record IsValue (env : Env) (want : Option TyId) (w : State) (n : Node) : Type 0 where
+pub record IsValue (env : Env) (want : Option TyId) (w : TypingState) (n : Node) : Type 0 where
   pub alone : IsAlone w.items (ty_of n)
   pub fit : IsTrue (agrees w.items want (ty_of n))
-  pub holds : (p : Spot) → Stands env w p → Holds (typed (at_spot w.items env.answer p) Taken n)
+  pub holds : (p : TypingSpot) → Stands env w p → Holds (typed (at_spot w.items env.answer p) Taken n)
 
 -- a value that is no place
-pub record IsTemporary (env : Env) (want : Option TyId) (w : State) (n : Node) : Type 0 where
+pub record IsTemporary (env : Env) (want : Option TyId) (w : TypingState) (n : Node) : Type 0 where
   pub value : IsValue env want w n
   pub is_no_place : is_place (form_of n) ≡ false
 
 -- a place, or a value that becomes a temporary; what is asked of places is so in each later state
-pub record IsBase (env : Env) (w : State) (n : Node) : Type 0 where
+pub record IsBase (env : Env) (w : TypingState) (n : Node) : Type 0 where
   pub ready : IsReady w.items (ty_of n)
-  pub holds : (p : Spot) → Stands env w p → Holds (typed (at_spot w.items env.answer p) Base n)
-  pub moves : (p : Spot) → Stands env w p → IsTrue (not (is_fixed w.items (in_own_guard env.variables) n)) →
+  pub holds : (p : TypingSpot) → Stands env w p → Holds (typed (at_spot w.items env.answer p) Base n)
+  pub moves : (p : TypingSpot) → Stands env w p → IsTrue (not (is_fixed w.items (in_own_guard env.variables) n)) →
       IsTrue (may_move (at_spot w.items env.answer p) n)
-  pub is_fixed : (v : State) → Grows w v → is_fixed v.items (in_own_guard env.variables) n ≡ is_fixed w.items
+  pub is_fixed : (v : TypingState) → Grows w v → is_fixed v.items (in_own_guard env.variables) n ≡ is_fixed w.items
       (in_own_guard env.variables) n
-  pub is_shared : (v : State) → Grows w v → is_shared_root v.items n ≡ is_shared_root w.items n
+  pub is_shared : (v : TypingState) → Grows w v → is_shared_root v.items n ≡ is_shared_root w.items n
 
 -- ---- checks
 
 -- the check of a value gives what is well typed, whatever is required of it
 abbrev pub Sound : Env → Typer → Type 0
-Sound env check = (want : Option TyId) (s : State) → Knows env s → Gives s (IsValue env want) (check want s)
+Sound env check = (want : Option TyId) (s : TypingState) → Knows env s → Gives s (IsValue env want) (check want s)
 
 abbrev pub SoundTemporary : Env → Typer → Type 0
-SoundTemporary env check = (want : Option TyId) (s : State) → Knows env s → Gives s (IsTemporary env want) (check
+SoundTemporary env check = (want : Option TyId) (s : TypingState) → Knows env s → Gives s (IsTemporary env want) (check
     want s)
 
 abbrev pub SoundBase : Env → Check Node → Type 0
-SoundBase env check = (s : State) → Knows env s → Gives s (IsBase env) (check s)
+SoundBase env check = (s : TypingState) → Knows env s → Gives s (IsBase env) (check s)
 
 -- ---- patterns
 
-abbrev pub key_of : Meaning → ℕ
+abbrev pub key_of : VariableMeaning → ℕ
 key_of (Local key) = key
 key_of (InGuard key) = key
 key_of (Capture closure part) = 0
 
 -- the entries of names that are bound
-abbrev pub are_bound : Bool → List Entry → List InScope
+abbrev pub are_bound : Bool → List NamedEntry → List InScope
 are_bound is_in_guard [] = []
 are_bound is_in_guard (x ∷ xs) = in_scope (key_of x.meaning) x.ty is_in_guard ∷ are_bound is_in_guard xs
 
 -- names that are bound are entries of the body, by numbers that rise from one number to another
-abbrev pub AreFresh : ℕ → List Entry → ℕ → Type 0
+abbrev pub AreFresh : ℕ → List NamedEntry → ℕ → Type 0
 AreFresh n [] m = n ≤ m
 AreFresh n (x ∷ xs) m =
     (x.meaning ≡ Local (key_of x.meaning)) × (n ≤ key_of x.meaning) × AreFresh (suc (key_of x.meaning)) xs m
 
-abbrev pub AreReadyTypes : ItemTable → List Entry → Type 0
+abbrev pub AreReadyTypes : ItemTable → List NamedEntry → Type 0
 AreReadyTypes items [] = Unit {0}
 AreReadyTypes items (x ∷ xs) = IsReady items x.ty × AreReadyTypes items xs
 
 -- a pattern for a place of a type, with its bindings, whose numbers begin at one number
-pub record IsPattern (e : Expected) (ty : TyId) (n : ℕ) (w : State) (b : Node × List Entry) : Type 0 where
+pub record IsPattern (e : Expected) (ty : TyId) (n : ℕ) (w : TypingState) (b : Node × List NamedEntry) : Type 0 where
   pub holds : (place : Matched) → place.takes_all ≡ e.takes_all → (IsTrue (not e.is_fixed) → IsTrue place.may_move) →
       Holds (pattern w.items place ty b.0)
   pub names : IsTrue (are_distinct (names_of b.0))
@@ -289,6 +289,6 @@ pub record IsPattern (e : Expected) (ty : TyId) (n : ℕ) (w : State) (b : Node 
 
 -- the check of a pattern gives what is well typed for each place of its type
 abbrev pub SoundMatcher : Matcher → Type 0
-SoundMatcher check = (e : Expected) (ty : TyId) (s : State) → IsReady s.items ty → Gives s (IsPattern e ty
+SoundMatcher check = (e : Expected) (ty : TyId) (s : TypingState) → IsReady s.items ty → Gives s (IsPattern e ty
     s.next_node) (check
     e ty s)

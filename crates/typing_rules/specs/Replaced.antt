@@ -9,14 +9,14 @@ use Rattle.typed_tree.specs.Nodes.{nodes_of, number_of}
 use Rattle.typed_tree.specs.Tree.{Node, node, Nodes, no_node, a_node, Variable, Deref, Borrow, Assign, Call, MethodCall, VirtualCall, ParamTree, BodyTree, ProgramTree}
 
 -- a parameter by its body and its number there
-pub record Param : Type 0 where
+pub record BodyParameter : Type 0 where
   pub body : ℕ
   pub number : ℕ
 
 -- what is called: a body, or a method of a trait
-pub data Callee : Type 0 where
-  OfBody : (body : ℕ) → Callee
-  OfTrait : (trait_no method : ℕ) → Callee
+pub data CalledBody : Type 0 where
+  OfBody : (body : ℕ) → CalledBody
+  OfTrait : (trait_no method : ℕ) → CalledBody
 
 -- exactly what a variable names
 abbrev pub content_of : Node → Option ℕ
@@ -48,10 +48,10 @@ numbers_for key k (a_node first rest) =
 
 pub record Passing : Type 0 where
   pub at : Pos
-  pub callee : Callee
+  pub callee : CalledBody
   pub number : ℕ
 
-abbrev pub passing : Pos → Callee → ℕ → Passing
+abbrev pub passing : Pos → CalledBody → ℕ → Passing
 passing at callee number = record { at = at; callee = callee; number = number }
 
 abbrev pub passings_of : ℕ → Node → List Passing
@@ -69,7 +69,7 @@ passings key body = flat_map (passings_of key) (nodes_of body.block)
 
 -- a parameter with its key, what its body stores into it, and for what it is passed on
 pub record Facts : Type 0 where
-  pub param : Param
+  pub param : BodyParameter
   pub is_stored : Bool
   pub passed : List Passing
 
@@ -91,36 +91,36 @@ facts_from body k (param ∷ params) = facts_of body k param ∷ facts_from body
 abbrev pub all_facts : List BodyTree → List Facts
 all_facts bodies = flat_map (λ body. facts_from body 0 body.params) bodies
 
-abbrev pub is_param : ℕ → ℕ → Param → Bool
+abbrev pub is_param : ℕ → ℕ → BodyParameter → Bool
 is_param body number p = p.body == body && p.number == number
 
-abbrev pub is_among : List Param → ℕ → ℕ → Bool
+abbrev pub is_among : List BodyParameter → ℕ → ℕ → Bool
 is_among params number body = list_any (is_param body number) params
 
 -- the bodies that are called
 abbrev pub method_in : ℕ → ℕ → ImplDef → Option ℕ
 method_in trait_no method def = if def.trait_no == trait_no then slice_get def.bodies method else None
 
-abbrev pub bodies_of : ItemTable → Callee → List ℕ
+abbrev pub bodies_of : ItemTable → CalledBody → List ℕ
 bodies_of items (OfBody body) = body ∷ []
 bodies_of items (OfTrait trait_no method) = filter_map (method_in trait_no method) items.impls
 
-abbrev pub is_replaced : ItemTable → List Param → Passing → Bool
+abbrev pub is_replaced : ItemTable → List BodyParameter → Passing → Bool
 is_replaced items params p = list_any (is_among params p.number) (bodies_of items p.callee)
 
-abbrev pub param_of : Facts → Param
+abbrev pub param_of : Facts → BodyParameter
 param_of f = f.param
 
-abbrev pub next : ItemTable → List Facts → List Param → List Param
+abbrev pub next : ItemTable → List Facts → List BodyParameter → List BodyParameter
 next items facts params =
     map param_of (filter (λ (f : Facts). f.is_stored || list_any (is_replaced items params) f.passed) facts)
 
 -- each round but the last finds one parameter more
-abbrev pub after : ℕ → ItemTable → List Facts → List Param
+abbrev pub after : ℕ → ItemTable → List Facts → List BodyParameter
 after zero items facts = []
 after (suc n) items facts = next items facts (after n items facts)
 
-abbrev pub replaceable : ProgramTree → List Param
+abbrev pub replaceable : ProgramTree → List BodyParameter
 replaceable p = let facts = all_facts p.bodies in after (suc (length facts)) p.items facts
 
 -- ---- the set by its rules

@@ -20,7 +20,7 @@ use Rattle.well_typed.specs.Places.{ty_of, form_of, is_place}
 use Rattle.well_typed.specs.Types.{is_same, is_unit, is_bool, is_never, is_int, is_dyn, kind_of, tuple_of, array_of, boxed_of, closure_of, inside_of, reference_of, is_reference, fits}
 use Rattle.typing_rules.specs.Check.{Check, ◌>>=◌, ◌>>◌, ◌<$>◌, pure, breaks, obeys, known, the_items, number, interned, breaks_out, types_of_breaks}
 use Rattle.typing_rules.specs.Places.{place_in_text, used, a_node_of, unit, bool, never, int, Fit, Fits, Coerced, Differs, fit, agrees, wanted, is_any, is_fixed, is_behind_shared, in_own_guard, variable_place, through}
-use Rattle.typing_rules.specs.Scope.{Env, Entry, Around}
+use Rattle.typing_rules.specs.Scope.{Env, NamedEntry, LabelledLoop}
 use Rattle.src_ast.specs.Syntax.{Word}
 
 -- a check of an expression, which waits for the type that is required of it
@@ -285,7 +285,7 @@ passes is_unique to None = false
 passes is_unique to (Some r) = is_same r.1 to && (r.0 || not is_unique)
 
 -- a reference variable that is passed on borrows what it names, by `&mut` where the parameter is `&mut T`
-abbrev pub passed_on : Pos → Entry → Referrer
+abbrev pub passed_on : Pos → NamedEntry → Referrer
 passed_on at x want is_unique to = do
   items ← the_items
   obeys Rule.T03 at (passes is_unique to (reference_of items x.ty))
@@ -589,9 +589,9 @@ expected env takes_all place items =
 
 -- a pattern for a place of a type; its bindings
 abbrev pub Matcher : Type 0
-Matcher = Expected → TyId → Check (Node × List Entry)
+Matcher = Expected → TyId → Check (Node × List NamedEntry)
 
-abbrev pub if_let_alone : Env → Pos → Check Node → Matcher → (List Entry → Typer) → Typer
+abbrev pub if_let_alone : Env → Pos → Check Node → Matcher → (List NamedEntry → Typer) → Typer
 if_let_alone env at scrutinee pattern body want = do
   id ← number
   s ← scrutinised scrutinee
@@ -600,7 +600,7 @@ if_let_alone env at scrutinee pattern body want = do
   b ← body p.1 (Some unit)
   settled want (a_node_of id at unit (tree.IfLet p.0 s b absent))
 
-abbrev pub if_let_else : Env → Pos → Check Node → Matcher → (List Entry → Typer) → Typer → Typer
+abbrev pub if_let_else : Env → Pos → Check Node → Matcher → (List NamedEntry → Typer) → Typer → Typer
 if_let_else env at scrutinee pattern body otherwise want = do
   id ← number
   s ← scrutinised scrutinee
@@ -612,7 +612,8 @@ if_let_else env at scrutinee pattern body otherwise want = do
   ty ← known Rule.T03 at (one_of_two items (ty_of b) (ty_of o))
   settled want (a_node_of id at ty (tree.IfLet p.0 s b (present o)))
 
-abbrev pub arm : Check (Node × List Entry) → (List Entry → Check MaybeNode) → (List Entry → Typer) → Typer
+abbrev pub arm : Check (Node × List NamedEntry) → (List NamedEntry → Check MaybeNode) → (List NamedEntry → Typer) →
+    Typer
 arm pattern guard body want = do
   id ← number
   p ← pattern
@@ -632,11 +633,11 @@ match_row env at scrutinee arms want = do
 
 -- ---- loops and jumps
 
-abbrev pub loop_around : Option Word → ℕ → Bool → Option TyId → Around
+abbrev pub loop_around : Option Word → ℕ → Bool → Option TyId → LabelledLoop
 loop_around label id has_value want = record { label = label; loop = id; has_value = has_value; want = want }
 
 -- the type of its breaks, `!` without any
-abbrev pub loop_row : Pos → Option Word → (Around → Typer) → Typer
+abbrev pub loop_row : Pos → Option Word → (LabelledLoop → Typer) → Typer
 loop_row at label body want = do
   id ← number
   b ← body (loop_around label id true want) (Some unit)
@@ -646,14 +647,15 @@ loop_row at label body want = do
   settled want (a_node_of id at ty (tree.Loop b))
 
 -- the condition of a `while` and the scrutinee of a `while let` count as inside the loop
-abbrev pub while_row : Pos → Option Word → (Around → Typer) → (Around → Typer) → Typer
+abbrev pub while_row : Pos → Option Word → (LabelledLoop → Typer) → (LabelledLoop → Typer) → Typer
 while_row at label c body want = do
   id ← number
   n ← condition (c (loop_around label id false None))
   b ← body (loop_around label id false None) (Some unit)
   settled want (a_node_of id at unit (tree.While n b))
 
-abbrev pub while_let_row : Env → Pos → Option Word → (Around → Check Node) → Matcher → (Around → List Entry → Typer)
+abbrev pub while_let_row : Env → Pos → Option Word → (LabelledLoop → Check Node) → Matcher →
+    (LabelledLoop → List NamedEntry → Typer)
     → Typer
 while_let_row env at label scrutinee pattern body want = do
   id ← number
@@ -664,7 +666,7 @@ while_let_row env at label scrutinee pattern body want = do
   settled want (a_node_of id at unit (tree.WhileLet p.0 s b))
 
 -- what a `break` carries: nothing is required outside a loop and in a `while`
-abbrev pub carried : Option Around → Option TyId
+abbrev pub carried : Option LabelledLoop → Option TyId
 carried None = None
 carried (Some a) = a.want
 
@@ -672,11 +674,11 @@ abbrev pub ty_carried : MaybeNode → TyId
 ty_carried absent = unit
 ty_carried (present n) = ty_of n
 
-abbrev pub may_carry : MaybeNode → Around → Bool
+abbrev pub may_carry : MaybeNode → LabelledLoop → Bool
 may_carry absent a = true
 may_carry (present n) a = a.has_value
 
-abbrev pub break_row : Pos → Option Around → (Option TyId → Check MaybeNode) → Typer
+abbrev pub break_row : Pos → Option LabelledLoop → (Option TyId → Check MaybeNode) → Typer
 break_row at to value want = do
   id ← number
   v ← value (carried to)
@@ -685,7 +687,7 @@ break_row at to value want = do
   breaks_out a.loop (ty_carried v)
   settled want (a_node_of id at never (tree.Break a.loop v))
 
-abbrev pub continue_row : Pos → Option Around → Typer
+abbrev pub continue_row : Pos → Option LabelledLoop → Typer
 continue_row at to want = do
   id ← number
   a ← known Rule.T06 at to
@@ -737,7 +739,7 @@ of_value env true (present n) items = record { is_fixed = false; takes_all = tru
 of_value env false (present n) items = expected env true n items
 
 abbrev pub let_row : Pos → Env → Bool → Check (Option TyId) → (Option TyId → Check MaybeNode) → Matcher →
-    (List Entry → Env) → Check (Node × Bool × Env)
+    (List NamedEntry → Env) → Check (Node × Bool × Env)
 let_row at env is_one_name written value pattern behind = do
   id ← number
   declared ← written

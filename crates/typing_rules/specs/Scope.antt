@@ -5,22 +5,22 @@ use Rattle.std.specs.Str.{bytes_eq}
 use Rattle.mir_ty.specs.declared.adt.Variant.{Variant}
 use Rattle.mir_ty.specs.declared.ty.TyId.{TyId}
 use Rattle.mir_ty.specs.ItemTable.{ItemTable}
-use Rattle.src_ast.specs.Syntax.{Word, Kind, Unit_}
+use Rattle.src_ast.specs.Syntax.{Word, FieldsKind, Unit_}
 
 -- what a variable is: an entry of the body by its key, a capture by the key of the closure and its number, or a binding
 -- inside its own guard
-pub data Meaning : Type 0 where
-  Local : (key : ℕ) → Meaning
-  Capture : (closure part : ℕ) → Meaning
-  InGuard : (key : ℕ) → Meaning
+pub data VariableMeaning : Type 0 where
+  Local : (key : ℕ) → VariableMeaning
+  Capture : (closure part : ℕ) → VariableMeaning
+  InGuard : (key : ℕ) → VariableMeaning
 
-pub record Entry : Type 0 where
+pub record NamedEntry : Type 0 where
   pub name : Word
   pub ty : TyId
-  pub meaning : Meaning
+  pub meaning : VariableMeaning
 
 -- a loop around: its label, its number, whether its breaks may carry a value, and the type that is required of it
-pub record Around : Type 0 where
+pub record LabelledLoop : Type 0 where
   pub label : Option Word
   pub loop : ℕ
   pub has_value : Bool
@@ -33,22 +33,22 @@ pub record Around : Type 0 where
 pub record Env : Type 0 where
   pub adts : List Word
   pub traits : List Word
-  pub kinds : List (List Kind)
+  pub kinds : List (List FieldsKind)
   pub self_adt : Option ℕ
-  pub variables : List Entry
-  pub loops : List Around
+  pub variables : List NamedEntry
+  pub loops : List LabelledLoop
   pub answer : TyId
 
 -- the youngest variable of a name: it hides the older ones
-abbrev pub variable : List Entry → Word → Option Entry
+abbrev pub variable : List NamedEntry → Word → Option NamedEntry
 variable xs name = find (λ x. bytes_eq x.name name) xs
 
 -- names that come into scope: the last of them is the youngest
-abbrev pub joined : List Entry → List Entry → List Entry
+abbrev pub joined : List NamedEntry → List NamedEntry → List NamedEntry
 joined [] old = old
 joined (x ∷ xs) old = joined xs (x ∷ old)
 
-abbrev pub with_variables : List Entry → Env → Env
+abbrev pub with_variables : List NamedEntry → Env → Env
 with_variables new env = record env { variables = joined new env.variables }
 
 -- the loop that a jump leaves: the innermost, or the innermost of that label
@@ -56,23 +56,23 @@ abbrev pub labelled : Word → Option Word → Bool
 labelled name None = false
 labelled name (Some label) = bytes_eq label name
 
-abbrev pub innermost : List Around → Option Around
+abbrev pub innermost : List LabelledLoop → Option LabelledLoop
 innermost [] = None
 innermost (a ∷ around) = Some a
 
-abbrev pub jumps_to : List Around → Option Word → Option Around
+abbrev pub jumps_to : List LabelledLoop → Option Word → Option LabelledLoop
 jumps_to loops None = innermost loops
 jumps_to loops (Some name) = find (λ a. labelled name a.label) loops
 
-abbrev pub within_loop : Around → Env → Env
+abbrev pub within_loop : LabelledLoop → Env → Env
 within_loop loop env = record env { loops = loop ∷ env.loops }
 
 -- inside the guard of an arm its names are the parts that they would bind
-abbrev pub guarded : Meaning → Meaning
+abbrev pub guarded : VariableMeaning → VariableMeaning
 guarded (Local key) = InGuard key
 guarded m = m
 
-abbrev pub in_guard : List Entry → List Entry
+abbrev pub in_guard : List NamedEntry → List NamedEntry
 in_guard [] = []
 in_guard (x ∷ xs) = record x { meaning = guarded x.meaning } ∷ in_guard xs
 
@@ -103,11 +103,11 @@ variant_named items adt name =
 abbrev pub field_named : Variant → Word → Option ℕ
 field_named variant name = position_of (bytes_eq name) variant.field_names
 
-abbrev pub or_unit : Option Kind → Kind
+abbrev pub or_unit : Option FieldsKind → FieldsKind
 or_unit None = Unit_
 or_unit (Some kind) = kind
 
-abbrev pub kind_at : List (List Kind) → ℕ → ℕ → Kind
+abbrev pub kind_at : List (List FieldsKind) → ℕ → ℕ → FieldsKind
 kind_at kinds adt variant = or_unit (option_and_then (λ ks. slice_get ks variant) (slice_get kinds adt))
 
 -- the struct or enum of a path's first part, which is a name or `Self`

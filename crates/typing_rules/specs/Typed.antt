@@ -15,11 +15,11 @@ use Rattle.well_typed.specs.Types.{is_reference, is_enum, variant_at}
 use Rattle.typing_rules.specs.Bodies.{all_rules, closure}
 use Rattle.typing_rules.specs.Check.{Check, ◌>>=◌, ◌>>◌, ◌<$>◌, pure, breaks, obeys, known, the_items, interned}
 use Rattle.typing_rules.specs.Named.{PathValue, Makes, IsBroken, path_value, Callee, Function, Constructor, Prints, Asks, Drops, Forgets, Boxes, AValue, Unnamed, NoCallee, callee_of, method_named}
-use Rattle.typing_rules.specs.Patterns.{pattern, count_of, Target, target_of}
+use Rattle.typing_rules.specs.Patterns.{pattern, count_of, PatternTarget, target_of}
 use Rattle.typing_rules.specs.Places.{unit, bool, never, int, variable_place, struct_field, numbered_part}
 use Rattle.typing_rules.specs.Rows as rows
 use Rattle.typing_rules.specs.Rows.{Typer, Referrer, Expected, Given, taken, no_reference, leaf}
-use Rattle.typing_rules.specs.Scope.{Env, Entry, variable, with_variables, within_loop, jumps_to, in_guard, adt_named, field_named}
+use Rattle.typing_rules.specs.Scope.{Env, NamedEntry, variable, with_variables, within_loop, jumps_to, in_guard, adt_named, field_named}
 use Rattle.src_ast.specs.Syntax.{Word, Syn, syn, Shape, Literal, TruthLiteral, Path, Minus, Bang, Star, Ampersand, Calculate, Compare, Both, Either, Store, CallOf, MethodOf, FieldOf, PartOf, ElementOf, StructOf, FieldInit, Parens, TupleOf, ArrayOf, Braces, IfElse, IfLetElse, MatchOn, ArmOf, LoopOf, WhileOf, WhileLetOf, BreakOf, ContinueOf, ReturnOf, MoveOf, PanicOf, LetOf, Empty, Semi, BindPattern, ParensPattern, Syns, no_syn, a_syn, MaybeSyn, nothing, just}
 use Rattle.typing_rules.specs.Written.{written}
 
@@ -41,11 +41,11 @@ path_alone env at first second want = do
   makes_unit at (path_value items env first second) want
 
 -- the variable of a path that is one name
-abbrev pub variable_of : Env → Option Word → Option Word → Option Entry
+abbrev pub variable_of : Env → Option Word → Option Word → Option NamedEntry
 variable_of env (Some name) None = variable env.variables name
 variable_of env first second = None
 
-abbrev pub path_by : Env → Pos → Option Word → Option Word → Option Entry → Typer
+abbrev pub path_by : Env → Pos → Option Word → Option Word → Option NamedEntry → Typer
 path_by env at first second (Some x) want = variable_place at x >>= taken env want
 path_by env at first second None want = path_alone env at first second want
 
@@ -53,7 +53,7 @@ abbrev pub path : Env → Pos → Option Word → Option Word → Typer
 path env at first second = path_by env at first second (variable_of env first second)
 
 -- a variable where a place is gone through
-abbrev pub variable_base : Env → Pos → Option Word → Option Word → Option Entry → Check Node
+abbrev pub variable_base : Env → Pos → Option Word → Option Word → Option NamedEntry → Check Node
 variable_base env at first second (Some x) = variable_place at x
 variable_base env at first second None = path_alone env at first second None
 
@@ -106,7 +106,7 @@ minus at None operand = rows.negate at operand
 
 -- ---- references
 
-abbrev pub passed : Pos → Typer → Option Entry → Referrer
+abbrev pub passed : Pos → Typer → Option NamedEntry → Referrer
 passed at by_value None want is_unique to = by_value (Some want)
 passed at by_value (Some x) want is_unique to = do
   items ← the_items
@@ -138,7 +138,7 @@ field_want v number = option_and_then (λ k. slice_get v.fields k) number
 abbrev pub no_variant : Variant
 no_variant = record { name = []; fields = []; field_names = [] }
 
-abbrev pub variant_of : ItemTable → Target → Variant
+abbrev pub variant_of : ItemTable → PatternTarget → Variant
 variant_of items t = option_map_or (λ v. v) (variant_at items t.adt t.variant) no_variant
 
 abbrev pub or_zero : Option ℕ → ℕ

@@ -7,7 +7,7 @@ use Rattle.mir_base.specs.declared.place_in_text.Pos.{Pos}
 use Rattle.mir_base.specs.declared.rule.Rule.{Rule}
 use Rattle.mir_ty.specs.declared.ty.Ty.{Ty}
 use Rattle.mir_ty.specs.declared.ty.TyId.{TyId}
-use Rattle.typing_rules.specs.Check.{Check, State, Broken, ◌>>=◌, ◌>>◌, pure, breaks, obeys, known, interned}
+use Rattle.typing_rules.specs.Check.{Check, TypingState, Broken, ◌>>=◌, ◌>>◌, pure, breaks, obeys, known, interned}
 use Rattle.typing_rules.specs.Places.{unit, bool, never, int}
 use Rattle.src_ast.specs.Syntax.{Word, Syn, syn, Shape, NamedType, GenericType, DynType, SelfType, ParensType, TupleType, ArrayType, NeverType, RefType, Syns, no_syn, a_syn}
 
@@ -46,7 +46,7 @@ abbrev pub reference_to : Bool → TyId → Ty
 reference_to unique to = if unique then Ty.Unique to else Ty.Shared to
 
 -- All rules, or those on names alone; the struct or enum that `Self` is; the names of structs and enums, and of traits.
-pub record Around : Type 0 where
+pub record WrittenScope : Type 0 where
   pub has_limits : Bool
   pub self_adt : Option ℕ
   pub adts : List Word
@@ -55,7 +55,7 @@ pub record Around : Type 0 where
 abbrev pub number_of : List Word → Word → Option ℕ
 number_of names name = position_of (bytes_eq name) names
 
-module _ (around : Around) where
+module _ (around : WrittenScope) where
   abbrev mutual
     pub written : Syn → Check TyId
     written (syn at form) = written_form at form
@@ -112,7 +112,7 @@ module _ (around : Around) where
     written_param_form at form = written_form at form
 
 -- a type that breaks a rule stands as `()`
-abbrev pub or_unit_in : State → Result (TyId × State) Broken → Result (TyId × State) Broken
+abbrev pub or_unit_in : TypingState → Result (TyId × TypingState) Broken → Result (TyId × TypingState) Broken
 or_unit_in s (Ok a) = Ok a
 or_unit_in s (Err e) = Ok (unit, s)
 

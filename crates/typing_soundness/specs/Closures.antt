@@ -8,30 +8,30 @@ use Rattle.src_tree.specs.Layout.{Parts}
 use Rattle.typing_rules.specs.Bodies.{all_rules}
 use Rattle.typing_rules.specs.Items.{items_of, item_syns}
 use Rattle.typing_rules.specs.Program.{outermost}
-use Rattle.typing_rules.specs.Written.{Around}
+use Rattle.typing_rules.specs.Written.{WrittenScope}
 use Rattle.src_ast.specs.Syntax.{Syn, syn, Shape, Minus, Bang, Star, Ampersand, Calculate, Compare, Both, Either, Store, CallOf, MethodOf, FieldOf, PartOf, ElementOf, StructOf, FieldInit, Parens, TupleOf, ArrayOf, Braces, IfElse, IfLetElse, MatchOn, ArmOf, LoopOf, WhileOf, WhileLetOf, BreakOf, ReturnOf, MoveOf, LetOf, Semi, ImplItem, FnItem, Syns, no_syn, a_syn, list_of, MaybeSyn, nothing, just, Word}
 
 -- ---- bodies in the order of the text
 
 -- what the head of a body is written by: its own name, which a closure has not, its parameters and its answer, and what
 -- names stand around it
-pub record Head : Type 0 where
-  pub around : Around
+pub record WrittenHead : Type 0 where
+  pub around : WrittenScope
   pub name : Word
   pub params : Syns
   pub answer : MaybeSyn
 
 -- a function or a method, or a closure
 pub data BodySyn : Type 0 where
-  Function : (head : Head) → BodySyn
-  Closure : (head : Head) → BodySyn
+  Function : (head : WrittenHead) → BodySyn
+  Closure : (head : WrittenHead) → BodySyn
 
 -- bodies that are met before some others
 abbrev pub Tape : Type 0
 Tape = List BodySyn → List BodySyn
 
 -- the closures in an expression, one before those inside it
-module _ (around : Around) where
+module _ (around : WrittenScope) where
   abbrev mutual
     pub closures_of : Syn → Tape
     closures_of (syn at form) = closures_in form
@@ -87,10 +87,11 @@ module _ (around : Around) where
     closures_if_any (just value) = closures_of value
 
 -- a function or a method, with its block
-module _ (around : Around) where
+module _ (around : WrittenScope) where
   abbrev pub function_text : Syn → Tape
   function_text (syn at (FnItem name params answer block)) =
-      λ rest. Function (record { around = around; name = name.1; params = params; answer = answer }) ∷ closures_if_any around block rest
+      λ rest. Function (record { around = around; name = name.1; params = params; answer = answer }) ∷
+      closures_if_any around block rest
   function_text _ = λ rest. rest
 
   abbrev pub functions_text : List Syn → Tape
@@ -98,17 +99,17 @@ module _ (around : Around) where
   functions_text (f ∷ fs) = λ rest. function_text f (functions_text fs rest)
 
   -- in an impl, `Self` is its struct or enum
-  abbrev pub around_impl : List Adt → Word → Around
+  abbrev pub around_impl : List Adt → Word → WrittenScope
   around_impl adts name = record around { self_adt = position_of (λ adt. bytes_eq adt.name name) adts }
 
-abbrev pub item_text : Around → List Adt → Syn → Tape
+abbrev pub item_text : WrittenScope → List Adt → Syn → Tape
 item_text around adts (syn at (ImplItem trait_ name methods)) =
     functions_text (around_impl around adts name.1) (list_of methods)
 item_text around adts (syn at (FnItem name params answer block)) =
     function_text around (syn at (FnItem name params answer block))
 item_text around adts _ = λ rest. rest
 
-abbrev pub items_text : Around → List Adt → List Syn → Tape
+abbrev pub items_text : WrittenScope → List Adt → List Syn → Tape
 items_text around adts [] = λ rest. rest
 items_text around adts (i ∷ is) = λ rest. item_text around adts i (items_text around adts is rest)
 

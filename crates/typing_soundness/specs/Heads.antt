@@ -10,9 +10,9 @@ use Rattle.typing_rules.specs.Collected as rules
 use Rattle.typing_rules.specs.Items.{ItemSyn, full_name}
 use Rattle.typing_rules.specs.Places.{unit}
 use Rattle.typing_rules.specs.Promises.{is_plain_name}
-use Rattle.typing_rules.specs.Written.{Around}
+use Rattle.typing_rules.specs.Written.{WrittenScope}
 use Rattle.src_ast.specs.Syntax.{Word, Syn, syn, MoveOf, StructItem, EnumItem, VariantDecl, ImplItem, FnItem, ParamOf, Syns, no_syn, a_syn, list_of, MaybeSyn, nothing, just}
-use Rattle.typing_soundness.specs.Closures.{BodySyn, Function, Closure, Head, Tape, functions_text, function_text}
+use Rattle.typing_soundness.specs.Closures.{BodySyn, Function, Closure, WrittenHead, Tape, functions_text, function_text}
 use Rattle.typing_soundness.specs.Met.{HasTypes}
 use Rattle.well_typed.specs.Claim.{Claim, fact}
 use Rattle.typing_soundness.specs.Shapes.{no_self}
@@ -21,9 +21,10 @@ use Rattle.typing_soundness.specs.Types.{Means}
 -- ---- the types of a head
 
 -- a type that is written, where it can be written at all
-module _ (around : Around) (items : ItemTable) where
+module _ (around : WrittenScope) (items : ItemTable) where
   abbrev pub MeansIfAny : Syn → TyId → Type 0
-  MeansIfAny written ty = (others : ItemTable) (t : TyId) → Means around others written t → Means around items written ty
+  MeansIfAny written ty = (others : ItemTable) (t : TyId) → Means around others written t →
+      Means around items written ty
 
   abbrev pub MeansClosureParam : Syn → TyId → Type 0
   MeansClosureParam (syn at (ParamOf p written)) ty = MeansIfAny written ty
@@ -47,10 +48,10 @@ AreHeadTypes items closure (Closure head) (self ∷ params) answer =
     params × MeansClosureAnswer head.around items head.answer answer
 
 -- the struct or enum that a method is of, by its name, and the whole name of a function or a method
-abbrev pub owner_of : Around → Option Word
+abbrev pub owner_of : WrittenScope → Option Word
 owner_of around = option_and_then (slice_get around.adts) around.self_adt
 
-abbrev pub function_name : Head → Word
+abbrev pub function_name : WrittenHead → Word
 function_name head = full_name (owner_of head.around) head.name
 
 -- the name of a closure has a mark that no name in a text has
@@ -94,7 +95,7 @@ AreAdtsOf _ _ = ⊥
 
 -- ---- the bodies that are listed for an item
 
-module _ (around : Around) where
+module _ (around : WrittenScope) where
   abbrev pub body_text : Syn → Tape
   body_text (syn at (FnItem name params answer block)) =
       λ rest. Function (record { around = around; name = name.1; params = params; answer = answer }) ∷ rest
@@ -115,7 +116,7 @@ module _ (around : Around) where
 
 -- an item is listed with all its bodies
 abbrev pub TellsBodies : ItemSyn → Type 0
-TellsBodies i = (around : Around) → bodies_text around i.bodies ≡ inner_text around i.item
+TellsBodies i = (around : WrittenScope) → bodies_text around i.bodies ≡ inner_text around i.item
 
 abbrev pub TellBodies : List ItemSyn → Type 0
 TellBodies [] = Unit {0}

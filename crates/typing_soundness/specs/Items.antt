@@ -31,7 +31,8 @@ TypesDiffer = (parts : Parts Pos) (items : ItemTable) (p : ProgramTree) → IsAc
 
 -- No type of an accepted text holds itself: each is finite, as all that it holds is.
 abbrev pub TypesAreFinite : Type 0
-TypesAreFinite = (parts : Parts Pos) (items : ItemTable) (p : ProgramTree) → IsAccepted parts items p → (id : TyId) (ty :
+TypesAreFinite = (parts : Parts Pos) (items : ItemTable) (p : ProgramTree) → IsAccepted parts items p →
+    (id : TyId) (ty :
     Ty) → type_at p.items id ≡ Some ty → IsTrue (is_finite p.items id)
 
 -- a tuple has 1 to 12 parts and an array at most 32 elements, and what a type names by its number is there
@@ -45,7 +46,8 @@ is_within_limits items _ = true
 
 -- So are all types of an accepted text.
 abbrev pub TypesKeepLimits : Type 0
-TypesKeepLimits = (parts : Parts Pos) (items : ItemTable) (p : ProgramTree) → IsAccepted parts items p → IsTrue (list_all
+TypesKeepLimits = (parts : Parts Pos) (items : ItemTable) (p : ProgramTree) → IsAccepted parts items p →
+    IsTrue (list_all
     (is_within_limits p.items) p.items.types)
 
 -- parameters of types that may stand there, and a result that stands alone
@@ -61,7 +63,8 @@ HeadsAreTyped = (parts : Parts Pos) (items : ItemTable) (p : ProgramTree) → Is
 abbrev pub begins_with_self : ItemTable → ℕ → List TyId → Bool
 begins_with_self items n [] = false
 begins_with_self items n (ty ∷ tys) =
-    option_map_or (λ (r : Bool × TyId). option_map_or (λ m. m == n) (trait_of items r.1) false) (reference_of items ty) false
+    option_map_or (λ (r : Bool × TyId). option_map_or (λ m. m == n) (trait_of items r.1) false) (reference_of items ty)
+    false
 
 -- a method of a trait takes `&self` or `&mut self`, and is not called `drop`
 abbrev pub is_method_typed : ItemTable → ℕ → Sig → Bool
@@ -97,7 +100,8 @@ is_main items head = bytes_eq head.name (codes "main") && (length head.params ==
 
 -- There is such a body in an accepted text.
 abbrev pub HasMain : Type 0
-HasMain = (parts : Parts Pos) (items : ItemTable) (p : ProgramTree) → IsAccepted parts items p → IsTrue (list_any (is_main
+HasMain = (parts : Parts Pos) (items : ItemTable) (p : ProgramTree) → IsAccepted parts items p →
+    IsTrue (list_any (is_main
     p.items) p.items.bodies)
 
 -- Captures stand alone; the closure has a body, whose head begins with the closure, and whose other parameters stand
@@ -144,13 +148,16 @@ pub record IsAdtTyped (items : ItemTable) (adt : Adt) : Type 0 where
 
 -- So are the structs and enums of an accepted text.
 abbrev pub AdtsAreTyped : Type 0
-AdtsAreTyped = (parts : Parts Pos) (items : ItemTable) (p : ProgramTree) → IsAccepted parts items p → (n : ℕ) (adt : Adt) →
+AdtsAreTyped = (parts : Parts Pos) (items : ItemTable) (p : ProgramTree) → IsAccepted parts items p →
+    (n : ℕ) (adt : Adt) →
     slice_get p.items.adts n ≡ Some adt → IsAdtTyped p.items adt
 
 -- Names of the fields of one variant differ, in an accepted text.
 abbrev pub FieldsDiffer : Type 0
-FieldsDiffer = (parts : Parts Pos) (items : ItemTable) (p : ProgramTree) → IsAccepted parts items p → (n : ℕ) (adt : Adt) →
-    slice_get p.items.adts n ≡ Some adt → (m : ℕ) (v : Variant) → slice_get adt.variants m ≡ Some v → IsTrue (are_distinct
+FieldsDiffer = (parts : Parts Pos) (items : ItemTable) (p : ProgramTree) → IsAccepted parts items p →
+    (n : ℕ) (adt : Adt) →
+    slice_get p.items.adts n ≡ Some adt → (m : ℕ) (v : Variant) → slice_get adt.variants m ≡ Some v →
+    IsTrue (are_distinct
     v.field_names)
 
 -- the names of structs, enums, traits and bodies: functions, methods and closures
@@ -169,7 +176,8 @@ NamesOfItems = (parts : Parts Pos) (items : ItemTable) (p : ProgramTree) → IsA
 
 -- They differ.
 abbrev pub NamesDiffer : Type 0
-NamesDiffer = (parts : Parts Pos) (items : ItemTable) (p : ProgramTree) → IsAccepted parts items p → IsTrue (are_distinct
+NamesDiffer = (parts : Parts Pos) (items : ItemTable) (p : ProgramTree) → IsAccepted parts items p →
+    IsTrue (are_distinct
     (item_names p.items))
 
 -- ---- `drop` bodies, and the bodies of impls
@@ -177,7 +185,8 @@ NamesDiffer = (parts : Parts Pos) (items : ItemTable) (p : ProgramTree) → IsAc
 -- a reference to a struct or an enum
 abbrev pub is_to : ItemTable → ℕ → TyId → Bool
 is_to items n ty =
-    option_map_or (λ (r : Bool × TyId). option_map_or (λ m. m == n) (adt_of items r.1) false) (reference_of items ty) false
+    option_map_or (λ (r : Bool × TyId). option_map_or (λ m. m == n) (adt_of items r.1) false) (reference_of items ty)
+    false
 
 abbrev pub is_unique : ItemTable → TyId → Bool
 is_unique items ty = option_map_or (λ (r : Bool × TyId). r.0) (reference_of items ty) false
@@ -189,7 +198,8 @@ is_one_self items n _ = false
 
 abbrev pub is_drop_head : ItemTable → List ℕ → ℕ → Sig → Claim
 is_drop_head items name n head =
-    fact (bytes_eq head.name (name ++ codes "::drop")) & fact (is_one_self items n head.params && is_unit items head.result)
+    fact (bytes_eq head.name (name ++ codes "::drop")) & fact
+    (is_one_self items n head.params && is_unit items head.result)
 
 abbrev pub has_drop_head : ItemTable → List ℕ → ℕ → Option ℕ → Claim
 has_drop_head items name n None = nothing
@@ -197,7 +207,8 @@ has_drop_head items name n (Some body) = some (slice_get items.bodies body) (is_
 
 -- A `drop` body of an accepted text has such a head.
 abbrev pub DropsHaveHeads : Type 0
-DropsHaveHeads = (parts : Parts Pos) (items : ItemTable) (p : ProgramTree) → IsAccepted parts items p → (n : ℕ) (adt : Adt) →
+DropsHaveHeads = (parts : Parts Pos) (items : ItemTable) (p : ProgramTree) → IsAccepted parts items p →
+    (n : ℕ) (adt : Adt) →
     slice_get p.items.adts n ≡ Some adt → Holds (has_drop_head p.items adt.name n adt.drop_body)
 
 -- the head of a trait's method, with the struct or enum in place of `dyn` of the trait
@@ -208,22 +219,26 @@ are_same_params items adt _ _ = false
 
 abbrev pub implements_head : ItemTable → ℕ → List ℕ → Sig → Sig → Claim
 implements_head items adt name method head =
-    fact (bytes_eq head.name (name ++ codes "::" ++ method.name)) & fact (are_same_params items adt method.params head.params &&
+    fact (bytes_eq head.name (name ++ codes "::" ++ method.name)) & fact
+    (are_same_params items adt method.params head.params &&
     is_same method.result head.result)
 
 -- one body a method of the trait, in its order
 abbrev pub implements_all : ItemTable → ℕ → List ℕ → List Sig → List ℕ → Claim
 implements_all items adt name [] [] = nothing
 implements_all items adt name (method ∷ methods) (body ∷ bodies) =
-    some (slice_get items.bodies body) (implements_head items adt name method) & implements_all items adt name methods bodies
+    some (slice_get items.bodies body) (implements_head items adt name method) & implements_all items adt name methods
+    bodies
 implements_all items adt name _ _ = fact false
 
 abbrev pub is_impl : ItemTable → ImplDef → Claim
 is_impl items def =
-    some (slice_get items.traits def.trait_no) (λ tr. some (slice_get items.adts def.adt) (λ adt. implements_all items def.adt
+    some (slice_get items.traits def.trait_no)
+    (λ tr. some (slice_get items.adts def.adt) (λ adt. implements_all items def.adt
     adt.name tr.methods def.bodies))
 
 -- So are the impls of an accepted text.
 abbrev pub ImplsAreTyped : Type 0
-ImplsAreTyped = (parts : Parts Pos) (items : ItemTable) (p : ProgramTree) → IsAccepted parts items p → Holds (each (is_impl
+ImplsAreTyped = (parts : Parts Pos) (items : ItemTable) (p : ProgramTree) → IsAccepted parts items p →
+    Holds (each (is_impl
     p.items) p.items.impls)

@@ -6,13 +6,13 @@ use Rattle.mir_ty.specs.declared.ty.TyId.{TyId}
 use Rattle.mir_ty.specs.AreItems.{AreDistinct}
 use Rattle.mir_ty.specs.ItemTable.{ItemTable, type_at}
 use Rattle.typed_tree.specs.Tree.{BodyTree}
-use Rattle.typing_rules.specs.Check.{State}
+use Rattle.typing_rules.specs.Check.{TypingState}
 use Rattle.typing_rules.specs.Places.{unit}
-use Rattle.typing_rules.specs.Written.{Around}
+use Rattle.typing_rules.specs.Written.{WrittenScope}
 use Rattle.src_ast.specs.Syntax.{Receiver, ByValue, ByShared, ByUnique, Syn, syn, ParamOf, SelfParam, Syns, no_syn, a_syn, MaybeSyn, nothing, just}
 use Rattle.typing_soundness.specs.Legal.{legal, legal_param, head_legal}
 use Rattle.typing_soundness.specs.Types.{HaveTypes, Means}
-use Rattle.typing_soundness.specs.Closures.{BodySyn, Function, Closure, Head, Tape}
+use Rattle.typing_soundness.specs.Closures.{BodySyn, Function, Closure, WrittenHead, Tape}
 
 -- ---- the types of a body
 
@@ -27,7 +27,7 @@ IsReceiver items ByValue own ty = own ≡ ty
 IsReceiver items ByShared own ty = type_at items ty ≡ Some (Ty.Shared own)
 IsReceiver items ByUnique own ty = type_at items ty ≡ Some (Ty.Unique own)
 
-module _ (around : Around) (items : ItemTable) where
+module _ (around : WrittenScope) (items : ItemTable) where
   abbrev pub MeansParam : Syn → TyId → Type 0
   MeansParam (syn at (ParamOf p written)) ty = Means around items written ty
   MeansParam (syn at (SelfParam receiver)) ty =
@@ -46,7 +46,7 @@ module _ (around : Around) (items : ItemTable) where
   MeansAnswer (just written) ty = Means around items written ty
 
 -- the types of a body mean what is written
-abbrev pub HasTypes : ItemTable → Head → List TyId → TyId → Type 0
+abbrev pub HasTypes : ItemTable → WrittenHead → List TyId → TyId → Type 0
 HasTypes items head params answer =
     MeanParams head.around items head.params params × MeansAnswer head.around items head.answer answer
 
@@ -92,7 +92,7 @@ AreMade P from to (text ∷ texts) rest (body ∷ bodies) =
 
 -- From one state to a later one come the bodies of this text; structs, enums and heads stay, and types and closures
 -- that are there.
-pub record Met (f : Tape) (s t : State) : Type 0 where
+pub record Met (f : Tape) (s t : TypingState) : Type 0 where
   pub types : HaveTypes s.items t.items
   pub distinct : AreDistinct s.items.types → AreDistinct t.items.types
   pub adts : t.items.adts ≡ s.items.adts

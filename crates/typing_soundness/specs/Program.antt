@@ -39,7 +39,8 @@ pub record IsAccepted (parts : Parts Pos) (items : ItemTable) (p : ProgramTree) 
 
 -- The items of an accepted text are collected so.
 abbrev pub ItemsAreReady : Type 0
-ItemsAreReady = (parts : Parts Pos) (items : ItemTable) (p : ProgramTree) → IsAccepted parts items p → AreCollected parts
+ItemsAreReady = (parts : Parts Pos) (items : ItemTable) (p : ProgramTree) → IsAccepted parts items p →
+    AreCollected parts
     items
 
 -- Bodies stand in the order of their numbers.

@@ -1,10 +1,10 @@
--- What the syntax tree of a text has beyond its form: the names in its paths are without the mark of closures' names, the
--- body of a closure is a block, `self` is the first of parameters, and no parameter of a closure; a struct or a variant
--- that is written without parts has none.
+-- What the syntax tree of a text has beyond its form: the names in its paths are without the mark of closures' names,
+-- the body of a closure is a block, `self` is the first of parameters, and no parameter of a closure; a struct or a
+-- variant that is written without parts has none.
 use Rattle.std.specs.Prelude.{Bool, true, false, Option, Some, None}
 use Rattle.well_typed.specs.Claim.{Claim, fact, ◌&◌, each}
 use Rattle.typing_rules.specs.Promises.{is_plain_name}
-use Rattle.src_ast.specs.Syntax.{Kind, Unit_, Word, Syn, syn, Shape, Path, Minus, Bang, Star, Ampersand, Calculate, Compare, Both, Either, Store, CallOf, MethodOf, FieldOf, PartOf, ElementOf, StructOf, FieldInit, Parens, TupleOf, ArrayOf, Braces, IfElse, IfLetElse, MatchOn, ArmOf, LoopOf, WhileOf, WhileLetOf, BreakOf, ReturnOf, MoveOf, SelfParam, LetOf, Semi, FnItem, StructItem, EnumItem, VariantDecl, TraitItem, ImplItem, list_of, Syns, no_syn, a_syn, MaybeSyn, nothing, just}
+use Rattle.src_ast.specs.Syntax.{FieldsKind, Unit_, Word, Syn, syn, Shape, Path, Minus, Bang, Star, Ampersand, Calculate, Compare, Both, Either, Store, CallOf, MethodOf, FieldOf, PartOf, ElementOf, StructOf, FieldInit, Parens, TupleOf, ArrayOf, Braces, IfElse, IfLetElse, MatchOn, ArmOf, LoopOf, WhileOf, WhileLetOf, BreakOf, ReturnOf, MoveOf, SelfParam, LetOf, Semi, FnItem, StructItem, EnumItem, VariantDecl, TraitItem, ImplItem, list_of, Syns, no_syn, a_syn, MaybeSyn, nothing, just}
 
 abbrev pub is_plain : Option Word → Bool
 is_plain None = true
@@ -84,7 +84,7 @@ function_shaped (syn at (FnItem name params answer block)) = fact (self_first pa
 function_shaped _ = fact true
 
 -- what is written without parts has none
-abbrev pub has_kind : Kind → Syns → Bool
+abbrev pub has_kind : FieldsKind → Syns → Bool
 has_kind Unit_ (a_syn first rest) = false
 has_kind kind fields = true
 

@@ -7,7 +7,7 @@ use Rattle.mir_ty.specs.declared.ty.TyId.{TyId}
 use Rattle.typed_tree.specs.Nodes.{number_of, nodes_of}
 use Rattle.typed_tree.specs.Tree.{Node, MaybeNode}
 use Rattle.well_typed.specs.Nodes.{carried_by}
-use Rattle.typing_rules.specs.Check.{Check, State, Broken}
+use Rattle.typing_rules.specs.Check.{Check, TypingState, Broken}
 use Rattle.typing_rules.specs.Patterns.{pattern}
 use Rattle.typing_rules.specs.Promises.{Then}
 use Rattle.typing_rules.specs.Rows.{Expected, ty_carried}
@@ -32,12 +32,12 @@ abbrev pub counted : ℕ → ℕ → List ℕ
 counted from zero = []
 counted from (suc count) = from ∷ counted (suc from) count
 
-abbrev pub numbers_of_bodies : State → List ℕ
+abbrev pub numbers_of_bodies : TypingState → List ℕ
 numbers_of_bodies s = map (λ body. body.number) s.bodies
 
--- Within the body of a function, bodies that come are those of closures: they stand in the order of their numbers, there
--- are as many as closures, and a closure and its body have numbers that differ as the next ones did.
-pub record Ordered (s t : State) : Type 0 where
+-- Within the body of a function, bodies that come are those of closures: they stand in the order of their numbers,
+-- there are as many as closures, and a closure and its body have numbers that differ as the next ones did.
+pub record Ordered (s t : TypingState) : Type 0 where
   pub count : ℕ
   pub next : t.next_body ≡ s.next_body + count
   pub bodies : numbers_of_bodies t ≡ numbers_of_bodies s ++ counted s.next_body count
@@ -46,15 +46,15 @@ pub record Ordered (s t : State) : Type 0 where
       Some def) ⊎ (def.body + length s.items.closures ≡ k + s.next_body)
 
 -- Bodies that come stand in the order of their numbers.
-pub record InOrder (s t : State) : Type 0 where
+pub record InOrder (s t : TypingState) : Type 0 where
   pub count : ℕ
   pub next : t.next_body ≡ s.next_body + count
   pub bodies : numbers_of_bodies t ≡ numbers_of_bodies s ++ counted s.next_body count
 
 -- From one state to a later one come these nodes, and bodies of these closures: each node has a number of its own among
--- those that are given out in between, each break that is new is carried by one of them, and each body has the types that
--- are written for its closure.
-pub record Walks (f : Tape) (s t : State) (ns : List Node) : Type 0 where
+-- those that are given out in between, each break that is new is carried by one of them, and each body has the types
+-- that are written for its closure.
+pub record Walks (f : Tape) (s t : TypingState) (ns : List Node) : Type 0 where
   pub numbers : s.next_node ≤ t.next_node
   pub before : (k : ℕ) → suc k ≤ s.next_node → occurs k ns ≡ 0
   pub behind : (k : ℕ) → t.next_node ≤ k → occurs k ns ≡ 0
@@ -64,15 +64,15 @@ pub record Walks (f : Tape) (s t : State) (ns : List Node) : Type 0 where
   pub met : Met f s t
 
 -- what is so of all that a check gives, where no rule is broken
-pub record Walked {A : Type 0} (P : A → State → Type 0) (r : Result (A × State) Broken) : Type 0 where
+pub record Walked {A : Type 0} (P : A → TypingState → Type 0) (r : Result (A × TypingState) Broken) : Type 0 where
   pub so : Then r P
 
 -- a check that gives a node
 abbrev pub WalksNode : Tape → Check Node → Type 0
-WalksNode f check = (s : State) → Walked (λ n t. Walks f s t (nodes_of n)) (check s)
+WalksNode f check = (s : TypingState) → Walked (λ n t. Walks f s t (nodes_of n)) (check s)
 
 abbrev pub Patterns : Type 0
-Patterns = (env : Env) (e : Expected) (ty : TyId) (p : Syn) (s : State) → Walked (λ b t. Walks (λ rest. rest)
+Patterns = (env : Env) (e : Expected) (ty : TyId) (p : Syn) (s : TypingState) → Walked (λ b t. Walks (λ rest. rest)
     s t (nodes_of b.0)) (pattern env e ty p [] s)
 
 abbrev pub Expressions : Type 0

@@ -28,8 +28,8 @@ module _ (place_of : ℕ → Place) where
         FollowsScope held scope → Follows (outer ++ held ∷ []) (scope ∷ S)
 
 -- At each exit the tree answers what the run drops, in its order: for a panic all entries and pending destinations, for
--- any other exit the entries of the scopes that are left. And a scope of the tree goes on following as one more entry, or
--- one more destination, comes into both.
+-- any other exit the entries of the scopes that are left. And a scope of the tree goes on following as one more entry,
+-- or one more destination, comes into both.
 pub record FollowsScopes : Type 0 where
   pub panic : (place_of : ℕ → Place) (tree : List OpenScope) (S : Scopes) → Follows place_of tree S →
       left_by_panic tree ≡ placed place_of (all_entries S)

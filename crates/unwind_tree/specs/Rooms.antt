@@ -76,7 +76,8 @@ WithPending destination scope = Holds scope.entries (scope.pending.items ++ dest
 
 abbrev pub Filled : Scheduled → Scope → Scope → Type 0
 Filled entry scope =
-    Holds (record { items = scope.entries.items ++ entry ∷ []; room = scope.entries.room - 1 }) scope.pending.items scope
+    Holds (record { items = scope.entries.items ++ entry ∷ []; room = scope.entries.room - 1 }) scope.pending.items
+    scope
 
 -- a destination with this key is taken out of a scope
 pub record IsTakenOut (key : Key) (destination : Pending) (scope left : Scope) : Type 0 where

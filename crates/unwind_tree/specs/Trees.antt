@@ -45,7 +45,8 @@ left_by_panic [] = []
 left_by_panic (scope ∷ inner) = left_by_panic inner ++ dropped (awaiting scope.pending) ++ dropped scope.entries
 
 -- a destination is pending in the scope of a number, behind some and before others
-pub record IsPendingIn (number : ℕ) (destination : Pending) (before behind : List Pending) (scopes : List OpenScope) : Type 0 where
+pub record IsPendingIn (number : ℕ) (destination : Pending) (before behind : List Pending) (scopes : List OpenScope) :
+    Type 0 where
   pub scope : OpenScope
   pub there : slice_get scopes number ≡ Some scope
   pub pending : scope.pending ≡ before ++ destination ∷ behind

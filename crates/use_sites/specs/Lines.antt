@@ -16,7 +16,7 @@ use Rattle.body_locals.specs.View.{entry_of}
 use Rattle.body_nodes.specs.Listed.{trees}
 use Rattle.cfg_build.specs.Sites.{UseSite, position_of, use_of, use_by_stmt, use_by_term, used_by_term}
 use Rattle.use_sites.specs.Words.{place_words}
-use Rattle.use_sites.specs.declared.names.Names.{Names}
+use Rattle.use_sites.specs.declared.names.PlaceNames.{PlaceNames}
 
 -- the place that is used: that of a store where the node stores, and else the first
 abbrev pub used_place : Option Use → List Place → List Place → Option Place
@@ -63,6 +63,6 @@ module _ (items : ItemTable) (entries : List Entry) (nodes : List Node) where
   of_term id term = if_any (used_by_term term) (option_map (term_use term) (first_with id nodes))
 
 -- what names are made of is that of a body
-abbrev pub AreOf : Names → BodyTree → Type 0
+abbrev pub AreOf : PlaceNames → BodyTree → Type 0
 AreOf names tree =
     (map entry_of names.locals.now ≡ locals names.items.now tree) × (trees names.nodes.now ≡ body_nodes tree)

@@ -3,7 +3,7 @@ use Rattle.std.specs.Prelude.{ℕ, suc, ◌≡◌, nat_le, Bool, true, ◌&&◌,
 use Rattle.typed_tree.specs.Nodes.{number_of}
 use Rattle.typed_tree.specs.Tree.{Node}
 use Rattle.body_nodes.specs.Listed.{trees}
-use Rattle.use_sites.specs.declared.names.Names.{Names}
+use Rattle.use_sites.specs.declared.names.PlaceNames.{PlaceNames}
 
 -- the numbers of nodes rise, from one that is at least so much
 abbrev pub rise_from : ℕ → List Node → Bool
@@ -11,5 +11,5 @@ rise_from least [] = true
 rise_from least (n ∷ nodes) = nat_le least (number_of n) && rise_from (suc (number_of n)) nodes
 
 -- what is told of the nodes is so
-abbrev pub AreTold : Names → Type 0
+abbrev pub AreTold : PlaceNames → Type 0
 AreTold names = names.rise ≡ rise_from 0 (trees names.nodes.now)

@@ -1,6 +1,6 @@
--- Places in words, by the items of the program, the locals of a body and its nodes: a name, and then `.n` or `.name` for
--- a part, `.V.n` for one of the variant V, `.*` for the content of a box; an element of an array is called as the array
--- is (as rustc names places in its errors E0381 and E0382).
+-- Places in words, by the items of the program, the locals of a body and its nodes: a name, and then `.n` or `.name`
+-- for a part, `.V.n` for one of the variant V, `.*` for the content of a box; an element of an array is called as the
+-- array is (as rustc names places in its errors E0381 and E0382).
 use Rattle.std.specs.Prelude.{ℕ, ◌==◌, Bool, true, false, ◌&&◌, List, [], ◌∷◌, ◌++◌, codes, Option, Some, None, slice_get, option_and_then}
 use Rattle.std.specs.Fmt.{decimal}
 use Rattle.std.specs.List.{find}

@@ -9,7 +9,7 @@ ghost use Rattle.use_sites.specs.Listed as listed;
 ghost use Rattle.use_sites.specs.Listed.{ids_of, nodes_of_body};
 
 use crate::lines::{LineAt, add_stmt, add_term};
-use crate::{Names, Site};
+use crate::{PlaceNames, Site};
 use cfg_graph::Block;
 use mir_base::{List, NoMemory, NodeId};
 use std::alloc::Global;
@@ -37,7 +37,7 @@ fn ids_at(ids: &[List<NodeId>], block: usize) -> &[NodeId]
 /// The sites of the lines of a block, behind others.
 fn add_block(
     alloc: Global,
-    names: Names,
+    names: PlaceNames,
     body: u32,
     block: u32,
     one: &Block,
@@ -76,7 +76,7 @@ fn add_block(
 /// [`NoMemory`] where memory is wanted, and where there are more blocks or lines than 32 bits count.
 pub fn body_sites(
     alloc: Global,
-    names: Names,
+    names: PlaceNames,
     body: u32,
     blocks: &[Block],
     ids: &[List<NodeId>],

@@ -11,5 +11,5 @@ mod steps;
 mod types;
 
 pub use blocks::body_sites;
-pub use names::{Names, node_with, place_name, rise};
+pub use names::{PlaceNames, node_with, place_name, rise};
 pub use site::Site;

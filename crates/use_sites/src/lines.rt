@@ -10,7 +10,7 @@ ghost use Rattle.use_sites.specs.Lines as lines;
 ghost use Rattle.use_sites.specs.Listed.{placed};
 
 use crate::places::{stmt_places, term_places, used_place};
-use crate::{Names, Site, node_with, place_name};
+use crate::{PlaceNames, Site, node_with, place_name};
 use cfg_graph::{Place, Stmt, Term};
 use mir_base::{List, Name, NoMemory};
 use std::alloc::Global;
@@ -25,7 +25,7 @@ pub struct LineAt {
 }
 
 /// A place in words; none where there is no place.
-fn words_of(alloc: Global, names: Names, place: Option<&Place>) -> Result<Name, NoMemory>
+fn words_of(alloc: Global, names: PlaceNames, place: Option<&Place>) -> Result<Name, NoMemory>
     requires { AreTold names }
     ensures { IfOk result (λ name. name ≡ lines.words_of names.entry.items.now (map entry_of names.entry.locals.now)
         (trees names.entry.nodes.now) (option_copied place.entry)) }
@@ -56,7 +56,7 @@ fn use_by_term(by: Option<Use>) -> Use
 /// A use is put behind others.
 fn add_use(
     alloc: Global,
-    names: Names,
+    names: PlaceNames,
     at: LineAt,
     node: &Node,
     by: Use,
@@ -88,7 +88,7 @@ fn add_use(
 /// The site of a statement of the node with a number, if it has one.
 pub fn add_stmt(
     alloc: Global,
-    names: Names,
+    names: PlaceNames,
     at: LineAt,
     id: u32,
     stmt: &Stmt,
@@ -120,7 +120,7 @@ pub fn add_stmt(
 /// The site of a terminator of the node with a number, if it has one.
 pub fn add_term(
     alloc: Global,
-    names: Names,
+    names: PlaceNames,
     at: LineAt,
     id: u32,
     term: &Term,

@@ -21,7 +21,7 @@ use typed_tree::{Form, Node};
 /// What names of places are made of: the items of a program, the locals of a body in the order of their numbers, and
 /// the nodes of the body in text order, and whether the numbers of these rise ([`rise`]).
 #[derive(Clone, Copy)]
-pub struct Names<'a> {
+pub struct PlaceNames<'a> {
     pub items: &'a Items,
     pub locals: &'a [Local],
     pub nodes: &'a [&'a Node],
@@ -101,7 +101,7 @@ fn first_node<'a>(nodes: &'a [&'a Node], number: u32) -> Option<&'a Node>
 
 /// The first node with a number. Where the numbers of nodes rise it costs a step, and one for each number that is left
 /// out before it; else a step for each node at most.
-pub fn node_with<'a>(names: Names<'a>, number: u32) -> Option<&'a Node>
+pub fn node_with<'a>(names: PlaceNames<'a>, number: u32) -> Option<&'a Node>
     requires { AreTold names }
     ensures { tree_found result ≡ first_with number (trees names.entry.nodes.now) }
 {
@@ -124,7 +124,7 @@ fn put_binding(out: &mut String, node: &Node) -> Result<(), NoMemory>
 }
 
 /// The name of the variable whose local this is; nothing for a temporary.
-fn put_local(out: &mut String, names: Names, local: u32) -> Result<(), NoMemory>
+fn put_local(out: &mut String, names: PlaceNames, local: u32) -> Result<(), NoMemory>
     requires { AreTold names }
     ensures { OnOk result (string_bytes out.new ≡ string_bytes out.old
         ++ words.local_name names.entry.items.now (map entry_of names.entry.locals.now) (trees names.entry.nodes.now) local) }
@@ -165,7 +165,7 @@ fn first_capture<'a>(nodes: &'a [&'a Node], key: Key, part: u32) -> Option<&'a N
 }
 
 /// The name of a captured variable, by the local of the closure's value and the part's number.
-fn captured_name<'a>(names: Names<'a>, local: u32, part: u32) -> Option<&'a Name>
+fn captured_name<'a>(names: PlaceNames<'a>, local: u32, part: u32) -> Option<&'a Name>
     ensures { option_copied result ≡ words.captured_name names.entry.items.now (map entry_of names.entry.locals.now)
         (trees names.entry.nodes.now) local part }
 {
@@ -173,7 +173,12 @@ fn captured_name<'a>(names: Names<'a>, local: u32, part: u32) -> Option<&'a Name
 }
 
 /// The name of a local, and steps.
-fn put_whole(out: &mut String, names: Names, local: u32, steps: &[Step]) -> Result<(), NoMemory>
+fn put_whole(
+    out: &mut String,
+    names: PlaceNames,
+    local: u32,
+    steps: &[Step],
+) -> Result<(), NoMemory>
     requires { AreTold names }
     ensures { OnOk result (string_bytes out.new ≡ string_bytes out.old
         ++ words.whole_words names.entry.items.now (map entry_of names.entry.locals.now) (trees names.entry.nodes.now) local
@@ -184,7 +189,12 @@ fn put_whole(out: &mut String, names: Names, local: u32, steps: &[Step]) -> Resu
 }
 
 /// A place by its steps: the first part of a closure's value may be a captured variable.
-fn put_place(out: &mut String, names: Names, local: u32, steps: &[Step]) -> Result<(), NoMemory>
+fn put_place(
+    out: &mut String,
+    names: PlaceNames,
+    local: u32,
+    steps: &[Step],
+) -> Result<(), NoMemory>
     requires { AreTold names }
     ensures { OnOk result (string_bytes out.new ≡ string_bytes out.old
         ++ words.words_from names.entry.items.now (map entry_of names.entry.locals.now) (trees names.entry.nodes.now) local
@@ -207,7 +217,7 @@ fn put_place(out: &mut String, names: Names, local: u32, steps: &[Step]) -> Resu
 /// # Errors
 ///
 /// [`NoMemory`] where memory is wanted.
-pub fn place_name(alloc: Global, names: Names, place: &Place) -> Result<Name, NoMemory>
+pub fn place_name(alloc: Global, names: PlaceNames, place: &Place) -> Result<Name, NoMemory>
     requires { AreTold names }
     ensures { IfOk result (λ name. name ≡ words.place_words names.entry.items.now (map entry_of names.entry.locals.now)
         (trees names.entry.nodes.now) (named place.now)) }

@@ -14,7 +14,7 @@ use typed_tree::Use;
 
 /// The first place that a line uses, and that into which it stores.
 #[derive(Clone, Copy)]
-pub struct Places<'a> {
+pub struct LinePlaces<'a> {
     pub first: Option<&'a Place>,
     pub stored: Option<&'a Place>,
 }
@@ -49,12 +49,12 @@ fn first_of<'a>(uses: &[Used<'a>]) -> Option<&'a Place>
 }
 
 /// The places of a statement.
-pub fn stmt_places<'a>(alloc: Global, stmt: &'a Stmt) -> Result<Places<'a>, NoMemory>
+pub fn stmt_places<'a>(alloc: Global, stmt: &'a Stmt) -> Result<LinePlaces<'a>, NoMemory>
     ensures first { IfOk result (λ places. option_copied places.first ≡ slice_get (places_of_stmt stmt.now) 0) }
     ensures stored { IfOk result (λ places. optional (option_copied places.stored) ≡ stored_by_stmt stmt.now) }
 {
     let uses = stmt_uses(alloc, stmt)?;
-    Ok(Places {
+    Ok(LinePlaces {
         first: first_of(uses.as_slice()),
         stored: stored_place(stmt),
     })
@@ -72,20 +72,20 @@ fn first_place<'a>(alloc: Global, term: &'a Term) -> Result<Option<&'a Place>, N
 }
 
 /// The places of a terminator; a drop is no use.
-pub fn term_places<'a>(alloc: Global, term: &'a Term) -> Result<Places<'a>, NoMemory>
+pub fn term_places<'a>(alloc: Global, term: &'a Term) -> Result<LinePlaces<'a>, NoMemory>
     ensures first { IfOk result (λ places. option_copied places.first ≡ slice_get (sites.used_by_term term.now) 0) }
     ensures stored { IfOk result (λ places. optional (option_copied places.stored) ≡ stored_by_term term.now) }
 {
     let stored = result_place(term);
     let first = first_place(alloc, term)?;
-    Ok(Places {
+    Ok(LinePlaces {
         first: first.or(stored),
         stored,
     })
 }
 
 /// The place that is used: that of a store where the node stores, and else the first.
-pub fn used_place<'a>(by: Option<Use>, places: Places<'a>) -> Option<&'a Place>
+pub fn used_place<'a>(by: Option<Use>, places: LinePlaces<'a>) -> Option<&'a Place>
     ensures { option_copied result ≡ lines.used_of by (option_copied places.entry.first) (option_copied places.entry.stored) }
 {
     match (by, places.stored) {

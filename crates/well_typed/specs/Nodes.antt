@@ -123,8 +123,8 @@ of_scrutinee c p scrutinee =
     fact (are_distinct (names_of p)) & pattern c.items (matched_in false c scrutinee) (ty_of scrutinee) p
 
 -- One name takes the value of the initialiser. Another pattern takes its place apart, or a temporary; a place that is
--- taken apart is of the pattern's own type, so none of type `!` is. The type of the pattern is in the table: it is written
--- or is that of the value.
+-- taken apart is of the pattern's own type, so none of type `!` is. The type of the pattern is in the table: it is
+-- written or is that of the value.
 abbrev pub as_initialiser : Node → Standing
 as_initialiser p = if is_one_name p then Wanted (ty_of p) else Base
 

@@ -5,7 +5,7 @@ use Rattle.mir_ty.specs.ItemTable.{ItemTable}
 use Rattle.typed_tree.specs.declared.node.Use.{Use}
 use Rattle.typed_tree.specs.Tree.{Node, no_node, absent, present, Variable, Assign, Call, Block, If, Ask, Comparison, Loop, BodyTree}
 use Rattle.mir_base.specs.declared.operator.Cmp.{Cmp}
-use Rattle.store_model.specs.Effects.{Site}
+use Rattle.store_model.specs.Effects.{EffectSite}
 use Rattle.src_meaning.specs.Programs.{refused_of}
 use Rattle.cfg_meaning.specs.Programs.{free_walk}
 use Rattle.cfg_build.specs.Lower.{body_of, node_of}
@@ -21,7 +21,7 @@ items = (program (block 0 unit []) (signature (codes "take") (n_ty ∷ []) unit 
 abbrev main : Node → BodyTree
 main body = record { number = 1; params = []; answer = unit; block = body }
 
-abbrev at : Option Site → Option ℕ
+abbrev at : Option EffectSite → Option ℕ
 at (Some site) = Some site.node
 at None = None
 

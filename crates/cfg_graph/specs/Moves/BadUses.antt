@@ -5,8 +5,8 @@ use Rattle.mir_ty.specs.ItemTable.{ItemTable}
 use Rattle.store_model.specs.Places.Place.{Place}
 use Rattle.cfg_graph.specs.declared.graph.Body.{Body}
 use Rattle.cfg_graph.specs.Moves.Actions.{actions_on}
-use Rattle.cfg_graph.specs.Moves.Gone.{Action, is_gone_after, is_whole_after, container_gone_after, array_broken_after}
-use Rattle.cfg_graph.specs.Uses.{Use, Copies, Moves, Borrows, Touches, Tests, Stores, Drops, Frees}
+use Rattle.cfg_graph.specs.Moves.Gone.{PathAction, is_gone_after, is_whole_after, container_gone_after, array_broken_after}
+use Rattle.cfg_graph.specs.Uses.{PlaceUse, Copies, Moves, Borrows, Touches, Tests, Stores, Drops, Frees}
 
 pub data UseRule : Type 0 where
   U1 : UseRule
@@ -14,33 +14,33 @@ pub data UseRule : Type 0 where
 
 pub record BadUse : Type 0 where
   pub rule : UseRule
-  pub action : Action
+  pub action : PathAction
 
 module _ (items : ItemTable) (body : Body) where
   -- copied, moved, borrowed or touched: the place, a place below it or a container of it is gone
-  abbrev pub may_not_read : List Action → Place → Bool
+  abbrev pub may_not_read : List PathAction → Place → Bool
   may_not_read earlier place =
       not (is_whole_after items body earlier place)
       || container_gone_after items body earlier place
       || array_broken_after items body earlier place
 
   -- tested: the place or a container of it is gone
-  abbrev pub may_not_test : List Action → Place → Bool
+  abbrev pub may_not_test : List PathAction → Place → Bool
   may_not_test earlier place =
       is_gone_after items body earlier place
       || container_gone_after items body earlier place
       || array_broken_after items body earlier place
 
   -- stored into or dropped: a container of the place is gone
-  abbrev pub may_not_store : List Action → Place → Bool
+  abbrev pub may_not_store : List PathAction → Place → Bool
   may_not_store earlier place =
       container_gone_after items body earlier place || array_broken_after items body earlier place
 
-  abbrev if_bad : Bool → UseRule → Action → List BadUse
+  abbrev if_bad : Bool → UseRule → PathAction → List BadUse
   if_bad bad rule action = if bad then record { rule = rule; action = action } ∷ [] else []
 
   -- a use as it comes after the earlier actions of its path; to free is never bad
-  abbrev checked : List Action → Action → Use → List BadUse
+  abbrev checked : List PathAction → PathAction → PlaceUse → List BadUse
   checked earlier action Copies = if_bad (may_not_read earlier action.place) U1 action
   checked earlier action Moves = if_bad (may_not_read earlier action.place) U1 action
   checked earlier action Borrows = if_bad (may_not_read earlier action.place) U1 action
@@ -51,7 +51,7 @@ module _ (items : ItemTable) (body : Body) where
   checked earlier action Frees = []
 
   -- the bad ones of these actions, after earlier ones
-  abbrev bad_after : List Action → List Action → List BadUse
+  abbrev bad_after : List PathAction → List PathAction → List BadUse
   bad_after earlier [] = []
   bad_after earlier (action ∷ later) = checked earlier action action.how ++ bad_after (earlier ++ action ∷ []) later
 

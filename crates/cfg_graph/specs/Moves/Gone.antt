@@ -6,17 +6,17 @@ use Rattle.std.specs.Option.{option_or}
 use Rattle.mir_ty.specs.ItemTable.{ItemTable}
 use Rattle.store_model.specs.Places.Place.{Step, same_step, ToElement, Place, Watched, Whole, ThroughReference, ByElement, watched, before_element}
 use Rattle.cfg_graph.specs.declared.graph.Body.{Body}
-use Rattle.cfg_graph.specs.Uses.{Use, Copies, Moves, Borrows, Touches, Tests, Stores, Drops, Frees}
+use Rattle.cfg_graph.specs.Uses.{PlaceUse, Copies, Moves, Borrows, Touches, Tests, Stores, Drops, Frees}
 
 -- what a path does with a place, in a block and at a line of it; the line of a terminator is the number of statements
-pub record Action : Type 0 where
-  pub how : Use
+pub record PathAction : Type 0 where
+  pub how : PlaceUse
   pub place : Place
   pub block : ℕ
   pub line : ℕ
 
 -- what an action leaves: the place is gone, the place has a value, or nothing changes
-abbrev pub leaves_gone : Use → Option Bool
+abbrev pub leaves_gone : PlaceUse → Option Bool
 leaves_gone Copies = None
 leaves_gone Moves = Some true
 leaves_gone Borrows = None
@@ -61,12 +61,12 @@ module _ (items : ItemTable) (body : Body) where
   counts place = reaches_whole (watched items (slice_get body.locals place.local) place.steps)
 
   -- what an action leaves of a place, if it was on the place or on a container of it
-  abbrev pub left_by : Place → Action → Option Bool
+  abbrev pub left_by : Place → PathAction → Option Bool
   left_by place action =
       if counts action.place && is_at_or_above action.place place then leaves_gone action.how else None
 
   -- what the last such action left
-  abbrev pub last_left : Place → List Action → Option Bool
+  abbrev pub last_left : Place → List PathAction → Option Bool
   last_left place [] = None
   last_left place (action ∷ later) = option_or (last_left place later) (left_by place action)
 
@@ -75,27 +75,27 @@ module _ (items : ItemTable) (body : Body) where
   is_param local = nat_lt 0 local && nat_le local body.params
 
   -- with no such action a place is gone unless it is of a parameter
-  abbrev pub is_gone_after : List Action → Place → Bool
+  abbrev pub is_gone_after : List PathAction → Place → Bool
   is_gone_after actions place = unwrap_or (last_left place actions) (not (is_param place.local))
 
   -- no place at or below it is gone
-  abbrev pub IsWholeAfter : List Action → Place → Type 0
+  abbrev pub IsWholeAfter : List PathAction → Place → Type 0
   IsWholeAfter actions place = (steps : List Step) → is_gone_after actions (below place steps) ≡ false
 
   -- The same as a test. Of the places below, only those of the actions need a look: another one was last acted on
   -- together with one of those or with the place itself, and is gone where that one is.
-  abbrev pub is_whole_after : List Action → Place → Bool
+  abbrev pub is_whole_after : List PathAction → Place → Bool
   is_whole_after actions place =
       not (is_gone_after actions place)
       && list_all (λ action. not (is_at_or_above place action.place && is_gone_after actions action.place)) actions
 
   -- some container of a place is gone
-  abbrev pub container_gone_after : List Action → Place → Bool
+  abbrev pub container_gone_after : List PathAction → Place → Bool
   container_gone_after actions place =
       list_any (λ outer. is_gone_after actions (record { local = place.local; steps = outer })) (containers place.steps)
 
   -- the array of which a place takes an element by a local, the first of them, is not whole
-  abbrev pub array_broken_after : List Action → Place → Bool
+  abbrev pub array_broken_after : List PathAction → Place → Bool
   array_broken_after actions place =
       has_index place.steps
       && not (is_whole_after actions (record { local = place.local; steps = before_element place.steps }))
@@ -103,5 +103,5 @@ module _ (items : ItemTable) (body : Body) where
 -- what the law of whole places says: the test tells exactly the places that are whole
 abbrev pub WholenessIsTested : Type 0
 WholenessIsTested =
-    (items : ItemTable) (body : Body) (actions : List Action) (place : Place)
+    (items : ItemTable) (body : Body) (actions : List PathAction) (place : Place)
     → is_whole_after items body actions place ≡ true ↔ IsWholeAfter items body actions place

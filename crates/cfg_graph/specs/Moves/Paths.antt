@@ -9,29 +9,29 @@ use Rattle.mir_ty.specs.ItemTable.{ItemTable}
 use Rattle.cfg_graph.specs.declared.place.Place.{Place}
 use Rattle.cfg_graph.specs.declared.terminator.Term.{Term}
 use Rattle.cfg_graph.specs.declared.graph.Body.{Body}
-use Rattle.cfg_graph.specs.Edges.{Exit, ToBlock, LeavesBody, ways_out, is_turn}
+use Rattle.cfg_graph.specs.Edges.{BlockExit, ToBlock, LeavesBody, ways_out, is_turn}
 use Rattle.store_model.specs.Places.TypeForms.{is_never}
 use Rattle.cfg_graph.specs.Places.{place_id, ty_of_place}
 
 -- a way out of a block on a path: the choices that it gives, and where it leads
-pub record Way : Type 0 where
+pub record PathWay : Type 0 where
   pub choices : List Bool
-  pub exit : Exit
+  pub exit : BlockExit
 
 -- the ways out of a block, of which each of two gives its choice
-abbrev each_way : List Exit → List Way
+abbrev each_way : List BlockExit → List PathWay
 each_way [] = []
 each_way (only ∷ []) = record { choices = []; exit = only } ∷ []
 each_way (none ∷ one ∷ rest) =
     record { choices = false ∷ []; exit = none } ∷ record { choices = true ∷ []; exit = one } ∷ []
 
 -- the first way alone, without a choice
-abbrev first_alone : List Exit → List Way
+abbrev first_alone : List BlockExit → List PathWay
 first_alone [] = []
 first_alone (first ∷ rest) = record { choices = []; exit = first } ∷ []
 
 -- the second way alone, with its choice
-abbrev second_alone : List Exit → List Way
+abbrev second_alone : List BlockExit → List PathWay
 second_alone [] = []
 second_alone (first ∷ []) = []
 second_alone (first ∷ second ∷ rest) = record { choices = true ∷ []; exit = second } ∷ []
@@ -47,27 +47,27 @@ zero_if false = []
 
 module _ (items : ItemTable) (body : Body) where
   -- a call whose result is of type `!` never returns
-  abbrev ways_of_call : Place → List Exit → List Way
+  abbrev ways_of_call : Place → List BlockExit → List PathWay
   ways_of_call to exits = if is_never (ty_of_place items body.locals to) then second_alone exits else each_way exits
 
   -- the drop of what needs no dropping cannot panic
-  abbrev ways_of_drop : Place → List Exit → List Way
+  abbrev ways_of_drop : Place → List BlockExit → List PathWay
   ways_of_drop place exits =
       if needs_dropping items (place_id items body.locals place) then each_way exits else first_alone exits
 
   -- which of the ways out of a terminator are on paths, with their choices
-  abbrev ways_among : Term → List Exit → List Way
+  abbrev ways_among : Term → List BlockExit → List PathWay
   ways_among (Term.Call to callee args next unwind) exits = ways_of_call to exits
   ways_among (Term.Virtual to trait_no method args next unwind) exits = ways_of_call to exits
   ways_among (Term.DropAt place next unwind) exits = ways_of_drop place exits
   ways_among _ exits = each_way exits
 
   -- the ways out of a terminator that are on paths
-  abbrev pub ways : Term → List Way
+  abbrev pub ways : Term → List PathWay
   ways term = ways_among term (ways_out term)
 
   -- the ways out of the block with this number
-  abbrev ways_from : ℕ → List Way
+  abbrev ways_from : ℕ → List PathWay
   ways_from block = option_map_or (λ found. ways found.term) (slice_get body.blocks block) []
 
   -- what the entry to a block gives
@@ -75,11 +75,11 @@ module _ (items : ItemTable) (body : Body) where
   entry_choices block = zero_if (option_map_or is_turn (slice_get body.blocks block) false)
 
   -- the choices of a way, if it leads to this block, and if it leads out of the body
-  abbrev choices_to : ℕ → Way → List (List Bool)
+  abbrev choices_to : ℕ → PathWay → List (List Bool)
   choices_to block way =
       elim way.exit [ ToBlock next ↦ if next == block then way.choices ∷ [] else [] | LeavesBody ↦ [] ]
 
-  abbrev choices_out : Way → List (List Bool)
+  abbrev choices_out : PathWay → List (List Bool)
   choices_out way = elim way.exit [ ToBlock next ↦ [] | LeavesBody ↦ way.choices ∷ [] ]
 
   -- the lists of choices that the ways from one block to the next may give; none where there is no such way

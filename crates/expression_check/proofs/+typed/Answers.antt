@@ -53,11 +53,11 @@ use Rattle.src_ast.specs.Seen.{maybe_of, nodes_of, syn_of, word_of}
 use Rattle.src_ast.specs.Syntax.{BreakOf, IfElse, IfLetElse, LetOf, MoveOf}
 use Rattle.src_ast.specs.declared.expression.ExpressionForm.{ExpressionForm}
 use Rattle.src_ast.specs.declared.expression.InitForm.{InitForm}
-use Rattle.src_tree.specs.declared.node.Node.{Node}
+use Rattle.src_tree.specs.declared.node.SyntaxNode.{SyntaxNode}
 use Rattle.type_rows.specs.Stand.{Gives, GivesValue, env, stack, state, top, below}
 use Rattle.typing_rules.specs.Patterns.{count_of}
 use Rattle.typing_rules.specs.Scope.{Env, in_guard, jumps_to, with_variables, within_loop}
-use Rattle.typing_rules.specs.Check.{Check, State, Broken}
+use Rattle.typing_rules.specs.Check.{Check, TypingState, Broken}
 use Rattle.typing_rules.specs.Typed as rules_of
 use Rattle.expression_check.proofs.+typed.Goals as goal
 
@@ -165,12 +165,12 @@ blocks::typed_all-loop-split-preserved t c =
 
 pub branches::if_of-returns-in-Some-clause-gives : goal.branches::if_of-returns-in-Some-clause-gives
 branches::if_of-returns-in-Some-clause-gives t c =
-    subst (λ (o : Option (Bor Node)). Gives (rules_of.value (env c.args.checker.now) c.args.at (IfElse (syn_of c.args.condition.now) (syn_of c.args.body.now) (maybe_of o)) c.args.want (state c.args.checker.now)) c.if_else.result c.if_else.new.checker)
+    subst (λ (o : Option (Bor SyntaxNode)). Gives (rules_of.value (env c.args.checker.now) c.args.at (IfElse (syn_of c.args.condition.now) (syn_of c.args.body.now) (maybe_of o)) c.args.want (state c.args.checker.now)) c.if_else.result c.if_else.new.checker)
     (sym c.in-Some.is) c.if_else.ensures.gives
 
 pub branches::if_of-returns-in-None-clause-gives : goal.branches::if_of-returns-in-None-clause-gives
 branches::if_of-returns-in-None-clause-gives t c =
-    subst (λ (o : Option (Bor Node)). Gives (rules_of.value (env c.args.checker.now) c.args.at (IfElse (syn_of c.args.condition.now) (syn_of c.args.body.now) (maybe_of o)) c.args.want (state c.args.checker.now)) c.if_alone.result c.if_alone.new.checker)
+    subst (λ (o : Option (Bor SyntaxNode)). Gives (rules_of.value (env c.args.checker.now) c.args.at (IfElse (syn_of c.args.condition.now) (syn_of c.args.body.now) (maybe_of o)) c.args.want (state c.args.checker.now)) c.if_alone.result c.if_alone.new.checker)
     (sym c.in-None.is) c.if_alone.ensures.gives
 
 pub expressions::value-returns-in-Math-clause-gives : goal.expressions::value-returns-in-Math-clause-gives
@@ -198,9 +198,9 @@ loops::break_of-returns-in_ok-typed-in-Some-clause-gives t c =
     c.jump_target-target.ensures ∙ ap (λ (f : Env). option_map unlabelled (jumps_to f.loops (word_in c.args.label))) same in
     let here : rules_of.typed e (syn_of c.in-Some.value.now) c.carried.result (state c.number.new.self) ≡ Ok (top (stack after), state after) =
     ap (λ (f : Env). rules_of.typed f (syn_of c.in-Some.value.now) c.carried.result (state c.number.new.self)) (sym same) ∙ c.in_ok-typed-in-Some.ensures.gives in
-    subst (λ (o : Option (Bor Node)). Gives (rules_of.value e c.args.at (BreakOf (word_of c.args.label) (maybe_of o)) c.args.want (state before)) c.break_end.result c.break_end.new.checker)
+    subst (λ (o : Option (Bor SyntaxNode)). Gives (rules_of.value e c.args.at (BreakOf (word_of c.args.label) (maybe_of o)) c.args.want (state before)) c.break_end.result c.break_end.new.checker)
     (sym c.in-Some.is)
-    (subst (λ (o : Result (tree.Node × State) Broken). Gives o c.break_end.result c.break_end.new.checker)
+    (subst (λ (o : Result (tree.Node × TypingState) Broken). Gives o c.break_end.result c.break_end.new.checker)
     (sym (broken_out e c.args.at c.args.label (syn_of c.in-Some.value.now) c.args.want c.carried.result c.in_ok-id.id.0 (top (stack after)) (option_map target_of c.jump_target-target.result)
     (state before) (state c.number.new.self) (state after) c.in_ok-id.ensures.number is c.carried.ensures here))
     c.break_end.ensures.gives)
@@ -220,7 +220,7 @@ operators::store-returns-clause-gives t c =
     ap (λ (f : Env). rules_of.typed f (syn_of c.args.value.now) (Some (ty_of (top (stack middle)))) (state middle)) (sym second)
     ∙ ap (λ (ty : TyId). rules_of.typed (env middle) (syn_of c.args.value.now) (Some ty) (state middle)) (sym c.last_ty-ty.ensures) ∙ c.in_ok-typed.ensures.gives in
     let under : below (stack after) ≡ stack middle = c.in_ok-typed.ensures.kept.0 in
-    subst (λ (o : Result (tree.Node × State) Broken). Gives o c.store_end.result c.store_end.new.checker)
+    subst (λ (o : Result (tree.Node × TypingState) Broken). Gives o c.store_end.result c.store_end.new.checker)
     (sym (stored e (env after) c.args.at (rules_of.base_of e (syn_of c.args.place.now)) (rules_of.typed e (syn_of c.args.value.now)) c.args.want c.in_ok-id.id.0 (top (stack middle)) (top (stack after))
     (state before) (state c.number.new.self) (state middle) (state after) c.in_ok-id.ensures.number place value third
     ∙ ap (λ (ns : List tree.Node). store_rest (env after) c.in_ok-id.id.0 c.args.at c.args.want (top ns) (top (stack after)) (state after)) (sym under)))
@@ -236,7 +236,7 @@ arguments::borrow-returns-clause-gives t c =
     let same : env c.number.new.self ≡ e = c.in_ok-id.ensures.same.1.0 in
     let base : plain_base e (syn_of c.args.base.now) (state c.number.new.self) ≡ Ok (top (stack after), state after) =
     ap (λ (f : Env). plain_base f (syn_of c.args.base.now) (state c.number.new.self)) (sym same) ∙ c.in_ok-plain_base.ensures.gives in
-    subst (λ (o : Result (tree.Node × State) Broken). Gives o c.borrow_end.result c.borrow_end.new.checker)
+    subst (λ (o : Result (tree.Node × TypingState) Broken). Gives o c.borrow_end.result c.borrow_end.new.checker)
     (sym (borrowed c.args.at c.args.unique (rules_of.base_of e (syn_of c.args.base.now)) c.args.is_unique c.args.to c.in_ok-id.id.0 (top (stack after))
     (state before) (state c.number.new.self) (state after) c.in_ok-id.ensures.number base))
     c.borrow_end.ensures.gives
@@ -256,7 +256,7 @@ calls::call_of-returns-clause-gives t c =
     let here : arguments begun.params (state middle) ≡ Ok (last_nodes c.in_ok-count.count (stack after), state after) =
     ap (λ (f : Env). rules_of.typed_args f begun.params (nodes_of c.args.args) (state middle)) (sym c.in_ok-begun.ensures.same.1.0)
     ∙ ap (λ (ps : List TyId). rules_of.typed_args (env middle) ps (nodes_of c.args.args) (state middle)) (sym c.as_slice.ensures) ∙ c.in_ok-count.ensures.gives in
-    subst (λ (o : Result (tree.Node × State) Broken). Gives o c.call_end.result c.call_end.new.checker)
+    subst (λ (o : Result (tree.Node × TypingState) Broken). Gives o c.call_end.result c.call_end.new.checker)
     (sym (behind_args check arguments begun.params (begun_rest c.args.at c.args.want begun) (top (stack middle)) count c.in_ok-count.count (last_nodes c.in_ok-count.count (stack after))
     (state before) (state middle) (state after) (c.in_ok-begun.ensures.gives value count arguments) here c.in_ok-count.ensures.counted))
     (c.call_end.ensures.gives (top (stack middle)))
@@ -270,7 +270,7 @@ calls::closure_behind-returns-clause-gives t c =
     let arguments : Arguments = λ params. rules_of.typed_args (env before) params (nodes_of c.args.args) in
     let here : arguments callee.params (state before) ≡ Ok (last_nodes c.in_ok-count.count (stack after), state after) =
     ap (λ (ps : List TyId). rules_of.typed_args (env before) ps (nodes_of c.args.args) (state before)) (sym c.as_slice.ensures) ∙ c.in_ok-count.ensures.gives in
-    subst (λ (o : Result (tree.Node × State) Broken). Gives o c.closure_end.result c.closure_end.new.checker)
+    subst (λ (o : Result (tree.Node × TypingState) Broken). Gives o c.closure_end.result c.closure_end.new.checker)
     (sym (behind_args (closure_rest c.args.id.0 c.args.at c.args.want (top (stack before))) arguments callee.params (callee_rest c.args.id.0 c.args.at c.args.want callee) (top (stack before)) count c.in_ok-count.count (last_nodes c.in_ok-count.count (stack after))
     (state before) (state before) (state after) (c.in_ok-callee.ensures.gives c.args.id.0 c.args.at c.args.want count arguments) here c.in_ok-count.ensures.counted
     ∙ ap (λ (ns : List tree.Node). callee_rest c.args.id.0 c.args.at c.args.want callee (top ns) c.in_ok-count.count (last_nodes c.in_ok-count.count (stack after)) (state after)) (sym c.in_ok-count.ensures.kept.0)))
@@ -285,7 +285,7 @@ calls::closure_call-returns-clause-gives t c =
     let arguments : Env → Arguments = λ e. λ params. rules_of.typed_args e params (nodes_of c.args.args) in
     let value : rules_of.typed (env before) (syn_of c.args.callee.now) None (state middle) ≡ Ok (top (stack after), state after) =
     ap (λ (f : Env). rules_of.typed f (syn_of c.args.callee.now) None (state middle)) (sym same) ∙ c.in_ok-typed.ensures.gives in
-    subst (λ (o : Result (tree.Node × State) Broken). Gives o c.closure_behind.result c.closure_behind.new.checker)
+    subst (λ (o : Result (tree.Node × TypingState) Broken). Gives o c.closure_behind.result c.closure_behind.new.checker)
     (sym (closure_called c.args.at (count_of (nodes_of c.args.args)) (rules_of.typed (env before) (syn_of c.args.callee.now) None) (arguments (env before)) c.args.want c.in_ok-id.id.0 (top (stack after))
     (state before) (state middle) (state after) c.in_ok-id.ensures.number value
     ∙ ap (λ (f : Env). closure_rest c.in_ok-id.id.0 c.args.at c.args.want (top (stack after)) (count_of (nodes_of c.args.args)) (arguments f) (state after)) (sym (c.in_ok-typed.ensures.kept.1.0 ∙ same))))
@@ -302,7 +302,7 @@ calls::method_behind-returns-clause-gives t c =
     let here : arguments receiver.params (state middle) ≡ Ok (last_nodes c.in_ok-count.count (stack after), state after) =
     ap (λ (f : Env). rules_of.typed_args f receiver.params (nodes_of c.args.args) (state middle)) (sym c.in_ok-receiver.ensures.kept.1.0)
     ∙ ap (λ (ps : List TyId). rules_of.typed_args (env middle) ps (nodes_of c.args.args) (state middle)) (sym c.as_slice.ensures) ∙ c.in_ok-count.ensures.gives in
-    subst (λ (o : Result (tree.Node × State) Broken). Gives o c.method_end.result c.method_end.new.checker)
+    subst (λ (o : Result (tree.Node × TypingState) Broken). Gives o c.method_end.result c.method_end.new.checker)
     (sym (behind_args (method_rest (env before) c.args.id.0 c.args.at (method_named c.args.name.now) c.args.want (top (stack before))) arguments receiver.params (receiver_rest c.args.id.0 c.args.at c.args.want receiver) (top (stack middle)) count c.in_ok-count.count (last_nodes c.in_ok-count.count (stack after))
     (state before) (state middle) (state after) (c.in_ok-receiver.ensures.gives c.args.id.0 c.args.want count arguments) here c.in_ok-count.ensures.counted
     ∙ ap (λ (ns : List tree.Node). receiver_rest c.args.id.0 c.args.at c.args.want receiver (top ns) c.in_ok-count.count (last_nodes c.in_ok-count.count (stack after)) (state after)) (sym c.in_ok-count.ensures.kept.0)))
@@ -318,7 +318,7 @@ calls::method_call-returns-clause-gives t c =
     let arguments : Env → Arguments = λ f. λ params. rules_of.typed_args f params (nodes_of c.args.args) in
     let base : rules_of.base_of e (syn_of c.args.receiver.now) (state middle) ≡ Ok (top (stack after), state after) =
     ap (λ (f : Env). rules_of.base_of f (syn_of c.args.receiver.now) (state middle)) (sym same) ∙ c.in_ok-base_of.ensures.gives in
-    subst (λ (o : Result (tree.Node × State) Broken). Gives o c.method_behind.result c.method_behind.new.checker)
+    subst (λ (o : Result (tree.Node × TypingState) Broken). Gives o c.method_behind.result c.method_behind.new.checker)
     (sym (method_called e (env after) c.args.at (method_named c.args.name.now) (count_of (nodes_of c.args.args)) (rules_of.base_of e (syn_of c.args.receiver.now)) (arguments e) c.args.want c.in_ok-id.id.0 (top (stack after))
     (state before) (state middle) (state after) c.in_ok-id.ensures.number base (c.in_ok-base_of.ensures.kept.1.0 ∙ same)
     ∙ ap (λ (f : Env). method_rest (env after) c.in_ok-id.id.0 c.args.at (method_named c.args.name.now) c.args.want (top (stack after)) (count_of (nodes_of c.args.args)) (arguments f) (state after)) (sym (c.in_ok-base_of.ensures.kept.1.0 ∙ same))))
@@ -452,7 +452,7 @@ matches::match_row-returns-clause-gives t c =
     let same : env middle ≡ e = c.in_ok-id.ensures.same.1.0 in
     let looked : scrutinised (rules_of.base_of e (syn_of c.args.scrutinee.now)) (state middle) ≡ Ok (top (stack after), state after) =
     ap (λ (f : Env). scrutinised (rules_of.base_of f (syn_of c.args.scrutinee.now)) (state middle)) (sym same) ∙ c.in_ok-scrutinee_of.ensures.gives in
-    subst (λ (o : Result (tree.Node × State) Broken). Gives o c.arms_behind.result c.arms_behind.new.checker)
+    subst (λ (o : Result (tree.Node × TypingState) Broken). Gives o c.arms_behind.result c.arms_behind.new.checker)
     (sym (matched e (env after) c.args.at (rules_of.base_of e (syn_of c.args.scrutinee.now)) (nodes_of c.args.arms) c.args.want c.in_ok-id.id.0 (top (stack after))
     (state before) (state middle) (state after) c.in_ok-id.ensures.number looked (c.in_ok-scrutinee_of.ensures.kept.1.0 ∙ same)))
     c.arms_behind.ensures.gives
@@ -466,7 +466,7 @@ matches::if_let-returns-clause-gives t c =
     let same : env middle ≡ e = c.in_ok-id.ensures.same.1.0 in
     let looked : scrutinised (rules_of.base_of e (syn_of c.args.scrutinee.now)) (state middle) ≡ Ok (top (stack after), state after) =
     ap (λ (f : Env). scrutinised (rules_of.base_of f (syn_of c.args.scrutinee.now)) (state middle)) (sym same) ∙ c.in_ok-scrutinee_of.ensures.gives in
-    subst (λ (o : Result (tree.Node × State) Broken). Gives o c.if_let_behind.result c.if_let_behind.new.checker)
+    subst (λ (o : Result (tree.Node × TypingState) Broken). Gives o c.if_let_behind.result c.if_let_behind.new.checker)
     (sym (if_let_looked e (env after) c.args.at (syn_of c.args.pattern.now) (syn_of c.args.scrutinee.now) (syn_of c.args.body.now) (maybe_of c.args.otherwise) c.args.want c.in_ok-id.id.0 (top (stack after))
     (state before) (state middle) (state after) c.in_ok-id.ensures.number looked (c.in_ok-scrutinee_of.ensures.kept.1.0 ∙ same)))
     c.if_let_behind.ensures.gives
@@ -492,7 +492,7 @@ matches::while_let-returns-clause-gives t c =
     let same : env middle ≡ e = c.in_ok-id.ensures.same.1.0 in
     let base : rules_of.base_of (within_loop (loop_around (word_in c.args.label) c.in_ok-id.id.0 false None) e) (syn_of c.args.scrutinee.now) (state middle) ≡ Ok (top (stack looked), state looked) =
     ap (λ (f : Env). rules_of.base_of (within_loop (loop_around (word_in c.args.label) c.in_ok-id.id.0 false None) f) (syn_of c.args.scrutinee.now) (state middle)) (sym same) ∙ c.in_ok-base_inside_loop.ensures.gives in
-    subst (λ (o : Result (tree.Node × State) Broken). Gives o c.while_let_behind.result c.while_let_behind.new.checker)
+    subst (λ (o : Result (tree.Node × TypingState) Broken). Gives o c.while_let_behind.result c.while_let_behind.new.checker)
     (sym (while_let_looked e (env after) c.args.at c.args.label (syn_of c.args.pattern.now) (syn_of c.args.scrutinee.now) (syn_of c.args.body.now) c.args.want c.in_ok-id.id.0 (top (stack looked)) (top (stack after))
     (state before) (state middle) (state looked) (state after) c.in_ok-id.ensures.number base c.in_ok-scrutinised.ensures.gives (c.in_ok-scrutinised.ensures.kept.1.0 ∙ c.in_ok-base_inside_loop.ensures.kept.1.0 ∙ same)))
     c.while_let_behind.ensures.gives
@@ -582,7 +582,7 @@ structs::init_of_node-returns-in-Some-clause-gives t c =
     λ own.
     let before = c.args.checker.now in
     let v = variant_by own before.tables c.args.adt c.args.variant c.args.types.now in
-    subst (λ (o : Result ((Option ℕ × tree.Node) × State) Broken). GivesInit o c.numbered_init.result c.numbered_init.new.checker)
+    subst (λ (o : Result ((Option ℕ × tree.Node) × TypingState) Broken). GivesInit o c.numbered_init.result c.numbered_init.new.checker)
     (sym (init_seen (env before) v c.args.node.now (state before) ∙ ap (λ (form : Option Shape). init_by (env before) v c.args.node.now.at form (state before)) (sym c.init_form.ensures)
     ∙ ap (λ (form : Option InitForm). init_by (env before) v c.args.node.now.at (option_map init_of form) (state before)) c.in-Some.is))
     (c.numbered_init.ensures.gives own)
@@ -662,7 +662,7 @@ structs::struct_row-returns-clause-gives t c =
     by_tables items before.tables middle.tables c.args.adt c.args.variant begun.types (env before) (env middle) (nodes_of c.args.inits) (state middle) before.ready c.in_ok-begun.ensures.same.1.1 c.in_ok-begun.ensures.types c.in_ok-begun.ensures.same.1.0
     ∙ ap (λ (types : List TyId). rules_of.typed_inits (env middle) (variant_by made.name middle.tables c.args.adt c.args.variant types) (nodes_of c.args.inits) (state middle)) (sym c.as_slice.ensures)
     ∙ c.in_ok-given.ensures.gives made.name in
-    subst (λ (o : Result (tree.Node × State) Broken). Gives o c.struct_end.result c.struct_end.new.checker)
+    subst (λ (o : Result (tree.Node × TypingState) Broken). Gives o c.struct_end.result c.struct_end.new.checker)
     (sym (behind_fields (λ fs. rows_of.struct_row c.args.at c.args.adt c.args.variant made.fields fs c.args.want) (struct_rest begun.id.0 c.args.at c.args.adt c.args.variant begun.ty (length begun.types) c.args.want) fields _ (state before) (state middle) (state after)
     (c.in_ok-begun.ensures.gives c.args.at c.args.want fields) here
     ∙ ap (λ (l : Given). struct_rest begun.id.0 c.args.at c.args.adt c.args.variant begun.ty (length begun.types) c.args.want (numbered_by l (last_nodes (length l) (stack after)), l) (state after)) (sym c.as_slice-2.ensures)))
@@ -689,7 +689,7 @@ structs::struct_row-returns-in_err-given-clause-gives t c =
     sym (by_tables items before.tables middle.tables c.args.adt c.args.variant begun.types (env before) (env middle) (nodes_of c.args.inits) (state middle) before.ready c.in_ok-begun.ensures.same.1.1 c.in_ok-begun.ensures.types c.in_ok-begun.ensures.same.1.0
     ∙ ap (λ (types : List TyId). rules_of.typed_inits (env middle) (variant_by made.name middle.tables c.args.adt c.args.variant types) (nodes_of c.args.inits) (state middle)) (sym c.as_slice.ensures)) in
     let here : Refuses (fields (state middle)) c.in_err-given.field-0.0 =
-    subst (λ (o : Result ((Fields × Given) × State) Broken). Refuses o c.in_err-given.field-0.0) same (c.in_err-given.ensures.gives made.name) in
+    subst (λ (o : Result ((Fields × Given) × TypingState) Broken). Refuses o c.in_err-given.field-0.0) same (c.in_err-given.ensures.gives made.name) in
     let refused : Refuses (rows_of.struct_row c.args.at c.args.adt c.args.variant made.fields fields c.args.want (state before)) c.in_err-given.field-0.0 =
     refused_fields (λ fs. rows_of.struct_row c.args.at c.args.adt c.args.variant made.fields fs c.args.want) (struct_rest begun.id.0 c.args.at c.args.adt c.args.variant begun.ty (length begun.types) c.args.want) fields (state before) (state middle) c.in_err-given.field-0.0
     (c.in_ok-begun.ensures.gives c.args.at c.args.want fields) here in
@@ -704,7 +704,7 @@ closures::closure_body-returns-clause-gives t c =
     let after = c.typed.new.checker in
     let head = c.in_ok-head.head in
     let block : Env → Option TyId → Check tree.Node = λ inner. rules_of.typed inner (syn_of c.args.block.now) in
-    subst (λ (o : Result (Unit {0} × State) Broken). GivesValue (λ u. u) o c.body_end.result c.body_end.new.checker)
+    subst (λ (o : Result (Unit {0} × TypingState) Broken). GivesValue (λ u. u) o c.body_end.result c.body_end.new.checker)
     (sym (block_given head _ block (env middle) (stack middle) (stack after) (state middle) (state after) (c.in_ok-head.ensures.gives block) c.in_ok-typed.ensures.gives c.in_ok-typed.ensures.kept.0))
     c.body_end.ensures.gives
 
@@ -733,7 +733,7 @@ closures::closure-returns-clause-gives t c =
     let after = c.closure_body.new.checker in
     let begun = c.in_ok-begun.begun in
     let block : Env → Option TyId → Check tree.Node = λ inner. rules_of.typed inner (syn_of c.args.block.now) in
-    subst (λ (o : Result (tree.Node × State) Broken). Gives o c.closure_end.result c.closure_end.new.checker)
+    subst (λ (o : Result (tree.Node × TypingState) Broken). Gives o c.closure_end.result c.closure_end.new.checker)
     (sym (closure_done (env before) (env middle) c.args.at (syns_of (idents (nodes_of c.args.captures))) (nodes_of c.args.params) (maybe_of c.args.answer) block c.args.want (start_of begun (stack middle)) (state before) (state middle) (state after)
     c.in_ok-begun.ensures.gives c.in_ok-begun.ensures.kept.1.0 c.in_ok-closure_body.ensures.gives
     ∙ ap (λ (ns : List tree.Node). rows_of.fitted c.args.want (a_node_of begun.id.0 c.args.at begun.ty (tree.Closure begun.closure (last_nodes begun.count ns))) (state after)) (sym c.in_ok-closure_body.ensures.same.0)))

@@ -25,7 +25,7 @@ use Rattle.mir_text.proofs.Reading.Bodies.{BodyRead, body_read_seen, body_read}
 use Rattle.mir_text.proofs.Reading.Items.{adt_read, trait_read, impl_read, closure_read}
 use Rattle.mir_text.proofs.Reading.Listed.{found_at, same_as_itself}
 use Rattle.mir_text.proofs.Reading.Types.{name_stands, adt_name_stands}
-use Rattle.listing_answers.specs.Laws.{AreApart}
+use Rattle.listing_answers.specs.Laws.{NamesAreApart}
 use Rattle.listing_answers.proofs.Alike.Enough.{closures_of}
 use Rattle.listing_answers.proofs.Alike.One.{signed_at, behind_first, adt_names_same, trait_names_same, adts_right, traits_right, closures_right, impls_right, bodies_right, enough_there}
 use Rattle.mir_text.proofs.Reading.Law.{the_end, at_bodies, at_closures, at_impls, at_traits, at_adts, in_rows, rows_alike}
@@ -98,7 +98,7 @@ module _ (graph : Graph) (r : Readable graph) where
       whole_from 0 graph.bodies
       (λ n body is. subst (λ (m : ℕ). body_seen T m body ≡ whole (body_read_seen T m body)) (let e : n ≡ 0 + n = omega arith in e) (sig_is n body is))
 
-module _ (left right : Graph) (l : Readable left) (r : Readable right) (apart : AreApart left.items) (one : listing left ≡ listing right) (more : List ClosureDef) (much : 2 ^ 32 ≤ length more) where
+module _ (left right : Graph) (l : Readable left) (r : Readable right) (apart : NamesAreApart left.items) (one : listing left ≡ listing right) (more : List ClosureDef) (much : 2 ^ 32 ≤ length more) where
   abbrev L : ItemTable
   L = left.items
 
@@ -183,5 +183,5 @@ module _ (left right : Graph) (l : Readable left) (r : Readable right) (apart : 
       let bodies : numbered (body_seen L) 0 left.bodies ≡ numbered (body_seen R) 0 right.bodies = whole_bodies left l ∙ ap (map whole) bodies_too ∙ sym (whole_bodies right r) in
       λ i. record { adts = adts_too.0 i; traits = traits_too.0 i; impls = impls_too.0 i; closures = closures_too.0 i; bodies = bodies i }
 
-pub apart_seen : (left right : Graph) → Readable left → Readable right → AreApart left.items → listing left ≡ listing right → seen left ≡ seen right
+pub apart_seen : (left right : Graph) → Readable left → Readable right → NamesAreApart left.items → listing left ≡ listing right → seen left ≡ seen right
 apart_seen left right l r apart one = all_seen left right l r apart one (closures_of (2 ^ 32)) enough_there

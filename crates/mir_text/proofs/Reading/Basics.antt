@@ -8,7 +8,7 @@ use Rattle.std.proofs.lemmas.Fmt.{decimal_is_IsNumeral_wide}
 use Rattle.std.proofs.lemmas.Str.Parse.{digit_from_value}
 use Rattle.std.proofs.lemmas.Bool.{and_parts, and_from, false≢true}
 use Rattle.mir_text.specs.Fields.{Fits, ConstantFits}
-pub use Rattle.mir_text.specs.Reading.Words.{Found, bind, or_else, chosen, as_, strip, said, span, is_digit, limited, valued, number, negative, signed}
+pub use Rattle.mir_text.specs.Reading.Words.{FoundInText, bind, or_else, chosen, as_, strip, said, span, is_digit, limited, valued, number, negative, signed}
 
 abbrev pub stops : (ℕ → Bool) → List ℕ → Bool
 stops p [] = true

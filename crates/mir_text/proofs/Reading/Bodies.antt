@@ -19,7 +19,7 @@ use Rattle.mir_text.specs.Lists.{line}
 use Rattle.mir_text.specs.Listing.{kind_word, local_line, block_line, block_text, whole_body_text}
 use Rattle.mir_text.specs.Parts.{stmt_text, term_text}
 use Rattle.mir_text.specs.Types.{trait_name, type_text}
-use Rattle.mir_text.proofs.Reading.Basics.{Found, Every, bind, or_else, strip, span, span_run, is_digit, any_decimal, number, behind3, behind4, behind6}
+use Rattle.mir_text.proofs.Reading.Basics.{FoundInText, Every, bind, or_else, strip, span, span_run, is_digit, any_decimal, number, behind3, behind4, behind6}
 use Rattle.mir_text.proofs.Reading.Rows.{EveryFrom, many, many_reads, numbered_reads, flat_counted, none_before}
 use Rattle.mir_text.proofs.Reading.Types.{AreNamed, type_reader, type_reads}
 use Rattle.mir_text.specs.Reading.Words.{said, as_}
@@ -30,10 +30,10 @@ line_some : (words : List ℕ) → 0 < length (line words)
 line_some words = omega (arith, length-append words (10 ∷ []))
 
 -- locals
-abbrev local_type : List ℕ × List ℕ → Found Written
+abbrev local_type : List ℕ × List ℕ → FoundInText Written
 local_type q = bind (strip (codes " ") q.1) (λ t. ended (type_reader t))
 
-abbrev pub local_read : List ℕ → Found Written
+abbrev pub local_read : List ℕ → FoundInText Written
 local_read t = bind (strip (codes "local ") t) (λ t. local_type (span is_digit t))
 
 module _ (items : ItemTable) (names : AreNamed items) where
@@ -50,7 +50,7 @@ module _ (items : ItemTable) (names : AreNamed items) where
       many_reads local_read (local_line items) (type_text items) (λ id. ty_exists items id ≡ true) (λ r. ⊤) local_reads (λ n id h r. tt)
       (λ n id. line_some (codes "local " ++ decimal n ++ codes " " ++ type_text items id)) 0 locals r exist tt stop
 
-abbrev kind_of_block : List ℕ → Found Kind
+abbrev kind_of_block : List ℕ → FoundInText Kind
 kind_of_block t = or_else (said (codes "plain") Kind.Plain t) (or_else (said (codes "turn") Kind.Turn t) (said (codes "cleanup") Kind.Cleanup t))
 
 kind_reads : (kind : Kind) (r : List ℕ) → kind_of_block (kind_word kind ++ r) ≡ Some (kind, r)
@@ -59,22 +59,22 @@ kind_reads Kind.Turn r = refl
 kind_reads Kind.Cleanup r = refl
 
 module _ (adt_no trait_no : List ℕ → ℕ) where
-  abbrev stmt_line : List ℕ → Found Stmt
+  abbrev stmt_line : List ℕ → FoundInText Stmt
   stmt_line t = ended (stmt_read adt_no trait_no t)
 
-  abbrev with_term : Kind → ℕ → List Stmt × List ℕ → Found Block
+  abbrev with_term : Kind → ℕ → List Stmt × List ℕ → FoundInText Block
   with_term kind rank q = as_ (λ term. record { kind = kind; rank = rank; stmts = q.0; term = term }) (ended (term_read adt_no trait_no q.1))
 
-  abbrev with_rank : Kind → Found ℕ → Found Block
+  abbrev with_rank : Kind → FoundInText ℕ → FoundInText Block
   with_rank kind f = bind f (λ n. with_term kind n.0 (many stmt_line n.1))
 
-  abbrev with_kind : Kind × List ℕ → Found Block
+  abbrev with_kind : Kind × List ℕ → FoundInText Block
   with_kind k = bind (strip (codes " rank ") k.1) (λ t. with_rank k.0 (ended (number t)))
 
-  abbrev block_from : List ℕ × List ℕ → Found Block
+  abbrev block_from : List ℕ × List ℕ → FoundInText Block
   block_from q = bind (strip (codes " ") q.1) (λ t. bind (kind_of_block t) with_kind)
 
-  abbrev pub block_read : List ℕ → Found Block
+  abbrev pub block_read : List ℕ → FoundInText Block
   block_read t = bind (strip (codes "block ") t) (λ t. block_from (span is_digit t))
 
   module _ (items : ItemTable)
@@ -112,11 +112,11 @@ module _ (adt_no trait_no : List ℕ → ℕ) where
         ap block_read (behind3 (block_line n block) stmts (line (term_text items block.term)) r)
         ∙ ap (λ (t : List ℕ). block_from (span is_digit t)) (behind6 (decimal n) (codes " ") (kind_word block.kind) (codes " rank ") (decimal block.rank) (10 ∷ []) at_stmts)
         ∙ ap block_from (span_run is_digit (decimal n) at_kind (any_decimal n) refl)
-        ∙ ap (λ (f : Found Kind). bind f with_kind) (kind_reads block.kind at_rank)
-        ∙ ap (λ (f : Found ℕ). with_rank block.kind (ended f)) (number_of block.rank (10 ∷ at_stmts) good.rank refl)
+        ∙ ap (λ (f : FoundInText Kind). bind f with_kind) (kind_reads block.kind at_rank)
+        ∙ ap (λ (f : FoundInText ℕ). with_rank block.kind (ended f)) (number_of block.rank (10 ∷ at_stmts) good.rank refl)
         ∙ ap (with_term block.kind block.rank) (stmts_read block.stmts good.stmts at_term stop)
         ∙ ap (λ (t : List ℕ). with_term block.kind block.rank (block.stmts, t)) (append_assoc (term_text items block.term) (10 ∷ []) r)
-        ∙ ap (λ (f : Found Term). as_ (λ (term : Term). record { kind = block.kind; rank = block.rank; stmts = block.stmts; term = term }) (ended f))
+        ∙ ap (λ (f : FoundInText Term). as_ (λ (term : Term). record { kind = block.kind; rank = block.rank; stmts = block.stmts; term = term }) (ended f))
         (term_reads adt_no trait_no items traits block.term good.term good.named r)
 
     block_some : (n : ℕ) (block : Block) → 0 < length (block_text items n block)
@@ -138,20 +138,20 @@ abbrev pub body_read_seen : ItemTable → ℕ → Body → BodyRead
 body_read_seen items n body = record { name = body_name items n; params = body.params; locals = map (type_text items) body.locals; blocks = body.blocks }
 
 module _ (adt_no trait_no : List ℕ → ℕ) where
-  abbrev with_locals : List ℕ → ℕ → List Written × List ℕ → Found BodyRead
+  abbrev with_locals : List ℕ → ℕ → List Written × List ℕ → FoundInText BodyRead
   with_locals name params q =
       Some (record { name = name; params = params; locals = q.0; blocks = (many (block_read adt_no trait_no) q.1).0 }, (many (block_read adt_no trait_no) q.1).1)
 
-  abbrev with_params : List ℕ → Found ℕ → Found BodyRead
+  abbrev with_params : List ℕ → FoundInText ℕ → FoundInText BodyRead
   with_params name f = bind f (λ p. with_locals name p.0 (many local_read p.1))
 
-  abbrev with_name : List ℕ × List ℕ → Found BodyRead
+  abbrev with_name : List ℕ × List ℕ → FoundInText BodyRead
   with_name q = bind (strip (codes " ") q.1) (λ t. with_params q.0 (ended (number t)))
 
-  abbrev body_from : List ℕ × List ℕ → Found BodyRead
+  abbrev body_from : List ℕ × List ℕ → FoundInText BodyRead
   body_from q = bind (strip (codes " ") q.1) (λ t. with_name (span stands_in_names t))
 
-  abbrev pub body_read : List ℕ → Found BodyRead
+  abbrev pub body_read : List ℕ → FoundInText BodyRead
   body_read t = bind (strip (codes "body ") t) (λ t. body_from (span is_digit t))
 
   module _ (items : ItemTable) (names : AreNamed items)
@@ -180,7 +180,7 @@ module _ (adt_no trait_no : List ℕ → ℕ) where
         ∙ ap (λ (t : List ℕ). body_from (span is_digit t)) (behind6 (decimal n) (codes " ") (body_name items n) (codes " ") (decimal body.params) (10 ∷ []) at_locals)
         ∙ ap body_from (span_run is_digit (decimal n) at_name (any_decimal n) refl)
         ∙ ap with_name (span_run stands_in_names (body_name items n) at_params good.name refl)
-        ∙ ap (λ (f : Found ℕ). with_params (body_name items n) (ended f)) (number_of body.params (10 ∷ at_locals) good.params refl)
+        ∙ ap (λ (f : FoundInText ℕ). with_params (body_name items n) (ended f)) (number_of body.params (10 ∷ at_locals) good.params refl)
         ∙ ap (with_locals (body_name items n) body.params)
         (locals_read items names body.locals good.locals at_blocks (none_before local_read (block_text items) (λ n block t. refl) 0 body.blocks r e.0))
         ∙ ap (λ (q : List Block × List ℕ). Some (record { name = body_name items n; params = body.params; locals = map (type_text items) body.locals; blocks = q.0 }, q.1))

@@ -20,7 +20,7 @@ use Rattle.mir_text.specs.Fields.{Fits}
 use Rattle.mir_text.specs.Items.{types_text, variant_text, copy_text, drop_text, shape_text, adt_line, method_text, trait_line, impl_line, closure_line, counted}
 use Rattle.mir_text.specs.Lists.{in_braces, joined}
 use Rattle.mir_text.specs.Types.{trait_name, type_text}
-use Rattle.mir_text.proofs.Reading.Basics.{Found, Every, bind, or_else, strip, span, span_run, stops, is_digit, any_decimal, number, behind3, behind4, behind5, behind6}
+use Rattle.mir_text.proofs.Reading.Basics.{FoundInText, Every, bind, or_else, strip, span, span_run, stops, is_digit, any_decimal, number, behind3, behind4, behind5, behind6}
 use Rattle.mir_text.proofs.Reading.Rows.{many, many_reads, row, row_of_none, row_reads, flat_counted, in_row}
 use Rattle.mir_text.proofs.Reading.Types.{AreNamed, closes, type_reader, type_reads, types_read}
 use Rattle.mir_text.specs.Reading.Words.{said, as_}
@@ -28,14 +28,14 @@ use Rattle.mir_text.proofs.Reading.Parts.{number_of}
 use Rattle.mir_text.proofs.Reading.Lines.{ended}
 
 -- things in braces
-abbrev closed_braces : {Z : Type 0} → List Z × List ℕ → Found (List Z)
+abbrev closed_braces : {Z : Type 0} → List Z × List ℕ → FoundInText (List Z)
 closed_braces ([], r) = bind (strip (codes "}") r) (λ r. Some ([], r))
 closed_braces (z ∷ zs, r) = bind (strip (codes " }") r) (λ r. Some (z ∷ zs, r))
 
-abbrev braces_read : {Z : Type 0} → (List ℕ → Found Z) → List ℕ → Found (List Z)
+abbrev braces_read : {Z : Type 0} → (List ℕ → FoundInText Z) → List ℕ → FoundInText (List Z)
 braces_read read t = bind (strip (codes "{ ") t) (λ t. closed_braces (row read t))
 
-braces_reads : {X Z : Type 0} (read : List ℕ → Found Z) (text : X → List ℕ) (seen : X → Z) (Good : X → Type 0) (Ends : List ℕ → Type 0)
+braces_reads : {X Z : Type 0} (read : List ℕ → FoundInText Z) (text : X → List ℕ) (seen : X → Z) (Good : X → Type 0) (Ends : List ℕ → Type 0)
     → ((x : X) → Good x → (r : List ℕ) → Ends r → read (text x ++ r) ≡ Some (seen x, r)) → ((t : List ℕ) → Ends (codes ", " ++ t)) → ((t : List ℕ) → Ends (codes " }" ++ t))
     → ((t : List ℕ) → read (codes "}" ++ t) ≡ None) → (xs : List X) → Every Good xs → (r : List ℕ) → braces_read read (in_braces (map text xs) ++ r) ≡ Some (map seen xs, r)
 braces_reads read text seen Good Ends one at_comma at_close none [] good r =
@@ -46,38 +46,38 @@ braces_reads read text seen Good Ends one at_comma at_close none (x ∷ xs) good
     ∙ ap closed_braces (row_reads read text seen Good Ends one at_comma x xs (codes " }" ++ r) good (at_close r) refl)
 
 -- structs and enums
-abbrev variant_from : List ℕ × List ℕ → Found VariantSeen
+abbrev variant_from : List ℕ × List ℕ → FoundInText VariantSeen
 variant_from q = bind (strip (codes " ") q.1) (λ t. as_ (λ types. (q.0, types)) (in_row type_reader t))
 
-abbrev variant_read : List ℕ → Found VariantSeen
+abbrev variant_read : List ℕ → FoundInText VariantSeen
 variant_read t = variant_from (span stands_in_names t)
 
 abbrev Shape : Type 0
 Shape = Bool × List ℕ × List VariantSeen
 
-abbrev enum_from : List ℕ × List ℕ → Found Shape
+abbrev enum_from : List ℕ × List ℕ → FoundInText Shape
 enum_from q = bind (strip (codes " ") q.1) (λ t. as_ (λ variants. (true, q.0, variants)) (braces_read variant_read t))
 
-abbrev struct_from : List ℕ × List ℕ → Found Shape
+abbrev struct_from : List ℕ × List ℕ → FoundInText Shape
 struct_from q = bind (strip (codes " ") q.1) (λ t. as_ (λ types. (false, q.0, (q.0, types) ∷ [])) (in_row type_reader t))
 
-abbrev shape_read : List ℕ → Found Shape
+abbrev shape_read : List ℕ → FoundInText Shape
 shape_read t =
     or_else (bind (strip (codes "enum ") t) (λ t. enum_from (span stands_in_names t))) (bind (strip (codes "struct ") t) (λ t. struct_from (span stands_in_names t)))
 
-abbrev copy_read : List ℕ → Found Bool
+abbrev copy_read : List ℕ → FoundInText Bool
 copy_read t = or_else (said (codes " copy") true t) (Some (false, t))
 
-abbrev drop_read : List ℕ → Found (Option ℕ)
+abbrev drop_read : List ℕ → FoundInText (Option ℕ)
 drop_read t = or_else (bind (strip (codes " drop ") t) (λ t. as_ (λ body. Some body) (number t))) (Some (None, t))
 
-abbrev with_drop : Shape → Bool → Option ℕ × List ℕ → Found AdtSeen
+abbrev with_drop : Shape → Bool → Option ℕ × List ℕ → FoundInText AdtSeen
 with_drop shape copy d = ended (Some (record { is_enum = shape.0; name = shape.1; variants = shape.2; copy = copy; drop_body = d.0 }, d.1))
 
-abbrev with_copy : Shape → Bool × List ℕ → Found AdtSeen
+abbrev with_copy : Shape → Bool × List ℕ → FoundInText AdtSeen
 with_copy shape c = bind (drop_read c.1) (with_drop shape c.0)
 
-abbrev pub adt_read : List ℕ → Found AdtSeen
+abbrev pub adt_read : List ℕ → FoundInText AdtSeen
 adt_read t = bind (shape_read t) (λ s. bind (copy_read s.1) (with_copy s.0))
 
 copy_reads : (copy : Bool) (drop_body : Option ℕ) (r : List ℕ) → copy_read (copy_text copy ++ (drop_text drop_body ++ (10 ∷ r))) ≡ Some (copy, drop_text drop_body ++ (10 ∷ r))
@@ -87,7 +87,7 @@ copy_reads false (Some body) r = refl
 
 drop_reads : (drop_body : Option ℕ) → IfSome drop_body Fits → (r : List ℕ) → drop_read (drop_text drop_body ++ (10 ∷ r)) ≡ Some (drop_body, 10 ∷ r)
 drop_reads None fits r = refl
-drop_reads (Some body) fits r = ap (λ (f : Found ℕ). or_else (as_ (λ (b : ℕ). Some b) f) (Some (None, codes " drop " ++ (decimal body ++ (10 ∷ r))))) (number_of body (10 ∷ r) fits refl)
+drop_reads (Some body) fits r = ap (λ (f : FoundInText ℕ). or_else (as_ (λ (b : ℕ). Some b) f) (Some (None, codes " drop " ++ (decimal body ++ (10 ∷ r))))) (number_of body (10 ∷ r) fits refl)
 
 module _ (items : ItemTable) (names : AreNamed items) where
   abbrev Exist : List TyId → Type 0
@@ -128,7 +128,7 @@ module _ (items : ItemTable) (names : AreNamed items) where
       let variants : List ℕ = in_braces (map (variant_text items) adt.variants) in
       ap (λ (t : List ℕ). or_else (enum_from (span stands_in_names t)) None) (behind3 adt.name (codes " ") variants r)
       ∙ ap (λ (q : List ℕ × List ℕ). or_else (enum_from q) None) (span_run stands_in_names adt.name (codes " " ++ (variants ++ r)) good.name refl)
-      ∙ ap (λ (f : Found (List VariantSeen)). or_else (as_ (λ (vs : List VariantSeen). (true, adt.name, vs)) f) None)
+      ∙ ap (λ (f : FoundInText (List VariantSeen)). or_else (as_ (λ (vs : List VariantSeen). (true, adt.name, vs)) f) None)
       (braces_reads variant_read (variant_text items) (variant_seen items) GoodVariant (λ r. ⊤) variant_reads (λ t. tt) (λ t. tt) (λ t. refl) adt.variants good.variants r)
   shape_reads false adt is good r =
       let one : HasOneVariant adt = good.one is in
@@ -142,10 +142,10 @@ module _ (items : ItemTable) (names : AreNamed items) where
   adt_reads adt good r =
       let shape : Shape = shape_seen adt.is_enum adt in
       ap adt_read (behind4 (shape_text items adt.is_enum adt) (copy_text adt.copy) (drop_text adt.drop_body) (10 ∷ []) r)
-      ∙ ap (λ (f : Found Shape). bind f (λ s. bind (copy_read s.1) (with_copy s.0)))
+      ∙ ap (λ (f : FoundInText Shape). bind f (λ s. bind (copy_read s.1) (with_copy s.0)))
       (shape_reads adt.is_enum adt refl good (copy_text adt.copy ++ (drop_text adt.drop_body ++ (10 ∷ r))))
-      ∙ ap (λ (f : Found Bool). bind f (with_copy shape)) (copy_reads adt.copy adt.drop_body r)
-      ∙ ap (λ (f : Found (Option ℕ)). bind f (with_drop shape adt.copy)) (drop_reads adt.drop_body good.drops r)
+      ∙ ap (λ (f : FoundInText Bool). bind f (with_copy shape)) (copy_reads adt.copy adt.drop_body r)
+      ∙ ap (λ (f : FoundInText (Option ℕ)). bind f (with_drop shape adt.copy)) (drop_reads adt.drop_body good.drops r)
 
   pub adts_read : (adts : List Adt) → Every GoodAdt adts → (r : List ℕ) → adt_read r ≡ None → many adt_read (flat_map (adt_line items) adts ++ r) ≡ (map (adt_seen items) adts, r)
   adts_read adts good r stop =
@@ -154,19 +154,19 @@ module _ (items : ItemTable) (names : AreNamed items) where
       (λ n adt. omega (arith, length-append (shape_text items adt.is_enum adt ++ copy_text adt.copy ++ drop_text adt.drop_body) (10 ∷ []))) 0 adts r good tt stop
 
 -- traits
-abbrev method_types : List ℕ → List Written × List ℕ → Found SigSeen
+abbrev method_types : List ℕ → List Written × List ℕ → FoundInText SigSeen
 method_types name q = bind (strip (codes " ") q.1) (λ t. as_ (λ answer. (name, q.0, answer)) (type_reader t))
 
-abbrev method_from : List ℕ × List ℕ → Found SigSeen
+abbrev method_from : List ℕ × List ℕ → FoundInText SigSeen
 method_from q = bind (strip (codes " ") q.1) (λ t. bind (in_row type_reader t) (method_types q.0))
 
-abbrev method_read : List ℕ → Found SigSeen
+abbrev method_read : List ℕ → FoundInText SigSeen
 method_read t = method_from (span stands_in_names t)
 
-abbrev trait_from : List ℕ × List ℕ → Found (List ℕ × List SigSeen)
+abbrev trait_from : List ℕ × List ℕ → FoundInText (List ℕ × List SigSeen)
 trait_from q = bind (strip (codes " ") q.1) (λ t. ended (as_ (λ methods. (q.0, methods)) (braces_read method_read t)))
 
-abbrev pub trait_read : List ℕ → Found (List ℕ × List SigSeen)
+abbrev pub trait_read : List ℕ → FoundInText (List ℕ × List SigSeen)
 trait_read t = bind (strip (codes "trait ") t) (λ t. trait_from (span stands_in_names t))
 
 module _ (items : ItemTable) (names : AreNamed items) where
@@ -180,7 +180,7 @@ module _ (items : ItemTable) (names : AreNamed items) where
       let at_answer : List ℕ = codes " " ++ (type_text items sig.result ++ r) in
       ap method_read (behind5 sig.name (codes " ") (types_text items sig.params) (codes " ") (type_text items sig.result) r)
       ∙ ap method_from (span_run stands_in_names sig.name (codes " " ++ (types_text items sig.params ++ at_answer)) good.name refl)
-      ∙ ap (λ (f : Found (List Written)). bind f (method_types sig.name)) (types_read items names sig.params good.params at_answer)
+      ∙ ap (λ (f : FoundInText (List Written)). bind f (method_types sig.name)) (types_read items names sig.params good.params at_answer)
       ∙ ap (as_ (λ (answer : Written). (sig.name, map (type_text items) sig.params, answer))) (type_reads items names sig.result good.answer r e)
 
   pub record GoodTrait (def : TraitDef) : Type 0 where
@@ -192,7 +192,7 @@ module _ (items : ItemTable) (names : AreNamed items) where
       let methods : List ℕ = in_braces (map (method_text items) def.methods) in
       ap (λ (t : List ℕ). trait_from (span stands_in_names t)) (behind4 def.name (codes " ") methods (10 ∷ []) r)
       ∙ ap trait_from (span_run stands_in_names def.name (codes " " ++ (methods ++ (10 ∷ r))) good.name refl)
-      ∙ ap (λ (f : Found (List SigSeen)). ended (as_ (λ (ms : List SigSeen). (def.name, ms)) f))
+      ∙ ap (λ (f : FoundInText (List SigSeen)). ended (as_ (λ (ms : List SigSeen). (def.name, ms)) f))
       (braces_reads method_read (method_text items) (sig_seen items) GoodSig (λ r. closes r ≡ true) method_reads (λ t. refl) (λ t. refl) (λ t. refl) def.methods good.methods (10 ∷ r))
 
   pub traits_read : (traits : List TraitDef) → Every GoodTrait traits → (r : List ℕ) → trait_read r ≡ None → many trait_read (flat_map (trait_line items) traits ++ r) ≡ (map (trait_seen items) traits, r)
@@ -202,13 +202,13 @@ module _ (items : ItemTable) (names : AreNamed items) where
       (λ n def. omega arith) 0 traits r good tt stop
 
 -- closures
-abbrev closure_body : List Written × List ℕ → Found (List Written × ℕ)
+abbrev closure_body : List Written × List ℕ → FoundInText (List Written × ℕ)
 closure_body q = bind (strip (codes " ") q.1) (λ t. ended (as_ (λ body. (q.0, body)) (number t)))
 
-abbrev closure_from : List ℕ × List ℕ → Found (List Written × ℕ)
+abbrev closure_from : List ℕ × List ℕ → FoundInText (List Written × ℕ)
 closure_from q = bind (strip (codes " ") q.1) (λ t. bind (in_row type_reader t) closure_body)
 
-abbrev pub closure_read : List ℕ → Found (List Written × ℕ)
+abbrev pub closure_read : List ℕ → FoundInText (List Written × ℕ)
 closure_read t = bind (strip (codes "closure ") t) (λ t. closure_from (span is_digit t))
 
 module _ (items : ItemTable) (names : AreNamed items) where
@@ -222,8 +222,8 @@ module _ (items : ItemTable) (names : AreNamed items) where
       let at_types : List ℕ = codes " " ++ (types_text items def.captures ++ at_body) in
       ap (λ (t : List ℕ). closure_from (span is_digit t)) (behind6 (decimal n) (codes " ") (types_text items def.captures) (codes " ") (decimal def.body) (10 ∷ []) r)
       ∙ ap closure_from (span_run is_digit (decimal n) at_types (any_decimal n) refl)
-      ∙ ap (λ (f : Found (List Written)). bind f closure_body) (types_read items names def.captures good.captures at_body)
-      ∙ ap (λ (f : Found ℕ). ended (as_ (λ (body : ℕ). (map (type_text items) def.captures, body)) f)) (number_of def.body (10 ∷ r) good.body refl)
+      ∙ ap (λ (f : FoundInText (List Written)). bind f closure_body) (types_read items names def.captures good.captures at_body)
+      ∙ ap (λ (f : FoundInText ℕ). ended (as_ (λ (body : ℕ). (map (type_text items) def.captures, body)) f)) (number_of def.body (10 ∷ r) good.body refl)
 
   pub closures_read : (closures : List ClosureDef) → Every GoodClosure closures → (r : List ℕ) → closure_read r ≡ None
       → many closure_read (counted (closure_line items) 0 closures ++ r) ≡ (map (closure_seen items) closures, r)
@@ -231,17 +231,17 @@ module _ (items : ItemTable) (names : AreNamed items) where
       many_reads closure_read (closure_line items) (closure_seen items) GoodClosure (λ r. ⊤) closure_reads (λ n def good r. tt) (λ n def. omega arith) 0 closures r good tt stop
 
 -- impls, with the numbers that the names have
-abbrev blank_number : List ℕ → Found ℕ
+abbrev blank_number : List ℕ → FoundInText ℕ
 blank_number t = bind (strip (codes " ") t) number
 
 module _ (adt_no trait_no : List ℕ → ℕ) where
-  abbrev impl_bodies : ℕ → List ℕ × List ℕ → Found ImplDef
+  abbrev impl_bodies : ℕ → List ℕ × List ℕ → FoundInText ImplDef
   impl_bodies trait q = ended (Some (record { trait_no = trait; adt = adt_no q.0; bodies = (many blank_number q.1).0 }, (many blank_number q.1).1))
 
-  abbrev impl_from : List ℕ × List ℕ → Found ImplDef
+  abbrev impl_from : List ℕ × List ℕ → FoundInText ImplDef
   impl_from q = bind (strip (codes " for ") q.1) (λ t. impl_bodies (trait_no q.0) (span stands_in_names t))
 
-  abbrev pub impl_read : List ℕ → Found ImplDef
+  abbrev pub impl_read : List ℕ → FoundInText ImplDef
   impl_read t = bind (strip (codes "impl ") t) (λ t. impl_from (span stands_in_names t))
 
   module _ (items : ItemTable) where

@@ -19,13 +19,13 @@ use Rattle.mir_text.specs.Lists.{line}
 use Rattle.mir_text.specs.Listing.{whole_body_text, listing}
 use Rattle.mir_text.specs.Types.{type_text}
 use Rattle.mir_text.specs.Reading.Words.{place_in}
-use Rattle.mir_text.proofs.Reading.Basics.{Found, strip, behind3, behind4}
+use Rattle.mir_text.proofs.Reading.Basics.{FoundInText, strip, behind3, behind4}
 use Rattle.mir_text.proofs.Reading.Rows.{EveryFrom, many, flat_counted, none_before}
 use Rattle.mir_text.proofs.Reading.Bodies.{BodyRead, body_read_seen, body_read, bodies_read}
 use Rattle.mir_text.proofs.Reading.Items.{adt_read, adts_read, trait_read, traits_read, impl_read, impls_read, closure_read, closures_read}
 use Rattle.mir_text.proofs.Reading.Listed.{every_from_by, are_named, good_adts, good_traits, good_impls, good_closures, good_bodies, adt_no, trait_no, adts_told, traits_told, sig_holds}
 
-none_flat : {X Z : Type 0} (read : List ℕ → Found Z) (text : X → List ℕ) → ((x : X) (t : List ℕ) → read (text x ++ t) ≡ None)
+none_flat : {X Z : Type 0} (read : List ℕ → FoundInText Z) (text : X → List ℕ) → ((x : X) (t : List ℕ) → read (text x ++ t) ≡ None)
     → (xs : List X) (r : List ℕ) → read r ≡ None → read (flat_map text xs ++ r) ≡ None
 none_flat read text never xs r h =
     ap (λ (w : List ℕ). read (w ++ r)) (flat_counted text 0 xs) ∙ none_before read (λ (n : ℕ). text) (λ n x t. never x t) 0 xs r h
@@ -57,7 +57,7 @@ module _ (graph : Graph) where
       (behind4 (flat_map (adt_line graph.items) graph.items.adts) (flat_map (trait_line graph.items) graph.items.traits) (flat_map (impl_line graph.items) graph.items.impls)
       (counted (closure_line graph.items) 0 graph.items.closures) at_bodies)
 
-  not_at_bodies : {Z : Type 0} (read : List ℕ → Found Z) → ((n : ℕ) (body : Body) (t : List ℕ) → read (whole_body_text graph.items n body ++ t) ≡ None) → read the_end ≡ None → read at_bodies ≡ None
+  not_at_bodies : {Z : Type 0} (read : List ℕ → FoundInText Z) → ((n : ℕ) (body : Body) (t : List ℕ) → read (whole_body_text graph.items n body ++ t) ≡ None) → read the_end ≡ None → read at_bodies ≡ None
   not_at_bodies read never h = none_before read (whole_body_text graph.items) never 0 graph.bodies the_end h
 
   pub no_closure : closure_read at_bodies ≡ None
@@ -157,7 +157,7 @@ whole_bodies graph listed =
     (λ n body is. subst (λ m. body_seen graph.items m body ≡ whole (body_read_seen graph.items m body)) (let e : n ≡ 0 + n = omega arith in e)
     (sig_is graph n body (sig_holds graph listed n body is))))
 
-pub rows_alike : {Z : Type 0} (read other : List ℕ → Found Z) (t u : List ℕ) (xs ys : List Z) (s v : List ℕ) → read ≡ other → t ≡ u
+pub rows_alike : {Z : Type 0} (read other : List ℕ → FoundInText Z) (t u : List ℕ) (xs ys : List Z) (s v : List ℕ) → read ≡ other → t ≡ u
     → many read t ≡ (xs, s) → many other u ≡ (ys, v) → (xs ≡ ys) × (s ≡ v)
 rows_alike {Z} read other t u xs ys s v same e a b =
     let q : Path (List Z × List ℕ) (xs, s) (ys, v) = sym a ∙ (λ i. many (same i) (e i)) ∙ b in

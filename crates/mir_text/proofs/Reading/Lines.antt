@@ -17,7 +17,7 @@ use Rattle.cfg_graph.specs.declared.terminator.Unwind.{Unwind}
 use Rattle.mir_text.specs.Fields.{Fits, PlaceFits, OperandFits, StmtFits, TermFits}
 use Rattle.mir_text.specs.Parts.{place_text, operand_text, operands_text, comparison_text, math_text, stmt_text, term_text, ways_text, unwind_text}
 use Rattle.mir_text.specs.Types.{trait_name}
-use Rattle.mir_text.proofs.Reading.Basics.{Found, bind, span_run, behind3, behind4, behind5, behind6, behind7, behind8}
+use Rattle.mir_text.proofs.Reading.Basics.{FoundInText, bind, span_run, behind3, behind4, behind5, behind6, behind7, behind8}
 use Rattle.mir_text.specs.Reading.Words.{as_}
 use Rattle.mir_text.specs.Reading.Parts.{operand_read}
 pub use Rattle.mir_text.specs.Reading.Lines.{ended, stmt_read, term_read}
@@ -34,30 +34,30 @@ feed t = record { over = refl; none = refl }
 two_read : (left right : Operand) → OperandFits left → OperandFits right → (r : List ℕ) → IsPlaceEnd r
     → two_operands (operand_text left ++ (codes " " ++ (operand_text right ++ r))) ≡ Some ((left, right), r)
 two_read left right l r_fits r e =
-    ap (λ (f : Found Operand). bind f second_operand) (operand_reads left l (codes " " ++ (operand_text right ++ r)) (space (operand_text right ++ r)))
+    ap (λ (f : FoundInText Operand). bind f second_operand) (operand_reads left l (codes " " ++ (operand_text right ++ r)) (space (operand_text right ++ r)))
     ∙ ap (as_ (λ (o : Operand). (left, o))) (operand_reads right r_fits r e)
 
 -- a number and operands
 numbered_read : (n : ℕ) (parts : List Operand) → Fits n → All OperandFits parts → (r : List ℕ)
     → numbered_operands (decimal n ++ (codes " " ++ (operands_text parts ++ r))) ≡ Some ((n, parts), r)
 numbered_read n parts fits all r =
-    ap (λ (f : Found ℕ). bind f operands_from) (number_of n (codes " " ++ (operands_text parts ++ r)) fits refl)
+    ap (λ (f : FoundInText ℕ). bind f operands_from) (number_of n (codes " " ++ (operands_text parts ++ r)) fits refl)
     ∙ ap (as_ (λ (ps : List Operand). (n, ps))) (operands_reads parts all r)
 
 -- two numbers before the end of the line
 two_numbers_read : (n m : ℕ) → Fits n → Fits m → (r : List ℕ) → two_numbers (codes " " ++ (decimal n ++ (codes " " ++ (decimal m ++ (10 ∷ r))))) ≡ Some ((n, m), 10 ∷ r)
 two_numbers_read n m fits also r =
-    ap (λ (f : Found ℕ). bind f second_number) (number_of n (codes " " ++ (decimal m ++ (10 ∷ r))) fits refl)
+    ap (λ (f : FoundInText ℕ). bind f second_number) (number_of n (codes " " ++ (decimal m ++ (10 ∷ r))) fits refl)
     ∙ ap (as_ (λ (k : ℕ). (n, k))) (number_of m (10 ∷ r) also refl)
 
 module _ (adt_no trait_no : List ℕ → ℕ) where
   stored : (to : Place) (t : List ℕ) (f : Stmt × List ℕ) → PlaceFits to → assigned adt_no trait_no to t ≡ Some f → stmt_read adt_no trait_no (place_text to ++ (codes " = " ++ t)) ≡ Some f
   stored to t f fits h =
-      ap (λ (p : Found Place). bind p (assigned_to adt_no trait_no)) (place_reads to fits (codes " = " ++ t) (space (codes "= " ++ t))) ∙ h
+      ap (λ (p : FoundInText Place). bind p (assigned_to adt_no trait_no)) (place_reads to fits (codes " = " ++ t) (space (codes "= " ++ t))) ∙ h
 
   not_stored : (to : Place) (t : List ℕ) → PlaceFits to → assigned adt_no trait_no to t ≡ None → stmt_read adt_no trait_no (place_text to ++ (codes " = " ++ t)) ≡ None
   not_stored to t fits h =
-      ap (λ (p : Found Place). bind p (assigned_to adt_no trait_no)) (place_reads to fits (codes " = " ++ t) (space (codes "= " ++ t))) ∙ h
+      ap (λ (p : FoundInText Place). bind p (assigned_to adt_no trait_no)) (place_reads to fits (codes " = " ++ t) (space (codes "= " ++ t))) ∙ h
 
   -- an operand is no other thing that is stored
   only_stored : (to : Place) (from : Operand) (t : List ℕ) → assigned adt_no trait_no to (operand_text from ++ t) ≡ as_ (Stmt.Put to) (operand_read (operand_text from ++ t))
@@ -146,7 +146,7 @@ module _ (adt_no trait_no : List ℕ → ℕ) where
   -- terminators
   given : (to : Place) (t : List ℕ) (f : Term × List ℕ) → PlaceFits to → returned adt_no trait_no to t ≡ Some f → term_read adt_no trait_no (place_text to ++ (codes " = " ++ t)) ≡ Some f
   given to t f fits h =
-      ap (λ (p : Found Place). bind p (returned_to adt_no trait_no)) (place_reads to fits (codes " = " ++ t) (space (codes "= " ++ t))) ∙ h
+      ap (λ (p : FoundInText Place). bind p (returned_to adt_no trait_no)) (place_reads to fits (codes " = " ++ t) (space (codes "= " ++ t))) ∙ h
 
   ways_end : (next : ℕ) (unwind : Unwind) (r : List ℕ) → IsPlaceEnd (ways_text next unwind ++ r)
   ways_end next unwind r = record { over = refl; none = refl }
@@ -170,14 +170,14 @@ module _ (adt_no trait_no : List ℕ → ℕ) where
     term_reads (Term.If on if_true if_false) fits named r =
         let at_first : List ℕ = codes " " ++ (decimal if_true ++ (codes " " ++ (decimal if_false ++ (10 ∷ r)))) in
         ap if_read (behind5 (operand_text on) (codes " ") (decimal if_true) (codes " ") (decimal if_false) (10 ∷ r))
-        ∙ ap (λ (f : Found Operand). bind f if_of) (operand_reads on fits.0 at_first (space (decimal if_true ++ (codes " " ++ (decimal if_false ++ (10 ∷ r))))))
+        ∙ ap (λ (f : FoundInText Operand). bind f if_of) (operand_reads on fits.0 at_first (space (decimal if_true ++ (codes " " ++ (decimal if_false ++ (10 ∷ r))))))
         ∙ ap (as_ (λ (ways : ℕ × ℕ). Term.If on ways.0 ways.1)) (two_numbers_read if_true if_false fits.1 fits.2 r)
     term_reads (Term.Case on variant if_true if_false) fits named r =
         let at_first : List ℕ = codes " " ++ (decimal if_true ++ (codes " " ++ (decimal if_false ++ (10 ∷ r)))) in
         let at_variant : List ℕ = codes " " ++ (decimal variant ++ at_first) in
         ap case_read (behind7 (place_text on) (codes " ") (decimal variant) (codes " ") (decimal if_true) (codes " ") (decimal if_false) (10 ∷ r))
-        ∙ ap (λ (f : Found Place). bind f case_of) (place_reads on fits.0 at_variant (space (decimal variant ++ at_first)))
-        ∙ ap (λ (f : Found ℕ). bind f (case_ways on)) (number_of variant at_first fits.1 refl)
+        ∙ ap (λ (f : FoundInText Place). bind f case_of) (place_reads on fits.0 at_variant (space (decimal variant ++ at_first)))
+        ∙ ap (λ (f : FoundInText ℕ). bind f (case_ways on)) (number_of variant at_first fits.1 refl)
         ∙ ap (as_ (λ (ways : ℕ × ℕ). Term.Case on variant ways.0 ways.1)) (two_numbers_read if_true if_false fits.2 fits.3 r)
     term_reads (Term.Math to op left right next unwind) fits named r =
         let at_ways : List ℕ = ways_text next unwind ++ (10 ∷ r) in
@@ -185,7 +185,7 @@ module _ (adt_no trait_no : List ℕ → ℕ) where
         ap (term_read adt_no trait_no) (behind8 (place_text to) (codes " = ") (math_text op) (codes " ") (operand_text left) (codes " ") (operand_text right) (ways_text next unwind) (10 ∷ r))
         ∙ given to (math_text op ++ (codes " " ++ at_left)) (Term.Math to op left right next unwind, 10 ∷ r) fits.0
         (worked op at_left
-        ∙ ap (λ (f : Found (Operand × Operand)). bind f (math_of to op)) (two_read left right fits.1 fits.2 at_ways (ways_end next unwind (10 ∷ r)))
+        ∙ ap (λ (f : FoundInText (Operand × Operand)). bind f (math_of to op)) (two_read left right fits.1 fits.2 at_ways (ways_end next unwind (10 ∷ r)))
         ∙ ap (as_ (λ (w : ℕ × Unwind). Term.Math to op left right w.0 w.1)) (ways_reads next unwind fits.3 (10 ∷ r) refl))
       where
         worked : (op : Math) (t : List ℕ) → returned adt_no trait_no to (math_text op ++ (codes " " ++ t)) ≡ calculated to op t
@@ -198,20 +198,20 @@ module _ (adt_no trait_no : List ℕ → ℕ) where
         let at_ways : List ℕ = ways_text next unwind ++ (10 ∷ r) in
         ap (term_read adt_no trait_no) (behind4 (place_text to) (codes " = neg ") (operand_text of) (ways_text next unwind) (10 ∷ r))
         ∙ given to (codes "neg " ++ (operand_text of ++ at_ways)) (Term.Negate to of next unwind, 10 ∷ r) fits.0
-        (ap (λ (f : Found Operand). bind f (negated_of to)) (operand_reads of fits.1 at_ways (ways_end next unwind (10 ∷ r)))
+        (ap (λ (f : FoundInText Operand). bind f (negated_of to)) (operand_reads of fits.1 at_ways (ways_end next unwind (10 ∷ r)))
         ∙ ap (as_ (λ (w : ℕ × Unwind). Term.Negate to of w.0 w.1)) (ways_reads next unwind fits.2 (10 ∷ r) refl))
     term_reads (Term.Bounds index count next unwind) fits named r =
         let at_ways : List ℕ = ways_text next unwind ++ (10 ∷ r) in
         let at_count : List ℕ = codes " " ++ (decimal count ++ at_ways) in
         ap bounds_read (behind4 (operand_text index) (codes " ") (decimal count) (ways_text next unwind) (10 ∷ r))
-        ∙ ap (λ (f : Found Operand). bind f bounds_of) (operand_reads index fits.0 at_count (space (decimal count ++ at_ways)))
-        ∙ ap (λ (f : Found ℕ). bind f (count_of index)) (number_of count at_ways fits.1 refl)
+        ∙ ap (λ (f : FoundInText Operand). bind f bounds_of) (operand_reads index fits.0 at_count (space (decimal count ++ at_ways)))
+        ∙ ap (λ (f : FoundInText ℕ). bind f (count_of index)) (number_of count at_ways fits.1 refl)
         ∙ ap (as_ (λ (w : ℕ × Unwind). Term.Bounds index count w.0 w.1)) (ways_reads next unwind fits.2 (10 ∷ r) refl)
     term_reads (Term.Call to body args next unwind) fits named r =
         let at_ways : List ℕ = ways_text next unwind ++ (10 ∷ r) in
         ap (term_read adt_no trait_no) (behind6 (place_text to) (codes " = call ") (decimal body) (codes " ") (operands_text args) (ways_text next unwind) (10 ∷ r))
         ∙ given to (codes "call " ++ (decimal body ++ (codes " " ++ (operands_text args ++ at_ways)))) (Term.Call to body args next unwind, 10 ∷ r) fits.0
-        (ap (λ (f : Found (ℕ × List Operand)). bind f (call_of to)) (numbered_read body args fits.1 fits.2 at_ways)
+        (ap (λ (f : FoundInText (ℕ × List Operand)). bind f (call_of to)) (numbered_read body args fits.1 fits.2 at_ways)
         ∙ ap (as_ (λ (w : ℕ × Unwind). Term.Call to body args w.0 w.1)) (ways_reads next unwind fits.3 (10 ∷ r) refl))
     term_reads (Term.Virtual to trait method args next unwind) fits named r =
         let (stands, numbered) = traits trait named in
@@ -220,7 +220,7 @@ module _ (adt_no trait_no : List ℕ → ℕ) where
         ap (term_read adt_no trait_no) (behind8 (place_text to) (codes " = virtual ") (trait_name items trait) (codes " ") (decimal method) (codes " ") (operands_text args) (ways_text next unwind) (10 ∷ r))
         ∙ given to (codes "virtual " ++ (trait_name items trait ++ at_method)) (Term.Virtual to trait method args next unwind, 10 ∷ r) fits.0
         (ap (virtual_from adt_no trait_no to) (span_run stands_in_names (trait_name items trait) at_method stands refl)
-        ∙ ap (λ (f : Found (ℕ × List Operand)). bind f (sent_of adt_no trait_no to (trait_name items trait))) (numbered_read method args fits.1 fits.2 at_ways)
+        ∙ ap (λ (f : FoundInText (ℕ × List Operand)). bind f (sent_of adt_no trait_no to (trait_name items trait))) (numbered_read method args fits.1 fits.2 at_ways)
         ∙ ap (as_ (λ (w : ℕ × Unwind). Term.Virtual to (trait_no (trait_name items trait)) method args w.0 w.1)) (ways_reads next unwind fits.3 (10 ∷ r) refl)
         ∙ ap (λ (n : ℕ). Some (Term.Virtual to n method args next unwind, 10 ∷ r)) numbered)
     term_reads (Term.Ask to next unwind) fits named r =
@@ -230,12 +230,12 @@ module _ (adt_no trait_no : List ℕ → ℕ) where
     term_reads (Term.DropAt place next unwind) fits named r =
         let at_ways : List ℕ = ways_text next unwind ++ (10 ∷ r) in
         ap drop_read (append_assoc (place_text place) (ways_text next unwind) (10 ∷ r))
-        ∙ ap (λ (f : Found Place). bind f drop_of) (place_reads place fits.0 at_ways (ways_end next unwind (10 ∷ r)))
+        ∙ ap (λ (f : FoundInText Place). bind f drop_of) (place_reads place fits.0 at_ways (ways_end next unwind (10 ∷ r)))
         ∙ ap (as_ (λ (w : ℕ × Unwind). Term.DropAt place w.0 w.1)) (ways_reads next unwind fits.1 (10 ∷ r) refl)
     term_reads (Term.Panic why unwind) fits named r =
         let at_unwind : List ℕ = codes " unwind " ++ (unwind_text unwind ++ (10 ∷ r)) in
         ap panic_read (behind3 (why_word why) (codes " unwind ") (unwind_text unwind) (10 ∷ r))
-        ∙ ap (λ (f : Found Why). bind f panic_of) (why_reads why at_unwind)
+        ∙ ap (λ (f : FoundInText Why). bind f panic_of) (why_reads why at_unwind)
         ∙ ap (as_ (Term.Panic why)) (unwind_reads unwind fits (10 ∷ r) refl)
     term_reads Term.Return fits named r = refl
     term_reads Term.Resume fits named r = refl

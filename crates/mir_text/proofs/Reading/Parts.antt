@@ -11,7 +11,7 @@ use Rattle.mir_text.specs.Fields.{Fits, StepFits, PlaceFits, OperandFits, Unwind
 use Rattle.mir_text.specs.Parts.{step_text, place_text, operand_text, operands_text, unwind_text, ways_text}
 use Rattle.mir_text.specs.Types.{kind_text}
 use Rattle.mir_text.specs.Reading.Parts.{part_from, behind_dot, index_from, step_read, steps_from, place_read, kind_read, constant_from, other_constant, operand_read, operands_read, unwind_from, unwind_read, ways_read}
-use Rattle.mir_text.proofs.Reading.Basics.{Found, Every, bind, or_else, chosen, as_, said, strip, stops, is_digit, number, number_reads, signed, signed_reads, no_decimal, behind3}
+use Rattle.mir_text.proofs.Reading.Basics.{FoundInText, Every, bind, or_else, chosen, as_, said, strip, stops, is_digit, number, number_reads, signed, signed_reads, no_decimal, behind3}
 use Rattle.mir_text.proofs.Reading.Rows.{many, many_reads, flat_counted}
 use Rattle.mir_text.proofs.Reading.Types.{in_row_reads}
 
@@ -47,7 +47,7 @@ dotted t f h = h
 numbered : (n : ℕ) (r : List ℕ) (f : Step × List ℕ) → Fits n → stops is_digit r ≡ true → part_from (n, r) ≡ Some f → behind_dot (decimal n ++ r) ≡ Some f
 numbered n r f small s h =
     ap (λ (o : Option (List ℕ)). chosen o (λ r. Some (Step.Inside, r)) (bind (number (decimal n ++ r)) part_from)) (no_decimal 42 [] n r (omega arith) refl)
-    ∙ ap (λ (f : Found ℕ). bind f part_from) (number_of n r small s) ∙ h
+    ∙ ap (λ (f : FoundInText ℕ). bind f part_from) (number_of n r small s) ∙ h
 
 step_reads : (step : Step) → StepFits step → (r : List ℕ) → stops goes_on r ≡ true → step_read (step_text step ++ r) ≡ Some (step, r)
 step_reads (Step.Part n) fits r e =
@@ -61,7 +61,7 @@ step_reads (Step.Field variant part) fits r e =
 step_reads Step.Inside fits r e = refl
 step_reads (Step.Index local) fits r e =
     ap (λ (t : List ℕ). bind (number t) index_from) (append_assoc (decimal local) (codes "]") r)
-    ∙ ap (λ (f : Found ℕ). bind f index_from) (number_of local (codes "]" ++ r) fits refl)
+    ∙ ap (λ (f : FoundInText ℕ). bind f index_from) (number_of local (codes "]" ++ r) fits refl)
 
 -- what stands behind a place: nothing that would go on with it
 pub record IsPlaceEnd (r : List ℕ) : Type 0 where
@@ -94,7 +94,7 @@ pub place_reads : (place : Place) → PlaceFits place → (r : List ℕ) → IsP
 place_reads place fits r e =
     let rest : List ℕ = flat_map step_text place.steps ++ r in
     ap (λ (t : List ℕ). bind (number t) steps_from) (append_assoc (decimal place.local) (flat_map step_text place.steps) r)
-    ∙ ap (λ (f : Found ℕ). bind f steps_from) (number_of place.local rest fits.0 (ends_digits rest (steps_end place.steps r e.over)))
+    ∙ ap (λ (f : FoundInText ℕ). bind f steps_from) (number_of place.local rest fits.0 (ends_digits rest (steps_end place.steps r e.over)))
     ∙ ap (λ (q : List Step × List ℕ). Some (record { local = place.local; steps = q.0 }, q.1)) (steps_read place.steps (every_from_all StepFits place.steps fits.1) r e)
 
 -- operands
@@ -111,8 +111,8 @@ operand_reads (Operand.Moved place) fits r e = ap (as_ Operand.Moved) (place_rea
 operand_reads (Operand.Number value kind) fits r e =
     let rest : List ℕ = codes "_" ++ (kind_text kind ++ r) in
     ap (λ (t : List ℕ). or_else (bind (signed t) constant_from) (other_constant t)) (behind3 (signed_decimal value) (codes "_") (kind_text kind) r)
-    ∙ ap (λ (f : Found ℤ). or_else (bind f constant_from) (other_constant (signed_decimal value ++ rest))) (signed_reads value rest fits refl)
-    ∙ ap (λ (f : Found IntKind). or_else (as_ (Operand.Number value) f) (other_constant (signed_decimal value ++ rest))) (kind_reads kind r)
+    ∙ ap (λ (f : FoundInText ℤ). or_else (bind f constant_from) (other_constant (signed_decimal value ++ rest))) (signed_reads value rest fits refl)
+    ∙ ap (λ (f : FoundInText IntKind). or_else (as_ (Operand.Number value) f) (other_constant (signed_decimal value ++ rest))) (kind_reads kind r)
 operand_reads (Operand.Truth true) fits r e = refl
 operand_reads (Operand.Truth false) fits r e = refl
 operand_reads Operand.Unit fits r e = refl
@@ -126,7 +126,7 @@ operands_reads operands fits r =
 -- ways out
 pub unwind_reads : (unwind : Unwind) → UnwindFits unwind → (r : List ℕ) → stops is_digit r ≡ true → unwind_read (unwind_text unwind ++ r) ≡ Some (unwind, r)
 unwind_reads (Unwind.Block block) fits r e =
-    ap (λ (f : Found ℕ). or_else (as_ Unwind.Block f) (or_else (said (codes "resume") Unwind.Resume (decimal block ++ r)) (said (codes "abort") Unwind.Abort (decimal block ++ r))))
+    ap (λ (f : FoundInText ℕ). or_else (as_ Unwind.Block f) (or_else (said (codes "resume") Unwind.Resume (decimal block ++ r)) (said (codes "abort") Unwind.Abort (decimal block ++ r))))
     (number_of block r fits e)
 unwind_reads Unwind.Resume fits r e = refl
 unwind_reads Unwind.Abort fits r e = refl
@@ -134,5 +134,5 @@ unwind_reads Unwind.Abort fits r e = refl
 pub ways_reads : (next : ℕ) (unwind : Unwind) → WaysFit next unwind → (r : List ℕ) → stops is_digit r ≡ true → ways_read (ways_text next unwind ++ r) ≡ Some ((next, unwind), r)
 ways_reads next unwind fits r e =
     ap (λ (t : List ℕ). bind (number t) unwind_from) (behind3 (decimal next) (codes " unwind ") (unwind_text unwind) r)
-    ∙ ap (λ (f : Found ℕ). bind f unwind_from) (number_of next (codes " unwind " ++ (unwind_text unwind ++ r)) fits.0 refl)
+    ∙ ap (λ (f : FoundInText ℕ). bind f unwind_from) (number_of next (codes " unwind " ++ (unwind_text unwind ++ r)) fits.0 refl)
     ∙ ap (as_ (λ (u : Unwind). (next, u))) (unwind_reads unwind fits.1 r e)

@@ -4,14 +4,14 @@ use Rattle.std.specs.Prelude.{⊤}
 use Rattle.mir_text.specs.Compared.{numbered}
 use Rattle.mir_text.specs.Items.{counted}
 use Rattle.mir_text.specs.Lists.{behind_commas, joined}
-use Rattle.mir_text.proofs.Reading.Basics.{Found, Every, bind, strip}
+use Rattle.mir_text.proofs.Reading.Basics.{FoundInText, Every, bind, strip}
 pub use Rattle.mir_text.specs.Reading.Rows.{after, many_within, many, comma, row_from, row, closed_row, in_row}
 
 abbrev pub EveryFrom : {X : Type 0} → (ℕ → X → Type 0) → ℕ → List X → Type 0
 EveryFrom Good n [] = ⊤
 EveryFrom Good n (x ∷ xs) = Good n x × EveryFrom Good (suc n) xs
 
-module _ {X Z : Type 0} (read : List ℕ → Found Z) (text : ℕ → X → List ℕ) (seen : ℕ → X → Z) (Good : ℕ → X → Type 0) (Ends : List ℕ → Type 0) where
+module _ {X Z : Type 0} (read : List ℕ → FoundInText Z) (text : ℕ → X → List ℕ) (seen : ℕ → X → Z) (Good : ℕ → X → Type 0) (Ends : List ℕ → Type 0) where
   module _ (one : (n : ℕ) (x : X) → Good n x → (r : List ℕ) → Ends r → read (text n x ++ r) ≡ Some (seen n x, r))
       (next : (n : ℕ) (x : X) → Good n x → (r : List ℕ) → Ends (text n x ++ r)) (some : (n : ℕ) (x : X) → 0 < length (text n x)) where
     ends_more : (n : ℕ) (xs : List X) (r : List ℕ) → EveryFrom Good n xs → Ends r → Ends (counted text n xs ++ r)
@@ -21,7 +21,7 @@ module _ {X Z : Type 0} (read : List ℕ → Found Z) (text : ℕ → X → List
     within_reads : (k n : ℕ) (xs : List X) (r : List ℕ) → EveryFrom Good n xs → Ends r → read r ≡ None → length (counted text n xs ++ r) ≤ k
         → many_within k read (counted text n xs ++ r) ≡ (numbered seen n xs, r)
     within_reads zero n [] r good e stop le = refl
-    within_reads (suc k) n [] r good e stop le = ap (λ (f : Found Z). after f (many_within k read) r) stop
+    within_reads (suc k) n [] r good e stop le = ap (λ (f : FoundInText Z). after f (many_within k read) r) stop
     within_reads zero n (x ∷ xs) r good e stop le =
         absurd (omega (arith, some n x, length-append (text n x ++ counted text (suc n) xs) r, length-append (text n x) (counted text (suc n) xs)))
     within_reads (suc k) n (x ∷ xs) r good e stop le =
@@ -29,7 +29,7 @@ module _ {X Z : Type 0} (read : List ℕ → Found Z) (text : ℕ → X → List
         let split : (text n x ++ counted text (suc n) xs) ++ r ≡ text n x ++ rest = append_assoc (text n x) (counted text (suc n) xs) r in
         let short : length rest ≤ k = omega (arith, some n x, le, ap length split, length-append (text n x) rest) in
         ap (many_within (suc k) read) split
-        ∙ ap (λ (f : Found Z). after f (many_within k read) (text n x ++ rest)) (one n x good.0 rest (ends_more (suc n) xs r good.1 e))
+        ∙ ap (λ (f : FoundInText Z). after f (many_within k read) (text n x ++ rest)) (one n x good.0 rest (ends_more (suc n) xs r good.1 e))
         ∙ ap (λ (q : List Z × List ℕ). (seen n x ∷ q.0, q.1)) (within_reads k (suc n) xs r good.1 e stop short)
 
     pub numbered_reads : (n : ℕ) (xs : List X) (r : List ℕ) → EveryFrom Good n xs → Ends r → read r ≡ None → many read (counted text n xs ++ r) ≡ (numbered seen n xs, r)
@@ -43,7 +43,7 @@ pub every_from : {X : Type 0} (Good : X → Type 0) (n : ℕ) (xs : List X) → 
 every_from Good n [] h = tt
 every_from Good n (x ∷ xs) h = (h.0, every_from Good (suc n) xs h.1)
 
-module _ {X Z : Type 0} (read : List ℕ → Found Z) (text : ℕ → X → List ℕ) (seen : X → Z) (Good : X → Type 0) (Ends : List ℕ → Type 0)
+module _ {X Z : Type 0} (read : List ℕ → FoundInText Z) (text : ℕ → X → List ℕ) (seen : X → Z) (Good : X → Type 0) (Ends : List ℕ → Type 0)
     (one : (n : ℕ) (x : X) → Good x → (r : List ℕ) → Ends r → read (text n x ++ r) ≡ Some (seen x, r))
     (next : (n : ℕ) (x : X) → Good x → (r : List ℕ) → Ends (text n x ++ r)) (some : (n : ℕ) (x : X) → 0 < length (text n x)) where
   pub many_reads : (n : ℕ) (xs : List X) (r : List ℕ) → Every Good xs → Ends r → read r ≡ None → many read (counted text n xs ++ r) ≡ (map seen xs, r)
@@ -57,7 +57,7 @@ flat_counted text n [] = refl
 flat_counted text n (x ∷ xs) = ap (λ (w : List ℕ). text x ++ w) (flat_counted text (suc n) xs)
 
 -- what is no beginning of one thing is none of several
-pub none_before : {X Z : Type 0} (read : List ℕ → Found Z) (text : ℕ → X → List ℕ) → ((n : ℕ) (x : X) (t : List ℕ) → read (text n x ++ t) ≡ None)
+pub none_before : {X Z : Type 0} (read : List ℕ → FoundInText Z) (text : ℕ → X → List ℕ) → ((n : ℕ) (x : X) (t : List ℕ) → read (text n x ++ t) ≡ None)
     → (n : ℕ) (xs : List X) (r : List ℕ) → read r ≡ None → read (counted text n xs ++ r) ≡ None
 none_before read text never n [] r h = h
 none_before read text never n (x ∷ xs) r h = ap read (append_assoc (text n x) (counted text (suc n) xs) r) ∙ never n x (counted text (suc n) xs ++ r)
@@ -69,7 +69,7 @@ behind_map text xs = by 0 xs
     by n [] = refl
     by n (x ∷ xs) = ap (λ (w : List ℕ). (codes ", " ++ text x) ++ w) (by (suc n) xs)
 
-module _ {X Z : Type 0} (read : List ℕ → Found Z) (text : X → List ℕ) (seen : X → Z) (Good : X → Type 0) (Ends : List ℕ → Type 0)
+module _ {X Z : Type 0} (read : List ℕ → FoundInText Z) (text : X → List ℕ) (seen : X → Z) (Good : X → Type 0) (Ends : List ℕ → Type 0)
     (one : (x : X) → Good x → (r : List ℕ) → Ends r → read (text x ++ r) ≡ Some (seen x, r)) (at_comma : (t : List ℕ) → Ends (codes ", " ++ t)) where
   behind_reads : (xs : List X) (r : List ℕ) → Every Good xs → Ends r → strip (codes ", ") r ≡ None → many (comma read) (behind_commas (map text xs) ++ r) ≡ (map seen xs, r)
   behind_reads xs r good e stop =
@@ -82,11 +82,11 @@ module _ {X Z : Type 0} (read : List ℕ → Found Z) (text : X → List ℕ) (s
   ends_behind (x ∷ xs) r e = subst Ends (sym (append_assoc (codes ", " ++ text x) (behind_commas (map text xs)) r)) (at_comma (text x ++ (behind_commas (map text xs) ++ r)))
 
   pub row_of_none : (r : List ℕ) → read r ≡ None → row read r ≡ ([], r)
-  row_of_none r stop = ap (λ (f : Found Z). row_from read f r) stop
+  row_of_none r stop = ap (λ (f : FoundInText Z). row_from read f r) stop
 
   pub row_reads : (x : X) (xs : List X) (r : List ℕ) → Every Good (x ∷ xs) → Ends r → strip (codes ", ") r ≡ None → row read (joined (map text (x ∷ xs)) ++ r) ≡ (map seen (x ∷ xs), r)
   row_reads x xs r good e no_comma =
       let rest : List ℕ = behind_commas (map text xs) ++ r in
       ap (row read) (append_assoc (text x) (behind_commas (map text xs)) r)
-      ∙ ap (λ (f : Found Z). row_from read f (text x ++ rest)) (one x good.0 rest (ends_behind xs r e))
+      ∙ ap (λ (f : FoundInText Z). row_from read f (text x ++ rest)) (one x good.0 rest (ends_behind xs r e))
       ∙ ap (λ (q : List Z × List ℕ). (seen x ∷ q.0, q.1)) (behind_reads xs r good.1 e no_comma)

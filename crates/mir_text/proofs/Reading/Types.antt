@@ -16,7 +16,7 @@ use Rattle.cfg_graph.specs.WellFormed.NameFaults.{same_name, is_among, stands_in
 use Rattle.cfg_graph.specs.WellFormed.TypeFaults.{own_number_exists, existing, ty_exists}
 use Rattle.mir_text.specs.Lists.{joined, in_parentheses}
 use Rattle.mir_text.specs.Types.{kind_text, trait_name, tuple_text, form_text, found_text, type_within, type_text, deepest}
-use Rattle.mir_text.proofs.Reading.Basics.{Found, Every, bind, or_else, strip, span, stops, span_run, one_of, is_digit, decimal_digits, behind4}
+use Rattle.mir_text.proofs.Reading.Basics.{FoundInText, Every, bind, or_else, strip, span, stops, span_run, one_of, is_digit, decimal_digits, behind4}
 use Rattle.mir_text.proofs.Reading.Rows.{row, row_of_none, row_reads, closed_row, in_row}
 
 -- what stands behind a type: the end of the text, a mark that closes, or a blank before a brace
@@ -96,51 +96,51 @@ shape-text : (items : ItemTable) (inner : TyId → List ℕ) (ty : Ty) → shape
 shape-text items inner (Ty.Int kind) = refl
 shape-text items inner _ = refl
 
-abbrev as_text : Found Shape → Found (List ℕ)
+abbrev as_text : FoundInText Shape → FoundInText (List ℕ)
 as_text o = bind o (λ f. Some (shape_text f.0, f.1))
 
-abbrev referring : Bool → Found (List ℕ) → Found Shape
+abbrev referring : Bool → FoundInText (List ℕ) → FoundInText Shape
 referring unique o = bind o (λ f. Some (Refers unique f.0, f.1))
 
-abbrev tuple_from : List (List ℕ) × List ℕ → Found Shape
+abbrev tuple_from : List (List ℕ) × List ℕ → FoundInText Shape
 tuple_from q = or_else (bind (strip (codes ",)") q.1) (λ r. Some (Row q.0, r))) (bind (strip (codes ")") q.1) (λ r. Some (Row q.0, r)))
 
-abbrev count_from : List ℕ → List ℕ × List ℕ → Found Shape
+abbrev count_from : List ℕ → List ℕ × List ℕ → FoundInText Shape
 count_from element q = bind (strip (codes "]") q.1) (λ r. Some (Count element q.0, r))
 
-abbrev element_from : List ℕ × List ℕ → Found Shape
+abbrev element_from : List ℕ × List ℕ → FoundInText Shape
 element_from f = bind (strip (codes "; ") f.1) (λ t. count_from f.0 (span is_digit t))
 
-abbrev box_from : List ℕ × List ℕ → Found Shape
+abbrev box_from : List ℕ × List ℕ → FoundInText Shape
 box_from f = bind (strip (codes ">") f.1) (λ r. Some (InBox f.0, r))
 
-abbrev object_from : List ℕ × List ℕ → Found Shape
+abbrev object_from : List ℕ × List ℕ → FoundInText Shape
 object_from n = Some (Object n.0, n.1)
 
-module _ (inner : List ℕ → Found (List ℕ)) where
-  abbrev reference : List ℕ → Found Shape
+module _ (inner : List ℕ → FoundInText (List ℕ)) where
+  abbrev reference : List ℕ → FoundInText Shape
   reference t = or_else (referring true (bind (strip (codes "mut ") t) inner)) (referring false (inner t))
 
   -- a type that begins with a mark
-  abbrev marked : List ℕ → Found Shape
+  abbrev marked : List ℕ → FoundInText Shape
   marked t =
       or_else (bind (strip (codes "(") t) (λ t. tuple_from (row inner t)))
       (or_else (bind (strip (codes "[") t) (λ t. bind (inner t) element_from))
       (or_else (bind (strip (codes "!") t) (λ r. Some (Naught, r))) (bind (strip (codes "&") t) reference)))
 
   -- and one that begins with a word
-  abbrev worded : List ℕ → List ℕ → List ℕ → Found Shape
+  abbrev worded : List ℕ → List ℕ → List ℕ → FoundInText Shape
   worded [] r t = marked t
   worded (b ∷ bs) r t =
       if same_name (b ∷ bs) (codes "Box") then bind (strip (codes "<") r) (λ t. bind (inner t) box_from)
       else (if same_name (b ∷ bs) (codes "dyn") then bind (strip (codes " ") r) (λ t. object_from (span stands_in_names t))
       else Some (Word (b ∷ bs), r))
 
-  abbrev pub type_form : List ℕ → Found Shape
+  abbrev pub type_form : List ℕ → FoundInText Shape
   type_form t = worded (span stands_in_names t).0 (span stands_in_names t).1 t
 
 -- a type with no more than so many types in one another
-abbrev pub type_read : ℕ → List ℕ → Found (List ℕ)
+abbrev pub type_read : ℕ → List ℕ → FoundInText (List ℕ)
 type_read zero t = None
 type_read (suc k) t = as_text (type_form (type_read k) t)
 
@@ -153,7 +153,7 @@ pub no_type_at_brace : (k : ℕ) (r : List ℕ) → type_read k (codes "}" ++ r)
 no_type_at_brace zero r = refl
 no_type_at_brace (suc k) r = refl
 
-module _ (read : List ℕ → Found (List ℕ)) where
+module _ (read : List ℕ → FoundInText (List ℕ)) where
   in_tuple : (t : List ℕ) (f : Shape × List ℕ) → tuple_from (row read t) ≡ Some f → type_form read (codes "(" ++ t) ≡ Some f
   in_tuple t f h = rw h refl
 
@@ -230,7 +230,7 @@ HasNumbers _ = ⊤
 module _ (items : ItemTable)
     (adts : (n : ℕ) → nat_lt n (length items.adts) ≡ true → is_adt_name (adt_name items n) ≡ true)
     (traits : (n : ℕ) → nat_lt n (length items.traits) ≡ true → is_name (trait_name items n) ≡ true) where
-  module _ (inner : TyId → List ℕ) (read : List ℕ → Found (List ℕ)) (Good : TyId → Type 0)
+  module _ (inner : TyId → List ℕ) (read : List ℕ → FoundInText (List ℕ)) (Good : TyId → Type 0)
       (closed : (t : List ℕ) → read (codes ")" ++ t) ≡ None) (brace : (t : List ℕ) → read (codes "}" ++ t) ≡ None) where
     -- a type that is written with `&` is not read as one with `&mut `
     no_mut : (ty : Ty) → own_number_exists items ty ≡ true → (r : List ℕ) → closes r ≡ true → bind (strip (codes "mut ") (form_text items inner ty ++ r)) read ≡ None
@@ -295,17 +295,17 @@ module _ (items : ItemTable)
           let split : (inner element ++ codes "; " ++ decimal count ++ codes "]") ++ r ≡ inner element ++ behind_element =
           behind4 (inner element) (codes "; ") (decimal count) (codes "]") r in
           in_bracket read ((inner element ++ codes "; " ++ decimal count ++ codes "]") ++ r) (Count (inner element) (decimal count), r)
-          (ap (λ (t : List ℕ). bind (read t) element_from) split ∙ ap (λ (f : Found (List ℕ)). bind f element_from) (one element good.0 behind_element refl)
+          (ap (λ (t : List ℕ). bind (read t) element_from) split ∙ ap (λ (f : FoundInText (List ℕ)). bind f element_from) (one element good.0 behind_element refl)
           ∙ ap (count_from (inner element)) (span_run is_digit (decimal count) (codes "]" ++ r) (decimal_digits count numbers) refl))
       form_reads (Ty.Boxed inside) own numbers good r e =
-          ap (λ (t : List ℕ). bind (read t) box_from) (append_assoc (inner inside) (codes ">") r) ∙ ap (λ (f : Found (List ℕ)). bind f box_from) (one inside good.0 (codes ">" ++ r) refl)
+          ap (λ (t : List ℕ). bind (read t) box_from) (append_assoc (inner inside) (codes ">") r) ∙ ap (λ (f : FoundInText (List ℕ)). bind f box_from) (one inside good.0 (codes ">" ++ r) refl)
       form_reads (Ty.Dyn n) own numbers good r e =
           ap object_from (span_run stands_in_names (trait_name items n) r (name_stands (trait_name items n) (traits n own)).1 (closes_stops r e))
       form_reads (Ty.Shared to) own numbers good r e =
-          ap (λ (o : Found (List ℕ)). or_else (referring true o) (referring false (read (inner to ++ r)))) (unmut to good.0 r e)
+          ap (λ (o : FoundInText (List ℕ)). or_else (referring true o) (referring false (read (inner to ++ r)))) (unmut to good.0 r e)
           ∙ ap (referring false) (one to good.0 r e)
       form_reads (Ty.Unique to) own numbers good r e =
-          ap (λ (o : Found (List ℕ)). or_else (referring true o) (referring false (read (codes "mut " ++ (inner to ++ r))))) (one to good.0 r e)
+          ap (λ (o : FoundInText (List ℕ)). or_else (referring true o) (referring false (read (codes "mut " ++ (inner to ++ r))))) (one to good.0 r e)
       form_reads (Ty.Closure n) own numbers good r e =
           word_reads read (codes "closure#" ++ decimal n) r (digits_stand (decimal n) (decimal_digits n numbers)) (omega arith) refl refl e
 
@@ -330,7 +330,7 @@ every_of p [] h = tt
 every_of p (x ∷ xs) h = let (this, others) = and_parts (p x) _ h in (this, every_of p xs others)
 
 -- a type of a graph, as its listing has it
-pub type_reader : List ℕ → Found (List ℕ)
+pub type_reader : List ℕ → FoundInText (List ℕ)
 type_reader t = type_read deepest t
 
 pub no_reader_at : (r : List ℕ) → type_reader (codes ")" ++ r) ≡ None
@@ -458,12 +458,12 @@ known items names id h = by (length items.types) refl h
             parts = exists;
             shape =
                 ap (λ (w : List ℕ). shape_reader w) (ap (found_text items (type_within items (deepest - 1))) is ∙ sym (append-nil (form_text items (type_within items (deepest - 1)) ty)))
-                ∙ ap (λ (o : Found Shape). bind o (λ f. Some f.0)) read
+                ∙ ap (λ (o : FoundInText Shape). bind o (λ f. Some f.0)) read
                 ∙ ap (λ (shape : Shape). Some shape) (shape_same items (type_within items (deepest - 1)) (type_within items deepest) ty same);
           },
         )
 
-pub in_row_reads : {X Z : Type 0} (read : List ℕ → Found Z) (text : X → List ℕ) (seen : X → Z) (Good : X → Type 0) (Ends : List ℕ → Type 0)
+pub in_row_reads : {X Z : Type 0} (read : List ℕ → FoundInText Z) (text : X → List ℕ) (seen : X → Z) (Good : X → Type 0) (Ends : List ℕ → Type 0)
     → ((x : X) → Good x → (r : List ℕ) → Ends r → read (text x ++ r) ≡ Some (seen x, r)) → ((t : List ℕ) → Ends (codes ", " ++ t)) → ((t : List ℕ) → Ends (codes ")" ++ t))
     → ((t : List ℕ) → read (codes ")" ++ t) ≡ None) → (xs : List X) → Every Good xs → (r : List ℕ) → in_row read (in_parentheses (map text xs) ++ r) ≡ Some (map seen xs, r)
 in_row_reads read text seen Good Ends one at_comma at_close none [] good r = ap closed_row (row_of_none read text seen Good Ends one at_comma (codes ")" ++ r) (none r))

@@ -4,8 +4,8 @@ use Rattle.std.specs.Str.Parse.{digits_value}
 use Rattle.cfg_graph.specs.WellFormed.NameFaults.{same_name}
 
 -- what was found, and what stands behind it
-abbrev pub Found : Type 0 → Type 0
-Found X = Option (X × List ℕ)
+abbrev pub FoundInText : Type 0 → Type 0
+FoundInText X = Option (X × List ℕ)
 
 abbrev pub bind : {X Y : Type 0} → Option X → (X → Option Y) → Option Y
 bind None go = None
@@ -21,7 +21,7 @@ chosen None go other = other
 chosen (Some x) go other = go x
 
 -- what was found, made into something else
-abbrev pub as_ : {X Y : Type 0} → (X → Y) → Found X → Found Y
+abbrev pub as_ : {X Y : Type 0} → (X → Y) → FoundInText X → FoundInText Y
 as_ make found = bind found (λ f. Some (make f.0, f.1))
 
 -- behind a word
@@ -31,7 +31,7 @@ strip (a ∷ more) [] = None
 strip (a ∷ more) (b ∷ bs) = if nat_eq a b then strip more bs else None
 
 -- a word that says something
-abbrev pub said : {X : Type 0} → List ℕ → X → List ℕ → Found X
+abbrev pub said : {X : Type 0} → List ℕ → X → List ℕ → FoundInText X
 said word x t = bind (strip word t) (λ r. Some (x, r))
 
 -- the longest beginning of bytes that pass
@@ -47,12 +47,12 @@ abbrev pub limited : ℕ → ℕ → Option ℕ
 limited limit n = if nat_lt n limit then Some n else None
 
 -- the number of these digits, of which there is one
-abbrev pub valued : ℕ → List ℕ × List ℕ → Found ℕ
+abbrev pub valued : ℕ → List ℕ × List ℕ → FoundInText ℕ
 valued limit ([], r) = None
 valued limit (d ∷ ds, r) = bind (limited limit (digits_value 10 (d ∷ ds))) (λ n. Some (n, r))
 
 -- a number, of 32 bits
-abbrev pub number : List ℕ → Found ℕ
+abbrev pub number : List ℕ → FoundInText ℕ
 number t = valued (2 ^ 32) (span is_digit t)
 
 abbrev pub negative : ℕ → ℤ
@@ -60,7 +60,7 @@ negative zero = pos 0
 negative (suc n) = negsuc n
 
 -- a number with its sign, of 128 bits
-abbrev pub signed : List ℕ → Found ℤ
+abbrev pub signed : List ℕ → FoundInText ℤ
 signed t =
     chosen (strip (codes "-") t) (λ t. as_ negative (valued (2 ^ 127 + 1) (span is_digit t)))
     (as_ pos (valued (2 ^ 127) (span is_digit t)))

@@ -12,7 +12,7 @@ use Rattle.src_meaning.proofs.Examples.Locals.{main_again}
 use Rattle.src_meaning.proofs.Examples.WithD.{d_ty, d, drop_d, take, with_d}
 use Rattle.std.specs.Prelude.{zero, suc, ◌&&◌, is_none, slice_get}
 use Rattle.std.proofs.Common.{subst}
-use Rattle.store_model.specs.Effects.{Site}
+use Rattle.store_model.specs.Effects.{EffectSite}
 use Rattle.src_meaning.specs.Programs.{reached_by, IsAccepted}
 
 abbrev tuple_d_d_ty : TyId
@@ -37,7 +37,7 @@ abbrev lists_of : ℕ → List (List Bool)
 lists_of zero = [] ∷ []
 lists_of (suc k) = with_item (lists_of k)
 
-abbrev node_of : Option Site → Option ℕ
+abbrev node_of : Option EffectSite → Option ℕ
 node_of (Some site) = Some site.node
 node_of None = None
 

@@ -1,7 +1,7 @@
 -- All sites of one effect have the number of the node that acts; and which scopes are whose.
 use Rattle.std.proofs.Common.{◌≡◌, refl, [], ◌∷◌, pos}
 use Rattle.std.specs.Prelude.{ℕ, Option, Some, None, false}
-use Rattle.store_model.specs.Effects.{Site}
+use Rattle.store_model.specs.Effects.{EffectSite}
 use Rattle.store_model.specs.Abstract.Effects.{AbstractState, abstract_effects}
 use Rattle.typed_tree.specs.declared.node.Use.{Use}
 use Rattle.typed_tree.specs.Tree.{Node, absent, Number, Variable, Call, Block, BodyTree}
@@ -13,7 +13,7 @@ use Rattle.src_meaning.proofs.Examples.Conditions.{items}
 use Rattle.src_meaning.proofs.Examples.Words.{a_name, i32, unit, n, used, nodes, let_, stmt, body}
 use Rattle.src_meaning.proofs.Examples.WithD.{d_ty, d}
 
-abbrev node_of : Option Site → Option ℕ
+abbrev node_of : Option EffectSite → Option ℕ
 node_of (Some site) = Some site.node
 node_of None = None
 

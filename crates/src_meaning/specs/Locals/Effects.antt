@@ -1,7 +1,7 @@
 -- The effects on the keys of a body as the effects on its locals: the source and a graph name cells alike, and nothing
 -- is renamed between them.
 use Rattle.std.specs.Prelude.{ℕ, map}
-use Rattle.store_model.specs.Effects.{Site, Operand, Copied, Moved, Action, Put, Compare, Not, Build, NewBox, Unsize, Borrow, Touch, Print, Forget, Free, Compute, Negate, Bounds, Call, CallVirtual, Ask, Test, IsTrue, HasVariant, Effects}
+use Rattle.store_model.specs.Effects.{EffectSite, Operand, Copied, Moved, Action, Put, Compare, Not, Build, NewBox, Unsize, Borrow, Touch, Print, Forget, Free, Compute, Negate, Bounds, Call, CallVirtual, Ask, Test, IsTrue, HasVariant, Effects}
 use Rattle.store_model.specs.Places.Place.{Step, ToElement, Place}
 
 module _ (local_of : ℕ → ℕ) where
@@ -12,7 +12,7 @@ module _ (local_of : ℕ → ℕ) where
   abbrev pub place_at : Place → Place
   place_at place = record { local = local_of place.local; steps = map step_at place.steps }
 
-  abbrev pub site_at : Site → Site
+  abbrev pub site_at : EffectSite → EffectSite
   site_at site = record site { place = place_at site.place }
 
   abbrev pub operand_at : Operand → Operand

@@ -6,7 +6,7 @@ use Rattle.mir_ty.specs.Facts.{needs_drop}
 use Rattle.mir_ty.specs.ItemTable.{ItemTable}
 use Rattle.store_model.proofs.Effects.Laws.{NoMore, NoMoreOf, Ticked, Laws, Keeps}
 use Rattle.store_model.specs.Effects as effects
-use Rattle.store_model.specs.Effects.{Site, Operand, Action, Test, Mode, Normal, Unwinding, Halt, Infeasible, Unreachable, Out, Go, Unwind, Halts, Choice, Effects}
+use Rattle.store_model.specs.Effects.{EffectSite, Operand, Action, Test, Mode, Normal, Unwinding, Halt, Infeasible, Unreachable, Out, Go, Unwind, Halts, Choice, Effects}
 use Rattle.store_model.specs.Places.Place.{place_ty}
 use Rattle.store_model.specs.Abstract.Effects.{AbstractState, next_choice, chosen_next, choice_after, when, may_use, may_test, may_store, watched_at, presence_of, after, never_at, using, unless_never, operand_used, operands_used, store, returns_by_choice, computed_by_choice, acted_on, act, choose, unwound, dropped, drop, abstract_effects}
 
@@ -50,7 +50,7 @@ module _ (m : ℕ) where
     never_less true w l = tt
     never_less false w l = l
 
-    using_less : (site : Site) (next : AbstractState → Out AbstractState) → Keeps choices_of m next → Keeps choices_of m (using table local_ty site next)
+    using_less : (site : EffectSite) (next : AbstractState → Out AbstractState) → Keeps choices_of m next → Keeps choices_of m (using table local_ty site next)
     using_less site next e w l = when_less (may_use (watched_at table local_ty site) (presence_of table local_ty site w)) (effects.BadUse site) next e w l
 
     operand_less : (operand : Operand) → Keeps choices_of m (operand_used table local_ty operand)
@@ -65,19 +65,19 @@ module _ (m : ℕ) where
     operands_less (operand ∷ operands) next e w l =
         go_less (operand_used table local_ty operand w) (operand_less operand w l) _ (operands_less operands next e)
 
-    store_less : (to : Site) → Keeps choices_of m (store table local_ty to)
+    store_less : (to : EffectSite) → Keeps choices_of m (store table local_ty to)
     store_less to w l =
         when_less (may_store (watched_at table local_ty to) (presence_of table local_ty to w)) (effects.BadStore to)
         (λ w. Go (after table local_ty false to w)) (λ v k. k) w l
 
-    computed_less : (to : Site) → Keeps choices_of m (computed_by_choice table local_ty to)
+    computed_less : (to : EffectSite) → Keeps choices_of m (computed_by_choice table local_ty to)
     computed_less to w l = choice_less_one w.choices w _ _ l (store_less to) (λ v k. k)
 
-    unless_never_returns : (b : Bool) (to : Site) → Keeps choices_of m (if b then Halts Infeasible else store table local_ty to)
+    unless_never_returns : (b : Bool) (to : EffectSite) → Keeps choices_of m (if b then Halts Infeasible else store table local_ty to)
     unless_never_returns true to w l = tt
     unless_never_returns false to w l = store_less to w l
 
-    returns_less : (to : Site) → Keeps choices_of m (returns_by_choice table local_ty to)
+    returns_less : (to : EffectSite) → Keeps choices_of m (returns_by_choice table local_ty to)
     returns_less to w l = choice_less_one w.choices w _ _ l (unless_never_returns (never_at table local_ty to) to) (λ v k. k)
 
     acted_less : (action : Action) → Keeps choices_of m (acted_on table local_ty action)
@@ -110,18 +110,18 @@ module _ (m : ℕ) where
         choice_less (when (may_test (watched_at table local_ty site) (presence_of table local_ty site w)) (effects.BadUse site) Go w)
         (when_less (may_test (watched_at table local_ty site) (presence_of table local_ty site w)) (effects.BadUse site) Go (λ v k. k) w l)
 
-    abbrev needs_drop_at : Site → Bool
+    abbrev needs_drop_at : EffectSite → Bool
     needs_drop_at site = option_map_or (needs_drop table) (place_ty table local_ty site.place) false
 
     unwound_less : (mode : Mode) → Keeps choices_of m (unwound table local_ty mode)
     unwound_less Normal w l = l
     unwound_less Unwinding w l = tt
 
-    dropped_less : (b : Bool) (mode : Mode) (site : Site) → Keeps choices_of m (dropped table local_ty b mode site)
+    dropped_less : (b : Bool) (mode : Mode) (site : EffectSite) → Keeps choices_of m (dropped table local_ty b mode site)
     dropped_less true mode site w l = choice_less_one w.choices w _ _ l (λ v k. k) (λ v k. unwound_less mode _ k)
     dropped_less false mode site w l = l
 
-    drop_less : (mode : Mode) (site : Site) → Keeps choices_of m (drop table local_ty mode site)
+    drop_less : (mode : Mode) (site : EffectSite) → Keeps choices_of m (drop table local_ty mode site)
     drop_less mode site w l =
         when_less (may_store (watched_at table local_ty site) (presence_of table local_ty site w)) (effects.BadStore site)
         (dropped table local_ty (needs_drop_at site) mode site) (dropped_less (needs_drop_at site) mode site) w l

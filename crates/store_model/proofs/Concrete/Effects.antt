@@ -13,8 +13,8 @@ use Rattle.store_model.specs.declared.address.At.TheVariants.{Part, Inside}
 use Rattle.store_model.specs.Values.Datum.{Datum, Data, Gone, Number, Truth, UnitValue, Aggregate, Box, Address, no_part, a_part}
 use Rattle.store_model.specs.Concrete.Drops.{drop_body_out, unwinding_out, in_mode, same_if, if_still_typed, Stage, Begins, HasRun, gone_at, freed_there, freed_at, as_read, if_part, with_body, own_body, drop_impl, drop_value, drop_parts, dropped_there, drop_at}
 use Rattle.store_model.specs.Effects as effects
-use Rattle.store_model.specs.Effects.{Site, Operand, Kind, OfTuple, OfArray, OfVariant, OfClosure, Action, Test, Mode, Normal, Unwinding, Halt, OutOfTicks, Stuck, Out, Go, Unwind, Halts, Choice, Yes, No, Neither, Effects}
-use Rattle.store_model.specs.Concrete.Bodies.{Code, ended, after_tick, run_body}
+use Rattle.store_model.specs.Effects.{EffectSite, Operand, AggregateKind, OfTuple, OfArray, OfVariant, OfClosure, Action, Test, Mode, Normal, Unwinding, Halt, OutOfTicks, Stuck, Out, Go, Unwind, Halts, Choice, Yes, No, Neither, Effects}
+use Rattle.store_model.specs.Concrete.Bodies.{CodeOfBodies, ended, after_tick, run_body}
 use Rattle.store_model.specs.Concrete.Location.{Setting, DynamicType, concrete_ty, Located, into, Reached, Reaches, CutOff, Nowhere, reach, on_reached, stored_at}
 use Rattle.store_model.specs.Concrete.State.{State, with_event, numbered_next, spend, Answer, Returns, Unwinds, HaltsIn, Bodies}
 use Rattle.store_model.specs.Values.Wholeness.{serials}
@@ -108,12 +108,12 @@ module _ (m : ℕ) where
         (w : State) → w.ticks ≤ m → Kept m (with_operands setting operands w next)
     taking_all_less operands next e w l = after_taken (evaluate_operands setting operands w) next w (all_taken_less operands w l) e
 
-    put_less : (to : Site) (value : Datum) (w : State) → w.ticks ≤ m → Kept m (put setting to value w)
+    put_less : (to : EffectSite) (value : Datum) (w : State) → w.ticks ≤ m → Kept m (put setting to value w)
     put_less to value w l =
         reached_less (reach setting w to.place) (λ s. Go (stored_at s.address value w)) (Halts Stuck w) (Halts Stuck w)
         (λ s. goes (stored_at s.address value w) l) (halted Stuck w) (halted Stuck w)
 
-    put_if_less : (to : Site) (value : Option Datum) (w : State) → w.ticks ≤ m → Kept m (put_if setting to value w)
+    put_if_less : (to : EffectSite) (value : Option Datum) (w : State) → w.ticks ≤ m → Kept m (put_if setting to value w)
     put_if_less to value w l = step_less value (λ v. put setting to v w) w (λ v. put_less to v w l)
 
     told_less : (event : Event) (o : Out State) → Kept m o → Kept m (tell_after setting event o)
@@ -121,17 +121,17 @@ module _ (m : ℕ) where
     told_less event (Unwind w) h = record { kept = h.kept }
     told_less event (Halts halt w) h = record { kept = tt }
 
-    made_less : (adt : ℕ) (to : Site) (value : Datum) (of : Option (ℕ × ℕ)) (w : State) → w.ticks ≤ m → Kept m (made_event setting adt to value of w)
+    made_less : (adt : ℕ) (to : EffectSite) (value : Datum) (of : Option (ℕ × ℕ)) (w : State) → w.ticks ≤ m → Kept m (made_event setting adt to value of w)
     made_less adt to value None w l = put_less to value w l
     made_less adt to value (Some of) w l = told_less (Event.Make adt w.serial) (put setting to value (numbered_next w)) (put_less to value (numbered_next w) l)
 
-    built_less : (to : Site) (kind : Kind) (parts : List Datum) (w : State) → w.ticks ≤ m → Kept m (built setting to kind parts w)
+    built_less : (to : EffectSite) (kind : AggregateKind) (parts : List Datum) (w : State) → w.ticks ≤ m → Kept m (built setting to kind parts w)
     built_less to OfTuple parts w l = put_less to _ w l
     built_less to OfArray parts w l = put_less to _ w l
     built_less to (OfClosure closure) parts w l = put_less to _ w l
     built_less to (OfVariant adt variant) parts w l = made_less adt to _ _ w l
 
-    boxed_less : (to : Site) (content : Datum) (w : State) → w.ticks ≤ m → Kept m (boxed setting to content w)
+    boxed_less : (to : EffectSite) (content : Datum) (w : State) → w.ticks ≤ m → Kept m (boxed setting to content w)
     boxed_less to content w l =
         told_less (Event.Boxed w.serial) (put setting to (Box w.serial None content) (numbered_next w)) (put_less to (Box w.serial None content) (numbered_next w) l)
 
@@ -148,15 +148,15 @@ module _ (m : ℕ) where
         unnumbered_less (serials inside) (Go (with_event (Event.Freed serial) (stored_at s.address Gone w))) w (record { kept = l })
     freed_less s _ w l = record { kept = tt }
 
-    put_computed_less : (to : Site) (answer : Computed) (w : State) → w.ticks ≤ m → Kept m (put_computed setting to answer w)
+    put_computed_less : (to : EffectSite) (answer : Computed) (w : State) → w.ticks ≤ m → Kept m (put_computed setting to answer w)
     put_computed_less to (Gives number) w l = put_less to (Number number) w l
     put_computed_less to (PanicsBy why) w l = record { kept = l }
 
-    compute_less : (to : Site) (operator : Math) (kind : Option IntKind) (a b : Datum) (w : State) → w.ticks ≤ m → Kept m (compute setting to operator kind a b w)
+    compute_less : (to : EffectSite) (operator : Math) (kind : Option IntKind) (a b : Datum) (w : State) → w.ticks ≤ m → Kept m (compute setting to operator kind a b w)
     compute_less to operator (Some kind) (Number a) (Number b) w l = put_computed_less to (computed operator kind a b) w l
     compute_less to operator _ _ _ w l = record { kept = tt }
 
-    negate_less : (to : Site) (kind : Option IntKind) (a : Datum) (w : State) → w.ticks ≤ m → Kept m (negate setting to kind a w)
+    negate_less : (to : EffectSite) (kind : Option IntKind) (a : Datum) (w : State) → w.ticks ≤ m → Kept m (negate setting to kind a w)
     negate_less to (Some kind) (Number a) w l = put_computed_less to _ w l
     negate_less to _ _ w l = record { kept = tt }
 
@@ -168,12 +168,12 @@ module _ (m : ℕ) where
     bounded_less count (Number number) w l = within_less _ w l
     bounded_less count _ w l = record { kept = tt }
 
-    answered_less : (to : Site) (answer : Answer) → KeptAnswer m answer → Kept m (answered setting to answer)
+    answered_less : (to : EffectSite) (answer : Answer) → KeptAnswer m answer → Kept m (answered setting to answer)
     answered_less to (Returns value w) h = put_less to value w h.kept
     answered_less to (Unwinds w) h = record { kept = h.kept }
     answered_less to (HaltsIn halt w) h = record { kept = tt }
 
-    asked_less : (to : Site) (numbers : List ℤ) (w : State) → w.ticks ≤ m → Kept m (asked setting to numbers w)
+    asked_less : (to : EffectSite) (numbers : List ℤ) (w : State) → w.ticks ≤ m → Kept m (asked setting to numbers w)
     asked_less to [] w l = record { kept = l }
     asked_less to (number ∷ rest) w l = told_less (Event.Asked number) _ (put_less to (Number number) (record w { asked = rest }) l)
 
@@ -201,7 +201,7 @@ module _ (m : ℕ) where
     choose_less (effects.HasVariant site variant) w l = tested_less variant (reach setting w site.place) w l
 
     module _ (run : Bodies) (thrifty : Thrifty run) where
-      called_less : (to : Site) (body : Option ℕ) (args : List Datum) (w : State) → w.ticks ≤ m → Kept m (called setting run to body args w)
+      called_less : (to : EffectSite) (body : Option ℕ) (args : List Datum) (w : State) → w.ticks ≤ m → Kept m (called setting run to body args w)
       called_less to body args w l =
           step_less body (λ body. answered setting to (run (Event.Call body) body args w)) w
           (λ body. answered_less to (run (Event.Call body) body args w) (thrifty m (Event.Call body) body args w l))
@@ -238,7 +238,7 @@ module _ (m : ℕ) where
           halting_less (effects.stores_where (never_at setting w) action) Stuck (acted setting run action w)
           (acted_less action w l)
 
-      give_less : (site : Site) (w : State) → w.ticks ≤ m → Kept m (give setting run site w)
+      give_less : (site : EffectSite) (w : State) → w.ticks ≤ m → Kept m (give setting run site w)
       give_less site w l = step_less (whole_at setting w site) _ w (λ s. goes w l)
 
       -- dropping
@@ -334,7 +334,7 @@ module _ (m : ℕ) where
       nothing_if_less true w l = halted Stuck w
       nothing_if_less false w l = goes w l
 
-      drop_less : (fuel : ℕ) (mode : Mode) (site : Site) (w : State) → w.ticks ≤ m → Kept m (drop setting run fuel mode site w)
+      drop_less : (fuel : ℕ) (mode : Mode) (site : EffectSite) (w : State) → w.ticks ≤ m → Kept m (drop setting run fuel mode site w)
       drop_less fuel mode site w l =
           reached_less (reach setting w site.place) _ (nothing_if setting run setting.strict w) (Halts Stuck w)
           (λ s. dropped_if_less fuel _ mode s w l) (nothing_if_less setting.strict w l) (halted Stuck w)
@@ -384,11 +384,11 @@ after_spending zero m w next l e = record { spent = tt }
 after_spending (suc n) m w next l e = e n (record w { ticks = n }) (omega arith) (omega arith)
 
 -- what is done within bodies gives no ticks back, if the effects give none
-abbrev pub KeepsTicks : Code → Type 0
+abbrev pub KeepsTicks : CodeOfBodies → Type 0
 KeepsTicks code =
     (p : Effects State) → Laws p ticks_of → (turns body m : ℕ) (w : State) → w.ticks ≤ m → NoMore ticks_of m (code.within p turns body w)
 
-module _ (setting : Setting) (code : Code) (keeps : KeepsTicks code) where
+module _ (setting : Setting) (code : CodeOfBodies) (keeps : KeepsTicks code) where
   pub body_spends : (n : ℕ) → Spending (run_body setting code n)
   body_spends zero m event body args w l = record { spent = tt }
   body_spends (suc n) m event body args w l =
@@ -449,7 +449,7 @@ module _ (setting : Setting) (run run' : Bodies) (spending : Spending run) (n : 
   thrifty_run : Thrifty run
   thrifty_run = spending_thrifty run spending
 
-  called_same : (to : Site) (body : Option ℕ) (args : List Datum) (w : State) → w.ticks ≤ n →
+  called_same : (to : EffectSite) (body : Option ℕ) (args : List Datum) (w : State) → w.ticks ≤ n →
       called setting run to body args w ≡ called setting run' to body args w
   called_same to body args w l =
       step_same body (λ body. answered setting to (run (Event.Call body) body args w)) (λ body. answered setting to (run' (Event.Call body) body args w)) w
@@ -556,7 +556,7 @@ module _ (setting : Setting) (run run' : Bodies) (spending : Spending run) (n : 
     dropped_if_same true mode s w l = drop_at_same b b' Begins s mode w l (omega arith) (omega arith)
     dropped_if_same false mode s w l = refl
 
-    drop_same : (mode : Mode) (site : Site) (w : State) → w.ticks ≤ n → drop setting run b mode site w ≡ drop setting run' b' mode site w
+    drop_same : (mode : Mode) (site : EffectSite) (w : State) → w.ticks ≤ n → drop setting run b mode site w ≡ drop setting run' b' mode site w
     drop_same mode site w l = reached_same (reach setting w site.place) _ _ _ _ (λ s. dropped_if_same _ mode s w l)
 
     pub values_tied : Tied (concrete_effects setting run b) (concrete_effects setting run' b') ticks_of n
@@ -571,7 +571,7 @@ module _ (setting : Setting) (run run' : Bodies) (spending : Spending run) (n : 
 
 -- what is done within bodies is the same with effects that are, and with two amounts of fuel for turns that are greater than the
 -- ticks that are left
-abbrev pub TiesTicks : Code → Type 0
+abbrev pub TiesTicks : CodeOfBodies → Type 0
 TiesTicks code =
     (p q : Effects State) → Laws p ticks_of → (m : ℕ) → Tied p q ticks_of m → (turns turns' body : ℕ) → m < turns → m < turns' →
     (w : State) → w.ticks ≤ m → code.within p turns body w ≡ code.within q turns' body w
@@ -586,7 +586,7 @@ after_spending_same zero n m w next next' l l' e = refl
 after_spending_same (suc k) n m w next next' l l' e = e (record w { ticks = k }) (omega arith) (omega arith)
 
 -- Two amounts of fuel for nesting that are no less than the ticks that are left give the same
-module _ (setting : Setting) (code : Code) (keeps : KeepsTicks code) (ties : TiesTicks code) where
+module _ (setting : Setting) (code : CodeOfBodies) (keeps : KeepsTicks code) (ties : TiesTicks code) where
   abbrev bodies : ℕ → Bodies
   bodies n = run_body setting code n
 

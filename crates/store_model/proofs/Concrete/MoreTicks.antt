@@ -13,7 +13,7 @@ use Rattle.store_model.specs.declared.address.At.TheVariants.{Part, Inside}
 use Rattle.store_model.specs.Values.Datum.{Datum, Data, Gone, Number, Truth, UnitValue, Aggregate, Box, Address, no_part, a_part}
 use Rattle.store_model.specs.Concrete.Drops.{drop_body_out, unwinding_out, in_mode, same_if, if_still_typed, Stage, Begins, HasRun, gone_at, freed_there, freed_at, as_read, if_part, with_body, own_body, drop_impl, drop_value, drop_parts, dropped_there, drop_at}
 use Rattle.store_model.specs.Effects as effects
-use Rattle.store_model.specs.Effects.{Site, Operand, Kind, OfTuple, OfArray, OfVariant, OfClosure, Action, Test, Mode, Normal, Unwinding, Halt, OutOfTicks, Stuck, Out, Go, Unwind, Halts, Choice, Yes, No, Neither, Effects}
+use Rattle.store_model.specs.Effects.{EffectSite, Operand, AggregateKind, OfTuple, OfArray, OfVariant, OfClosure, Action, Test, Mode, Normal, Unwinding, Halt, OutOfTicks, Stuck, Out, Go, Unwind, Halts, Choice, Yes, No, Neither, Effects}
 use Rattle.store_model.specs.Concrete.Location.{Setting, DynamicType, concrete_ty, Located, into, Reached, Reaches, CutOff, Nowhere, reach, on_reached, stored_at}
 use Rattle.store_model.specs.Concrete.State.{State, with_event, numbered_next, spend, Answer, Returns, Unwinds, HaltsIn, Bodies}
 use Rattle.store_model.specs.Values.Wholeness.{serials}
@@ -79,7 +79,7 @@ module _ (setting : Setting) where
   told_more n event _ _ (both_halt _ halt w b) = both_halt n halt w b
   told_more n event _ _ (one_goes_on w o h) = one_goes_on w (tell_after setting event o) (told_more (After w.trace) event o o h)
 
-  answered_more : (put_more : (to : Site) (value : Datum) → MoreOuts (put setting to value)) (n : Beside) (to : Site) (a a' : Answer) →
+  answered_more : (put_more : (to : EffectSite) (value : Datum) → MoreOuts (put setting to value)) (n : Beside) (to : EffectSite) (a a' : Answer) →
       MoreAnswer n a a' → More n (answered setting to a) (answered setting to a')
   answered_more put_more n to _ _ (both_return _ value w b) = put_more to value n w b
   answered_more put_more n to _ _ (both_end _ w b) = both_unwind n w b
@@ -117,7 +117,7 @@ in_mode_more n mode _ _ next next' (both_halt _ halt w b) e d = both_halt n halt
 in_mode_more n mode _ _ next next' (one_goes_on w o h) e d =
     one_goes_on w (in_mode mode o next') (in_mode_more (After w.trace) mode o o next' next' h (λ mode v b. d mode w.trace v b) d)
 
-put_follows : (setting : Setting) (to : Site) (value : Datum) → MoreOuts (put setting to value)
+put_follows : (setting : Setting) (to : EffectSite) (value : Datum) → MoreOuts (put setting to value)
 put_follows setting to value n w b = go (reach setting w to.place)
   where
     go : (r : Reached) →
@@ -201,27 +201,27 @@ module _ (n : Beside) where
     taking_all_more operands next e w b =
         after_taken (evaluate_operands setting operands w) (evaluate_operands setting operands (paced n w)) next w b (all_taken_more operands w b) e
 
-    put_more : (to : Site) (value : Datum) (w : State) → Begun n w.trace → More n (put setting to value w) (put setting to value (paced n w))
+    put_more : (to : EffectSite) (value : Datum) (w : State) → Begun n w.trace → More n (put setting to value w) (put setting to value (paced n w))
     put_more to value w b = put_follows setting to value n w b
 
-    put_if_more : (to : Site) (value : Option Datum) (w : State) → Begun n w.trace → More n (put_if setting to value w) (put_if setting to value (paced n w))
+    put_if_more : (to : EffectSite) (value : Option Datum) (w : State) → Begun n w.trace → More n (put_if setting to value w) (put_if setting to value (paced n w))
     put_if_more to value w b = step_more value (λ v. put setting to v w) (λ v. put setting to v (paced n w)) w b (λ v. put_more to v w b)
 
-    made_more : (adt : ℕ) (to : Site) (value : Datum) (of : Option (ℕ × ℕ)) (w : State) → Begun n w.trace →
+    made_more : (adt : ℕ) (to : EffectSite) (value : Datum) (of : Option (ℕ × ℕ)) (w : State) → Begun n w.trace →
         More n (made_event setting adt to value of w) (made_event setting adt to value of (paced n w))
     made_more adt to value None w b = put_more to value w b
     made_more adt to value (Some of) w b =
         told_more setting n (Event.Make adt w.serial) (put setting to value (numbered_next w)) (put setting to value (numbered_next (paced n w)))
         (put_more to value (numbered_next w) b)
 
-    built_more : (to : Site) (kind : Kind) (parts : List Datum) (w : State) → Begun n w.trace →
+    built_more : (to : EffectSite) (kind : AggregateKind) (parts : List Datum) (w : State) → Begun n w.trace →
         More n (built setting to kind parts w) (built setting to kind parts (paced n w))
     built_more to OfTuple parts w b = put_more to _ w b
     built_more to OfArray parts w b = put_more to _ w b
     built_more to (OfClosure closure) parts w b = put_more to _ w b
     built_more to (OfVariant adt variant) parts w b = made_more adt to _ _ w b
 
-    boxed_more : (to : Site) (content : Datum) (w : State) → Begun n w.trace → More n (boxed setting to content w) (boxed setting to content (paced n w))
+    boxed_more : (to : EffectSite) (content : Datum) (w : State) → Begun n w.trace → More n (boxed setting to content w) (boxed setting to content (paced n w))
     boxed_more to content w b =
         told_more setting n (Event.Boxed w.serial) (put setting to (Box w.serial None content) (numbered_next w))
         (put setting to (Box w.serial None content) (numbered_next (paced n w)))
@@ -246,16 +246,16 @@ module _ (n : Beside) where
     pub panicked : (why : Why) (w : State) → Begun n w.trace → More n (Unwind (with_event (Event.Panicked why) w)) (Unwind (with_event (Event.Panicked why) (paced n w)))
     panicked why w b = both_unwind n (with_event (Event.Panicked why) w) (begun_further n w.trace (Event.Panicked why ∷ []) b)
 
-    put_computed_more : (to : Site) (answer : Computed) (w : State) → Begun n w.trace → More n (put_computed setting to answer w) (put_computed setting to answer (paced n w))
+    put_computed_more : (to : EffectSite) (answer : Computed) (w : State) → Begun n w.trace → More n (put_computed setting to answer w) (put_computed setting to answer (paced n w))
     put_computed_more to (Gives number) w b = put_more to (Number number) w b
     put_computed_more to (PanicsBy why) w b = panicked why w b
 
-    compute_more : (to : Site) (operator : Math) (kind : Option IntKind) (x y : Datum) (w : State) → Begun n w.trace →
+    compute_more : (to : EffectSite) (operator : Math) (kind : Option IntKind) (x y : Datum) (w : State) → Begun n w.trace →
         More n (compute setting to operator kind x y w) (compute setting to operator kind x y (paced n w))
     compute_more to operator (Some kind) (Number x) (Number y) w b = put_computed_more to (computed operator kind x y) w b
     compute_more to operator _ _ _ w b = no_step w b
 
-    negate_more : (to : Site) (kind : Option IntKind) (x : Datum) (w : State) → Begun n w.trace →
+    negate_more : (to : EffectSite) (kind : Option IntKind) (x : Datum) (w : State) → Begun n w.trace →
         More n (negate setting to kind x w) (negate setting to kind x (paced n w))
     negate_more to (Some kind) (Number x) w b = put_computed_more to _ w b
     negate_more to _ _ w b = no_step w b
@@ -268,7 +268,7 @@ module _ (n : Beside) where
     bounded_more count (Number number) w b = within_more _ w b
     bounded_more count _ w b = no_step w b
 
-    asked_more : (to : Site) (numbers : List ℤ) (w : State) → Begun n w.trace → More n (asked setting to numbers w) (asked setting to numbers (paced n w))
+    asked_more : (to : EffectSite) (numbers : List ℤ) (w : State) → Begun n w.trace → More n (asked setting to numbers w) (asked setting to numbers (paced n w))
     asked_more to [] w b = panicked Why.Ask w b
     asked_more to (number ∷ rest) w b =
         told_more setting n (Event.Asked number) _ _ (put_more to (Number number) (record w { asked = rest }) b)
@@ -301,7 +301,7 @@ module _ (n : Beside) where
     choose_more (effects.HasVariant site variant) w b = tested_more variant (reach setting w site.place) w b
 
     module _ (run : Bodies) (runs : MoreBodies run) where
-      called_more : (to : Site) (body : Option ℕ) (args : List Datum) (w : State) → Begun n w.trace →
+      called_more : (to : EffectSite) (body : Option ℕ) (args : List Datum) (w : State) → Begun n w.trace →
           More n (called setting run to body args w) (called setting run to body args (paced n w))
       called_more to None args w b = no_step w b
       called_more to (Some body) args w b =
@@ -335,7 +335,7 @@ module _ (n : Beside) where
           halting_more n (effects.stores_where (never_at setting w) action) Stuck (acted setting run action w) (acted setting run action (paced n w))
           (acted_more action w b)
 
-      pub give_more : (site : Site) (w : State) → Begun n w.trace → More n (give setting run site w) (give setting run site (paced n w))
+      pub give_more : (site : EffectSite) (w : State) → Begun n w.trace → More n (give setting run site w) (give setting run site (paced n w))
       give_more site w b = step_more (whole_at setting w site) _ _ w b (λ s. both_go n w b)
 
 -- ticks are told apart alike
@@ -447,7 +447,7 @@ module _ (setting : Setting) (run : Bodies) (runs : MoreBodies run) where
   nothing_if_more true n w b = both_halt n Stuck w b
   nothing_if_more false n w b = both_go n w b
 
-  pub drop_more : (fuel : ℕ) (mode : Mode) (site : Site) → MoreOuts (drop setting run fuel mode site)
+  pub drop_more : (fuel : ℕ) (mode : Mode) (site : EffectSite) → MoreOuts (drop setting run fuel mode site)
   drop_more fuel mode site n w b =
       reached_more n (reach setting w site.place) _ _ (nothing_if setting run setting.strict w) (nothing_if setting run setting.strict (paced n w))
       (Halts Stuck w) (Halts Stuck (paced n w)) (λ s. dropped_if_more fuel _ mode s n w b) (nothing_if_more setting.strict n w b) (both_halt n Stuck w b)

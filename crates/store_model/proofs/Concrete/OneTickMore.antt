@@ -7,7 +7,7 @@ use Rattle.store_model.proofs.Effects.Following.{Relation, FollowsOut, goes_on, 
 use Rattle.store_model.proofs.Concrete.MoreTicks.{Beside, OneMore, After, paced, Begun, begun_further, More, both_go, both_unwind, both_halt, one_goes_on, MoreAnswer, both_return, both_end, both_halt_in, one_runs_on, MoreChoice, both_take, both_decline, both_neither, MoreBodies, act_more, choose_more, drop_more, give_more, panicked, spend_more}
 use Rattle.store_model.specs.Concrete.Effects.{concrete_effects}
 use Rattle.store_model.specs.Effects.{Halt, Aborted, OutOfTicks, Stuck, StuckAt, BadUse, BadStore, NoChoice, Infeasible, Unreachable, Out, Go, Unwind, Halts, Choice, Effects}
-use Rattle.store_model.specs.Concrete.Bodies.{Code, ended, after_tick, run_body, outcome_of, GoesOnFrom}
+use Rattle.store_model.specs.Concrete.Bodies.{CodeOfBodies, ended, after_tick, run_body, outcome_of, GoesOnFrom}
 use Rattle.store_model.specs.Concrete.Location.{Setting}
 use Rattle.store_model.specs.Concrete.State.{State, with_event, tick, with_activation, Answer, Bodies}
 
@@ -79,7 +79,7 @@ values_follow setting run runs fuel = record {
 }
 
 -- what is done within bodies follows itself, if the effects do
-abbrev pub FollowsWithin : Code → Type 0
+abbrev pub FollowsWithin : CodeOfBodies → Type 0
 FollowsWithin code = (p : Effects State) → FollowsEffects one_tick_more p p → (turns body : ℕ) →
     FollowsOuts one_tick_more (code.within p turns body) (code.within p turns body)
 
@@ -96,7 +96,7 @@ after_tick_more n _ _ next (both_unwind _ w b) e = both_end n w b
 after_tick_more n _ _ next (both_halt _ halt w b) e = both_halt_in n halt w b
 after_tick_more n _ _ next (one_goes_on w o h) e = one_runs_on w (after_tick o next) (after_tick_more (After w.trace) o o next h e)
 
-module _ (setting : Setting) (code : Code) (within : FollowsWithin code) where
+module _ (setting : Setting) (code : CodeOfBodies) (within : FollowsWithin code) where
   pub bodies_more : (most : ℕ) → MoreBodies (run_body setting code most)
   bodies_more zero n event body args w b = both_halt_in n OutOfTicks w b
   bodies_more (suc most) n event body args w b =

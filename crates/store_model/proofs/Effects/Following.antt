@@ -7,7 +7,7 @@
 -- This part speaks of effects alone. The rules of evaluation and the walk of a graph are followed rule by rule above.
 use Rattle.std.proofs.Common.{◌≡◌, ℕ, suc, ◌<◌, ◌≤◌, ap, ◌∙◌}
 use Rattle.mir_base.specs.declared.trace.Why.{Why}
-use Rattle.store_model.specs.Effects.{Site, Action, Test, Mode, Halt, Aborted, OutOfTicks, Out, Go, Unwind, Halts, aborting, Choice, Yes, No, Neither, Effects, on_go}
+use Rattle.store_model.specs.Effects.{EffectSite, Action, Test, Mode, Halt, Aborted, OutOfTicks, Out, Go, Unwind, Halts, aborting, Choice, Yes, No, Neither, Effects, on_go}
 
 -- a state of the second run is what is known, fed with choices
 pub record Relation (W V : Type 0) : Type 1 where
@@ -63,10 +63,10 @@ FollowsChoices {W} {V} rel f f' = (n : rel.Stage) (w : W) (c : rel.Known) → re
 pub record FollowsEffects {W V : Type 0} (rel : Relation W V) (p : Effects W) (q : Effects V) : Type 0 where
   pub acting : (action : Action) → FollowsOuts rel (p.act action) (q.act action)
   pub choosing : (test : Test) → FollowsChoices rel (p.choose test) (q.choose test)
-  pub dropping : (mode : Mode) (site : Site) → FollowsOuts rel (p.drop mode site) (q.drop mode site)
+  pub dropping : (mode : Mode) (site : EffectSite) → FollowsOuts rel (p.drop mode site) (q.drop mode site)
   pub panicking : (why : Why) → FollowsOuts rel (λ w. Unwind (p.panic why w)) (λ v. Unwind (q.panic why v))
   pub ticking : FollowsOuts rel p.tick q.tick
-  pub giving : (site : Site) → FollowsOuts rel (p.give site) (q.give site)
+  pub giving : (site : EffectSite) → FollowsOuts rel (p.give site) (q.give site)
 
 module _ {W V : Type 0} (rel : Relation W V) where
   -- some choices are taken before

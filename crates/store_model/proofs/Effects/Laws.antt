@@ -2,7 +2,7 @@
 -- run on values or the choices of a free run.
 use Rattle.std.proofs.Common.{◌≡◌, ℕ, suc, ◌≤◌, arith}
 use Rattle.mir_base.specs.declared.trace.Why.{Why}
-use Rattle.store_model.specs.Effects.{Action, Test, Mode, Site, Out, Go, Unwind, Halts, Choice, Yes, No, Neither, Effects}
+use Rattle.store_model.specs.Effects.{Action, Test, Mode, EffectSite, Out, Go, Unwind, Halts, Choice, Yes, No, Neither, Effects}
 
 -- at most so much is left
 abbrev pub NoMore : {W : Type 0} → (W → ℕ) → ℕ → Out W → Type 0
@@ -25,10 +25,10 @@ Ticked size m (Halts halt w) = Unit {0}
 pub record Laws {W : Type 0} (p : Effects W) (size : W → ℕ) : Type 0 where
   pub acting : (action : Action) (w : W) → NoMore size (size w) (p.act action w)
   pub choosing : (test : Test) (w : W) → NoMoreOf size (size w) (p.choose test w)
-  pub dropping : (mode : Mode) (site : Site) (w : W) → NoMore size (size w) (p.drop mode site w)
+  pub dropping : (mode : Mode) (site : EffectSite) (w : W) → NoMore size (size w) (p.drop mode site w)
   pub panicking : (why : Why) (w : W) → size (p.panic why w) ≤ size w
   pub ticking : (w : W) → Ticked size (size w) (p.tick w)
-  pub giving : (site : Site) (w : W) → NoMore size (size w) (p.give site w)
+  pub giving : (site : EffectSite) (w : W) → NoMore size (size w) (p.give site w)
 
 module _ {W : Type 0} (size : W → ℕ) where
   pub weaker : (m k : ℕ) (o : Out W) → k ≤ m → NoMore size k o → NoMore size m o
@@ -53,10 +53,10 @@ module _ {W : Type 0} (size : W → ℕ) where
 pub record Tied {W : Type 0} (p q : Effects W) (size : W → ℕ) (m : ℕ) : Type 0 where
   pub acting : (action : Action) (w : W) → size w ≤ m → p.act action w ≡ q.act action w
   pub choosing : (test : Test) (w : W) → size w ≤ m → p.choose test w ≡ q.choose test w
-  pub dropping : (mode : Mode) (site : Site) (w : W) → size w ≤ m → p.drop mode site w ≡ q.drop mode site w
+  pub dropping : (mode : Mode) (site : EffectSite) (w : W) → size w ≤ m → p.drop mode site w ≡ q.drop mode site w
   pub panicking : (why : Why) (w : W) → size w ≤ m → p.panic why w ≡ q.panic why w
   pub ticking : (w : W) → size w ≤ m → p.tick w ≡ q.tick w
-  pub giving : (site : Site) (w : W) → size w ≤ m → p.give site w ≡ q.give site w
+  pub giving : (site : EffectSite) (w : W) → size w ≤ m → p.give site w ≡ q.give site w
 
 -- the same where less is left
 pub fewer_tied : {W : Type 0} (size : W → ℕ) (p q : Effects W) (m k : ℕ) → k ≤ m → Tied p q size m → Tied p q size k

@@ -7,7 +7,7 @@ use Rattle.mir_ty.specs.declared.ty.TyId.{TyId}
 use Rattle.mir_ty.specs.Facts.{needs_drop}
 use Rattle.mir_ty.specs.ItemTable.{ItemTable, type_at}
 use Rattle.store_model.specs.Effects as effects
-use Rattle.store_model.specs.Effects.{Site, Operand, Action, Test, Mode, Normal, Unwinding, Halt, Aborted, BadUse, BadStore, NoChoice, Infeasible, Unreachable, Out, Go, Unwind, Halts, Choice, Yes, No, Neither, Effects, halting_if}
+use Rattle.store_model.specs.Effects.{EffectSite, Operand, Action, Test, Mode, Normal, Unwinding, Halt, Aborted, BadUse, BadStore, NoChoice, Infeasible, Unreachable, Out, Go, Unwind, Halts, Choice, Yes, No, Neither, Effects, halting_if}
 use Rattle.store_model.specs.Places.Place.{place_ty, Watched, Whole, ThroughReference, ByElement, watched}
 use Rattle.store_model.specs.Abstract.Presence.{Presence, is_present, is_gone, after_action, containers_present, is_whole_at, is_there_at}
 use Rattle.store_model.specs.Places.TypeForms.{is_never}
@@ -82,22 +82,22 @@ abbrev pub panics_by_choice : AbstractState → (AbstractState → Out AbstractS
 panics_by_choice w next = next_choice w.choices w next Unwind
 
 module _ (table : ItemTable) (local_ty : ℕ → Option TyId) where
-  abbrev pub watched_at : Site → Watched
+  abbrev pub watched_at : EffectSite → Watched
   watched_at site = watched table (local_ty site.place.local) site.place.steps
 
-  abbrev ty_at : Site → Option TyId
+  abbrev ty_at : EffectSite → Option TyId
   ty_at site = place_ty table local_ty site.place
 
-  abbrev pub never_at : Site → Bool
+  abbrev pub never_at : EffectSite → Bool
   never_at site = is_never (option_and_then (type_at table) (ty_at site))
 
-  abbrev pub presence_of : Site → AbstractState → Presence
+  abbrev pub presence_of : EffectSite → AbstractState → Presence
   presence_of site w = presence site.place.local w.cells
 
-  abbrev pub after : Bool → Site → AbstractState → AbstractState
+  abbrev pub after : Bool → EffectSite → AbstractState → AbstractState
   after takes site w = record w { cells = with_presence site.place.local (acted takes (watched_at site)) w.cells }
 
-  abbrev pub using : Site → (AbstractState → Out AbstractState) → AbstractState → Out AbstractState
+  abbrev pub using : EffectSite → (AbstractState → Out AbstractState) → AbstractState → Out AbstractState
   using site next w = when (may_use (watched_at site) (presence_of site w)) (BadUse site) next w
 
   -- no value of the type `!` is ever made, so past a copy of one there is no run
@@ -114,14 +114,14 @@ module _ (table : ItemTable) (local_ty : ℕ → Option TyId) where
   operands_used [] next w = next w
   operands_used (operand ∷ operands) next w = effects.on_go (operand_used operand w) (operands_used operands next)
 
-  abbrev pub store : Site → AbstractState → Out AbstractState
+  abbrev pub store : EffectSite → AbstractState → Out AbstractState
   store to w = when (may_store (watched_at to) (presence_of to w)) (BadStore to) (λ w. Go (after false to w)) w
 
   -- a call ends by returning or by a panic; one whose result has type `!` does not return
-  abbrev pub returns_by_choice : Site → AbstractState → Out AbstractState
+  abbrev pub returns_by_choice : EffectSite → AbstractState → Out AbstractState
   returns_by_choice to w = panics_by_choice w (if never_at to then Halts Infeasible else store to)
 
-  abbrev pub computed_by_choice : Site → AbstractState → Out AbstractState
+  abbrev pub computed_by_choice : EffectSite → AbstractState → Out AbstractState
   computed_by_choice to w = panics_by_choice w (store to)
 
   abbrev pub acted_on : Action → AbstractState → Out AbstractState
@@ -157,12 +157,12 @@ module _ (table : ItemTable) (local_ty : ℕ → Option TyId) where
   unwound Unwinding w = Halts Aborted w
 
   -- what needs dropping takes a choice, whether it is gone or not; it is gone then, also after a panic
-  abbrev pub dropped : Bool → Mode → Site → AbstractState → Out AbstractState
+  abbrev pub dropped : Bool → Mode → EffectSite → AbstractState → Out AbstractState
   dropped true mode site w =
       next_choice w.choices w (λ w. Go (after true site w)) (λ w. unwound mode (after true site w))
   dropped false mode site w = Go (after true site w)
 
-  abbrev pub drop : Mode → Site → AbstractState → Out AbstractState
+  abbrev pub drop : Mode → EffectSite → AbstractState → Out AbstractState
   drop mode site w =
       when (may_store (watched_at site) (presence_of site w)) (BadStore site)
       (dropped (option_map_or (needs_drop table) (ty_at site) false) mode site) w

@@ -31,7 +31,7 @@ after_tick (Halts halt w) next = HaltsIn halt w
 
 -- A program's bodies: under which numbers each has its arguments and its result, and what is done within it, given the
 -- effects and fuel for the turns of a loop.
-pub record Code : Type 0 where
+pub record CodeOfBodies : Type 0 where
   pub arguments : ℕ → List Datum → Cells
   pub answer : ℕ → ℕ
   pub within : Effects State → ℕ → ℕ → State → Out State
@@ -39,7 +39,7 @@ pub record Code : Type 0 where
 -- One tick is spent at each entry, before the line of it. Bodies are nested no deeper than the fuel, which is at least
 -- the ticks that are left, so it never ends a run by itself; neither do the fuel for turns and for drops, which are
 -- greater than the ticks that are left.
-abbrev pub run_body : Setting → Code → ℕ → Bodies
+abbrev pub run_body : Setting → CodeOfBodies → ℕ → Bodies
 run_body setting code zero event body args w = HaltsIn OutOfTicks w
 run_body setting code (suc n) event body args w =
     after_tick (tick w) (λ w. ended body (code.answer body)
@@ -70,6 +70,6 @@ abbrev pub main_of : ItemTable → ℕ
 main_of items = option_map_or (λ n. n) (position (λ sig. pointwise nat_eq sig.name (codes "main")) items.bodies) 0
 
 -- `main` is called with these numbers to be asked and so many ticks
-abbrev pub run_of : Setting → Code → ℕ → List ℤ → ℕ → Trace × End
+abbrev pub run_of : Setting → CodeOfBodies → ℕ → List ℤ → ℕ → Trace × End
 run_of setting code main asked ticks =
     outcome_of (run_body setting code (suc ticks) (Event.Call main) main [] (beginning asked ticks))

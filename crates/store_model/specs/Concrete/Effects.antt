@@ -15,7 +15,7 @@ use Rattle.store_model.specs.declared.address.At.TheVariants.{Part, Inside}
 use Rattle.store_model.specs.Values.Datum.{Datum, Data, Gone, Number, Truth, UnitValue, Aggregate, Box, Address, no_part, a_part, data_from}
 use Rattle.store_model.specs.Concrete.Drops.{Begins, drop_impl, drop_at}
 use Rattle.store_model.specs.Effects as effects
-use Rattle.store_model.specs.Effects.{Site, Operand, Kind, OfTuple, OfArray, OfVariant, OfClosure, Action, Test, Mode, Halt, Stuck, Out, Go, Unwind, Halts, Choice, Yes, No, Neither, Effects, halting_if}
+use Rattle.store_model.specs.Effects.{EffectSite, Operand, AggregateKind, OfTuple, OfArray, OfVariant, OfClosure, Action, Test, Mode, Halt, Stuck, Out, Go, Unwind, Halts, Choice, Yes, No, Neither, Effects, halting_if}
 use Rattle.store_model.specs.Places.Place.{place_ty}
 use Rattle.store_model.specs.Concrete.Location.{Setting, DynamicType, OfType, OfObject, concrete_ty, type_of_part, Located, located_at, reach, on_reached, stored_at}
 use Rattle.store_model.specs.Places.TypeForms.{adt_of, box_content, int_kind, is_dyn_of, is_never}
@@ -123,13 +123,13 @@ made adt variant parts serial (Some of) = Aggregate variant serial (data_from pa
 
 module _ (setting : Setting) where
   -- the type that a place has by the body that runs
-  abbrev pub ty_of_place : State → effects.Site → Option Ty
+  abbrev pub ty_of_place : State → effects.EffectSite → Option Ty
   ty_of_place w site =
       option_and_then (type_at setting.items)
       (place_ty setting.items
       (λ local. option_and_then (λ body. setting.local_ty body local) (body_of_youngest w)) site.place)
 
-  abbrev pub never_at : State → effects.Site → Bool
+  abbrev pub never_at : State → effects.EffectSite → Bool
   never_at w site = is_never (ty_of_place w site)
 
   abbrev ty_of_operand : State → Operand → Option Ty
@@ -143,7 +143,7 @@ module _ (setting : Setting) where
   whole s = if_so (is_whole s.value) s
 
   -- what stands at a place whose value is used
-  abbrev pub whole_at : State → Site → Option Located
+  abbrev pub whole_at : State → EffectSite → Option Located
   whole_at w site = on_reached (reach setting w site.place) whole None None
 
   abbrev pub evaluate_operand : Operand → State → Option (Datum × State)
@@ -171,11 +171,11 @@ module _ (setting : Setting) where
   with_operands operands w next = or_stuck (evaluate_operands operands w) (λ t. next t.0 t.1) w
 
   -- a value is stored, whatever stood at its place
-  abbrev pub put : Site → Datum → State → Out State
+  abbrev pub put : EffectSite → Datum → State → Out State
   put to value w =
       on_reached (reach setting w to.place) (λ s. Go (stored_at s.address value w)) (Halts Stuck w) (Halts Stuck w)
 
-  abbrev pub put_if : Site → Option Datum → State → Out State
+  abbrev pub put_if : EffectSite → Option Datum → State → Out State
   put_if to value w = or_stuck value (λ v. put to v w) w
 
   abbrev pub tell_after : Event → Out State → Out State
@@ -191,11 +191,11 @@ module _ (setting : Setting) where
   negated _ = None
 
   -- a value with a `Drop` impl, or a box, gets its serial number as it is made
-  abbrev pub made_event : ℕ → Site → Datum → Option (ℕ × ℕ) → State → Out State
+  abbrev pub made_event : ℕ → EffectSite → Datum → Option (ℕ × ℕ) → State → Out State
   made_event adt to value None w = put to value w
   made_event adt to value (Some of) w = tell_after (Event.Make adt w.serial) (put to value (numbered_next w))
 
-  abbrev pub built : Site → Kind → List Datum → State → Out State
+  abbrev pub built : EffectSite → AggregateKind → List Datum → State → Out State
   built to OfTuple parts w = put to (Aggregate 0 None (data_from parts)) w
   built to OfArray parts w = put to (Aggregate 0 None (data_from parts)) w
   built to (OfClosure closure) parts w = put to (Aggregate 0 None (data_from parts)) w
@@ -203,7 +203,7 @@ module _ (setting : Setting) where
       made_event adt to (made adt variant parts (Some w.serial) (drop_impl setting.items (Some (Ty.Adt adt))))
       (drop_impl setting.items (Some (Ty.Adt adt))) w
 
-  abbrev pub boxed : Site → Datum → State → Out State
+  abbrev pub boxed : EffectSite → Datum → State → Out State
   boxed to content w = tell_after (Event.Boxed w.serial) (put to (Box w.serial None content) (numbered_next w))
 
   abbrev impl_boxed : ℕ → State → Operand → Option ℕ
@@ -233,15 +233,15 @@ module _ (setting : Setting) where
       if_nothing_numbered (serials inside) (Go (with_event (Event.Freed serial) (stored_at s.address Gone w))) w
   freed s value w = Halts Stuck w
 
-  abbrev pub put_computed : Site → Computed → State → Out State
+  abbrev pub put_computed : EffectSite → Computed → State → Out State
   put_computed to (Gives number) w = put to (Number number) w
   put_computed to (PanicsBy why) w = Unwind (panics why w)
 
-  abbrev pub compute : Site → Math → Option IntKind → Datum → Datum → State → Out State
+  abbrev pub compute : EffectSite → Math → Option IntKind → Datum → Datum → State → Out State
   compute to operator (Some kind) (Number a) (Number b) w = put_computed to (computed operator kind a b) w
   compute to operator kind left right w = Halts Stuck w
 
-  abbrev pub negate : Site → Option IntKind → Datum → State → Out State
+  abbrev pub negate : EffectSite → Option IntKind → Datum → State → Out State
   negate to (Some kind) (Number a) w = put_computed to (if_within kind (neg_ℤ a)) w
   negate to kind value w = Halts Stuck w
 
@@ -253,7 +253,7 @@ module _ (setting : Setting) where
   bounded length (Number number) w = within_bounds (int_lt number (pos length)) w
   bounded length value w = Halts Stuck w
 
-  abbrev pub answered : Site → Answer → Out State
+  abbrev pub answered : EffectSite → Answer → Out State
   answered to (Returns value w) = put to value w
   answered to (Unwinds w) = Unwind w
   answered to (HaltsIn halt w) = Halts halt w
@@ -273,7 +273,7 @@ module _ (setting : Setting) where
       option_and_then (λ s. object_body trait_no method s.dynamic) (located_at setting w address)
   virtual_body trait_no method w args = None
 
-  abbrev pub asked : Site → List ℤ → State → Out State
+  abbrev pub asked : EffectSite → List ℤ → State → Out State
   asked to [] w = Unwind (panics Why.Ask w)
   asked to (number ∷ rest) w = tell_after (Event.Asked number) (put to (Number number) (record w { asked = rest }))
 
@@ -296,11 +296,11 @@ module _ (setting : Setting) where
       on_reached (reach setting w site.place) (λ s. variant_tested variant s.value w) (Neither Stuck w)
       (Neither Stuck w)
 
-  abbrev impl_put : Site → Option ℕ → Datum → State → Out State
+  abbrev impl_put : EffectSite → Option ℕ → Datum → State → Out State
   impl_put to impl_no value w = put_if to (option_and_then (λ n. with_impl n value) impl_no) w
 
   module _ (run : Bodies) where
-    abbrev pub called : Site → Option ℕ → List Datum → State → Out State
+    abbrev pub called : EffectSite → Option ℕ → List Datum → State → Out State
     called to body args w = or_stuck body (λ body. answered to (run (Event.Call body) body args w)) w
 
     abbrev pub acted : Action → State → Out State
@@ -334,7 +334,7 @@ module _ (setting : Setting) where
     act action w = halting_if (effects.stores_where (never_at w) action) Stuck (acted action w)
 
     -- the result of a body is whole
-    abbrev pub give : Site → State → Out State
+    abbrev pub give : EffectSite → State → Out State
     give site w = or_stuck (whole_at w site) (λ s. Go w) w
 
     -- in the strict meaning what is dropped is whole; otherwise what remains of it is dropped
@@ -347,7 +347,7 @@ module _ (setting : Setting) where
     nothing_if false w = Go w
 
     -- the fuel is greater than the ticks that are left
-    abbrev pub drop : ℕ → Mode → Site → State → Out State
+    abbrev pub drop : ℕ → Mode → EffectSite → State → Out State
     drop fuel mode site w =
         on_reached (reach setting w site.place)
         (λ s. dropped_if fuel (not setting.strict || is_whole s.value) mode s w)

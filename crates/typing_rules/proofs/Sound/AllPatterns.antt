@@ -22,11 +22,11 @@ use Rattle.well_typed.specs.Patterns as well
 use Rattle.well_typed.specs.Patterns.{Matched, pattern, binding_name, binding_entry, field_numbers}
 use Rattle.well_typed.specs.Types.{is_enum, variant_at, array_of, array_in}
 use Rattle.well_typed.proofs.ClaimLemmas.{true_left}
-use Rattle.typing_rules.specs.Check.{Check, State, ◌>>=◌, pure, breaks}
+use Rattle.typing_rules.specs.Check.{Check, TypingState, ◌>>=◌, pure, breaks}
 use Rattle.typing_rules.specs.Patterns as rules
 use Rattle.typing_rules.specs.Promises.{Extends, IsReady, AreReady, Gives, are_bound, AreFresh, AreReadyTypes, IsPattern, SoundMatcher}
 use Rattle.typing_rules.specs.Rows.{Expected, Given, numbered_fields, are_known, all_given}
-use Rattle.typing_rules.specs.Scope.{Env, Entry, adt_named, adt_at_head, variant_named, field_named, kind_at}
+use Rattle.typing_rules.specs.Scope.{Env, NamedEntry, adt_named, adt_at_head, variant_named, field_named, kind_at}
 use Rattle.src_ast.specs.Syntax.{Word, Syn, syn, Shape, AnyPattern, BindPattern, LiteralPattern, TruthPattern, PathPattern, PartsPattern, FieldsPattern, FieldPattern, ParensPattern, TuplePattern, ArrayPattern, Alternatives, Syns, no_syn, a_syn, nothing, just}
 use Rattle.typing_rules.proofs.Sound.Bindings.{Binds, binds_none, binds_join}
 use Rattle.typing_rules.proofs.Sound.Fitted.{same_self}
@@ -55,7 +55,7 @@ variant_below items adt name k h = by (slice_get items.adts adt) h
           field_names = [];
         }) h).0
 
-target_is : (items : ItemTable) (env : Env) (first second : Option Word) (t : rules.Target) → rules.target_of items
+target_is : (items : ItemTable) (env : Env) (first second : Option Word) (t : rules.PatternTarget) → rules.target_of items
     env first
     second ≡ Some t → IsTarget items t
 target_is items env first None t h =
@@ -69,8 +69,8 @@ target_is items env first None t h =
     by n false e h =
         let same = same_Some (rules.target n 0) t h in
         inr (
-          ap (λ (u : rules.Target). is_enum items u.adt) (sym same) ∙ e,
-          ap (λ (u : rules.Target). u.variant) (sym
+          ap (λ (u : rules.PatternTarget). is_enum items u.adt) (sym same) ∙ e,
+          ap (λ (u : rules.PatternTarget). u.variant) (sym
               same),
         )
 target_is items env first (Some second) t h =
@@ -117,7 +117,7 @@ fields_hold items place (t ∷ tys) ty variant k (a_node first rest) at h = (
       n) part is) h.1,
 )
 
-parts_as_fields : (e : Expected) (tys : List TyId) (earlier : List Entry) (n : ℕ) (w : State) (b : Nodes × List Entry)
+parts_as_fields : (e : Expected) (tys : List TyId) (earlier : List NamedEntry) (n : ℕ) (w : TypingState) (b : Nodes × List NamedEntry)
     (counted :
     Bool) → ArePartsAfter e tys earlier n w b → AreFieldsAfter e tys earlier n w (
       rules.fields_from 0 b.0,
@@ -138,7 +138,7 @@ parts_as_fields e tys earlier n w b counted are =
           (filter_map binding_name) (fields_nodes 0 b.0)) are.binds;
     }
 
-no_parts_sound : (e : Expected) (ty : TyId) (t : rules.Target) (earlier : List Entry) (s : State) (is_whole : Bool) →
+no_parts_sound : (e : Expected) (ty : TyId) (t : rules.PatternTarget) (earlier : List NamedEntry) (s : TypingState) (is_whole : Bool) →
     SoundFields e ty t earlier s (rules.no_parts earlier is_whole)
 no_parts_sound e ty t earlier s is_whole u g all at =
     given _ λ ready w l.
@@ -166,8 +166,8 @@ once_same (None ∷ given) = once_same given
 once_same (Some n ∷ given) = λ i. not (again_same n given i) && once_same given i
 
 -- patterns of fields of a variant, after earlier names
-record AreNamedAfter (e : Expected) (tys : List TyId) (earlier : List Entry) (n : ℕ) (w : State) (b : Fields × List
-    Entry ×
+record AreNamedAfter (e : Expected) (tys : List TyId) (earlier : List NamedEntry) (n : ℕ) (w : TypingState) (b : Fields × List
+    NamedEntry ×
     Given) : Type 0 where
   holds : (place : Matched) → IsFor e place → (ty : TyId) (variant : ℕ) → ((k : ℕ) (part : TyId) → slice_get tys k ≡
       Some part →
@@ -184,9 +184,9 @@ number_in None = None
 number_in (Some f) = Some f.0
 
 -- one field, or none of that name
-record IsFieldAfter (e : Expected) (tys : List TyId) (earlier : List Entry) (n : ℕ) (w : State) (b : Option (ℕ × Node)
+record IsFieldAfter (e : Expected) (tys : List TyId) (earlier : List NamedEntry) (n : ℕ) (w : TypingState) (b : Option (ℕ × Node)
     × List
-    Entry × Option ℕ) : Type 0 where
+    NamedEntry × Option ℕ) : Type 0 where
   holds : (place : Matched) → IsFor e place → (ty : TyId) (variant : ℕ) → ((k : ℕ) (part : TyId) → slice_get tys k ≡
       Some part →
       field_ty w.items ty variant k ≡ Some part) → (rest : Fields) → Holds (well.field_patterns w.items place ty
@@ -206,9 +206,9 @@ with_numbers : (f : Option (ℕ × Node)) (k : Option ℕ) (rest : Fields) (give
 with_numbers None k rest given is e = e ∙ ap (λ o. somes (o ∷ given)) is
 with_numbers (Some f) k rest given is e = ap (λ ns. f.0 ∷ ns) e ∙ ap (λ o. somes (o ∷ given)) is
 
-field_by_sound : (e : Expected) (v : Variant) (name : Word) (earlier : List Entry) (typed : TyId → Check (Node × List
-    Entry)) (s :
-    State) → ((k : ℕ) (t : TyId) → slice_get v.fields k ≡ Some t → Gives s (IsAfter e t earlier s.next_node) (typed t
+field_by_sound : (e : Expected) (v : Variant) (name : Word) (earlier : List NamedEntry) (typed : TyId → Check (Node × List
+    NamedEntry)) (s :
+    TypingState) → ((k : ℕ) (t : TyId) → slice_get v.fields k ≡ Some t → Gives s (IsAfter e t earlier s.next_node) (typed t
     s)) →
     Gives s (IsFieldAfter e v.fields earlier s.next_node) (rules.field_by v name earlier typed s)
 field_by_sound e v name earlier typed s good = by (rules.field_ty v.fields (field_named v name)) refl
@@ -249,7 +249,7 @@ field_by_sound e v name earlier typed s good = by (rules.field_ty v.fields (fiel
           binds = (d w l).binds;
         }
 
-fields_ready : (items : ItemTable) → AreReady items → (t : rules.Target) (k : ℕ) (part : TyId) → slice_get
+fields_ready : (items : ItemTable) → AreReady items → (t : rules.PatternTarget) (k : ℕ) (part : TyId) → slice_get
     (rules.fields_of items
     t) k ≡ Some part → IsReady items part
 fields_ready items all t k part h = by (variant_at items t.adt t.variant) refl h
@@ -263,7 +263,7 @@ fields_ready items all t k part h = by (variant_at items t.adt t.variant) refl h
         t.variant
         v is) ∙ h))
 
-variant_fields : {old new : ItemTable} → Extends old new → (t : rules.Target) → (option_map_or (λ (v : Variant). v)
+variant_fields : {old new : ItemTable} → Extends old new → (t : rules.PatternTarget) → (option_map_or (λ (v : Variant). v)
     (variant_at
     old t.adt t.variant) rules.no_variant).fields ≡ rules.fields_of new t
 variant_fields {old} {new} e t =
@@ -276,8 +276,8 @@ variant_fields {old} {new} e t =
     same None = refl
     same (Some v) = refl
 
-named_as_fields : (e : Expected) (tys others : List TyId) (earlier : List Entry) (n : ℕ) (w : State) (b : Fields ×
-    List Entry ×
+named_as_fields : (e : Expected) (tys others : List TyId) (earlier : List NamedEntry) (n : ℕ) (w : TypingState) (b : Fields ×
+    List NamedEntry ×
     Given) (more known : Bool) → tys ≡ others → AreNamedAfter e tys earlier n w b → AreFieldsAfter e others earlier n
     w (
       b.0,
@@ -296,7 +296,7 @@ named_as_fields e tys others earlier n w b more known same are =
       binds = are.binds;
     }
 
-lone_sound : (env : Env) (at : Pos) (e : Expected) (ty : TyId) (adt : ℕ) (earlier : List Entry) (s : State) → IsReady
+lone_sound : (env : Env) (at : Pos) (e : Expected) (ty : TyId) (adt : ℕ) (earlier : List NamedEntry) (s : TypingState) → IsReady
     s.items ty
     → is_enum s.items adt ≡ false → Gives s (IsAfter e ty earlier s.next_node) (rules.lone_struct env at e ty adt
     earlier s)
@@ -310,7 +310,7 @@ lone_sound env at e ty adt earlier s ready no_enum = by (rules.is_unit_kind (kin
         (no_parts_sound e ty (rules.target adt 0) earlier s true)
     by false = gives_nothing Rule.T18 at
 
-lone_name_sound : (env : Env) (at : Pos) (e : Expected) (ty : TyId) (name : Word) (earlier : List Entry) (s : State) →
+lone_name_sound : (env : Env) (at : Pos) (e : Expected) (ty : TyId) (name : Word) (earlier : List NamedEntry) (s : TypingState) →
     IsReady
     s.items ty → Gives s (IsAfter e ty earlier s.next_node) (rules.lone_name env at e ty name earlier s)
 lone_name_sound env at e ty name earlier s ready = by (adt_named s.items name)
@@ -326,8 +326,8 @@ lone_name_sound env at e ty name earlier s ready = by (adt_named s.items name)
     by None = bind_sound at e ty name earlier s ready
     by (Some adt) = if_enum adt (is_enum s.items adt) refl
 
-path_sound : (env : Env) (at : Pos) (e : Expected) (ty : TyId) (first second : Option Word) (earlier : List Entry) (s
-    : State) →
+path_sound : (env : Env) (at : Pos) (e : Expected) (ty : TyId) (first second : Option Word) (earlier : List NamedEntry) (s
+    : TypingState) →
     IsReady s.items ty → Gives s (IsAfter e ty earlier s.next_node) (rules.path_alone env at e ty first second earlier
     s)
 path_sound env at e ty first None earlier s ready =
@@ -343,11 +343,11 @@ path_sound env at e ty first (Some second) earlier s ready =
     t.adt t.variant)))
 
 -- a struct or a variant by the order of its parts, and by the names of its fields
-in_order_sound : (at : Pos) (e : Expected) (ty : TyId) (t : rules.Target) (earlier : List Entry) (s : State) (counted
+in_order_sound : (at : Pos) (e : Expected) (ty : TyId) (t : rules.PatternTarget) (earlier : List NamedEntry) (s : TypingState) (counted
     : List TyId →
-    Bool) (check : Expected → List TyId → Check (Nodes × List Entry)) → IsReady s.items ty → IsTarget s.items t →
+    Bool) (check : Expected → List TyId → Check (Nodes × List NamedEntry)) → IsReady s.items ty → IsTarget s.items t →
     ((inside :
-    Expected) (tys : List TyId) (u : State) → ((n : ℕ) (x : TyId) → slice_get tys n ≡ Some x → IsReady u.items x) →
+    Expected) (tys : List TyId) (u : TypingState) → ((n : ℕ) (x : TyId) → slice_get tys n ≡ Some x → IsReady u.items x) →
     Gives u
     (ArePartsAfter inside tys earlier u.next_node) (check inside tys u)) → Gives s (IsAfter e ty earlier s.next_node)
     (rules.of_target at e ty t (λ inside tys. check inside tys >>= (λ ps. pure (
@@ -369,11 +369,11 @@ in_order_sound at e ty t earlier s counted check ready target good =
     (counted
     (rules.fields_of u.items t)) (d w l)
 
-by_name_sound : (at : Pos) (e : Expected) (ty : TyId) (t : rules.Target) (earlier : List Entry) (s : State) (more :
+by_name_sound : (at : Pos) (e : Expected) (ty : TyId) (t : rules.PatternTarget) (earlier : List NamedEntry) (s : TypingState) (more :
     List TyId →
-    Given → Bool) (check : Expected → Check (Fields × List Entry × Given)) → IsReady s.items ty → IsTarget s.items t →
+    Given → Bool) (check : Expected → Check (Fields × List NamedEntry × Given)) → IsReady s.items ty → IsTarget s.items t →
     ((inside :
-    Expected) (u : State) → ((k : ℕ) (x : TyId) → slice_get (option_map_or (λ (v : Variant). v) (variant_at s.items
+    Expected) (u : TypingState) → ((k : ℕ) (x : TyId) → slice_get (option_map_or (λ (v : Variant). v) (variant_at s.items
     t.adt
     t.variant) rules.no_variant).fields k ≡ Some x → IsReady u.items x) → Gives u (AreNamedAfter inside (option_map_or
     (λ (v :
@@ -404,12 +404,12 @@ by_name_sound at e ty t earlier s more check ready target good =
 -- ---- the recursion
 
 mutual
-  pub pattern_sound : (env : Env) (e : Expected) (ty : TyId) (p : Syn) (earlier : List Entry) (s : State) → IsReady
+  pub pattern_sound : (env : Env) (e : Expected) (ty : TyId) (p : Syn) (earlier : List NamedEntry) (s : TypingState) → IsReady
       s.items ty →
       Gives s (IsAfter e ty earlier s.next_node) (rules.pattern env e ty p earlier s)
   pattern_sound env e ty (syn at form) earlier s ready = form_sound env e ty at form earlier s ready
 
-  form_sound : (env : Env) (e : Expected) (ty : TyId) (at : Pos) (form : Shape) (earlier : List Entry) (s : State) →
+  form_sound : (env : Env) (e : Expected) (ty : TyId) (at : Pos) (form : Shape) (earlier : List NamedEntry) (s : TypingState) →
       IsReady
       s.items ty → Gives s (IsAfter e ty earlier s.next_node) (rules.pattern_form env e ty at form earlier s)
   form_sound env e ty at AnyPattern earlier s = λ ready. wildcard_sound at e ty earlier s
@@ -474,14 +474,14 @@ mutual
       record {
         holds = λ place for.
             same_self ty.0 ⋆ subst (λ ns. IsTrue (well.has_no_names ns)) (sym (is.binds.names ∙ ap (λ (xs : List
-            Entry). map (λ
-            (x : Entry). x.name) xs) none)) refl ⋆ subst (λ n. IsTrue (nat_lt 1 n)) (sym is.counted) many ⋆ is.holds
+            NamedEntry). map (λ
+            (x : NamedEntry). x.name) xs) none)) refl ⋆ subst (λ n. IsTrue (nat_lt 1 n)) (sym is.counted) many ⋆ is.holds
             place for;
         binds = under earlier s.next_node (suc s.next_node) (nodes_among b.0) _ w b.1 (omega arith) refl refl is.binds;
       })
   form_sound env e ty at _ earlier s = λ ready. gives_nothing Rule.T20 at
 
-  parts_sound : (env : Env) (e : Expected) (tys : List TyId) (parts : Syns) (earlier : List Entry) (s : State) → ((n :
+  parts_sound : (env : Env) (e : Expected) (tys : List TyId) (parts : Syns) (earlier : List NamedEntry) (s : TypingState) → ((n :
       ℕ) (t :
       TyId) → slice_get tys n ≡ Some t → IsReady s.items t) → Gives s (ArePartsAfter e tys earlier s.next_node)
       (rules.part_patterns env e tys parts earlier s)
@@ -508,7 +508,7 @@ mutual
             (grows_trans h l)).binds (f w l).binds;
       }
 
-  each_sound : (env : Env) (e : Expected) (ty : TyId) (patterns : Syns) (earlier : List Entry) (s : State) → IsReady
+  each_sound : (env : Env) (e : Expected) (ty : TyId) (patterns : Syns) (earlier : List NamedEntry) (s : TypingState) → IsReady
       s.items ty →
       Gives s (AreEachAfter e ty earlier s.next_node (rules.count_of patterns)) (rules.each_pattern env e ty patterns
       earlier s)
@@ -530,7 +530,7 @@ mutual
         counted = ap suc (f w l).counted;
       }
 
-  fields_sound : (env : Env) (e : Expected) (v : Variant) (fields : Syns) (earlier : List Entry) (s : State) → ((k :
+  fields_sound : (env : Env) (e : Expected) (v : Variant) (fields : Syns) (earlier : List NamedEntry) (s : TypingState) → ((k :
       ℕ) (t :
       TyId) → slice_get v.fields k ≡ Some t → IsReady s.items t) → Gives s (AreNamedAfter e v.fields earlier
       s.next_node)
@@ -560,7 +560,7 @@ mutual
             l).binds);
       }
 
-  field_sound : (env : Env) (e : Expected) (v : Variant) (field : Syn) (earlier : List Entry) (s : State) → ((k : ℕ)
+  field_sound : (env : Env) (e : Expected) (v : Variant) (field : Syn) (earlier : List NamedEntry) (s : TypingState) → ((k : ℕ)
       (t : TyId)
       → slice_get v.fields k ≡ Some t → IsReady s.items t) → Gives s (IsFieldAfter e v.fields earlier s.next_node)
       (rules.field_pattern env e v field earlier s)
@@ -581,8 +581,8 @@ matcher_sound env p e ty s ready =
     let same : b.1 ≡ is.binds.new_ = is.binds.is in
     record {
       holds = λ place takes moves. is.holds place (takes, moves);
-      names = subst (λ ns. IsTrue (are_distinct ns)) (sym (is.binds.names ∙ ap (λ (xs : List Entry). map (λ (x :
-          Entry). x.name)
+      names = subst (λ ns. IsTrue (are_distinct ns)) (sym (is.binds.names ∙ ap (λ (xs : List NamedEntry). map (λ (x :
+          NamedEntry). x.name)
           xs) (sym same))) (is.binds.distinct refl);
       entries = is.binds.entries ∙ ap (are_bound false) (sym same);
       fresh = subst (λ xs. AreFresh s.next_node xs w.next_node) (sym same) is.binds.fresh;

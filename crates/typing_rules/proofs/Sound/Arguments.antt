@@ -19,7 +19,7 @@ use Rattle.well_typed.specs.Places as well
 use Rattle.well_typed.specs.Places.{InScope, Context, ty_of, form_of, is_place, is_borrow, is_by, may_move, may_move_by, is_guarded, is_own_binding, is_rooted, is_rooted_by, Taken, Wanted, Base, Used, Stored, Passed}
 use Rattle.well_typed.specs.Types.{fits, is_same, is_never, is_usize, is_kind, is_reference, reference_of, reference_in, is_dyn, array_of, array_in, kind_in}
 use Rattle.well_typed.proofs.ClaimLemmas.{and_true, true_left, true_right}
-use Rattle.typing_rules.specs.Check.{Check, State, and_then}
+use Rattle.typing_rules.specs.Check.{Check, TypingState, and_then}
 use Rattle.typing_rules.specs.Places.{unit, int, a_node_of, used, is_fixed, is_fixed_form, is_shared_root, is_shared_form, is_behind_shared, names_shared, in_own_guard, place_in_text}
 use Rattle.typing_rules.specs.Promises.{IsReady, IsKnown, AreReady, Grows, Gives, at_spot, Knows, IsBase, Sound, SoundBase, SoundTemporary}
 use Rattle.typing_rules.specs.RowPromises.{IsArgument, IsPlace, SoundReferrer}
@@ -33,11 +33,11 @@ use Rattle.typing_rules.proofs.Sound.Operators.{as_wanted, unit_ready, int_at, o
 use Rattle.typing_rules.proofs.Sound.Places.{if_holds}
 
 -- a base that is no reference by itself
-pub record IsNamed (env : Env) (w : State) (n : Node) : Type 0 where
+pub record IsNamed (env : Env) (w : TypingState) (n : Node) : Type 0 where
   pub base : IsBase env w n
   pub no_reference : IsTrue (not (is_reference w.items (ty_of n)))
 
-pub named_sound : (env : Env) (base : Check Node) → SoundBase env base → (s : State) → Knows env s → Gives s (IsNamed
+pub named_sound : (env : Env) (base : Check Node) → SoundBase env base → (s : TypingState) → Knows env s → Gives s (IsNamed
     env) (and_then (base s) no_reference)
 named_sound env base good s k =
     bind (good s k) λ n t g d.
@@ -83,7 +83,7 @@ element_ready items all base ty count h =
     by _ h = absurd (none-some (ty, count) h)
 
 pub element_sound : (env : Env) (at : Pos) (base : Check Node) (index : Typer) → SoundBase env base → Sound env index →
-    (s : State) → Knows env s → Gives s (IsPlace env) (element at base index s)
+    (s : TypingState) → Knows env s → Gives s (IsPlace env) (element at base index s)
 element_sound env at base index good_base good_index s k =
     after_number (bind (named_sound env base good_base (numbered s) (knows_number env k)) λ b t g d.
     bind (good_index (Some (int IntKind.Usize)) t (knows_later env g (knows_number env k))) λ i u h e.
@@ -127,7 +127,7 @@ mutual
 pub behind_same : (c : Context) (by : Use) (n : Node) → well.is_behind_shared c (used by n) ≡ is_behind_shared c.items n
 behind_same c by (node id at ty old form) = ap (λ b. is_place form && b) (root_form c ty form)
 
-pub behind_later : (env : Env) (t w : State) (n : Node) → IsBase env t n → Grows t w → is_behind_shared w.items n ≡
+pub behind_later : (env : Env) (t w : TypingState) (n : Node) → IsBase env t n → Grows t w → is_behind_shared w.items n ≡
     is_behind_shared t.items n
 behind_later env t w (node id at ty by form) base g = ap (λ b. is_place form && b) (base.is_shared w g)
 
@@ -214,7 +214,7 @@ passed_borrow c param id at unique base is h no_never = (
 )
 
 pub argument_sound : (env : Env) (param : TyId) (by_value : Typer) (by_reference : Referrer) → Sound env by_value →
-    SoundReferrer env by_reference → (s : State) → Knows env s → IsKnown s.items param → Gives s (IsArgument env param)
+    SoundReferrer env by_reference → (s : TypingState) → Knows env s → IsKnown s.items param → Gives s (IsArgument env param)
     (argument param by_value by_reference s)
 argument_sound env param by_value by_reference good_value good_reference s k ready =
     by (reference_of s.items param) refl

@@ -10,16 +10,16 @@ use Rattle.typed_tree.specs.Tree.{Node}
 use Rattle.well_typed.specs.Names.{are_distinct, is_among}
 use Rattle.well_typed.specs.Patterns.{binding_name, binding_entry}
 use Rattle.well_typed.proofs.ClaimLemmas.{and_true, true_left, true_right}
-use Rattle.typing_rules.specs.Check.{State}
+use Rattle.typing_rules.specs.Check.{TypingState}
 use Rattle.typing_rules.specs.Promises.{IsReady, in_scope, key_of, are_bound, AreFresh, AreReadyTypes}
-use Rattle.typing_rules.specs.Scope.{Entry, Local, variable}
+use Rattle.typing_rules.specs.Scope.{NamedEntry, Local, variable}
 
-abbrev pub words : List Entry → List (List ℕ)
-words xs = map (λ (x : Entry). x.name) xs
+abbrev pub words : List NamedEntry → List (List ℕ)
+words xs = map (λ (x : NamedEntry). x.name) xs
 
 -- the names of some nodes, after earlier ones
-pub record Binds (earlier : List Entry) (n : ℕ) (nodes : List Node) (w : State) (out : List Entry) : Type 0 where
-  pub new_ : List Entry
+pub record Binds (earlier : List NamedEntry) (n : ℕ) (nodes : List Node) (w : TypingState) (out : List NamedEntry) : Type 0 where
+  pub new_ : List NamedEntry
   pub is : out ≡ earlier ++ new_
   pub entries : filter_map binding_entry nodes ≡ are_bound false new_
   pub names : filter_map binding_name nodes ≡ words new_
@@ -41,19 +41,19 @@ append_same : {A : Type 0} (xs a b : List A) → xs ++ a ≡ xs ++ b → a ≡ b
 append_same [] a b h = h
 append_same (x ∷ xs) a b h = append_same xs a b (ap tail_of h)
 
-bound_join : (guard : Bool) (xs ys : List Entry) → are_bound guard (xs ++ ys) ≡ are_bound guard xs ++ are_bound guard ys
+bound_join : (guard : Bool) (xs ys : List NamedEntry) → are_bound guard (xs ++ ys) ≡ are_bound guard xs ++ are_bound guard ys
 bound_join guard [] ys = refl
 bound_join guard (x ∷ xs) ys = ap (λ es. in_scope (key_of x.meaning) x.ty guard ∷ es) (bound_join guard xs ys)
 
-pub fresh_from : (n m k : ℕ) (xs : List Entry) → n ≤ m → AreFresh m xs k → AreFresh n xs k
+pub fresh_from : (n m k : ℕ) (xs : List NamedEntry) → n ≤ m → AreFresh m xs k → AreFresh n xs k
 fresh_from n m k [] le h = omega (arith, le, h)
 fresh_from n m k (x ∷ xs) le h = (h.0, omega (arith, le, h.1), h.2)
 
-fresh_join : (n m k : ℕ) (xs ys : List Entry) → AreFresh n xs m → AreFresh m ys k → AreFresh n (xs ++ ys) k
+fresh_join : (n m k : ℕ) (xs ys : List NamedEntry) → AreFresh n xs m → AreFresh m ys k → AreFresh n (xs ++ ys) k
 fresh_join n m k [] ys h g = fresh_from n m k ys h g
 fresh_join n m k (x ∷ xs) ys h g = (h.0, h.1, fresh_join (suc (key_of x.meaning)) m k xs ys h.2 g)
 
-types_join : (items : ItemTable) (xs ys : List Entry) → AreReadyTypes items xs → AreReadyTypes items ys →
+types_join : (items : ItemTable) (xs ys : List NamedEntry) → AreReadyTypes items xs → AreReadyTypes items ys →
     AreReadyTypes items
     (xs ++ ys)
 types_join items [] ys h g = g
@@ -61,7 +61,7 @@ types_join items (x ∷ xs) ys h g = (h.0, types_join items xs ys h.1 g)
 
 -- ---- rules
 
-pub binds_none : (earlier : List Entry) (n : ℕ) (nodes : List Node) (w : State) → n ≤ w.next_node → filter_map
+pub binds_none : (earlier : List NamedEntry) (n : ℕ) (nodes : List Node) (w : TypingState) → n ≤ w.next_node → filter_map
     binding_entry
     nodes ≡ [] → filter_map binding_name nodes ≡ [] → Binds earlier n nodes w earlier
 binds_none earlier n nodes w le entries names =
@@ -75,7 +75,7 @@ binds_none earlier n nodes w le entries names =
       types = tt;
     }
 
-pub binds_from : (earlier : List Entry) (n m : ℕ) (nodes : List Node) (w : State) (out : List Entry) → n ≤ m → Binds
+pub binds_from : (earlier : List NamedEntry) (n m : ℕ) (nodes : List Node) (w : TypingState) (out : List NamedEntry) → n ≤ m → Binds
     earlier m
     nodes w out → Binds earlier n nodes w out
 binds_from earlier n m nodes w out le b =
@@ -90,7 +90,7 @@ binds_from earlier n m nodes w out le b =
     }
 
 -- the names of some nodes, and then those of others
-pub binds_join : (earlier middle out : List Entry) (n : ℕ) (first rest : List Node) (t w : State) → Binds earlier n
+pub binds_join : (earlier middle out : List NamedEntry) (n : ℕ) (first rest : List Node) (t w : TypingState) → Binds earlier n
     first t
     middle → Binds earlier n first w middle → Binds middle t.next_node rest w out → Binds earlier n (first ++ rest) w
     out
@@ -103,7 +103,7 @@ binds_join earlier middle out n first rest t w now later next =
           later.new_ next.new_));
       names = filter_map-append binding_name first rest ∙ ((λ i. later.names i ++ next.names i) ∙ sym (map-append (λ
           (x :
-          Entry). x.name) later.new_ next.new_));
+          NamedEntry). x.name) later.new_ next.new_));
       distinct = λ h. next.distinct (later.distinct h);
       fresh = fresh_join n t.next_node w.next_node later.new_ next.new_ (subst (λ xs. AreFresh n xs t.next_node)
           (append_same
@@ -129,7 +129,7 @@ no_any p (y ∷ ys) x h g = by (p y) h (λ k. no_any p ys x k g)
     by true h on = absurd (let no_ : IsTrue false = h in cc)
     by false h on = on h
 
-distinct_more : (xs : List Entry) (x : Entry) → IsTrue (are_distinct (words xs)) → IsTrue (not (is_some (variable xs
+distinct_more : (xs : List NamedEntry) (x : NamedEntry) → IsTrue (are_distinct (words xs)) → IsTrue (not (is_some (variable xs
     x.name)))
     → IsTrue (are_distinct (words xs ++ x.name ∷ []))
 distinct_more [] x h g = refl
@@ -145,7 +145,7 @@ distinct_more (y ∷ ys) x h g =
         (subst (λ
         b. IsTrue (not b)) (sym e) refl)) (on g)
 
-pub binds_one : (earlier : List Entry) (n : ℕ) (nodes : List Node) (w : State) (x : Entry) (key : ℕ) → x.meaning ≡
+pub binds_one : (earlier : List NamedEntry) (n : ℕ) (nodes : List Node) (w : TypingState) (x : NamedEntry) (key : ℕ) → x.meaning ≡
     Local key →
     n ≤ key → suc key ≤ w.next_node → IsReady w.items x.ty → filter_map binding_entry nodes ≡ in_scope key x.ty false
     ∷ [] →
@@ -158,7 +158,7 @@ binds_one earlier n nodes w x key is le below ready entries names new_name =
       is = refl;
       entries = entries ∙ ap (λ k. in_scope k x.ty false ∷ []) (sym key_is);
       names = names;
-      distinct = λ h. subst (λ ws. IsTrue (are_distinct ws)) (sym (map-append (λ (y : Entry). y.name) earlier (x ∷ [])))
+      distinct = λ h. subst (λ ws. IsTrue (are_distinct ws)) (sym (map-append (λ (y : NamedEntry). y.name) earlier (x ∷ [])))
           (distinct_more earlier x h new_name);
       fresh = (is ∙ ap Local (sym key_is), omega (arith, le, key_is), omega (arith, below, key_is));
       types = (ready, tt);

@@ -10,9 +10,9 @@ use Rattle.well_typed.specs.Nodes.{typed, tail_of, ends_in, is_block_ty}
 use Rattle.well_typed.specs.Places.{ty_of, Taken}
 use Rattle.well_typed.specs.Types.{is_never, is_never_ty, is_unit}
 use Rattle.well_typed.proofs.ClaimLemmas.{and_true}
-use Rattle.typing_rules.specs.Check.{Check, State}
+use Rattle.typing_rules.specs.Check.{Check, TypingState}
 use Rattle.typing_rules.specs.Places.{unit, never, place_in_text}
-use Rattle.typing_rules.specs.Promises.{IsAlone, AreReady, Spot, at_spot, Stands, Sound, SoundTemporary}
+use Rattle.typing_rules.specs.Promises.{IsAlone, AreReady, TypingSpot, at_spot, Stands, Sound, SoundTemporary}
 use Rattle.typing_rules.specs.RowPromises.{IsMaybe, SoundStatement, SoundStatements, SoundTail}
 use Rattle.typing_rules.specs.Rows.{Typer, block, block_ty, evaluate}
 use Rattle.typing_rules.specs.Scope.{Env}
@@ -22,14 +22,14 @@ use Rattle.typing_rules.proofs.Sound.Gives.{◌⋆◌, bind, given, obeyed, afte
 use Rattle.typing_rules.proofs.Sound.Later.{alone_ready, same_is}
 use Rattle.typing_rules.proofs.Sound.Operators.{unit_ready, never_ready, never_is}
 
-block_alone : (env : Env) (want : Option TyId) (w : State) → AreReady w.items → (last : MaybeNode) (ends : Bool) →
+block_alone : (env : Env) (want : Option TyId) (w : TypingState) → AreReady w.items → (last : MaybeNode) (ends : Bool) →
     IsMaybe
     env want w last → IsAlone w.items (block_ty last ends)
 block_alone env want w ready absent true is = never_ready w.items ready
 block_alone env want w ready absent false is = unit_ready w.items ready
 block_alone env want w ready (present n) ends is = is.alone
 
-block_is : (w : State) → AreReady w.items → (ns : Nodes) (last : MaybeNode) (ends : Bool) → ends_in w.items ns ≡ ends →
+block_is : (w : TypingState) → AreReady w.items → (ns : Nodes) (last : MaybeNode) (ends : Bool) → ends_in w.items ns ≡ ends →
     IsTrue (is_block_ty w.items (block_ty last ends) ns last)
 block_is w ready ns (present n) ends e = same_self (ty_of n).0
 block_is w ready ns absent true e =
@@ -37,8 +37,8 @@ block_is w ready ns absent true e =
 block_is w ready ns absent false e =
     subst (λ b. IsTrue (if b then is_never w.items unit else is_unit w.items unit)) (sym e) (unit_is w.items ready)
 
-tail_holds : (env inner : Env) (want : Option TyId) (w : State) (last : MaybeNode) → IsMaybe inner want w last →
-    inner.answer ≡ env.answer → (q : Spot) → Stands inner w q → Holds (tail_of (at_spot w.items env.answer q) last)
+tail_holds : (env inner : Env) (want : Option TyId) (w : TypingState) (last : MaybeNode) → IsMaybe inner want w last →
+    inner.answer ≡ env.answer → (q : TypingSpot) → Stands inner w q → Holds (tail_of (at_spot w.items env.answer q) last)
 tail_holds env inner want w absent is e q stands = refl
 tail_holds env inner want w (present n) is e q stands =
     subst (λ a. Holds (typed (at_spot w.items a q) Taken n)) e (is.holds q stands)

@@ -11,7 +11,7 @@ use Rattle.well_typed.specs.Nodes.{fits_unit, fits_bool}
 use Rattle.well_typed.specs.Places.{ty_of}
 use Rattle.well_typed.specs.Types.{fits, is_same, is_unit, is_unit_ty, is_bool_ty, is_never, is_common}
 use Rattle.well_typed.proofs.ClaimLemmas.{and_true}
-use Rattle.typing_rules.specs.Check.{State}
+use Rattle.typing_rules.specs.Check.{TypingState}
 use Rattle.typing_rules.specs.Places.{unit, bool}
 use Rattle.typing_rules.specs.Promises.{Extends, AreReady, Fact, Knows, IsTemporary, Sound, SoundTemporary}
 use Rattle.typing_rules.specs.Rows.{Typer, if_alone, if_else, one_of_two}
@@ -47,7 +47,7 @@ if_alone_sound env at c body good_c good_body want s k =
           b) eb.fit ⋆ unit_is w.items ready,
     ))
   where
-    s' : State
+    s' : TypingState
     s' = numbered s
 
     R : Fact Node
@@ -83,7 +83,7 @@ if_else_sound env at c body otherwise good_c good_body good_otherwise want s k =
           l.items (ty_of b) (ty_of o) ty one,
     ))
   where
-    s' : State
+    s' : TypingState
     s' = numbered s
 
     k' : Knows env s'

@@ -17,9 +17,9 @@ use Rattle.well_typed.specs.Patterns.{count_of}
 use Rattle.well_typed.specs.Places as well
 use Rattle.well_typed.specs.Places.{Context, ty_of, form_of, is_place, is_borrow, Taken, Wanted, Passed}
 use Rattle.well_typed.specs.Types.{fits, is_same, is_never, is_i32, is_kind, is_reference, reference_in, kind_in}
-use Rattle.typing_rules.specs.Check.{Check, State}
+use Rattle.typing_rules.specs.Check.{Check, TypingState}
 use Rattle.typing_rules.specs.Places.{unit, bool, never, int, a_node_of}
-use Rattle.typing_rules.specs.Promises.{IsAlone, IsKnown, AreReady, Grows, Gives, Spot, at_spot, Stands, Knows, IsTemporary, SoundTemporary}
+use Rattle.typing_rules.specs.Promises.{IsAlone, IsKnown, AreReady, Grows, Gives, TypingSpot, at_spot, Stands, Knows, IsTemporary, SoundTemporary}
 use Rattle.typing_rules.specs.RowPromises.{AreGiven, SoundArgs}
 use Rattle.typing_rules.specs.Rows.{leaf, call, built_in, print_form, drop_form, forget_form, with_one}
 use Rattle.typing_rules.specs.Scope.{Env}
@@ -34,7 +34,7 @@ use Rattle.typing_rules.proofs.Sound.Operators.{unit_ready, bool_ready, never_re
 -- a leaf of a type of which the table says what the form asks
 pub leaf_sound : (env : Env) (at : Pos) (ty : TyId) (form : Form) → IsTrue (is_leaf form) → is_place form ≡ false →
     ((w :
-    State) → IsPlain env w ty form) → ((w : State) (id : ℕ) → AreReady w.items → IsAlone w.items ty × Is env w id ty
+    TypingState) → IsPlain env w ty form) → ((w : TypingState) (id : ℕ) → AreReady w.items → IsAlone w.items ty × Is env w id ty
     form) → SoundTemporary env (leaf at ty form)
 leaf_sound env at ty form a b c so want s k =
     after_number (leaf_ends env want (numbered s) s.next_node at ty form a b c λ w ready l. so w s.next_node ready)
@@ -56,7 +56,7 @@ panic_sound env at =
 
 -- ---- arguments
 
-pub arguments_hold : (env : Env) (w : State) (p : Spot) → Stands env w p → (params : List TyId) (ns : Nodes) → AreGiven
+pub arguments_hold : (env : Env) (w : TypingState) (p : TypingSpot) → Stands env w p → (params : List TyId) (ns : Nodes) → AreGiven
     env params w ns → count_of ns ≡ length params → Holds (arguments (at_spot w.items env.answer p) params ns)
 arguments_hold env w p stands [] no_node are e = refl
 arguments_hold env w p stands (ty ∷ tys) no_node are e = absurd (omega (arith, e))
@@ -67,9 +67,9 @@ arguments_hold env w p stands (ty ∷ tys) (a_node first rest) are e =
 -- a call of what has these parameters
 pub call_sound : (env : Env) (at : Pos) (form : Nodes → Form) (answer : TyId) (count : ℕ) (params : List TyId) (args :
     List TyId → Check Nodes) (may_be_called : Bool) → ((ns : Nodes) → IsTrue (is_leaf (form ns))) → ((ns : Nodes) →
-    is_place (form ns) ≡ false) → ((w : State) (ns : Nodes) → IsPlain env w answer (form ns)) → SoundArgs env count args
-    → (s₀ : State) → IsAlone s₀.items answer → ((ty : TyId) → Contains params ty → IsKnown s₀.items ty) → (IsTrue
-    may_be_called → (w : State) (id : ℕ) (ns : Nodes) (p : Spot) → AreReady w.items → Grows s₀ w → Stands env w p →
+    is_place (form ns) ≡ false) → ((w : TypingState) (ns : Nodes) → IsPlain env w answer (form ns)) → SoundArgs env count args
+    → (s₀ : TypingState) → IsAlone s₀.items answer → ((ty : TyId) → Contains params ty → IsKnown s₀.items ty) → (IsTrue
+    may_be_called → (w : TypingState) (id : ℕ) (ns : Nodes) (p : TypingSpot) → AreReady w.items → Grows s₀ w → Stands env w p →
     Holds
     (arguments (at_spot w.items env.answer p) params ns) → Holds (row (at_spot w.items env.answer p) id answer (form
     ns))) → (want : Option TyId) → Knows env s₀ → Gives s₀ (IsTemporary env want) (call at form answer count params args
@@ -112,7 +112,7 @@ with_one_place : (form : Node → Form) → ((n : Node) → is_place (form n) �
 with_one_place form a no_node = refl
 with_one_place form a (a_node first rest) = a first
 
-with_one_plain : (env : Env) (w : State) (ty : TyId) (form : Node → Form) → ((n : Node) → IsPlain env w ty (form n)) →
+with_one_plain : (env : Env) (w : TypingState) (ty : TyId) (form : Node → Form) → ((n : Node) → IsPlain env w ty (form n)) →
     (ns
     : Nodes) → IsPlain env w ty (with_one ns form)
 with_one_plain env w ty form a no_node p = refl
@@ -121,12 +121,12 @@ with_one_plain env w ty form a (a_node first rest) p = a first p
 built_in_sound : (env : Env) (at : Pos) (answer : TyId) (form : Node → Form) (count : ℕ) (params : List TyId) (args :
     List
     TyId → Check Nodes) → ((n : Node) → IsTrue (is_leaf (form n))) → ((n : Node) → is_place (form n) ≡ false) → ((w :
-    State) (n : Node) → IsPlain env w answer (form n)) → SoundArgs env count args → ((s : State) → AreReady s.items →
+    TypingState) (n : Node) → IsPlain env w answer (form n)) → SoundArgs env count args → ((s : TypingState) → AreReady s.items →
     (ty
-    : TyId) → Contains params ty → IsKnown s.items ty) → ((w : State) (id : ℕ) (n : Node) (p : Spot) → AreReady
+    : TyId) → Contains params ty → IsKnown s.items ty) → ((w : TypingState) (id : ℕ) (n : Node) (p : TypingSpot) → AreReady
     w.items →
     Stands env w p → AreGiven env params w (a_node n no_node) → IsAlone w.items answer × Holds (row (at_spot w.items
-    env.answer p) id answer (form n))) → ((w : State) → AreReady w.items → IsAlone w.items answer) → SoundTemporary env
+    env.answer p) id answer (form n))) → ((w : TypingState) → AreReady w.items → IsAlone w.items answer) → SoundTemporary env
     (built_in at answer (λ ns. with_one ns form) count 1 (args params))
 built_in_sound env at answer form count params args a b c good known so ready want s k =
     with_ready λ all₀. after_number (bind (good params (numbered s) (knows_number env k) (known s all₀)) λ ns t g d.
@@ -140,7 +140,7 @@ built_in_sound env at answer form count params args a b c good known so ready wa
     let given_ = d w (grows_trans h l) in
     (ready w all, λ p stands. by w p all stands ns given_.are (given_.counted ∙ eqb-true count 1 counted)))
   where
-    by : (w : State) (p : Spot) → AreReady w.items → Stands env w p → (ns : Nodes) → AreGiven env params w ns →
+    by : (w : TypingState) (p : TypingSpot) → AreReady w.items → Stands env w p → (ns : Nodes) → AreGiven env params w ns →
         count_of ns
         ≡ 1 → Holds (row (at_spot w.items env.answer p) s.next_node answer (with_one ns form))
     by w p all stands no_node are e = absurd (omega (arith, e))

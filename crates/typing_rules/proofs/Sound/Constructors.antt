@@ -19,9 +19,9 @@ use Rattle.well_typed.specs.Patterns.{count_of}
 use Rattle.well_typed.specs.Places.{ty_of, Wanted}
 use Rattle.well_typed.specs.Types.{fits, is_same, is_never, is_dyn, is_common, is_reference, boxed_of, boxed_in, tuple_of, tuple_in, array_of, array_in, inside_in}
 use Rattle.well_typed.proofs.ClaimLemmas.{and_true, true_left, true_right}
-use Rattle.typing_rules.specs.Check.{Check, State}
+use Rattle.typing_rules.specs.Check.{Check, TypingState}
 use Rattle.typing_rules.specs.Places.{never, a_node_of, wanted}
-use Rattle.typing_rules.specs.Promises.{Extends, IsReady, IsAlone, IsKnown, AreReady, Grows, Gives, Spot, at_spot, Stands, IsTemporary, SoundTemporary}
+use Rattle.typing_rules.specs.Promises.{Extends, IsReady, IsAlone, IsKnown, AreReady, Grows, Gives, TypingSpot, at_spot, Stands, IsTemporary, SoundTemporary}
 use Rattle.typing_rules.specs.RowPromises.{AreElements, AreGiven, AreParts, IsGiven, IsMade, SoundArgs, SoundElements, SoundParts}
 use Rattle.typing_rules.specs.Rows.{new_box, box_by, box_wanted, part_ty, first_node, listed, tuple_row, parts_wanted, array_row, element_wanted, element_ty, one_type, one_of_two}
 use Rattle.typing_rules.specs.Scope.{Env}
@@ -80,11 +80,11 @@ box_content items all want inside h =
         subst (IsContent items) (same_Some i inside h) (so.0, so.1, truth_of _ e)
 
 -- what is put into a box, whether a type was required of it or not
-abbrev IsPutIn : Env → Option TyId → State → Node → Type 0
-IsPutIn env content w n = IsContent w.items (part_ty content n) × ((p : Spot) → Stands env w p → Holds (typed (at_spot
+abbrev IsPutIn : Env → Option TyId → TypingState → Node → Type 0
+IsPutIn env content w n = IsContent w.items (part_ty content n) × ((p : TypingSpot) → Stands env w p → Holds (typed (at_spot
     w.items env.answer p) (Wanted (part_ty content n)) n))
 
-put_in : (env : Env) (content : Option TyId) (w : State) (n : Node) (rest : Nodes) → ((inside : TyId) → content ≡ Some
+put_in : (env : Env) (content : Option TyId) (w : TypingState) (n : Node) (rest : Nodes) → ((inside : TyId) → content ≡ Some
     inside → IsContent w.items inside) → AreGiven env (listed content) w (a_node n rest) → IsPutIn env content w n
 put_in env None w n rest is are = (
   (
@@ -118,13 +118,13 @@ new_box_sound env at count args good want s k =
     i e. box_content s.items all₀ want i e))) λ ns t g d.
     by t ns g (λ i e. content_later g.items i (box_content s.items all₀ want i e)) d)
   where
-    s' : State
+    s' : TypingState
     s' = numbered s
 
     content : Option TyId
     content = wanted box_wanted s.items want
 
-    by : (t : State) (ns : Nodes) → Grows s' t → ((i : TyId) → content ≡ Some i → IsContent t.items i) → ((w : State) →
+    by : (t : TypingState) (ns : Nodes) → Grows s' t → ((i : TyId) → content ≡ Some i → IsContent t.items i) → ((w : TypingState) →
         Grows t w → IsGiven env (listed content) count w ns) → Gives t (IsTemporary env want) (box_by at s.next_node
         count
         want content (first_node ns) t)
@@ -147,7 +147,7 @@ new_box_sound env at count args good want s k =
 
 -- ---- tuples
 
-parts_hold : (env : Env) (w : State) (p : Spot) → Stands env w p → (ns : Nodes) (tys : List TyId) → AreParts env w ns
+parts_hold : (env : Env) (w : TypingState) (p : TypingSpot) → Stands env w p → (ns : Nodes) (tys : List TyId) → AreParts env w ns
     tys
     → Holds (made_parts (at_spot w.items env.answer p) tys ns)
 parts_hold env w p stands no_node [] are = refl
@@ -156,7 +156,7 @@ parts_hold env w p stands (a_node first rest) [] are = absurd are
 parts_hold env w p stands (a_node first rest) (ty ∷ tys) are =
     (are.0.1 p stands, parts_hold env w p stands rest tys are.1)
 
-parts_alone : (env : Env) (w : State) (ns : Nodes) (tys : List TyId) → AreParts env w ns tys → (n : ℕ) (ty : TyId) →
+parts_alone : (env : Env) (w : TypingState) (ns : Nodes) (tys : List TyId) → AreParts env w ns tys → (n : ℕ) (ty : TyId) →
     slice_get tys n ≡ Some ty → IsAlone w.items ty
 parts_alone env w no_node [] are n ty h = absurd (none-some ty h)
 parts_alone env w no_node (t ∷ tys) are n ty h = absurd are
@@ -315,7 +315,7 @@ fits_all_later {old} {new} e ty (t ∷ tys) h =
 
 -- ---- arrays
 
-elements_hold : (env : Env) (want : Option TyId) (w : State) (p : Spot) → Stands env w p → (ty : TyId) (ns : Nodes)
+elements_hold : (env : Env) (want : Option TyId) (w : TypingState) (p : TypingSpot) → Stands env w p → (ty : TyId) (ns : Nodes)
     (tys :
     List TyId) → AreElements env want w ns tys → IsTrue (list_all (fits w.items ty) tys) → Holds (elements_of (at_spot
     w.items env.answer p) ty ns)
@@ -329,7 +329,7 @@ elements_hold env want w p stands ty (a_node first rest) (t ∷ tys) are h = (
       h),
 )
 
-elements_alone : (env : Env) (want : Option TyId) (w : State) (ns : Nodes) (tys : List TyId) → AreElements env want w ns
+elements_alone : (env : Env) (want : Option TyId) (w : TypingState) (ns : Nodes) (tys : List TyId) → AreElements env want w ns
     tys → (n : ℕ) (ty : TyId) → slice_get tys n ≡ Some ty → IsAlone w.items ty
 elements_alone env want w no_node [] are n ty h = absurd (none-some ty h)
 elements_alone env want w no_node (t ∷ tys) are n ty h = absurd are
@@ -339,7 +339,7 @@ elements_alone env want w (a_node first rest) (t ∷ tys) are zero ty h =
 elements_alone env want w (a_node first rest) (t ∷ tys) are (suc n) ty h = elements_alone env want w rest tys are.1 n
     ty h
 
-elements_fit : (env : Env) (ty : TyId) (w : State) (ns : Nodes) (tys : List TyId) → AreElements env (Some ty) w ns tys →
+elements_fit : (env : Env) (ty : TyId) (w : TypingState) (ns : Nodes) (tys : List TyId) → AreElements env (Some ty) w ns tys →
     IsTrue (list_all (fits w.items ty) tys)
 elements_fit env ty w no_node [] are = refl
 elements_fit env ty w no_node (t ∷ tys) are = absurd are
@@ -413,7 +413,7 @@ array_sound env at count elements good want s k =
     wants : Option TyId
     wants = wanted element_wanted s.items want
 
-    by : (t : State) → AreReady t.items → (ns : Nodes) (tys : List TyId) (o : Option TyId) → wants ≡ o → (ty : TyId) →
+    by : (t : TypingState) → AreReady t.items → (ns : Nodes) (tys : List TyId) (o : Option TyId) → wants ≡ o → (ty : TyId) →
         element_ty t.items o tys ≡ Some ty → AreElements env o t ns tys → ((u : TyId) → o ≡ Some u → IsAlone t.items
         u) →
         IsAlone t.items ty × IsTrue (list_all (fits t.items ty) tys)

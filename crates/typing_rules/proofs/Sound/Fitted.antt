@@ -16,9 +16,9 @@ use Rattle.well_typed.specs.Nodes.{row, is_leaf, box_implements}
 use Rattle.well_typed.specs.Places.{ty_of, form_of, is_place, is_taken}
 use Rattle.well_typed.specs.Types.{fits, adt_of, adt_in, boxed_of, boxed_in, trait_of, dyn_in, implements}
 use Rattle.well_typed.proofs.ClaimLemmas.{and_true}
-use Rattle.typing_rules.specs.Check.{State}
+use Rattle.typing_rules.specs.Check.{TypingState}
 use Rattle.typing_rules.specs.Places.{Fit, Fits, Coerced, Differs, fit, coerced, agrees, place_in_text, a_node_of}
-use Rattle.typing_rules.specs.Promises.{Extends, IsAlone, IsValueType, AreReady, Grows, Fact, Gives, Spot, at_spot, Stands, IsValue, IsTemporary}
+use Rattle.typing_rules.specs.Promises.{Extends, IsAlone, IsValueType, AreReady, Grows, Fact, Gives, TypingSpot, at_spot, Stands, IsValue, IsTemporary}
 use Rattle.typing_rules.specs.Rows.{fitted, fitted_by, settled}
 use Rattle.typing_rules.specs.Scope.{Env}
 use Rattle.typing_rules.proofs.Sound.Gives.{◌⋆◌, given, after_number, obeyed, weaker, gives_nothing}
@@ -112,7 +112,7 @@ abbrev pub Passed : Env → Option TyId → Node → Fact Node
 Passed env want n w m =
     IsValue env None w n → IsValue env want w m × (is_place (form_of n) ≡ false → is_place (form_of m) ≡ false)
 
-fitted_so : (env : Env) (want : TyId) (n : Node) (s : State) (how : Fit) → FitOf s.items want (ty_of n) how → IsTrue
+fitted_so : (env : Env) (want : TyId) (n : Node) (s : TypingState) (how : Fit) → FitOf s.items want (ty_of n) how → IsTrue
     (is_leaf (form_of n)) → Gives s (Passed env (Some want) n) (fitted_by want n how s)
 fitted_so env want n s _ (it_fits fit_) leaf =
     given n λ ready w g v.
@@ -129,7 +129,7 @@ fitted_so env want n s _ (is_coerced {trait_no} adt to from has) leaf =
     ))
 fitted_so env want n s _ differs leaf = gives_nothing Rule.T03 (place_in_text n)
 
-pub fitted_gives : (env : Env) (want : Option TyId) (n : Node) (s : State) → IsTrue (is_leaf (form_of n)) → Gives s
+pub fitted_gives : (env : Env) (want : Option TyId) (n : Node) (s : TypingState) → IsTrue (is_leaf (form_of n)) → Gives s
     (Passed env want n) (fitted want n s)
 fitted_gives env None n s leaf = given n λ ready w g v. (v, λ h. h)
 fitted_gives env (Some want) n s leaf = fitted_so env want n s _ (how_fits s.items want (ty_of n)) leaf
@@ -137,17 +137,17 @@ fitted_gives env (Some want) n s leaf = fitted_so env want n s _ (how_fits s.ite
 -- ---- the end of a row
 
 -- what a node is, apart from its number and place in the text
-abbrev pub Is : Env → State → ℕ → TyId → Form → Type 0
-Is env w id ty form = (p : Spot) → Stands env w p → Holds (row (at_spot w.items env.answer p) id ty form)
+abbrev pub Is : Env → TypingState → ℕ → TyId → Form → Type 0
+Is env w id ty form = (p : TypingSpot) → Stands env w p → Holds (row (at_spot w.items env.answer p) id ty form)
 
 -- a value that is no place, of a form that is never used, before its required type is asked for
-abbrev pub IsPlain : Env → State → TyId → Form → Type 0
-IsPlain env w ty form = (p : Spot) → Holds (is_taken (at_spot w.items env.answer p) ty None form)
+abbrev pub IsPlain : Env → TypingState → TyId → Form → Type 0
+IsPlain env w ty form = (p : TypingSpot) → Holds (is_taken (at_spot w.items env.answer p) ty None form)
 
 -- a row that ends with a leaf
-pub leaf_ends : (env : Env) (want : Option TyId) (t : State) (id : ℕ) (at : Pos) (ty : TyId)
-    (form : Form) → IsTrue (is_leaf form) → is_place form ≡ false → ((w : State) → IsPlain env w ty form) → ((w :
-    State) → AreReady w.items → Grows t w → IsAlone w.items ty × Is env w id ty form) → Gives t
+pub leaf_ends : (env : Env) (want : Option TyId) (t : TypingState) (id : ℕ) (at : Pos) (ty : TyId)
+    (form : Form) → IsTrue (is_leaf form) → is_place form ≡ false → ((w : TypingState) → IsPlain env w ty form) → ((w :
+    TypingState) → AreReady w.items → Grows t w → IsAlone w.items ty × Is env w id ty form) → Gives t
     (IsTemporary env want) (fitted want (a_node_of id at ty form) t)
 leaf_ends env want t id at ty form leaf placeless plain is =
     weaker (IsTemporary env want) (fitted_gives env want n t leaf)
@@ -161,8 +161,8 @@ leaf_ends env want t id at ty form leaf placeless plain is =
     n = a_node_of id at ty form
 
 -- a row that ends with what has passed its required type on
-pub settled_ends : (env : Env) (want : Option TyId) (t : State) (id : ℕ) (at : Pos) (ty : TyId)
-    (form : Form) → is_place form ≡ false → ((w : State) → IsPlain env w ty form) → ((w : State) → AreReady w.items →
+pub settled_ends : (env : Env) (want : Option TyId) (t : TypingState) (id : ℕ) (at : Pos) (ty : TyId)
+    (form : Form) → is_place form ≡ false → ((w : TypingState) → IsPlain env w ty form) → ((w : TypingState) → AreReady w.items →
     Grows t w → IsAlone w.items ty × Is env w id ty form) → Gives t (IsTemporary env want) (settled
     want (a_node_of id at ty form) t)
 settled_ends env want t id at ty form placeless plain is =
@@ -182,9 +182,9 @@ settled_ends env want t id at ty form placeless plain is =
     n = a_node_of id at ty form
 
 -- a row that asks for more once a leaf has passed
-pub passed_ends : (env : Env) (want : Option TyId) (u : State) (id : ℕ) (at : Pos) (ty : TyId) (form : Form) (m :
-    Node) → is_place form ≡ false → ((w : State) → IsPlain env w ty form) → ((w : State) → Grows u w → Passed env want
-    (a_node_of id at ty form) w m) → ((w : State) → AreReady w.items → Grows u w → IsAlone w.items ty × Is env w id ty
+pub passed_ends : (env : Env) (want : Option TyId) (u : TypingState) (id : ℕ) (at : Pos) (ty : TyId) (form : Form) (m :
+    Node) → is_place form ≡ false → ((w : TypingState) → IsPlain env w ty form) → ((w : TypingState) → Grows u w → Passed env want
+    (a_node_of id at ty form) w m) → ((w : TypingState) → AreReady w.items → Grows u w → IsAlone w.items ty × Is env w id ty
     form) → Gives u (IsTemporary env want) (Ok (m, u))
 passed_ends env want u id at ty form m placeless plain d is =
     given m λ sound w g.

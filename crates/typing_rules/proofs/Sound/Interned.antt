@@ -18,7 +18,7 @@ use Rattle.well_typed.specs.Items.{is_equal}
 use Rattle.well_typed.specs.Types.{is_same, are_same, inside_in, is_reference}
 use Rattle.well_typed.proofs.ClaimLemmas.{true_left, true_right}
 use Rattle.well_typed.proofs.ItemLemmas.{equal_self}
-use Rattle.typing_rules.specs.Check.{State, interned, interned_at, ty_no}
+use Rattle.typing_rules.specs.Check.{TypingState, interned, interned_at, ty_no}
 use Rattle.typing_rules.specs.Promises.{Extends, IsReady, IsAlone, AreReady, Gives, made_of, ComesAfter}
 use Rattle.typing_rules.specs.RowPromises.{IsMade}
 use Rattle.typing_rules.proofs.Sound.Gives.{given}
@@ -227,7 +227,7 @@ module _ (items : ItemTable) (ty : Ty) where
           after = λ k def at. after_more k def (all.after k def at);
         }
 
-pub interned_sound : (ty : Ty) (s : State) → IsMade s.items ty → Gives s (λ w id. type_at w.items id ≡ Some ty)
+pub interned_sound : (ty : Ty) (s : TypingState) → IsMade s.items ty → Gives s (λ w id. type_at w.items id ≡ Some ty)
     (interned ty s)
 interned_sound ty s made = by (position_of (is_equal ty) s.items.types) refl
   where

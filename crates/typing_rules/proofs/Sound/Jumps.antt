@@ -16,12 +16,12 @@ use Rattle.well_typed.specs.Claim.{Holds, some, nothing}
 use Rattle.well_typed.specs.Nodes.{carries, returned}
 use Rattle.well_typed.specs.Places.{LoopAround, ty_of}
 use Rattle.well_typed.specs.Types.{fits, is_same, is_never, is_never_ty, is_unit, is_unit_ty}
-use Rattle.typing_rules.specs.Check.{Check, State, breaks_out}
+use Rattle.typing_rules.specs.Check.{Check, TypingState, breaks_out}
 use Rattle.typing_rules.specs.Places.{unit, bool, never}
-use Rattle.typing_rules.specs.Promises.{IsAlone, AreReady, AreBreaks, Grows, Gives, Spot, at_spot, Means, Carries, IsAround, Stands, Knows, Sound, SoundTemporary}
+use Rattle.typing_rules.specs.Promises.{IsAlone, AreReady, AreBreaks, Grows, Gives, TypingSpot, at_spot, Means, Carries, IsAround, Stands, Knows, Sound, SoundTemporary}
 use Rattle.typing_rules.specs.RowPromises.{IsLoopOf, IsMaybe, SoundMaybe}
 use Rattle.typing_rules.specs.Rows.{Typer, continue_row, return_row, break_row, while_row, loop_around, carried, ty_carried, may_carry, is_some_node}
-use Rattle.typing_rules.specs.Scope.{Env, Around, Meaning, Local, Capture, InGuard, within_loop}
+use Rattle.typing_rules.specs.Scope.{Env, LabelledLoop, VariableMeaning, Local, Capture, InGuard, within_loop}
 use Rattle.src_ast.specs.Syntax.{Word}
 use Rattle.typing_rules.proofs.Sound.Branches.{unit_is, unit_fits, bool_fits}
 use Rattle.typing_rules.proofs.Sound.Fitted.{settled_ends, same_self}
@@ -32,7 +32,7 @@ use Rattle.typing_rules.proofs.Sound.Places.{contains_cases}
 
 -- ---- what is carried out of a loop or a body
 
-pub continue_sound : (env : Env) (at : Pos) (to : Option Around) → IsLoopOf env to → SoundTemporary env (continue_row
+pub continue_sound : (env : Env) (at : Pos) (to : Option LabelledLoop) → IsLoopOf env to → SoundTemporary env (continue_row
     at to)
 continue_sound env at to is want s k =
     after_number (found Rule.T06 at to _ λ a e.
@@ -61,9 +61,9 @@ return_sound env at value good want s k =
     settled_ends env want t s.next_node at never (tree.Return v) refl (λ w p. refl) λ w ready l.
     (never_ready w.items ready, λ p stands. by t w l v (d w l) is p stands ⋆ never_is w.items ready))
   where
-    by : (t w : State) → Grows t w → (v : MaybeNode) → IsMaybe env (Some env.answer) w v → IsTrue (is_some_node v ||
+    by : (t w : TypingState) → Grows t w → (v : MaybeNode) → IsMaybe env (Some env.answer) w v → IsTrue (is_some_node v ||
         is_unit
-        t.items env.answer) → (p : Spot) → Stands env w p → Holds (returned (at_spot w.items env.answer p) v)
+        t.items env.answer) → (p : TypingSpot) → Stands env w p → Holds (returned (at_spot w.items env.answer p) v)
     by t w l absent is h p stands = is_later l.items is_unit_ty env.answer h
     by t w l (present n) is h p stands =
         as_wanted (at_spot w.items env.answer p) env.answer n (is.holds p stands) is.fit
@@ -77,7 +77,7 @@ contains_left xs ys x h =
 contains_last : {A : Type 0} (xs : List A) (x : A) → Contains (xs ++ x ∷ []) x
 contains_last xs x = Contains-slice_get (xs ++ x ∷ []) (length xs) x (slice_get-last xs x)
 
-breaks_out_sound : (loop : ℕ) (ty : TyId) (s : State) → suc loop ≤ s.next_node → IsAlone s.items ty → Gives s (λ w u. Contains w.breaks
+breaks_out_sound : (loop : ℕ) (ty : TyId) (s : TypingState) → suc loop ≤ s.next_node → IsAlone s.items ty → Gives s (λ w u. Contains w.breaks
     (loop, ty)) (breaks_out loop ty s)
 breaks_out_sound loop ty s less alone =
     record {
@@ -114,7 +114,7 @@ unit_by items ready ty h = by (or_cases (is_same unit ty) (is_never items unit) 
     by (inr is) = absurd (false≢true (sym (unit_no_never items ready) ∙ is))
 
 -- what a loop is told is carried out of it
-carries_out : (env : Env) (w : State) (a : Around) (v : MaybeNode) (p : Spot) → AreReady w.items → Stands env w p →
+carries_out : (env : Env) (w : TypingState) (a : LabelledLoop) (v : MaybeNode) (p : TypingSpot) → AreReady w.items → Stands env w p →
     IsMaybe
     env (carried (Some a)) w v → IsTrue (may_carry v a) → Contains w.breaks (a.loop, ty_carried v) → (l : LoopAround) →
     l.loop ≡ a.loop → l.has_value ≡ a.has_value → (b : Bool) → a.has_value ≡ b → Carries w l b → Holds (carries (at_spot
@@ -130,12 +130,12 @@ carries_out env w a (present n) p ready stands is may has l same value true e fi
 carries_out env w a (present n) p ready stands is may has l same value false e fit_ =
     absurd (false≢true (sym e ∙ may))
 
-carried_alone : (env : Env) (want : Option TyId) (t : State) (v : MaybeNode) → AreReady t.items → IsMaybe env want t v → IsAlone
+carried_alone : (env : Env) (want : Option TyId) (t : TypingState) (v : MaybeNode) → AreReady t.items → IsMaybe env want t v → IsAlone
     t.items (ty_carried v)
 carried_alone env want t absent all is = unit_ready t.items all
 carried_alone env want t (present n) all is = is.alone
 
-pub break_sound : (env : Env) (at : Pos) (to : Option Around) (value : Option TyId → Check MaybeNode) → IsLoopOf env
+pub break_sound : (env : Env) (at : Pos) (to : Option LabelledLoop) (value : Option TyId → Check MaybeNode) → IsLoopOf env
     to →
     SoundMaybe env value → SoundTemporary env (break_row at to value)
 break_sound env at to value is good want s k =
@@ -167,10 +167,10 @@ other_number n m h = by (n == m) refl
     by false e = e
 
 -- the spot inside a loop
-abbrev pub in_loop : LoopAround → Spot → Spot
+abbrev pub in_loop : LoopAround → TypingSpot → TypingSpot
 in_loop l p = record p { loops = l ∷ p.loops }
 
-pub loop_stands : (env : Env) (s w : State) (p : Spot) (a : Around) (l : LoopAround) → Knows env s → a.loop ≡
+pub loop_stands : (env : Env) (s w : TypingState) (p : TypingSpot) (a : LabelledLoop) (l : LoopAround) → Knows env s → a.loop ≡
     s.next_node →
     l.loop ≡ a.loop → l.has_value ≡ a.has_value → Carries w l a.has_value → Stands env w p → Stands (within_loop a
     env) w
@@ -183,7 +183,7 @@ loop_stands env s w p a l k fresh same value carry stands =
       closures = stands.closures;
     }
   where
-    means : (ty : TyId) (m : Meaning) → Means w.items p ty m → Means w.items (in_loop l p) ty m
+    means : (ty : TyId) (m : VariableMeaning) → Means w.items p ty m → Means w.items (in_loop l p) ty m
     means ty (Local key) h = h
     means ty (InGuard key) h = h
     means ty (Capture closure part) h = h
@@ -198,7 +198,7 @@ loop_stands env s w p a l k fresh same value carry stands =
       carry,
     )
 
-    by : (b : Around) → (a ≡ b) ⊎ Contains env.loops b → IsAround w (in_loop l p) b
+    by : (b : LabelledLoop) → (a ≡ b) ⊎ Contains env.loops b → IsAround w (in_loop l p) b
     by b (inl e) = subst (IsAround w (in_loop l p)) e first
     by b (inr more) =
         let old = stands.loops b more in (
@@ -211,7 +211,7 @@ loop_stands env s w p a l k fresh same value carry stands =
           old.4,
         )
 
-pub knows_loop : (env : Env) (s : State) (a : Around) → Knows env s → suc a.loop ≤ s.next_node → Knows (within_loop a
+pub knows_loop : (env : Env) (s : TypingState) (a : LabelledLoop) → Knows env s → suc a.loop ≤ s.next_node → Knows (within_loop a
     env) s
 knows_loop env s a k below =
     record {
@@ -222,12 +222,12 @@ knows_loop env s a k below =
       items = k.items;
     }
   where
-    by : (b : Around) → (a ≡ b) ⊎ Contains env.loops b → suc b.loop ≤ s.next_node
-    by b (inl e) = subst (λ (x : Around). suc x.loop ≤ s.next_node) e below
+    by : (b : LabelledLoop) → (a ≡ b) ⊎ Contains env.loops b → suc b.loop ≤ s.next_node
+    by b (inl e) = subst (λ (x : LabelledLoop). suc x.loop ≤ s.next_node) e below
     by b (inr more) = k.loops b more
 
-pub while_sound : (env : Env) (at : Pos) (label : Option Word) (c body : Around → Typer) → ((a : Around) → Sound
-    (within_loop a env) (c a)) → ((a : Around) → Sound (within_loop a env) (body a)) → SoundTemporary env (while_row at
+pub while_sound : (env : Env) (at : Pos) (label : Option Word) (c body : LabelledLoop → Typer) → ((a : LabelledLoop) → Sound
+    (within_loop a env) (c a)) → ((a : LabelledLoop) → Sound (within_loop a env) (body a)) → SoundTemporary env (while_row at
     label c body)
 while_sound env at label c body good_c good_body want s k =
     after_number (bind (good_c a (Some bool) s' k') λ n t g d.
@@ -242,10 +242,10 @@ while_sound env at label c body good_c good_body want s k =
           w.items ready (ty_of b) eb.fit ⋆ unit_is w.items ready,
     ))
   where
-    s' : State
+    s' : TypingState
     s' = numbered s
 
-    a : Around
+    a : LabelledLoop
     a = loop_around label s.next_node false None
 
     l : LoopAround

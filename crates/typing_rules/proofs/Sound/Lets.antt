@@ -16,13 +16,13 @@ use Rattle.well_typed.specs.Patterns.{Matched, pattern, names_of}
 use Rattle.well_typed.specs.Places.{Context, ty_of, with_entries, Base, Wanted, form_of, is_place}
 use Rattle.well_typed.specs.Types.{is_same, fits, is_never, is_never_ty, is_unit, is_dyn, is_reference}
 use Rattle.well_typed.proofs.ClaimLemmas.{and_true}
-use Rattle.typing_rules.specs.Check.{Check, State, Broken, and_then, obeys, pure, ◌>>=◌}
+use Rattle.typing_rules.specs.Check.{Check, TypingState, Broken, and_then, obeys, pure, ◌>>=◌}
 use Rattle.typing_rules.specs.Places.{unit, agrees, Fit, Fits, Coerced, Differs, fit, used, is_fixed, in_own_guard, place_in_text}
-use Rattle.typing_rules.specs.Promises.{Gives, Knows, IsReady, IsAlone, Grows, Spot, at_spot, Stands, are_bound, IsPattern, Then, IsValue}
+use Rattle.typing_rules.specs.Promises.{Gives, Knows, IsReady, IsAlone, Grows, TypingSpot, at_spot, Stands, are_bound, IsPattern, Then, IsValue}
 use Rattle.typing_rules.specs.RowPromises.{IsStatement, IsInitialiser, SoundInitialiser, SoundDeclared, SoundPattern, IsPlace, IsInParts, agrees_same}
 use Rattle.typing_rules.specs.Rows as rules
 use Rattle.typing_rules.specs.Rows.{Matcher, Expected, expected, let_row, let_ty, of_value, ends_by, fitted_by, taking, taken, as_part, place_for_parts}
-use Rattle.typing_rules.specs.Scope.{Env, Entry, with_variables}
+use Rattle.typing_rules.specs.Scope.{Env, NamedEntry, with_variables}
 use Rattle.typing_rules.proofs.Sound.Branches.{unit_is}
 use Rattle.typing_rules.proofs.Sound.Fitted.{fits_self, same_self, or_left, or_right, FitOf, it_fits, is_coerced, differs, how_fits}
 use Rattle.typing_rules.proofs.Sound.Gives.{grows_number, ◌⋆◌, bind, given, found, after_number, numbered, grows_trans, grows_refl, knows_later, knows_number, obeyed}
@@ -48,7 +48,7 @@ as_base c false p n e h =
     subst (λ b. Holds (typed c (if b then Wanted (ty_of p) else Base) n)) (sym e) h
 
 -- the type of what is bound is ready
-ty_ready : (env : Env) (one : Bool) (declared : Option TyId) (t : State) (v : MaybeNode) (ty : TyId) → let_ty declared
+ty_ready : (env : Env) (one : Bool) (declared : Option TyId) (t : TypingState) (v : MaybeNode) (ty : TyId) → let_ty declared
     v ≡ Some
     ty → ((u : TyId) → declared ≡ Some u → IsAlone t.items u) → IsInitialiser env one declared t v → IsReady t.items ty
 ty_ready env one (Some u) t v ty h alone is =
@@ -94,12 +94,12 @@ put_together : (c : Context) (p n : Node) → Holds (typed c (well.as_initialise
 put_together c p n value names taken fit own there = value ⋆ names ⋆ taken ⋆ fit ⋆ own ⋆ there
 
 -- what a statement is, apart from what is behind it
-let_holds : (env : Env) (one : Bool) (declared : Option TyId) (t w : State) (v : MaybeNode) (ty : TyId) (n : ℕ) (b :
+let_holds : (env : Env) (one : Bool) (declared : Option TyId) (t w : TypingState) (v : MaybeNode) (ty : TyId) (n : ℕ) (b :
     Node × List
-    Entry) → Grows t w → let_ty declared v ≡ Some ty → IsInitialiser env one declared t v → IsInitialiser env one
+    NamedEntry) → Grows t w → let_ty declared v ≡ Some ty → IsInitialiser env one declared t v → IsInitialiser env one
     declared w v
     → IsPattern (of_value env one v t.items) ty n w b → is_one_name b.0 ≡ one → IsReady w.items
-    ty → (p : Spot) → Stands env w p → Holds (statement (at_spot w.items env.answer p) (tree.Let b.0 v))
+    ty → (p : TypingSpot) → Stands env w p → Holds (statement (at_spot w.items env.answer p) (tree.Let b.0 v))
 let_holds env one declared t w absent ty n b g is_ty now later is is_one ready p stands =
     let holds = is.holds well.whole refl (λ h. refl) in
     let same = pattern_type w.items well.whole ty b.0 holds in
@@ -132,7 +132,7 @@ let_holds env false declared t w (present m) ty n b g is_ty now later is is_one 
     (or_right (is_one_name b.0) _ (is_its_own declared m ty (ty_of b.0) is_ty same later.own))
     (is_in_table w.items ty (ty_of b.0) same ready)
 
-value_ready : (env : Env) (one : Bool) (declared : Option TyId) (t : State) (n : Node) → IsInitialiser env one
+value_ready : (env : Env) (one : Bool) (declared : Option TyId) (t : TypingState) (n : Node) → IsInitialiser env one
     declared t
     (present n) → IsReady t.items (ty_of n)
 value_ready env true declared t n is = alone_ready t.items (ty_of n) is.alone
@@ -141,7 +141,7 @@ value_ready env false declared t n is = is.base.ready
 unused_same : (n : Node) → well.is_unused_place n ≡ rules.is_unused_place n
 unused_same (node id at ty by form) = refl
 
-let_ends : (env : Env) (one : Bool) (declared : Option TyId) (u w : State) (v : MaybeNode) (p : Node) → Grows u w →
+let_ends : (env : Env) (one : Bool) (declared : Option TyId) (u w : TypingState) (v : MaybeNode) (p : Node) → Grows u w →
     IsInitialiser env one declared u v → well.ends_by w.items (tree.Let p v) ≡ ends_by u.items v
 let_ends env one declared u w absent p g is = refl
 let_ends env one declared u w (present n) p g is =
@@ -149,7 +149,7 @@ let_ends env one declared u w (present n) p g is =
 
 pub let_sound : (env : Env) (at : Pos) (one : Bool) (written : Check (Option TyId)) (value : Option TyId → Check
     MaybeNode)
-    (matcher : Matcher) (s : State) → SoundDeclared written → SoundInitialiser env one value → SoundPattern s one
+    (matcher : Matcher) (s : TypingState) → SoundDeclared written → SoundInitialiser env one value → SoundPattern s one
     matcher → Knows
     env s → Gives s (λ w done. IsStatement env w done × Knows done.2 w) (let_row at env one written value matcher (λ xs.
     with_variables xs env) s)
@@ -180,17 +180,17 @@ let_sound env at one written value matcher s good_w good_v good_m k =
 
 -- ---- a place that is taken apart
 
-abbrev IsUnplaced : Result (Node × State) Broken → Type 0
+abbrev IsUnplaced : Result (Node × TypingState) Broken → Type 0
 IsUnplaced r = Then r (λ n t. is_place (form_of n) ≡ false)
 
 -- what is coerced is no place any more
-coerced_unplaced : (want : TyId) (m : Node) (s : State) (how : Fit) → (how ≡ Fits → ⊥) → IsUnplaced (fitted_by want m
+coerced_unplaced : (want : TyId) (m : Node) (s : TypingState) (how : Fit) → (how ≡ Fits → ⊥) → IsUnplaced (fitted_by want m
     how s)
 coerced_unplaced want m s Fits no_fit = absurd (no_fit refl)
 coerced_unplaced want m s (Coerced trait_no) no_fit = refl
 coerced_unplaced want m s Differs no_fit = tt
 
-taken_unplaced : (env : Env) (want : TyId) (n : Node) (s : State) → (fit s.items want (ty_of n) ≡ Fits → ⊥) →
+taken_unplaced : (env : Env) (want : TyId) (n : Node) (s : TypingState) → (fit s.items want (ty_of n) ≡ Fits → ⊥) →
     IsUnplaced (taken
     env (Some want) n s)
 taken_unplaced env want n s no_fit =
@@ -201,14 +201,14 @@ taken_unplaced env want n s no_fit =
     m : Node
     m = used (taking s.items (ty_of n)) n
 
-    rules_on : (x : Node) (t : State) → is_place (form_of x) ≡ false → (a b : Bool) → IsUnplaced (and_then (obeys
+    rules_on : (x : Node) (t : TypingState) → is_place (form_of x) ≡ false → (a b : Bool) → IsUnplaced (and_then (obeys
         Rule.T07
         (place_in_text n) a t) (λ _. obeys Rule.T08 (place_in_text n) b >>= (λ _. pure x)))
     rules_on x t h true true = h
     rules_on x t h true false = tt
     rules_on x t h false b = tt
 
-    on : (r : Result (Node × State) Broken) → IsUnplaced r → IsUnplaced (and_then r (λ x. obeys Rule.T07
+    on : (r : Result (Node × TypingState) Broken) → IsUnplaced r → IsUnplaced (and_then r (λ x. obeys Rule.T07
         (place_in_text n) (is_copy
         s.items (ty_of n) || not (is_fixed s.items (in_own_guard env.variables) n || is_dyn s.items (ty_of n))) >>= (λ
         _. obeys
@@ -225,7 +225,7 @@ no_place_own want n no_place = by (is_place (form_of n)) no_place
     by false e = refl
 
 -- a value that is no place may be taken apart as a temporary
-parts_of_value : (env : Env) (want : Option TyId) (w : State) (n : Node) → IsValue env want w n → is_place (form_of n)
+parts_of_value : (env : Env) (want : Option TyId) (w : TypingState) (n : Node) → IsValue env want w n → is_place (form_of n)
     ≡ false →
     IsInParts env want w n
 parts_of_value env want w n value no_place =
@@ -236,14 +236,14 @@ parts_of_value env want w n value no_place =
       own = no_place_own want n no_place;
     }
 
-both_parts : (env : Env) (want : Option TyId) (t : State) (r : Result (Node × State) Broken) → Gives t (IsValue env
+both_parts : (env : Env) (want : Option TyId) (t : TypingState) (r : Result (Node × TypingState) Broken) → Gives t (IsValue env
     want) r →
     IsUnplaced r → Gives t (IsInParts env want) r
 both_parts env want t (Ok a) h u =
     record { so = λ ready. let g = h.so ready in (g.0, λ w l. parts_of_value env want w a.0 (g.1 w l) u) }
 both_parts env want t (Err e) h u = record { so = λ ready. tt }
 
-pub in_parts_sound : (env : Env) (want : Option TyId) (n : Node) (t : State) → IsPlace env t n → ((w : State) → Grows
+pub in_parts_sound : (env : Env) (want : Option TyId) (n : Node) (t : TypingState) → IsPlace env t n → ((w : TypingState) → Grows
     t w →
     IsPlace env w n) → Gives t (IsInParts env want) (place_for_parts env want n t)
 in_parts_sound env None n t now later =

@@ -16,13 +16,13 @@ use Rattle.well_typed.specs.Places as well
 use Rattle.well_typed.specs.Places.{InScope, Context, ty_of, form_of, is_place, may_move, Taken, Base, Used, with_entries}
 use Rattle.well_typed.specs.Types.{is_same, is_common, is_never, is_never_ty, fits}
 use Rattle.well_typed.proofs.ClaimLemmas.{and_true, true_left, true_right}
-use Rattle.typing_rules.specs.Check.{Check, State}
+use Rattle.typing_rules.specs.Check.{Check, TypingState}
 use Rattle.typing_rules.specs.Places.{unit, bool, is_fixed, in_own_guard}
-use Rattle.typing_rules.specs.Promises.{Extends, IsReady, IsAlone, AreReady, Grows, Gives, Spot, at_spot, Stands, Knows, IsValue, Sound, SoundBase, SoundTemporary, key_of, in_scope, are_bound, AreReadyTypes, IsPattern, SoundMatcher}
+use Rattle.typing_rules.specs.Promises.{Extends, IsReady, IsAlone, AreReady, Grows, Gives, TypingSpot, at_spot, Stands, Knows, IsValue, Sound, SoundBase, SoundTemporary, key_of, in_scope, are_bound, AreReadyTypes, IsPattern, SoundMatcher}
 use Rattle.typing_rules.specs.RowPromises.{IsMaybe, IsArm, AreArms, SoundArms, SoundGuard}
 use Rattle.typing_rules.specs.Rows as rows
 use Rattle.typing_rules.specs.Rows.{Typer, Expected, Matcher, expected, scrutinised, used_if_place, if_let_alone, if_let_else, match_row, while_let_row, loop_around, one_of_two, one_type}
-use Rattle.typing_rules.specs.Scope.{Env, Entry, Around, with_variables, in_guard, within_loop}
+use Rattle.typing_rules.specs.Scope.{Env, NamedEntry, LabelledLoop, with_variables, in_guard, within_loop}
 use Rattle.src_ast.specs.Syntax.{Word}
 use Rattle.typing_rules.proofs.Sound.Arguments.{IsNamed, named_sound}
 use Rattle.typing_rules.proofs.Sound.Branches.{unit_is, unit_fits, bool_fits, common_of}
@@ -57,16 +57,16 @@ used_fixed items guards by (node id at ty old form) = so (is_place form)
     so false = refl
 
 -- a place that is borrowed, or a temporary
-record IsScrutinee (env : Env) (w : State) (n : Node) : Type 0 where
+record IsScrutinee (env : Env) (w : TypingState) (n : Node) : Type 0 where
   ready : IsReady w.items (ty_of n)
-  holds : (p : Spot) → Stands env w p → Holds (typed (at_spot w.items env.answer p) (Used Use.Borrow) n)
-  moves : (p : Spot) → Stands env w p → IsTrue (not (is_fixed w.items (in_own_guard env.variables) n)) → IsTrue
+  holds : (p : TypingSpot) → Stands env w p → Holds (typed (at_spot w.items env.answer p) (Used Use.Borrow) n)
+  moves : (p : TypingSpot) → Stands env w p → IsTrue (not (is_fixed w.items (in_own_guard env.variables) n)) → IsTrue
       (may_move
       (at_spot w.items env.answer p) n)
-  fixed : (v : State) → Grows w v → is_fixed v.items (in_own_guard env.variables) n ≡ is_fixed w.items (in_own_guard
+  fixed : (v : TypingState) → Grows w v → is_fixed v.items (in_own_guard env.variables) n ≡ is_fixed w.items (in_own_guard
       env.variables) n
 
-scrutinee_of : (env : Env) (w : State) (n : Node) → IsNamed env w n → IsScrutinee env w (used_if_place Use.Borrow n)
+scrutinee_of : (env : Env) (w : TypingState) (n : Node) → IsNamed env w n → IsScrutinee env w (used_if_place Use.Borrow n)
 scrutinee_of env w n is =
     record {
       ready = subst (IsReady w.items) (sym (used_type Use.Borrow n)) is.base.ready;
@@ -79,13 +79,13 @@ scrutinee_of env w n is =
           w.items (in_own_guard env.variables) Use.Borrow n));
     }
 
-scrutinised_sound : (env : Env) (check : Check Node) → SoundBase env check → (s : State) → Knows env s → Gives s
+scrutinised_sound : (env : Env) (check : Check Node) → SoundBase env check → (s : TypingState) → Knows env s → Gives s
     (IsScrutinee env) (scrutinised check s)
 scrutinised_sound env check good s k =
     bind (named_sound env check good s k) λ n t g d. given _ λ ready w l. scrutinee_of env w n (d w l)
 
 -- a pattern for the place of a scrutinee
-matched : (env : Env) (t w : State) (n : Node) (p : Spot) (b : Node × List Entry) → Grows t w → IsScrutinee env t n →
+matched : (env : Env) (t w : TypingState) (n : Node) (p : TypingSpot) (b : Node × List NamedEntry) → Grows t w → IsScrutinee env t n →
     IsScrutinee env w n → Stands env w p → IsPattern (expected env false n t.items) (ty_of n) t.next_node w b → Holds
     (of_scrutinee (at_spot w.items env.answer p) b.0 n)
 matched env t w n p b g now later stands is = (
@@ -95,7 +95,7 @@ matched env t w n p b g now later stands is = (
 )
 
 -- the body behind a pattern, in the scope of its names
-inner_holds : (env : Env) (t w : State) (p : Spot) (e : Expected) (ty : TyId) (b : Node × List Entry) (n : Node) (want :
+inner_holds : (env : Env) (t w : TypingState) (p : TypingSpot) (e : Expected) (ty : TyId) (b : Node × List NamedEntry) (n : Node) (want :
     Option TyId) → Knows env t → Stands env w p → IsPattern e ty t.next_node w b → IsValue (with_variables b.1 env)
     want w
     n → Holds (typed (with_entries (entries_of b.0) (at_spot w.items env.answer p)) Taken n)
@@ -104,18 +104,18 @@ inner_holds env t w p e ty b n want k stands is value =
     (value.holds (behind (are_bound false b.1) p) (bound_stands env t w p t.next_node w.next_node b.1 k (omega arith)
     is.fresh stands))
 
-knows_names : (env : Env) (t u : State) (e : Expected) (ty : TyId) (b : Node × List Entry) → Knows env t → Grows t u →
+knows_names : (env : Env) (t u : TypingState) (e : Expected) (ty : TyId) (b : Node × List NamedEntry) → Knows env t → Grows t u →
     IsPattern e ty t.next_node u b → Knows (with_variables b.1 env) u
 knows_names env t u e ty b k g is = knows_bound env u t.next_node b.1 (knows_later env g k) is.fresh is.types
 
-knows_guard : (env : Env) (t u : State) (e : Expected) (ty : TyId) (b : Node × List Entry) → Knows env t → Grows t u →
+knows_guard : (env : Env) (t u : TypingState) (e : Expected) (ty : TyId) (b : Node × List NamedEntry) → Knows env t → Grows t u →
     IsPattern e ty t.next_node u b → Knows (with_variables (in_guard b.1) env) u
 knows_guard env t u e ty b k g is =
     knows_guarded env u t.next_node b.1 (knows_later env g k) is.fresh is.types
 
-pub if_let_alone_sound : (env : Env) (at : Pos) (scrutinee : Check Node) (matcher : Matcher) (body : List Entry →
+pub if_let_alone_sound : (env : Env) (at : Pos) (scrutinee : Check Node) (matcher : Matcher) (body : List NamedEntry →
     Typer) →
-    SoundBase env scrutinee → SoundMatcher matcher → ((xs : List Entry) → Sound (with_variables xs env) (body xs)) →
+    SoundBase env scrutinee → SoundMatcher matcher → ((xs : List NamedEntry) → Sound (with_variables xs env) (body xs)) →
     SoundTemporary env (if_let_alone env at scrutinee matcher body)
 if_let_alone_sound env at scrutinee matcher body good_s good_m good_b want s k =
     after_number (bind (scrutinised_sound env scrutinee good_s (numbered s) (knows_number env k)) λ n t g d.
@@ -134,8 +134,8 @@ if_let_alone_sound env at scrutinee matcher body good_s good_m good_b want s k =
           ready,
     ))
 
-pub if_let_else_sound : (env : Env) (at : Pos) (scrutinee : Check Node) (matcher : Matcher) (body : List Entry → Typer)
-    (otherwise : Typer) → SoundBase env scrutinee → SoundMatcher matcher → ((xs : List Entry) → Sound (with_variables xs
+pub if_let_else_sound : (env : Env) (at : Pos) (scrutinee : Check Node) (matcher : Matcher) (body : List NamedEntry → Typer)
+    (otherwise : Typer) → SoundBase env scrutinee → SoundMatcher matcher → ((xs : List NamedEntry) → Sound (with_variables xs
     env) (body xs)) → Sound env otherwise → SoundTemporary env (if_let_else env at scrutinee matcher body otherwise)
 if_let_else_sound env at scrutinee matcher body otherwise good_s good_m good_b good_o want s k =
     after_number (bind (scrutinised_sound env scrutinee good_s (numbered s) (knows_number env k)) λ n t g d.
@@ -156,9 +156,9 @@ if_let_else_sound env at scrutinee matcher body otherwise good_s good_m good_b g
           m b want kt stands (e w on) fb ⋆ (r w l).holds p stands ⋆ common_of l.items (ty_of b) (ty_of o) ty one,
     ))
 
-pub while_let_sound : (env : Env) (at : Pos) (label : Option Word) (scrutinee : Around → Check Node) (matcher : Matcher)
-    (body : Around → List Entry → Typer) → ((a : Around) → SoundBase (within_loop a env) (scrutinee a)) → SoundMatcher
-    matcher → ((a : Around) (xs : List Entry) → Sound (with_variables xs (within_loop a env)) (body a xs)) →
+pub while_let_sound : (env : Env) (at : Pos) (label : Option Word) (scrutinee : LabelledLoop → Check Node) (matcher : Matcher)
+    (body : LabelledLoop → List NamedEntry → Typer) → ((a : LabelledLoop) → SoundBase (within_loop a env) (scrutinee a)) → SoundMatcher
+    matcher → ((a : LabelledLoop) (xs : List NamedEntry) → Sound (with_variables xs (within_loop a env)) (body a xs)) →
     SoundTemporary env (while_let_row env at label scrutinee matcher body)
 while_let_sound env at label scrutinee matcher body good_s good_m good_b want s k =
     after_number (bind (scrutinised_sound inside (scrutinee a) (good_s a) s' k') λ n t g d.
@@ -179,10 +179,10 @@ while_let_sound env at label scrutinee matcher body good_s good_m good_b want s 
           (ty_of b) (f w r).fit ⋆ unit_is w.items ready,
     ))
   where
-    s' : State
+    s' : TypingState
     s' = numbered s
 
-    a : Around
+    a : LabelledLoop
     a = loop_around label s.next_node false None
 
     l : well.LoopAround
@@ -196,11 +196,11 @@ while_let_sound env at label scrutinee matcher body good_s good_m good_b want s 
 
 -- ---- arms
 
-guard_entries : (xs : List Entry) → well.in_guard (are_bound false xs) ≡ are_bound true xs
+guard_entries : (xs : List NamedEntry) → well.in_guard (are_bound false xs) ≡ are_bound true xs
 guard_entries [] = refl
 guard_entries (x ∷ xs) = ap (λ es. in_scope (key_of x.meaning) x.ty true ∷ es) (guard_entries xs)
 
-guard_holds : (env : Env) (t w : State) (p : Spot) (e : Expected) (ty : TyId) (b : Node × List Entry) (g : MaybeNode) →
+guard_holds : (env : Env) (t w : TypingState) (p : TypingSpot) (e : Expected) (ty : TyId) (b : Node × List NamedEntry) (g : MaybeNode) →
     Knows env t → AreReady w.items → Stands env w p → IsPattern e ty t.next_node w b → IsMaybe (with_variables (in_guard
     b.1) env) (Some bool) w g → Holds (guarded (with_entries (well.in_guard (entries_of b.0)) (at_spot w.items
     env.answer
@@ -212,14 +212,14 @@ guard_holds env t w p e ty b (present n) k ready stands is value =
     (value.holds (behind (are_bound true b.1) p) (guard_stands env t w p t.next_node w.next_node b.1 k (omega arith)
     is.fresh stands) ⋆ bool_fits w.items ready (ty_of n) value.fit)
 
-in_guard_ready : (items : ItemTable) (xs : List Entry) → AreReadyTypes items xs → AreReadyTypes items (in_guard xs)
+in_guard_ready : (items : ItemTable) (xs : List NamedEntry) → AreReadyTypes items xs → AreReadyTypes items (in_guard xs)
 in_guard_ready items [] h = tt
 in_guard_ready items (x ∷ xs) h = (h.0, in_guard_ready items xs h.1)
 
-pub arm_sound : (env : Env) (e : Expected) (ty : TyId) (check : Check (Node × List Entry)) (guard : List Entry → Check
-    MaybeNode) (body : List Entry → Typer) → ((s : State) → IsReady s.items ty → Gives s (IsPattern e ty s.next_node)
-    (check s)) → SoundGuard env guard → ((xs : List Entry) → Sound (with_variables xs env) (body xs)) → (want : Option
-    TyId) (s : State) → Knows env s → IsReady s.items ty → Gives s (IsArm env e ty want) (rows.arm check guard body
+pub arm_sound : (env : Env) (e : Expected) (ty : TyId) (check : Check (Node × List NamedEntry)) (guard : List NamedEntry → Check
+    MaybeNode) (body : List NamedEntry → Typer) → ((s : TypingState) → IsReady s.items ty → Gives s (IsPattern e ty s.next_node)
+    (check s)) → SoundGuard env guard → ((xs : List NamedEntry) → Sound (with_variables xs env) (body xs)) → (want : Option
+    TyId) (s : TypingState) → Knows env s → IsReady s.items ty → Gives s (IsArm env e ty want) (rows.arm check guard body
     want s)
 arm_sound env e ty check guard body good_m good_g good_b want s k ready =
     after_number (bind (good_m (numbered s) ready) λ m u h d.
@@ -240,7 +240,7 @@ arm_sound env e ty check guard body good_m good_g good_b want s k ready =
       fit = value.fit;
     })
 
-arms_hold : (env : Env) (e : Expected) (ty : TyId) (want : Option TyId) (w : State) (p : Spot) → Stands env w p →
+arms_hold : (env : Env) (e : Expected) (ty : TyId) (want : Option TyId) (w : TypingState) (p : TypingSpot) → Stands env w p →
     (place :
     Matched) → place.takes_all ≡ e.takes_all → (IsTrue (not e.is_fixed) → IsTrue place.may_move) → (ns : Nodes) (tys :
     List
@@ -251,7 +251,7 @@ arms_hold env e ty want w p stands place same moves (a_node first rest) [] are =
 arms_hold env e ty want w p stands place same moves (a_node first rest) (t ∷ tys) are =
     (are.0.0.holds p stands place same moves, arms_hold env e ty want w p stands place same moves rest tys are.1)
 
-arms_types : (env : Env) (e : Expected) (ty : TyId) (want : Option TyId) (w : State) (ns : Nodes) (tys : List TyId) →
+arms_types : (env : Env) (e : Expected) (ty : TyId) (want : Option TyId) (w : TypingState) (ns : Nodes) (tys : List TyId) →
     AreArms env e ty want w ns tys → types_in ns ≡ tys
 arms_types env e ty want w no_node [] are = refl
 arms_types env e ty want w no_node (t ∷ tys) are = absurd are
@@ -259,7 +259,7 @@ arms_types env e ty want w (a_node first rest) [] are = absurd are
 arms_types env e ty want w (a_node first rest) (t ∷ tys) are =
     let first_ = sym are.0.1 in let on = arms_types env e ty want w rest tys are.1 in λ i. first_ i ∷ on i
 
-arms_alone : (env : Env) (e : Expected) (ty : TyId) (want : Option TyId) (w : State) (ns : Nodes) (tys : List TyId) →
+arms_alone : (env : Env) (e : Expected) (ty : TyId) (want : Option TyId) (w : TypingState) (ns : Nodes) (tys : List TyId) →
     AreArms env e ty want w ns tys → (n : ℕ) (t : TyId) → slice_get tys n ≡ Some t → IsAlone w.items t
 arms_alone env e ty want w no_node [] are n t h = absurd (none-some t h)
 arms_alone env e ty want w no_node (u ∷ tys) are n t h = absurd are

@@ -22,9 +22,9 @@ use Rattle.well_typed.specs.Places as well
 use Rattle.well_typed.specs.Places.{Context, ty_of, form_of, is_place, is_borrow, Taken, Base, Passed}
 use Rattle.well_typed.specs.Types.{closure_of, closure_in, fits, is_same, is_reference, reference_of, reference_in, is_dyn}
 use Rattle.well_typed.proofs.ClaimLemmas.{and_true}
-use Rattle.typing_rules.specs.Check.{Check, State, Broken, and_then, breaks, ◌>>◌, pure}
+use Rattle.typing_rules.specs.Check.{Check, TypingState, Broken, and_then, breaks, ◌>>◌, pure}
 use Rattle.typing_rules.specs.Places.{a_node_of, is_behind_shared, is_fixed, in_own_guard, place_in_text}
-use Rattle.typing_rules.specs.Promises.{IsAlone, IsKnown, AreReady, AreClosures, Grows, Fact, Gives, Spot, at_spot, Stands, Knows, IsValue, IsTemporary, IsBase, SoundBase, SoundTemporary}
+use Rattle.typing_rules.specs.Promises.{IsAlone, IsKnown, AreReady, AreClosures, Grows, Fact, Gives, TypingSpot, at_spot, Stands, Knows, IsValue, IsTemporary, IsBase, SoundBase, SoundTemporary}
 use Rattle.typing_rules.specs.RowPromises.{IsArgument, AreGiven, SoundArgs, FindsMethods, IsMethodOf, of_adt, of_trait, IsPlainType}
 use Rattle.typing_rules.specs.Rows.{Method, OfAdt, OfTrait, head_of, is_drop_method, method_form, received, received_by, taking, taken, is_unique_borrow, with_self, with_method, takes_self, method_call, with_closure, closure_call}
 use Rattle.typing_rules.specs.Scope.{Env, method_of}
@@ -58,7 +58,7 @@ not_place c (node id at ty by form) is h = (so (is_place form) is h.0, h.1)
     so false e h = h
 
 -- a receiver by value, and by reference once it is known not to be behind `&`
-abbrev pub IsReceiver : Env → TyId → State → Node → Fact Node
+abbrev pub IsReceiver : Env → TyId → TypingState → Node → Fact Node
 IsReceiver env self s base w n = IsTrue (not (is_unique_borrow (form_of n) && is_behind_shared s.items base)) →
     IsArgument env
     self w n
@@ -87,7 +87,7 @@ self_cases items self own plain (Some r) e h = by (or_cases (is_same self own) (
 fits_same : (items : ItemTable) (a b : TyId) → IsTrue (is_same a b) → IsTrue (fits items a b)
 fits_same items a b h = or_left (is_same b a) _ (subst (λ x. IsTrue (is_same x a)) (same_id a b h) (same_self a.0))
 
-received_sound : (env : Env) (at : Pos) (base : Node) (self : TyId) (s : State) → ((w : State) → Grows s w → IsBase
+received_sound : (env : Env) (at : Pos) (base : Node) (self : TyId) (s : TypingState) → ((w : TypingState) → Grows s w → IsBase
     env w
     base) → IsTrue (not (is_reference s.items (ty_of base))) → IsKnown s.items self → IsTrue (is_same self (ty_of
     base) ||
@@ -98,7 +98,7 @@ received_sound env at base self s is plain known takes =
     by (reference_of s.items self) refl (self_cases s.items self (ty_of base) plain (reference_of s.items self) refl
     takes)
   where
-    value : (w : State) → Grows s w → (n : Node) → ((p : Spot) → Stands env w p → Holds (typed (at_spot w.items
+    value : (w : TypingState) → Grows s w → (n : Node) → ((p : TypingSpot) → Stands env w p → Holds (typed (at_spot w.items
         env.answer
         p) Taken n)) → IsTrue (fits w.items self (ty_of n)) → reference_of s.items self ≡ None → IsArgument env self w n
     value w g n holds fit_ none =
@@ -156,25 +156,25 @@ method_place : (m : Method) (receiver : Node) (args : Nodes) → is_place (metho
 method_place (OfAdt body is_drop head) receiver args = refl
 method_place (OfTrait trait_no method head) receiver args = refl
 
-method_plain : (env : Env) (w : State) (ty : TyId) (m : Method) (receiver : Node) (args : Nodes) → IsPlain env w ty
+method_plain : (env : Env) (w : TypingState) (ty : TyId) (m : Method) (receiver : Node) (args : Nodes) → IsPlain env w ty
     (method_form m receiver args)
 method_plain env w ty (OfAdt body is_drop head) receiver args p = refl
 method_plain env w ty (OfTrait trait_no method head) receiver args p = refl
 
-method_alone : (s : State) → AreReady s.items → (own : TyId) (m : Method) → IsMethodOf s own m → IsAlone s.items
+method_alone : (s : TypingState) → AreReady s.items → (own : TyId) (m : Method) → IsMethodOf s own m → IsAlone s.items
     (head_of
     m).result
 method_alone s all own _ (of_adt {body} {is_drop} {head} is drop_is) = all.results body head is
 method_alone s all own _ (of_trait {trait_no} {method} {head} def at is) = all.methods trait_no method def head at is
 
-method_known : (s : State) → AreReady s.items → (own : TyId) (m : Method) → IsMethodOf s own m → (ty : TyId) → Contains
+method_known : (s : TypingState) → AreReady s.items → (own : TyId) (m : Method) → IsMethodOf s own m → (ty : TyId) → Contains
     (head_of m).params ty → IsKnown s.items ty
 method_known s all own _ (of_adt {body} {is_drop} {head} is drop_is) ty has = all.params body head ty is has
 method_known s all own _ (of_trait {trait_no} {method} {head} def at is) ty has =
     all.method_params trait_no method def head ty at is has
 
 -- parameters that do not begin with a closure
-abbrev IsApart : State → List TyId → Type 0
+abbrev IsApart : TypingState → List TyId → Type 0
 IsApart s params = (self : TyId) (rest : List TyId) (k : ℕ) → params ≡ self ∷ rest → type_at s.items self ≡ Some
     (Ty.Closure k)
     → ⊥
@@ -187,7 +187,7 @@ head_same self other params rest e = ap (first_or self) e
     first_or d (x ∷ xs) = x
 
 -- a receiver is of the type, or a reference to it, so it is no closure
-apart_by : (s : State) (own self : TyId) (params all : List TyId) → all ≡ self ∷ params → IsPlainType s.items own →
+apart_by : (s : TypingState) (own self : TyId) (params all : List TyId) → all ≡ self ∷ params → IsPlainType s.items own →
     IsTrue
     (takes_self s.items own (self ∷ params)) → IsApart s all
 apart_by s own self params all e kind takes other rest k is closure =
@@ -212,7 +212,7 @@ apart_by s own self params all e kind takes other rest k is closure =
         let h : IsTrue false = subst (λ o. IsTrue (option_map_or (λ (r : Bool × TyId). is_same r.1 own) (option_and_then
         reference_in o) false)) at_self refers in cc
 
-method_row : (s w : State) (c : Context) → AreReady s.items → AreClosures w.items → c.items ≡ w.items → Grows s w → (own : TyId) (m :
+method_row : (s w : TypingState) (c : Context) → AreReady s.items → AreClosures w.items → c.items ≡ w.items → Grows s w → (own : TyId) (m :
     Method) → IsMethodOf s
     own m → IsApart s (head_of m).params →
     IsTrue (not (is_drop_method m)) → (id : ℕ) (receiver : Node) (args : Nodes) → Holds (first_and_rest (λ t. typed c
@@ -239,7 +239,7 @@ method_row s w c all heads same g own _ (of_trait {trait_no} {method} {head} def
 
 with_self_sound : (env : Env) (at : Pos) (id : ℕ) (base : Node) (m : Method) (count : ℕ) (args : List TyId → Check
     Nodes)
-    (want : Option TyId) (params : List TyId) (s : State) → Knows env s → ((w : State) → Grows s w → IsBase env w
+    (want : Option TyId) (params : List TyId) (s : TypingState) → Knows env s → ((w : TypingState) → Grows s w → IsBase env w
     base) →
     IsTrue (not (is_reference s.items (ty_of base))) → IsPlainType s.items (ty_of base) → IsMethodOf s (ty_of base) m
     → (head_of m).params ≡ params →
@@ -285,7 +285,7 @@ with_self_sound env at id base m count args want (self ∷ params) s k is plain 
           )),
     )
 
-method_later : {t u : State} → Grows t u → (own : TyId) (m : Method) → IsMethodOf t own m → IsMethodOf u own m
+method_later : {t u : TypingState} → Grows t u → (own : TyId) (m : Method) → IsMethodOf t own m → IsMethodOf u own m
 method_later g own _ (of_adt {body} {is_drop} {head} is drop_is) =
     of_adt (ap (λ bodies. slice_get bodies body) g.items.bodies ∙ is) (drop_is ∙ sym (drop_later g.items body))
 method_later g own _ (of_trait {trait_no} {method} {head} def at is) =
@@ -304,14 +304,14 @@ method_sound env at named count receiver args finds good_receiver good want s k 
     R : Fact Node
     R = IsTemporary env want
 
-    broken : {A : Type 0} (c : Check A) (u : State) → Gives u R (and_then (c u) (λ _. breaks Rule.T12 at))
+    broken : {A : Type 0} (c : Check A) (u : TypingState) → Gives u R (and_then (c u) (λ _. breaks Rule.T12 at))
     broken c u = by (c u)
       where
-        by : {A : Type 0} (r : Result (A × State) Broken) → Gives u R (and_then r (λ _. breaks Rule.T12 at))
+        by : {A : Type 0} (r : Result (A × TypingState) Broken) → Gives u R (and_then r (λ _. breaks Rule.T12 at))
         by (Ok a) = record { so = λ ready. tt }
         by (Err x) = record { so = λ ready. tt }
 
-    by : (r : Node × Option Method) (u t : State) → Knows env u → Grows t u → ((w : State) → Grows u w → IsFound named
+    by : (r : Node × Option Method) (u t : TypingState) → Knows env u → Grows t u → ((w : TypingState) → Grows u w → IsFound named
         t.items
         env w r) → Gives u R (with_method env at s.next_node r.0 r.1 count args want u)
     by (base, None) u t k h e = broken (args []) u
@@ -352,7 +352,7 @@ closure_type items id k h = let known = some_got closure_in (type_at items id) k
 
 called_sound : (env : Env) (at : Pos) (id : ℕ) (c : Node) (count : ℕ) (args : List TyId → Check Nodes) (want : Option
     TyId)
-    (k : ℕ) (def : ClosureDef) (head : Sig) (t : State) → Knows env t → ((w : State) → Grows t w → IsValue env None w
+    (k : ℕ) (def : ClosureDef) (head : Sig) (t : TypingState) → Knows env t → ((w : TypingState) → Grows t w → IsValue env None w
     c) →
     AreReady t.items → type_at t.items (ty_of c) ≡ Some (Ty.Closure k) → slice_get t.items.closures k ≡ Some def →
     slice_get
@@ -400,7 +400,7 @@ called_sound env at id c count args want k def head t knows is all of at_k body 
 
 pub closure_call_sound : (env : Env) (at : Pos) (count : ℕ) (callee : Check Node) (args : List TyId → Check Nodes) →
     ((s :
-    State) → Knows env s → Gives s (IsValue env None) (callee s)) → SoundArgs env count args → SoundTemporary env
+    TypingState) → Knows env s → Gives s (IsValue env None) (callee s)) → SoundArgs env count args → SoundTemporary env
     (closure_call at count callee args)
 closure_call_sound env at count callee args good_c good want s k =
     after_number (bind (good_c (numbered s) (knows_number env k)) λ c t g d.
@@ -409,21 +409,21 @@ closure_call_sound env at count callee args good_c good want s k =
     R : Fact Node
     R = IsTemporary env want
 
-    broken : {A : Type 0} (c : Check A) (u : State) → Gives u R (and_then (c u) (λ _. breaks Rule.T13 at))
+    broken : {A : Type 0} (c : Check A) (u : TypingState) → Gives u R (and_then (c u) (λ _. breaks Rule.T13 at))
     broken c u = by (c u)
       where
-        by : {A : Type 0} (r : Result (A × State) Broken) → Gives u R (and_then r (λ _. breaks Rule.T13 at))
+        by : {A : Type 0} (r : Result (A × TypingState) Broken) → Gives u R (and_then r (λ _. breaks Rule.T13 at))
         by (Ok a) = record { so = λ ready. tt }
         by (Err x) = record { so = λ ready. tt }
 
-    called : Node → State → Option ℕ → Result (Node × State) Broken
+    called : Node → TypingState → Option ℕ → Result (Node × TypingState) Broken
     called c t o =
         with_closure at s.next_node c count args want (option_map_or (λ (d : ClosureDef). d.body) (option_and_then
         (slice_get
         t.items.closures) o) 0) (option_and_then (λ (d : ClosureDef). slice_get t.items.bodies d.body) (option_and_then
         (slice_get t.items.closures) o)) t
 
-    with_head : (c : Node) (t : State) → Knows env t → ((w : State) → Grows t w → IsValue env None w c) → AreReady
+    with_head : (c : Node) (t : TypingState) → Knows env t → ((w : TypingState) → Grows t w → IsValue env None w c) → AreReady
         t.items →
         (n : ℕ) → closure_of t.items (ty_of c) ≡ Some n → (def : ClosureDef) → slice_get t.items.closures n ≡ Some def
         → (o :
@@ -435,7 +435,7 @@ closure_call_sound env at count callee args good_c good want s k =
         e) at_n is
         good
 
-    with_def : (c : Node) (t : State) → Knows env t → ((w : State) → Grows t w → IsValue env None w c) → AreReady
+    with_def : (c : Node) (t : TypingState) → Knows env t → ((w : TypingState) → Grows t w → IsValue env None w c) → AreReady
         t.items → (n
         : ℕ) → closure_of t.items (ty_of c) ≡ Some n → (o : Option ClosureDef) → slice_get t.items.closures n ≡ o →
         Gives t R
@@ -446,7 +446,7 @@ closure_call_sound env at count callee args good_c good want s k =
     with_def c t knows d all n e (Some def) is = with_head c t knows d all n e def is (slice_get t.items.bodies
         def.body) refl
 
-    by : (c : Node) (t : State) → Knows env t → ((w : State) → Grows t w → IsValue env None w c) → AreReady t.items →
+    by : (c : Node) (t : TypingState) → Knows env t → ((w : TypingState) → Grows t w → IsValue env None w c) → AreReady t.items →
         (o :
         Option ℕ) → closure_of t.items (ty_of c) ≡ o → Gives t R (called c t o)
     by c t knows d all None e = broken (args []) t
@@ -460,13 +460,13 @@ plain_adt items own n at = (Ty.Adt n, at, refl, refl)
 plain_dyn : (items : ItemTable) (own : TyId) (n : ℕ) → type_at items own ≡ Some (Ty.Dyn n) → IsPlainType items own
 plain_dyn items own n at = (Ty.Dyn n, at, refl, refl)
 
-head_found : (s : State) (own : TyId) (body : ℕ) (m : Method) (o : Option Sig) → slice_get s.items.bodies body ≡ o →
+head_found : (s : TypingState) (own : TyId) (body : ℕ) (m : Method) (o : Option Sig) → slice_get s.items.bodies body ≡ o →
     looks.with_head s.items body o ≡ Some m → IsMethodOf s own m
 head_found s own body m None is h = absurd (none-some m h)
 head_found s own body m (Some head) is h =
     subst (IsMethodOf s own) (same_Some (OfAdt body (is_drop_body s.items body) head) m h) (of_adt is refl)
 
-trait_found : (s : State) (own : TyId) (n : ℕ) (name : Word) (m : Method) (o : Option TraitDef) → slice_get
+trait_found : (s : TypingState) (own : TyId) (n : ℕ) (name : Word) (m : Method) (o : Option TraitDef) → slice_get
     s.items.traits n ≡ o
     → looks.trait_method n name o ≡ Some m → IsMethodOf s own m
 trait_found s own n name m None is h = absurd (none-some m h)

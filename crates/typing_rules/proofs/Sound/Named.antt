@@ -25,7 +25,7 @@ use Rattle.well_typed.specs.Patterns.{count_of, field_numbers}
 use Rattle.well_typed.specs.Places.{Context, Wanted}
 use Rattle.well_typed.specs.Types.{is_same, is_kind, is_reference, kind_in, adt_in, variant_at}
 use Rattle.well_typed.proofs.ClaimLemmas.{and_true}
-use Rattle.typing_rules.specs.Check.{Check, State, interned, ◌>>=◌}
+use Rattle.typing_rules.specs.Check.{Check, TypingState, interned, ◌>>=◌}
 use Rattle.typing_rules.specs.Places.{int, a_node_of}
 use Rattle.typing_rules.specs.Promises.{Extends, IsAlone, IsKnown, AreReady, AreClosures, Gives, at_spot, Knows, IsTemporary, SoundTemporary, Grows}
 use Rattle.typing_rules.specs.RowPromises.{IsMade, SoundArgs, IsFunction}
@@ -60,7 +60,7 @@ any_at {A = A} p (y ∷ ys) h = by (any_at p ys) (or_cases (p y) (list_any p ys)
     by on (inr more) = let f = on more in (suc f.0, f.1, f.2, f.3)
 
 -- a type that was in the table is what it was
-pub was_type : {s w : State} → AreReady s.items → Grows s w → (body : ℕ) (head : Sig) (self : TyId) (rest : List TyId)
+pub was_type : {s w : TypingState} → AreReady s.items → Grows s w → (body : ℕ) (head : Sig) (self : TyId) (rest : List TyId)
     (ty : Ty) →
     slice_get s.items.bodies body ≡ Some head → head.params ≡ self ∷ rest → type_at w.items self ≡ Some ty → type_at
     s.items
@@ -70,7 +70,7 @@ was_type all g body head self rest ty is params at =
     known.1 ∙ (sym (type_later g.items self known.0 known.1) ∙ at)
 
 -- a function's body is no closure's
-pub no_closure : {s w : State} → AreReady s.items → Grows s w → AreClosures w.items → (body : ℕ) (head : Sig) →
+pub no_closure : {s w : TypingState} → AreReady s.items → Grows s w → AreClosures w.items → (body : ℕ) (head : Sig) →
     IsFunction s body head → IsTrue (not (is_closure_body w.items body))
 no_closure {s} {w} all g heads body head is = by (is_closure_body w.items body) refl
   where
@@ -88,7 +88,7 @@ no_closure {s} {w} all g heads body head is = by (is_closure_body w.items body) 
 
 pub function_sound : (env : Env) (at : Pos) (body : ℕ) (head : Sig) (count : ℕ) (args : List TyId → Check Nodes) →
     SoundArgs
-    env count args → (want : Option TyId) (s : State) → Knows env s → IsFunction s body head → Gives s (IsTemporary env
+    env count args → (want : Option TyId) (s : TypingState) → Knows env s → IsFunction s body head → Gives s (IsTemporary env
     want) (call at (tree.Call body) head.result count head.params args (not (is_drop_body s.items body)) want s)
 function_sound env at body head count args good want s k is =
     with_ready λ all.
@@ -187,7 +187,7 @@ variant_later e adt variant =
     ap (λ adts. option_and_then (λ (def : Adt). slice_get def.variants variant) (slice_get adts adt)) e.adts
 
 -- `S`, `E::V` of a struct or a variant without parts
-pub unit_struct_sound : (env : Env) (at : Pos) (adt variant : ℕ) (v : Variant) (want : Option TyId) (s : State) →
+pub unit_struct_sound : (env : Env) (at : Pos) (adt variant : ℕ) (v : Variant) (want : Option TyId) (s : TypingState) →
     variant_at
     s.items adt variant ≡ Some v → v.fields ≡ [] → Knows env s → Gives s (IsTemporary env want) (makes_unit at (Makes
     adt
@@ -209,7 +209,7 @@ unit_struct_sound env at adt variant v want s has none k =
 -- `S(a)`, `E::V(a)`
 pub constructor_sound : (env : Env) (at : Pos) (adt variant : ℕ) (v : Variant) (count : ℕ) (args : List TyId → Check
     Nodes) →
-    SoundArgs env count args → (want : Option TyId) (s : State) → variant_at s.items adt variant ≡ Some v → Knows env
+    SoundArgs env count args → (want : Option TyId) (s : TypingState) → variant_at s.items adt variant ≡ Some v → Knows env
     s →
     Gives s (IsTemporary env want) ((interned (Ty.Adt adt) >>= (λ ty. call at (make adt variant) ty count v.fields args
     true want)) s)
@@ -234,12 +234,12 @@ constructor_sound env at adt variant v count args good want s has k =
           w.items u (alone w all_w at_w u n is)),
     )) given_)) want (knows_later env g k)
   where
-    alone : (w : State) → AreReady w.items → variant_at w.items adt variant ≡ Some v → (part : TyId) (n : ℕ) → slice_get
+    alone : (w : TypingState) → AreReady w.items → variant_at w.items adt variant ≡ Some v → (part : TyId) (n : ℕ) → slice_get
         v.fields n ≡ Some part → IsAlone w.items part
     alone w all at_w part n is =
         all.fields adt variant n part (ap (λ tys. slice_get tys n) (adt_fields w.items adt variant v at_w) ∙ is)
 
-    known : (w : State) → AreReady w.items → variant_at w.items adt variant ≡ Some v → (part : TyId) (n : ℕ) → slice_get
+    known : (w : TypingState) → AreReady w.items → variant_at w.items adt variant ≡ Some v → (part : TyId) (n : ℕ) → slice_get
         v.fields n ≡ Some part → IsKnown w.items part
     known w all at_w part n is = let a = alone w all at_w part n is in (a.0, a.1)
 

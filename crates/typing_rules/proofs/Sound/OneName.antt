@@ -8,12 +8,12 @@ use Rattle.typed_tree.specs.Tree as tree
 use Rattle.typed_tree.specs.Tree.{Node, Fields}
 use Rattle.well_typed.specs.Nodes.{is_one_name}
 use Rattle.well_typed.specs.Types.{is_enum, is_same, is_dyn, is_bool, kind_of, array_of, variant_at}
-use Rattle.typing_rules.specs.Check.{Check, State, Broken, and_then, breaks, obeys, known, interned, pure, ◌>>=◌}
+use Rattle.typing_rules.specs.Check.{Check, TypingState, Broken, and_then, breaks, obeys, known, interned, pure, ◌>>=◌}
 use Rattle.typing_rules.specs.Patterns as rules
 use Rattle.typing_rules.specs.Places.{a_node_of}
 use Rattle.typing_rules.specs.Promises.{Then, Fact, Gives}
 use Rattle.typing_rules.specs.Rows.{Expected, is_signed_kind, most, all_given, are_known}
-use Rattle.typing_rules.specs.Scope.{Env, Entry, adt_named, kind_at, variable}
+use Rattle.typing_rules.specs.Scope.{Env, NamedEntry, adt_named, kind_at, variable}
 use Rattle.src_ast.specs.Syntax.{Word, Syn, syn, Shape, AnyPattern, BindPattern, LiteralPattern, TruthPattern, PathPattern, PartsPattern, FieldsPattern, ParensPattern, TuplePattern, ArrayPattern, Alternatives}
 use Rattle.typing_rules.specs.Typed as typing
 use Rattle.typing_rules.proofs.Sound.AllPatterns.{matcher_sound}
@@ -30,40 +30,40 @@ use Rattle.mir_ty.specs.ItemTable.{ItemTable}
 use Rattle.mir_ty.specs.declared.adt.Adt.{Adt}
 
 -- what is so of all that a check can give
-record Shows {A : Type 0} (R : A → State → Type 0) (r : Result (A × State) Broken) : Type 0 where
+record Shows {A : Type 0} (R : A → TypingState → Type 0) (r : Result (A × TypingState) Broken) : Type 0 where
   so : Then r R
 
-then_on : {A B : Type 0} {Q : A → State → Type 0} {R : B → State → Type 0} {r : Result (A × State) Broken} {f : A →
+then_on : {A B : Type 0} {Q : A → TypingState → Type 0} {R : B → TypingState → Type 0} {r : Result (A × TypingState) Broken} {f : A →
     Check B} →
-    Shows Q r → ((a : A) (t : State) → Q a t → Shows R (f a t)) → Shows R (and_then r f)
+    Shows Q r → ((a : A) (t : TypingState) → Q a t → Shows R (f a t)) → Shows R (and_then r f)
 then_on {r = Ok a} h k = k a.0 a.1 h.so
 then_on {r = Err e} h k = record { so = tt }
 
-skip : {A B : Type 0} {R : B → State → Type 0} (r : Result (A × State) Broken) {f : A → Check B} → ((a : A) (t :
-    State) → Shows
+skip : {A B : Type 0} {R : B → TypingState → Type 0} (r : Result (A × TypingState) Broken) {f : A → Check B} → ((a : A) (t :
+    TypingState) → Shows
     R (f a t)) → Shows R (and_then r f)
 skip (Ok a) k = k a.0 a.1
 skip (Err e) k = record { so = tt }
 
-obeyed_on : {B : Type 0} {R : B → State → Type 0} {s : State} (rule : Rule) (at : Pos) (holds : Bool) (f : Check B) →
+obeyed_on : {B : Type 0} {R : B → TypingState → Type 0} {s : TypingState} (rule : Rule) (at : Pos) (holds : Bool) (f : Check B) →
     Shows R (f
     s) → Shows R (and_then (obeys rule at holds s) (λ _. f))
 obeyed_on rule at true f h = h
 obeyed_on rule at false f h = record { so = tt }
 
-known_on : {A B : Type 0} {R : B → State → Type 0} {s : State} (rule : Rule) (at : Pos) (o : Option A) (f : A → Check
+known_on : {A B : Type 0} {R : B → TypingState → Type 0} {s : TypingState} (rule : Rule) (at : Pos) (o : Option A) (f : A → Check
     B) → ((a :
     A) → Shows R (f a s)) → Shows R (and_then (known rule at o s) f)
 known_on rule at (Some a) f h = h a
 known_on rule at None f h = record { so = tt }
 
-ends : {A : Type 0} {R : A → State → Type 0} {a : A} {t : State} → R a t → Shows R (Ok (a, t))
+ends : {A : Type 0} {R : A → TypingState → Type 0} {a : A} {t : TypingState} → R a t → Shows R (Ok (a, t))
 ends h = record { so = h }
 
-abbrev Is : Bool → rules.Bound → State → Type 0
+abbrev Is : Bool → rules.BoundPattern → TypingState → Type 0
 Is one b t = is_one_name b.0 ≡ one
 
-no_name : (id : ℕ) (at : Pos) (ty : TyId) (t : rules.Target) (test enum : Bool) (fields : Fields) → is_one_name
+no_name : (id : ℕ) (at : Pos) (ty : TyId) (t : rules.PatternTarget) (test enum : Bool) (fields : Fields) → is_one_name
     (rules.tested_if test (a_node_of id at ty (if enum then tree.VariantPattern t.variant test fields else
     tree.StructPattern
     fields))) ≡ false
@@ -72,9 +72,9 @@ no_name id at ty t true false fields = refl
 no_name id at ty t false true fields = refl
 no_name id at ty t false false fields = refl
 
-target_none : (at : Pos) (e : Expected) (ty : TyId) (t : rules.Target) (parts : Expected → List TyId → Check (Fields ×
-    List Entry
-    × Bool × Bool)) (s : State) → Shows (Is false) (rules.of_target at e ty t parts s)
+target_none : (at : Pos) (e : Expected) (ty : TyId) (t : rules.PatternTarget) (parts : Expected → List TyId → Check (Fields ×
+    List NamedEntry
+    × Bool × Bool)) (s : TypingState) → Shows (Is false) (rules.of_target at e ty t parts s)
 target_none at e ty t parts s =
     skip (interned (Ty.Adt t.adt) (numbered s)) λ self u.
     obeyed_on Rule.T03 at (is_same ty self) _
@@ -83,7 +83,7 @@ target_none at e ty t parts s =
     rules.is_test w.items
     t)) _ (ends (no_name s.next_node at ty t (rules.is_test w.items t) (is_enum w.items t.adt) ps.0)))))
 
-lone_none : (env : Env) (at : Pos) (e : Expected) (ty : TyId) (adt : ℕ) (earlier : List Entry) (s : State) → Shows (Is
+lone_none : (env : Env) (at : Pos) (e : Expected) (ty : TyId) (adt : ℕ) (earlier : List NamedEntry) (s : TypingState) → Shows (Is
     false)
     (rules.lone_struct env at e ty adt earlier s)
 lone_none env at e ty adt earlier s = by (rules.is_unit_kind (kind_at env.kinds adt 0))
@@ -94,14 +94,14 @@ lone_none env at e ty adt earlier s = by (rules.is_unit_kind (kind_at env.kinds 
     by true = target_none at e ty (rules.target adt 0) (rules.no_parts earlier true) s
     by false = record { so = tt }
 
-bind_one : (at : Pos) (e : Expected) (ty : TyId) (name : Word) (earlier : List Entry) (s : State) → Shows (Is true)
+bind_one : (at : Pos) (e : Expected) (ty : TyId) (name : Word) (earlier : List NamedEntry) (s : TypingState) → Shows (Is true)
     (rules.bind at e ty name
     earlier s)
 bind_one at e ty name earlier s =
     obeyed_on Rule.T02 at (not (is_some (variable earlier name))) _ (obeyed_on Rule.T07 at (is_copy s.items ty || not
     (e.is_fixed || is_dyn s.items ty)) _ (ends refl))
 
-lone_one : (env : Env) (at : Pos) (e : Expected) (ty : TyId) (name : Word) (earlier : List Entry) (s : State) → Shows
+lone_one : (env : Env) (at : Pos) (e : Expected) (ty : TyId) (name : Word) (earlier : List NamedEntry) (s : TypingState) → Shows
     (Is (not (typing.names_struct s.items (adt_named s.items name))))
     (rules.lone_name env at e ty name earlier s)
 lone_one env at e ty name earlier s = by (adt_named s.items name)
@@ -116,8 +116,8 @@ lone_one env at e ty name earlier s = by (adt_named s.items name)
     by None = bind_one at e ty name earlier s
     by (Some adt) = if_enum adt (is_enum s.items adt)
 
-path_none : (env : Env) (at : Pos) (e : Expected) (ty : TyId) (first second : Option Word) (earlier : List Entry) (s :
-    State) →
+path_none : (env : Env) (at : Pos) (e : Expected) (ty : TyId) (first second : Option Word) (earlier : List NamedEntry) (s :
+    TypingState) →
     Shows (Is false) (rules.path_alone env at e ty first second earlier s)
 path_none env at e ty first None earlier s =
     known_on Rule.T01 at env.self_adt _ λ adt. obeyed_on Rule.T01 at (not (is_enum s.items adt)) _ (lone_none env at e
@@ -129,7 +129,7 @@ path_none env at e ty first (Some second) earlier s =
     (rules.is_unit_kind (kind_at env.kinds t.adt t.variant))) s
 
 literal_none : (at : Pos) (e : Expected) (ty : TyId) (is_negative : Bool) (value : ℕ) (suffix : Option IntKind) (s :
-    State) → Shows
+    TypingState) → Shows
     (λ n t. is_one_name n ≡ false) (rules.literal_pattern at e ty is_negative value suffix s)
 literal_none at e ty is_negative value suffix s =
     known_on Rule.T03 at (kind_of s.items ty) _ λ kind. obeyed_on Rule.T03 at (rules.agrees_kind suffix ty && (not
@@ -137,18 +137,18 @@ literal_none at e ty is_negative value suffix s =
     is_signed_kind kind)) _ (obeyed_on Rule.T17 at (nat_le value (most kind is_negative)) _ (obeyed_on Rule.T18 at (not
     e.takes_all) _ (ends refl)))
 
-truth_none : (at : Pos) (e : Expected) (ty : TyId) (value : Bool) (s : State) → Shows (λ n t. is_one_name n ≡ false)
+truth_none : (at : Pos) (e : Expected) (ty : TyId) (value : Bool) (s : TypingState) → Shows (λ n t. is_one_name n ≡ false)
     (rules.truth_pattern at e ty value s)
 truth_none at e ty value s =
     obeyed_on Rule.T03 at (is_bool s.items ty) _ (obeyed_on Rule.T18 at (not e.takes_all) _ (ends refl))
 
 mutual
-  one_name : (env : Env) (e : Expected) (ty : TyId) (p : Syn) (earlier : List Entry) (s : State) → Shows (Is
+  one_name : (env : Env) (e : Expected) (ty : TyId) (p : Syn) (earlier : List NamedEntry) (s : TypingState) → Shows (Is
       (typing.is_one_name s.items p)) (rules.pattern env e ty p
       earlier s)
   one_name env e ty (syn at form) earlier s = one_form env e ty at form earlier s
 
-  one_form : (env : Env) (e : Expected) (ty : TyId) (at : Pos) (form : Shape) (earlier : List Entry) (s : State) →
+  one_form : (env : Env) (e : Expected) (ty : TyId) (at : Pos) (form : Shape) (earlier : List NamedEntry) (s : TypingState) →
       Shows (Is (typing.is_one_name_form s.items form))
       (rules.pattern_form env e ty at form earlier s)
   one_form env e ty at AnyPattern earlier s = ends refl
@@ -192,7 +192,7 @@ mutual
       s)) λ ps u. obeyed_on Rule.T18 at (not (rules.has_names earlier ps.1)) _ (ends refl))
   one_form env e ty at _ earlier s = record { so = tt }
 
-both_give : {A : Type 0} {s : State} {Q : Fact A} (P : A → Type 0) (r : Result (A × State) Broken) → Gives s Q r →
+both_give : {A : Type 0} {s : TypingState} {Q : Fact A} (P : A → Type 0) (r : Result (A × TypingState) Broken) → Gives s Q r →
     Shows (λ a t. P
     a) r → Gives s (λ w a. Q w a × P a) r
 both_give P (Ok a) h p = record { so = λ ready. let g = h.so ready in (g.0, λ w l. (g.1 w l, p.so)) }
@@ -224,7 +224,7 @@ module _ (old new : ItemTable) (e : new.adts ≡ old.adts) where
     one_same_form _ = refl
 
 -- a whole pattern, with what it is as it is written
-pub one_pattern_sound : (env : Env) (p : Syn) (first : State) → SoundPattern first (typing.is_one_name first.items p)
+pub one_pattern_sound : (env : Env) (p : Syn) (first : TypingState) → SoundPattern first (typing.is_one_name first.items p)
     (λ e ty.
     rules.pattern env e ty p [])
 one_pattern_sound env p first e ty s g ready =
@@ -232,7 +232,7 @@ one_pattern_sound env p first e ty s g ready =
     env p e ty
     s ready) (named_on (rules.pattern env e ty p [] s) (one_name env e ty p [] s))
   where
-    named_on : (r : Result (rules.Bound × State) Broken) → Shows (Is (typing.is_one_name s.items p)) r → Shows (λ b t.
+    named_on : (r : Result (rules.BoundPattern × TypingState) Broken) → Shows (Is (typing.is_one_name s.items p)) r → Shows (λ b t.
         is_one_name b.0 ≡ typing.is_one_name first.items p) r
     named_on (Ok b) h = record { so = h.so ∙ one_same first.items s.items g.items.adts p }
     named_on (Err x) h = record { so = tt }

@@ -19,7 +19,7 @@ use Rattle.well_typed.specs.Nodes.{typed, row, is_leaf, fits_bool, are_operands,
 use Rattle.well_typed.specs.Places.{Context, ty_of, is_place, Taken, Wanted}
 use Rattle.well_typed.specs.Types.{fits, is_same, is_bool, is_bool_ty, is_never, is_never_ty, is_int, kind_of, kind_in, is_signed, is_signed_kind}
 use Rattle.well_typed.proofs.ClaimLemmas.{and_true, true_left, true_right}
-use Rattle.typing_rules.specs.Check.{State}
+use Rattle.typing_rules.specs.Check.{TypingState}
 use Rattle.typing_rules.specs.Places.{unit, bool, never, int, wanted}
 use Rattle.typing_rules.specs.Promises.{Extends, IsAlone, AreReady, Fact, Gives, Knows, IsValue, IsTemporary, Sound, SoundTemporary}
 use Rattle.typing_rules.specs.Rows.{Typer, leaf, not_row, negate, operands, arithmetic, comparison, logic, one_of_two, if_int, int_or_bool, left_first}
@@ -38,7 +38,7 @@ or_cases true b h = inl refl
 or_cases false b h = inr h
 
 -- a value of which something is required, and of which a type is required that it fits
-pub any_want : {env : Env} {want : Option TyId} {w : State} {n : Node} → IsValue env want w n → IsValue env None w n
+pub any_want : {env : Env} {want : Option TyId} {w : TypingState} {n : Node} → IsValue env want w n → IsValue env None w n
 any_want v = record { alone = v.alone; fit = refl; holds = v.holds }
 
 pub as_wanted : (c : Context) (want : TyId) (n : Node) → Holds (typed c Taken n) → IsTrue (fits c.items want (ty_of
@@ -98,7 +98,7 @@ not_sound env at operand good want s k =
           l.items bool (ty_of n) is) ⋆ bool_is w.items ready,
     ))
   where
-    s' : State
+    s' : TypingState
     s' = numbered s
 
     R : Fact Node
@@ -132,7 +132,7 @@ negate_sound env at operand good want s k =
           is,
     ))
   where
-    s' : State
+    s' : TypingState
     s' = numbered s
 
     R : Fact Node
@@ -147,14 +147,14 @@ abbrev Both : Env → Fact (Node × Node)
 Both env w both = IsValue env None w both.0 × IsValue env None w both.1
 
 left_first_sound : (env : Env) (want : Option TyId) (left right : Typer) → Sound env left → Sound env right → (s :
-    State) → Knows env s → Gives s (Both env) (left_first want left right s)
+    TypingState) → Knows env s → Gives s (Both env) (left_first want left right s)
 left_first_sound env want left right good_left good_right s k =
     bind (good_left want s k) λ l t g d.
     bind (good_right _ t (knows_later env g k)) λ r u h e.
     given (l, r) λ ready w f. (any_want (d w (grows_trans h f)), any_want (e w f))
 
 operands_sound : (env : Env) (is_literal : Bool) (want : Option TyId) (left right : Typer) → Sound env left → Sound
-    env right → (s : State) → Knows env s → Gives s (Both env) (operands is_literal want left right s)
+    env right → (s : TypingState) → Knows env s → Gives s (Both env) (operands is_literal want left right s)
 operands_sound env true None left right good_left good_right s k =
     bind (good_right None s k) λ r t g d.
     bind (good_left _ t (knows_later env g k)) λ l u h e.
@@ -245,7 +245,7 @@ arithmetic_sound env at operator is_literal left right good_left good_right want
           int_later l.items ty one.1 ⋆ is.2,
     ))
   where
-    s' : State
+    s' : TypingState
     s' = numbered s
 
     R : Fact Node
@@ -300,7 +300,7 @@ comparison_sound env at operator is_literal left right good_left good_right want
           bool_is w.items ready,
     ))
   where
-    s' : State
+    s' : TypingState
     s' = numbered s
 
     R : Fact Node
@@ -318,7 +318,7 @@ AsksBoth form = (c : Context) (id : ℕ) (ty : TyId) (l r : Node) → Holds (typ
     (row c id ty (form l r))
 
 logic_sound : (env : Env) (at : Pos) (form : Node → Node → Form) → ((l r : Node) → IsTrue (is_leaf (form l r))) → ((l
-    r : Node) → is_place (form l r) ≡ false) → ((w : State) (l r : Node) → IsPlain env w bool (form l r)) → AsksBoth
+    r : Node) → is_place (form l r) ≡ false) → ((w : TypingState) (l r : Node) → IsPlain env w bool (form l r)) → AsksBoth
     form → (left right : Typer) → Sound env left → Sound env right → SoundTemporary env (logic at form left right)
 logic_sound env at form leaf placeless plain asks left right good_left good_right want s k =
     after_number (bind (good_left None s' (knows_number env k)) λ l t g d.
@@ -333,7 +333,7 @@ logic_sound env at form leaf placeless plain asks left right good_left good_righ
           (fits u.items bool (ty_of l)) _ is)) (bool_is w.items ready),
     ))
   where
-    s' : State
+    s' : TypingState
     s' = numbered s
 
     R : Fact Node

@@ -17,7 +17,7 @@ use Rattle.well_typed.specs.Claim.{Holds, some, fact}
 use Rattle.well_typed.specs.Places.{ty_of}
 use Rattle.well_typed.specs.Types.{is_same, inside_of, inside_in, has_fields, fields_in, is_enum, variant_at, adt_of, adt_in, tuple_of, tuple_in}
 use Rattle.well_typed.proofs.ClaimLemmas.{and_true}
-use Rattle.typing_rules.specs.Check.{Check, State}
+use Rattle.typing_rules.specs.Check.{Check, TypingState}
 use Rattle.typing_rules.specs.Places.{a_node_of, Member, through, through_in, through_at, struct_field, numbered_part, part_with, either_part}
 use Rattle.typing_rules.specs.Promises.{Extends, AreReady, Grows, Fact, Gives, Knows, IsBase, SoundBase}
 use Rattle.typing_rules.specs.RowPromises.{IsMember, IsPlace}
@@ -157,7 +157,7 @@ abbrev pub IsFound : {A : Type 0} → Member A → ItemTable → Env → Fact (N
 IsFound {A} member items env w r = IsBase env w r.0 × ((a : A) → r.1 ≡ Some a → member items (ty_of r.0) ≡ Some a)
 
 module _ {A : Type 0} (member : Member A) (at : Pos) (env : Env) where
-  through_in_sound : (n : ℕ) (items : ItemTable) (base : Node) (s : State) → Extends items s.items → ((w : State) →
+  through_in_sound : (n : ℕ) (items : ItemTable) (base : Node) (s : TypingState) → Extends items s.items → ((w : TypingState) →
       Grows
       s w → IsBase env w base) → Gives s (IsFound member items env) (through_in member at n items base s)
   through_in_sound zero items base s e is =
@@ -166,7 +166,7 @@ module _ {A : Type 0} (member : Member A) (at : Pos) (env : Env) where
       by (member items (ty_of base)) (inside_of items (ty_of base)) refl refl (through_in_sound n items)
     where
       by : (m : Option A) (i : Option TyId) → member items (ty_of base) ≡ m → inside_of items (ty_of base) ≡ i →
-          ((next : Node) (t : State) → Extends items t.items → ((w : State) → Grows t w → IsBase env w next) → Gives t
+          ((next : Node) (t : TypingState) → Extends items t.items → ((w : TypingState) → Grows t w → IsBase env w next) → Gives t
           (IsFound member items env) (through_in member at n items next t)) → Gives s (IsFound member items env)
           (through_at member at (through_in member at n items) base m i s)
       by (Some a) i hm hi on = given (base, Some a) λ ready w g. (is w g, λ b h. hm ∙ h)
@@ -176,13 +176,13 @@ module _ {A : Type 0} (member : Member A) (at : Pos) (env : Env) where
           (deref_base env w s.next_node at ty base (g.ready ready) (is w (grows_trans (grows_number s) g)) (in_later
           g.items inside_in (ty_of base) ty (in_later e inside_in (ty_of base) ty hi))).base)
 
-  pub through_sound : (base : Node) (s : State) → ((w : State) → Grows s w → IsBase env w base) → Gives s (IsFound
+  pub through_sound : (base : Node) (s : TypingState) → ((w : TypingState) → Grows s w → IsBase env w base) → Gives s (IsFound
       member s.items env) (through member at base s)
   through_sound base s is = through_in_sound (suc (length s.items.types)) s.items base s (extends_refl s.items) is
 
 -- ---- fields
 
-field_base : (env : Env) (t w : State) (id : ℕ) (at : Pos) (f : ℕ × TyId) (b : Node) → AreReady w.items → IsBase env w
+field_base : (env : Env) (t w : TypingState) (id : ℕ) (at : Pos) (f : ℕ × TyId) (b : Node) → AreReady w.items → IsBase env w
     b → IsTrue (has_fields w.items (ty_of b)) → field_ty w.items (ty_of b) 0 f.0 ≡ Some f.1 → IsPlace env w (a_node_of
     id at f.1 (Field b f.0))
 field_base env t w id at f b all base has is =
@@ -202,7 +202,7 @@ field_base env t w id at f b all base has is =
     }
 
 pub field_sound : (env : Env) (at : Pos) (member : Member (ℕ × TyId)) → IsMember member → (base : Check Node) →
-    SoundBase env base → (s : State) → Knows env s → Gives s (IsPlace env) (field at member base s)
+    SoundBase env base → (s : TypingState) → Knows env s → Gives s (IsPlace env) (field at member base s)
 field_sound env at member is base good s k =
     after_number (bind (good (numbered s) (knows_number env k)) λ b t g d.
     bind (through_sound member at env b t d) λ r u h e.

@@ -27,12 +27,12 @@ use Rattle.well_typed.specs.Patterns.{Matched, pattern, binding_name, binding_en
 use Rattle.well_typed.specs.Places.{is_by}
 use Rattle.well_typed.specs.Types.{is_same, is_bool, is_bool_ty, is_dyn, is_unit, is_enum, kind_of, kind_in, is_within, adt_of, adt_in, variant_at, tuple_of, tuple_in, array_of, array_in}
 use Rattle.well_typed.proofs.ClaimLemmas.{and_true, true_right}
-use Rattle.typing_rules.specs.Check.{Check, State, ◌>>=◌, pure, number}
+use Rattle.typing_rules.specs.Check.{Check, TypingState, ◌>>=◌, pure, number}
 use Rattle.typing_rules.specs.Patterns as rules
 use Rattle.typing_rules.specs.Places.{a_node_of}
 use Rattle.typing_rules.specs.Promises.{Extends, IsReady, AreReady, Grows, Gives}
 use Rattle.typing_rules.specs.Rows.{Expected, most, is_signed_kind, literal_value}
-use Rattle.typing_rules.specs.Scope.{Entry, Local, variable}
+use Rattle.typing_rules.specs.Scope.{NamedEntry, Local, variable}
 use Rattle.src_ast.specs.Syntax.{Word}
 use Rattle.typing_rules.proofs.Sound.Bindings.{Binds, binds_none, binds_from, binds_one}
 use Rattle.typing_rules.proofs.Sound.Fitted.{or_right, same_self}
@@ -50,16 +50,16 @@ abbrev pub IsFor : Expected → Matched → Type 0
 IsFor e place = (place.takes_all ≡ e.takes_all) × (IsTrue (not e.is_fixed) → IsTrue place.may_move)
 
 -- a pattern for a place of a type, after earlier names
-pub record IsAfter (e : Expected) (ty : TyId) (earlier : List Entry) (n : ℕ) (w : State) (b : Node × List Entry) :
+pub record IsAfter (e : Expected) (ty : TyId) (earlier : List NamedEntry) (n : ℕ) (w : TypingState) (b : Node × List NamedEntry) :
     Type 0
   where
     pub holds : (place : Matched) → IsFor e place → Holds (pattern w.items place ty b.0)
     pub binds : Binds earlier n (nodes_of b.0) w b.1
 
 -- a pattern without names
-plain_after : (e : Expected) (ty : TyId) (earlier : List Entry) (id : ℕ) (at : Pos) (by : Option Use) (form : Form) (n
+plain_after : (e : Expected) (ty : TyId) (earlier : List NamedEntry) (id : ℕ) (at : Pos) (by : Option Use) (form : Form) (n
     : ℕ) (w
-    : State) → n ≤ w.next_node → filter_map binding_entry (nodes_of (node id at ty by form)) ≡ [] → filter_map
+    : TypingState) → n ≤ w.next_node → filter_map binding_entry (nodes_of (node id at ty by form)) ≡ [] → filter_map
     binding_name
     (nodes_of (node id at ty by form)) ≡ [] → ((place : Matched) → IsFor e place → Holds (well.pattern_row w.items
     place ty by
@@ -70,7 +70,7 @@ plain_after e ty earlier id at by form n w le entries names holds =
       binds = binds_none earlier n (nodes_of (node id at ty by form)) w le entries names;
     }
 
-pub wildcard_sound : (at : Pos) (e : Expected) (ty : TyId) (earlier : List Entry) (s : State) → Gives s (IsAfter e ty
+pub wildcard_sound : (at : Pos) (e : Expected) (ty : TyId) (earlier : List NamedEntry) (s : TypingState) → Gives s (IsAfter e ty
     earlier
     s.next_node) ((number >>= (λ id. pure (a_node_of id at ty tree.Wildcard, earlier))) s)
 wildcard_sound at e ty earlier s =
@@ -86,7 +86,7 @@ not_all e place for h = subst (λ b. IsTrue (not b)) (sym for.0) h
 
 pub literal_pattern_sound : (at : Pos) (e : Expected) (ty : TyId) (is_negative : Bool) (value : ℕ) (suffix : Option
     IntKind)
-    (earlier : List Entry) (s : State) → Gives s (λ w n. IsAfter e ty earlier s.next_node w (n, earlier))
+    (earlier : List NamedEntry) (s : TypingState) → Gives s (λ w n. IsAfter e ty earlier s.next_node w (n, earlier))
     (rules.literal_pattern
     at e ty is_negative value suffix s)
 literal_pattern_sound at e ty is_negative value suffix earlier s =
@@ -103,7 +103,7 @@ literal_pattern_sound at e ty is_negative value suffix earlier s =
     suffix ty) _
     agrees_) few)))
 
-pub truth_pattern_sound : (at : Pos) (e : Expected) (ty : TyId) (value : Bool) (earlier : List Entry) (s : State) →
+pub truth_pattern_sound : (at : Pos) (e : Expected) (ty : TyId) (value : Bool) (earlier : List NamedEntry) (s : TypingState) →
     Gives s (λ w
     n. IsAfter e ty earlier s.next_node w (n, earlier)) (rules.truth_pattern at e ty value s)
 truth_pattern_sound at e ty value earlier s =
@@ -128,7 +128,7 @@ may_bind false copies_later fixed dyn dyn_later may same_c same_d moves h =
     let so = or_false fixed dyn h in
     or_right copies_later _ (and_true may (not dyn_later) (moves so.0) (subst (λ b. IsTrue (not b)) (sym same_d) so.1))
 
-pub bind_sound : (at : Pos) (e : Expected) (ty : TyId) (name : Word) (earlier : List Entry) (s : State) → IsReady
+pub bind_sound : (at : Pos) (e : Expected) (ty : TyId) (name : Word) (earlier : List NamedEntry) (s : TypingState) → IsReady
     s.items ty →
     Gives s (IsAfter e ty earlier s.next_node) (rules.bind at e ty name earlier s)
 bind_sound at e ty name earlier s ready =
@@ -152,20 +152,20 @@ bind_sound at e ty name earlier s ready =
 -- ---- parts
 
 -- patterns of parts in their order, and patterns of one type, after earlier names
-pub record ArePartsAfter (e : Expected) (tys : List TyId) (earlier : List Entry) (n : ℕ) (w : State) (b : Nodes × List
-    Entry) :
+pub record ArePartsAfter (e : Expected) (tys : List TyId) (earlier : List NamedEntry) (n : ℕ) (w : TypingState) (b : Nodes × List
+    NamedEntry) :
     Type 0 where
   pub holds : (place : Matched) → IsFor e place → Holds (well.part_patterns w.items place tys b.0)
   pub binds : Binds earlier n (nodes_among b.0) w b.1
 
-pub record AreEachAfter (e : Expected) (ty : TyId) (earlier : List Entry) (n count : ℕ) (w : State) (b : Nodes × List
-    Entry) :
+pub record AreEachAfter (e : Expected) (ty : TyId) (earlier : List NamedEntry) (n count : ℕ) (w : TypingState) (b : Nodes × List
+    NamedEntry) :
     Type 0 where
   pub holds : (place : Matched) → IsFor e place → Holds (well.each_pattern w.items place ty b.0)
   pub binds : Binds earlier n (nodes_among b.0) w b.1
   pub counted : count_of b.0 ≡ count
 
-pub under : (earlier : List Entry) (n m : ℕ) (inside outside : List Node) (w : State) (out : List Entry) → n ≤ m →
+pub under : (earlier : List NamedEntry) (n m : ℕ) (inside outside : List Node) (w : TypingState) (out : List NamedEntry) → n ≤ m →
     filter_map
     binding_entry outside ≡ filter_map binding_entry inside → filter_map binding_name outside ≡ filter_map
     binding_name inside
@@ -233,16 +233,16 @@ elements_ready items all ty a h n t is =
     at _ at_ h = absurd (none-some a h)
 
 -- as many names behind as before: none in between
-pub none_new : (earlier new_ out : List Entry) → out ≡ earlier ++ new_ → IsTrue (length earlier == length out) → new_
+pub none_new : (earlier new_ out : List NamedEntry) → out ≡ earlier ++ new_ → IsTrue (length earlier == length out) → new_
     ≡ []
 none_new earlier new_ out is h = by new_ (eqb-true (length earlier) (length out) h ∙ (ap length is ∙ joined earlier
     new_))
   where
-    joined : (xs ys : List Entry) → length (xs ++ ys) ≡ length xs + length ys
+    joined : (xs ys : List NamedEntry) → length (xs ++ ys) ≡ length xs + length ys
     joined [] ys = omega arith
     joined (x ∷ xs) ys = let on = joined xs ys in omega (arith, on)
 
-    by : (ys : List Entry) → length earlier ≡ length earlier + length ys → ys ≡ []
+    by : (ys : List NamedEntry) → length earlier ≡ length earlier + length ys → ys ≡ []
     by [] e = refl
     by (y ∷ ys) e = absurd (omega (arith, e))
 
@@ -252,15 +252,15 @@ not_not false h = h
 
 -- ---- structs and variants
 
-abbrev pub IsTarget : ItemTable → rules.Target → Type 0
+abbrev pub IsTarget : ItemTable → rules.PatternTarget → Type 0
 IsTarget items t =
     ((is_enum items t.adt ≡ true) × IsTrue (nat_lt t.variant (well.variant_count items t.adt))) ⊎ ((is_enum items
     t.adt ≡
     false) × (t.variant ≡ 0))
 
 -- patterns of fields after earlier names, and whether they are numbered apart
-pub record AreFieldsAfter (e : Expected) (tys : List TyId) (earlier : List Entry) (n : ℕ) (w : State) (b : Fields ×
-    List Entry
+pub record AreFieldsAfter (e : Expected) (tys : List TyId) (earlier : List NamedEntry) (n : ℕ) (w : TypingState) (b : Fields ×
+    List NamedEntry
     × Bool × Bool) : Type 0 where
   pub holds : (place : Matched) → IsFor e place → (ty : TyId) (variant : ℕ) → ((k : ℕ) (part : TyId) → slice_get tys k
       ≡ Some
@@ -277,7 +277,7 @@ count_later : {old new : ItemTable} → Extends old new → (adt : ℕ) → well
 count_later e adt = ap (λ adts. option_map_or (λ (def : Adt). length def.variants) (slice_get adts adt) 0) e.adts
 
 -- the fields that were asked for are those of the type
-target_fields : (items : ItemTable) (ty : TyId) (t : rules.Target) → type_at items ty ≡ Some (Ty.Adt t.adt) → (k : ℕ)
+target_fields : (items : ItemTable) (ty : TyId) (t : rules.PatternTarget) → type_at items ty ≡ Some (Ty.Adt t.adt) → (k : ℕ)
     (part :
     TyId) → slice_get (rules.fields_of items t) k ≡ Some part → field_ty items ty t.variant k ≡ Some part
 target_fields items ty t at k part h =
@@ -303,7 +303,7 @@ true_same : (b : Bool) → IsTrue (if b then b else not b)
 true_same true = refl
 true_same false = refl
 
-abbrev target_node : ℕ → Pos → TyId → rules.Target → Fields → Bool → Bool → Node
+abbrev target_node : ℕ → Pos → TyId → rules.PatternTarget → Fields → Bool → Bool → Node
 target_node id at ty t fields is_enum_ many =
     rules.tested_if (is_enum_ && many) (a_node_of id at ty (if is_enum_ then tree.VariantPattern t.variant (is_enum_
     && many)
@@ -312,8 +312,8 @@ target_node id at ty t fields is_enum_ many =
 adt_is : (items : ItemTable) (ty : TyId) (n : ℕ) → type_at items ty ≡ Some (Ty.Adt n) → adt_of items ty ≡ Some n
 adt_is items ty n at = ap (option_and_then adt_in) at
 
-module _ (e : Expected) (ty : TyId) (earlier : List Entry) (id : ℕ) (at : Pos) (t : rules.Target) (n m : ℕ) (w : State)
-    (drops : Bool) (ps : Fields × List Entry × Bool × Bool) (tys : List TyId) where
+module _ (e : Expected) (ty : TyId) (earlier : List NamedEntry) (id : ℕ) (at : Pos) (t : rules.PatternTarget) (n m : ℕ) (w : TypingState)
+    (drops : Bool) (ps : Fields × List NamedEntry × Bool × Bool) (tys : List TyId) where
   struct_after : n ≤ m → type_at w.items ty ≡ Some (Ty.Adt t.adt) → is_enum w.items t.adt ≡ false → t.variant ≡ 0 →
       has_drop_impl w.items ty ≡ drops → ((k : ℕ) (part : TyId) → slice_get tys k ≡ Some part → field_ty w.items ty
       t.variant
@@ -388,17 +388,17 @@ module _ (e : Expected) (ty : TyId) (earlier : List Entry) (id : ℕ) (at : Pos)
           }
 
 -- the check of parts that a struct or a variant asks for
-abbrev pub SoundFields : Expected → TyId → rules.Target → List Entry → State → (Expected → List TyId → Check (Fields ×
-    List Entry ×
+abbrev pub SoundFields : Expected → TyId → rules.PatternTarget → List NamedEntry → TypingState → (Expected → List TyId → Check (Fields ×
+    List NamedEntry ×
     Bool × Bool)) → Type 0
-SoundFields e ty t earlier s parts = (u : State) → Grows s u → AreReady u.items → type_at u.items ty ≡ Some (Ty.Adt
+SoundFields e ty t earlier s parts = (u : TypingState) → Grows s u → AreReady u.items → type_at u.items ty ≡ Some (Ty.Adt
     t.adt) →
     Gives u (AreFieldsAfter (rules.inside_of u.items ty e) (rules.fields_of u.items t) earlier u.next_node) (parts
     (rules.inside_of u.items ty e) (rules.fields_of u.items t) u)
 
-pub of_target_sound : (at : Pos) (e : Expected) (ty : TyId) (t : rules.Target) (parts : Expected → List TyId → Check
+pub of_target_sound : (at : Pos) (e : Expected) (ty : TyId) (t : rules.PatternTarget) (parts : Expected → List TyId → Check
     (Fields × List
-    Entry × Bool × Bool)) (earlier : List Entry) (s : State) → IsReady s.items ty → IsTarget s.items t → SoundFields e
+    NamedEntry × Bool × Bool)) (earlier : List NamedEntry) (s : TypingState) → IsReady s.items ty → IsTarget s.items t → SoundFields e
     ty t
     earlier s parts → Gives s (IsAfter e ty earlier s.next_node) (rules.of_target at e ty t parts s)
 of_target_sound at e ty t parts earlier s ready target good =
@@ -424,7 +424,7 @@ of_target_sound at e ty t parts earlier s ready target good =
     l).items t.adt)
     (count_later l.items t.adt) all_taken target)
   where
-    by : (w : State) (ps : Fields × List Entry × Bool × Bool) (u v : State) → s.next_node ≤ u.next_node → type_at
+    by : (w : TypingState) (ps : Fields × List NamedEntry × Bool × Bool) (u v : TypingState) → s.next_node ≤ u.next_node → type_at
         w.items ty ≡
         Some (Ty.Adt t.adt) → has_drop_impl w.items ty ≡ has_drop_impl u.items ty → ((k : ℕ) (part : TyId) → slice_get
         (rules.fields_of u.items t) k ≡ Some part → field_ty w.items ty t.variant k ≡ Some part) → IsTrue ps.2 →

@@ -17,12 +17,12 @@ use Rattle.well_typed.specs.Places as well
 use Rattle.well_typed.specs.Places.{InScope, Context, ty_of, form_of, is_place, is_borrow, is_by, is_use, may_move, may_move_by, is_guarded, is_rooted, is_rooted_by, entry_with, Taken, Base, Wanted, is_taken}
 use Rattle.well_typed.specs.Types.{is_same, is_reference, is_dyn, inside_of, inside_in}
 use Rattle.well_typed.proofs.ClaimLemmas.{and_true}
-use Rattle.typing_rules.specs.Check.{Check, State}
+use Rattle.typing_rules.specs.Check.{Check, TypingState}
 use Rattle.typing_rules.specs.Places.{a_node_of, used, is_any, is_fixed, is_fixed_form, is_shared_root, is_shared_form, names_shared, in_own_guard, guard_key, meaning_form, variable_place, place_in_text}
-use Rattle.typing_rules.specs.Promises.{IsReady, IsAlone, AreReady, Grows, Gives, Spot, at_spot, Means, Stands, Knows, IsValue, IsTemporary, IsBase, SoundBase}
+use Rattle.typing_rules.specs.Promises.{IsReady, IsAlone, AreReady, Grows, Gives, TypingSpot, at_spot, Means, Stands, Knows, IsValue, IsTemporary, IsBase, SoundBase}
 use Rattle.typing_rules.specs.RowPromises.{IsPlace}
 use Rattle.typing_rules.specs.Rows.{taking, taken, no_reference, deref}
-use Rattle.typing_rules.specs.Scope.{Env, Entry, Meaning, Local, Capture, InGuard}
+use Rattle.typing_rules.specs.Scope.{Env, NamedEntry, VariableMeaning, Local, Capture, InGuard}
 use Rattle.typing_rules.proofs.Sound.Fitted.{fitted_gives, or_left, or_right, same_self}
 use Rattle.typing_rules.proofs.Sound.Gives.{◌⋆◌, bind, with_ready, given, obeyed, found, after_number, numbered, grows_trans, knows_number}
 use Rattle.typing_rules.proofs.Sound.Later.{alone_ready, alone_from, alone_later, copy_no_dyn, ready_later, in_later, same_in, same_reference, same_dyn, same_copy}
@@ -93,7 +93,7 @@ moves_none : (c : Context) (n : Node) → is_place (form_of n) ≡ false → IsT
 moves_none c (node id at ty by form) h = moves_by c form h
 
 -- a value becomes a temporary, which may be gone through
-pub temporary_base : (env : Env) (want : Option TyId) (w : State) (n : Node) → IsTemporary env want w n → IsBase env w n
+pub temporary_base : (env : Env) (want : Option TyId) (w : TypingState) (n : Node) → IsTemporary env want w n → IsBase env w n
 temporary_base env want w n t =
     record {
       ready = alone_ready w.items (ty_of n) t.value.alone;
@@ -105,22 +105,22 @@ temporary_base env want w n t =
 
 -- ---- variables
 
-guard_of : (xs : List Entry) (x : Entry) (key : ℕ) → Contains xs x → x.meaning ≡ InGuard key → IsTrue (is_any key
+guard_of : (xs : List NamedEntry) (x : NamedEntry) (key : ℕ) → Contains xs x → x.meaning ≡ InGuard key → IsTrue (is_any key
     (in_own_guard xs))
 guard_of [] x key c e = absurd (omega (arith, c.1))
 guard_of (y ∷ ys) x key c e = by (λ more. guard_of ys x key more e) (contains_cases y ys x c)
   where
-    first : (m : Meaning) → m ≡ InGuard key → IsTrue (is_any key (guard_key m (in_own_guard ys)))
+    first : (m : VariableMeaning) → m ≡ InGuard key → IsTrue (is_any key (guard_key m (in_own_guard ys)))
     first m e = subst (λ m. IsTrue (is_any key (guard_key m (in_own_guard ys)))) (sym e) (or_left _ _ (same_self key))
 
-    later : (m : Meaning) → IsTrue (is_any key (in_own_guard ys)) → IsTrue (is_any key (guard_key m (in_own_guard ys)))
+    later : (m : VariableMeaning) → IsTrue (is_any key (in_own_guard ys)) → IsTrue (is_any key (guard_key m (in_own_guard ys)))
     later (InGuard other) h = or_right (key == other) _ h
     later (Local other) h = h
     later (Capture closure part) h = h
 
     by : (Contains ys x → IsTrue (is_any key (in_own_guard ys))) → (y ≡ x) ⊎ Contains ys x → IsTrue (is_any key
         (in_own_guard (y ∷ ys)))
-    by on (inl same) = first y.meaning (ap (λ (z : Entry). z.meaning) same ∙ e)
+    by on (inl same) = first y.meaning (ap (λ (z : NamedEntry). z.meaning) same ∙ e)
     by on (inr more) = later y.meaning (on more)
 
 named_holds : (c : Context) (key : ℕ) (ty : TyId) (in_guard : Bool) → entry_with key c.entries ≡ Some (record {
@@ -144,7 +144,7 @@ captured_holds c closure part ty x e k f =
     (subst (λ n. IsTrue (n == closure)) (sym k) (same_self closure) ⋆
     subst (λ o. Holds (some o (λ t. fact (is_same ty t)))) (sym f) (same_self ty.0))
 
-pub variable_base : (env : Env) (w : State) (id : ℕ) (at : Pos) (x : Entry) (m : Meaning) → m ≡ x.meaning → Contains
+pub variable_base : (env : Env) (w : TypingState) (id : ℕ) (at : Pos) (x : NamedEntry) (m : VariableMeaning) → m ≡ x.meaning → Contains
     env.variables x → IsReady w.items x.ty → IsBase env w (a_node_of id at x.ty (meaning_form x.name m))
 variable_base env w id at x (Local key) e has ready =
     record {
@@ -156,7 +156,7 @@ variable_base env w id at x (Local key) e has ready =
       is_shared = λ v g. ap names_shared (same_in g.items _ x.ty ready);
     }
   where
-    means : (p : Spot) → Stands env w p → Means w.items p x.ty (Local key)
+    means : (p : TypingSpot) → Stands env w p → Means w.items p x.ty (Local key)
     means p stands = subst (Means w.items p x.ty) (sym e) (stands.variables x has)
 variable_base env w id at x (InGuard key) e has ready =
     record {
@@ -168,7 +168,7 @@ variable_base env w id at x (InGuard key) e has ready =
       is_shared = λ v g. ap names_shared (same_in g.items _ x.ty ready);
     }
   where
-    means : (p : Spot) → Stands env w p → Means w.items p x.ty (InGuard key)
+    means : (p : TypingSpot) → Stands env w p → Means w.items p x.ty (InGuard key)
     means p stands = subst (Means w.items p x.ty) (sym e) (stands.variables x has)
 variable_base env w id at x (Capture closure part) e has ready =
     record {
@@ -184,15 +184,15 @@ variable_base env w id at x (Capture closure part) e has ready =
       is_shared = λ v g. refl;
     }
   where
-    means : (p : Spot) → Stands env w p → Means w.items p x.ty (Capture closure part)
+    means : (p : TypingSpot) → Stands env w p → Means w.items p x.ty (Capture closure part)
     means p stands = subst (Means w.items p x.ty) (sym e) (stands.variables x has)
 
-meaning_is_place : (name : List ℕ) (m : Meaning) → is_place (meaning_form name m) ≡ true
+meaning_is_place : (name : List ℕ) (m : VariableMeaning) → is_place (meaning_form name m) ≡ true
 meaning_is_place name (Local key) = refl
 meaning_is_place name (InGuard key) = refl
 meaning_is_place name (Capture closure part) = refl
 
-pub variable_sound : (env : Env) (at : Pos) (x : Entry) → Contains env.variables x → (s : State) → Knows env s → Gives
+pub variable_sound : (env : Env) (at : Pos) (x : NamedEntry) → Contains env.variables x → (s : TypingState) → Knows env s → Gives
     s (IsPlace env) (variable_place at x s)
 variable_sound env at x has s k =
     after_number (given _ λ ready w g.
@@ -207,7 +207,7 @@ pub or_false : (a b : Bool) → IsTrue (not (a || b)) → IsTrue (not a) × IsTr
 or_false true b h = absurd (let no_ : IsTrue false = h in cc)
 or_false false b h = (refl, h)
 
-pub deref_base : (env : Env) (w : State) (id : ℕ) (at : Pos) (ty : TyId) (b : Node) → AreReady w.items → IsBase env w
+pub deref_base : (env : Env) (w : TypingState) (id : ℕ) (at : Pos) (ty : TyId) (b : Node) → AreReady w.items → IsBase env w
     b →
     inside_of w.items (ty_of b) ≡ Some ty → IsPlace env w (a_node_of id at ty (Deref b))
 deref_base env w id at ty b all base is =
@@ -229,7 +229,7 @@ deref_base env w id at ty b all base is =
       is = refl;
     }
 
-pub deref_sound : (env : Env) (at : Pos) (base : Check Node) → SoundBase env base → (s : State) → Knows env s → Gives
+pub deref_sound : (env : Env) (at : Pos) (base : Check Node) → SoundBase env base → (s : TypingState) → Knows env s → Gives
     s (IsPlace env) (deref at base s)
 deref_sound env at base good s k =
     after_number (bind (good (numbered s) (knows_number env k)) λ b t g d.
@@ -280,7 +280,7 @@ not_or_of fixed dyn moves dyn_later more same h =
     and_true moves (not dyn_later) (more both_.0) (subst (λ b. IsTrue (not b)) (sym same) both_.1)
 
 -- a place that is used so, in a later state
-pub taken_value : (env : Env) (t w : State) (n : Node) → AreReady t.items → Grows t w → IsPlace env t n → IsBase env w
+pub taken_value : (env : Env) (t w : TypingState) (n : Node) → AreReady t.items → Grows t w → IsPlace env t n → IsBase env w
     n →
     IsTrue (is_copy t.items (ty_of n) || not (is_fixed t.items (in_own_guard env.variables) n || is_dyn t.items (ty_of
     n))) → IsTrue (not (is_reference t.items (ty_of n))) → IsValue env None w (used (taking t.items (ty_of n)) n)
@@ -308,10 +308,10 @@ taken_value env t w n all g now base moves no_reference =
     no_dyn true h moves = h refl
     no_dyn false h moves = (or_false _ _ moves).1
 
-    none : Spot
+    none : TypingSpot
     none = record { entries = []; closure = None; loops = [] }
 
-pub taken_sound : (env : Env) (want : Option TyId) (n : Node) (t : State) → IsPlace env t n → ((w : State) → Grows t w
+pub taken_sound : (env : Env) (want : Option TyId) (n : Node) (t : TypingState) → IsPlace env t n → ((w : TypingState) → Grows t w
     → IsPlace env w n) → Gives t (IsValue env want) (taken env want n t)
 taken_sound env want n t now later =
     with_ready λ ready. bind (fitted_gives env want m t (subst (λ f. IsTrue (is_leaf f)) (sym (same_leaf _ n))

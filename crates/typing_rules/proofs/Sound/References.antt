@@ -17,12 +17,12 @@ use Rattle.well_typed.specs.Places as well
 use Rattle.well_typed.specs.Places.{Context, ty_of, form_of, is_place, is_borrow, is_by, is_use, Base, Used, Passed}
 use Rattle.well_typed.specs.Types.{is_same, is_never_ty, is_reference, reference_of, reference_in, inside_of, inside_in}
 use Rattle.well_typed.proofs.ClaimLemmas.{and_true, true_left, true_right}
-use Rattle.typing_rules.specs.Check.{Check, State}
+use Rattle.typing_rules.specs.Check.{Check, TypingState}
 use Rattle.typing_rules.specs.Places.{a_node_of, is_behind_shared, is_shared_root, names_shared, meaning_form, place_in_text}
 use Rattle.typing_rules.specs.Promises.{IsReady, AreReady, Grows, Gives, at_spot, IsBase, SoundBase}
 use Rattle.typing_rules.specs.RowPromises.{IsArgument, IsMade, SoundReferrer}
 use Rattle.typing_rules.specs.Rows.{borrow, borrow_of, borrow_by, reference_ty, used_if_place, is_same_truth, passed_on, passes, is_unique_borrow}
-use Rattle.typing_rules.specs.Scope.{Env, Entry, Meaning, Local, Capture, InGuard}
+use Rattle.typing_rules.specs.Scope.{Env, NamedEntry, VariableMeaning, Local, Capture, InGuard}
 use Rattle.typing_rules.proofs.Sound.Arguments.{named_sound, passed_borrow, behind_same, behind_later}
 use Rattle.typing_rules.proofs.Sound.Fitted.{same_self}
 use Rattle.typing_rules.proofs.Sound.Gives.{◌⋆◌, bind, weaker, with_ready, given, obeyed, after_number, numbered, grows_trans, grows_refl, knows_number}
@@ -146,8 +146,8 @@ own_truth true = refl
 own_truth false = refl
 
 -- a borrow of what is no reference; one by `&mut` has to be not behind `&`
-pub borrowed_if : (env : Env) (id : ℕ) (at : Pos) (param : TyId) (unique : Bool) (b : Node) (s : State) →
-    ((w : State) → Grows s w → IsBase env w b) → IsTrue (not (is_reference s.items (ty_of b))) →
+pub borrowed_if : (env : Env) (id : ℕ) (at : Pos) (param : TyId) (unique : Bool) (b : Node) (s : TypingState) →
+    ((w : TypingState) → Grows s w → IsBase env w b) → IsTrue (not (is_reference s.items (ty_of b))) →
     reference_of s.items param ≡ Some (unique, ty_of b) → Gives s (λ w n. (is_unique_borrow (form_of n) ≡ unique) ×
     (IsTrue
     (not (unique && is_behind_shared s.items b)) → IsArgument env param w n)) (borrow_of id at unique b s)
@@ -189,8 +189,8 @@ borrowed_if env id at param unique b s base no_reference is =
           }),
     )
 
-pub borrowed : (env : Env) (id : ℕ) (at : Pos) (param : TyId) (unique : Bool) (b : Node) (s : State) →
-    ((w : State) → Grows s w → IsBase env w b) → IsTrue (not (is_reference s.items (ty_of b))) →
+pub borrowed : (env : Env) (id : ℕ) (at : Pos) (param : TyId) (unique : Bool) (b : Node) (s : TypingState) →
+    ((w : TypingState) → Grows s w → IsBase env w b) → IsTrue (not (is_reference s.items (ty_of b))) →
     IsTrue (not (unique && is_behind_shared s.items b)) → reference_of s.items param ≡ Some (unique, ty_of b) →
     Gives s (IsArgument env param) (borrow_of id at unique b s)
 borrowed env id at param unique b s base no_reference shared is =
@@ -211,7 +211,7 @@ borrow_sound env at unique base good param to is_unique s k is =
 -- ---- a reference variable that is passed on
 
 -- the root of what a variable names is no `&`, where `&mut` is asked for
-root_of : (items : ItemTable) (id : ℕ) (at : Pos) (x : Entry) (m : Meaning) (r : Bool × TyId) → reference_of items
+root_of : (items : ItemTable) (id : ℕ) (at : Pos) (x : NamedEntry) (m : VariableMeaning) (r : Bool × TyId) → reference_of items
     x.ty ≡
     Some r → IsTrue r.0 → is_shared_root items (a_node_of id at x.ty (meaning_form x.name m)) ≡ false
 root_of items id at x (Local key) r is h = ap names_shared is ∙ ap not h
@@ -232,12 +232,12 @@ not_shared : (unique : Bool) (r root : Bool) → IsTrue (r || not unique) → (I
 not_shared true r root h none = truth_of root (none (or_not r true h refl))
 not_shared false r root h none = refl
 
-pub passed_on_sound : (env : Env) (at : Pos) (x : Entry) → Contains env.variables x → SoundReferrer env (passed_on at x)
+pub passed_on_sound : (env : Env) (at : Pos) (x : NamedEntry) → Contains env.variables x → SoundReferrer env (passed_on at x)
 passed_on_sound env at x has param to is_unique s k is =
     obeyed Rule.T03 at (passes is_unique to (reference_of s.items x.ty)) _ λ ok.
     with_ready λ all. after_number (after_number (after_number (by all (reference_of s.items x.ty) refl ok)))
   where
-    t : State
+    t : TypingState
     t = numbered (numbered (numbered s))
 
     v : Node

@@ -18,9 +18,9 @@ use Rattle.well_typed.specs.Patterns.{field_numbers}
 use Rattle.well_typed.specs.Places.{Wanted}
 use Rattle.well_typed.specs.Types.{variant_at}
 use Rattle.well_typed.proofs.ClaimLemmas.{and_true, true_left, true_right}
-use Rattle.typing_rules.specs.Check.{Check, State}
+use Rattle.typing_rules.specs.Check.{Check, TypingState}
 use Rattle.typing_rules.specs.Places.{a_node_of}
-use Rattle.typing_rules.specs.Promises.{Gives, Spot, at_spot, Stands, Knows, IsTemporary}
+use Rattle.typing_rules.specs.Promises.{Gives, TypingSpot, at_spot, Stands, Knows, IsTemporary}
 use Rattle.typing_rules.specs.RowPromises.{AreInits, SoundInits}
 use Rattle.typing_rules.specs.Rows.{Given, is_given, all_given, are_known, struct_row}
 use Rattle.typing_rules.specs.Scope.{Env}
@@ -167,7 +167,7 @@ known_length [] h = refl
 known_length (None ∷ given) h = absurd (let no_ : IsTrue false = h in cc)
 known_length (Some n ∷ given) h = ap suc (known_length given h)
 
-inits_numbers : (env : Env) (v : Variant) (w : State) (fs : Fields) (given : Given) → IsTrue (are_known given) →
+inits_numbers : (env : Env) (v : Variant) (w : TypingState) (fs : Fields) (given : Given) → IsTrue (are_known given) →
     AreInits env v w
     fs given → field_numbers fs ≡ somes given
 inits_numbers env v w no_field [] h are = refl
@@ -177,7 +177,7 @@ inits_numbers env v w (a_field number value rest) (None ∷ given) h are = absur
 inits_numbers env v w (a_field number value rest) (Some n ∷ given) h are =
     let on = inits_numbers env v w rest given h are.1 in λ i. are.0.0 i ∷ on i
 
-inits_hold : (env : Env) (v : Variant) (w : State) (p : Spot) → Stands env w p → (fs : Fields) (given : Given) → IsTrue
+inits_hold : (env : Env) (v : Variant) (w : TypingState) (p : TypingSpot) → Stands env w p → (fs : Fields) (given : Given) → IsTrue
     (are_known given) → AreInits env v w fs given → Holds (made_fields (at_spot w.items env.answer p) v.fields fs)
 inits_hold env v w p stands no_field [] h are = refl
 inits_hold env v w p stands no_field (k ∷ given) h are = absurd are
@@ -194,7 +194,7 @@ inits_hold env v w p stands (a_field number value rest) (Some n ∷ given) h are
 
 pub struct_sound : (env : Env) (at : Pos) (adt variant : ℕ) (v : Variant) (fields : Check (Fields × Given)) →
     SoundInits env v
-    fields → (want : Option TyId) (s : State) → variant_at s.items adt variant ≡ Some v → Knows env s → Gives s
+    fields → (want : Option TyId) (s : TypingState) → variant_at s.items adt variant ≡ Some v → Knows env s → Gives s
     (IsTemporary env
     want) (struct_row at adt variant v.fields fields want s)
 struct_sound env at adt variant v fields good want s has k =

@@ -10,13 +10,13 @@ use Rattle.mir_ty.specs.declared.ty.Ty.{Ty}
 use Rattle.mir_ty.specs.declared.ty.TyId.{TyId}
 use Rattle.mir_ty.specs.ItemTable.{ItemTable}
 use Rattle.well_typed.specs.Types.{is_reference, reference_in}
-use Rattle.typing_rules.specs.Check.{State, interned}
+use Rattle.typing_rules.specs.Check.{TypingState, interned}
 use Rattle.typing_rules.specs.Places.{int, bool}
 use Rattle.typing_rules.specs.Promises.{IsReady, IsAlone, AreReady, Gives}
 use Rattle.typing_rules.specs.RowPromises.{IsMade}
 use Rattle.src_ast.specs.Syntax.{Word, Syn, syn, Shape, NamedType, GenericType, DynType, SelfType, ParensType, TupleType, ArrayType, NeverType, RefType, Syns, no_syn, a_syn}
 use Rattle.typing_rules.specs.Written as rules
-use Rattle.typing_rules.specs.Written.{Around}
+use Rattle.typing_rules.specs.Written.{WrittenScope}
 use Rattle.typing_rules.proofs.Sound.Constructors.{tuple_made, array_made}
 use Rattle.typing_rules.proofs.Sound.Gives.{bind, weaker, with_ready, given, gives_nothing, obeyed, found, grows_refl, grows_trans}
 use Rattle.typing_rules.proofs.Sound.Interned.{interned_sound}
@@ -68,7 +68,7 @@ scalar_alone items all name ty h = among_alone items names each name ty h
 -- ---- one type at a time
 
 -- a type that is well made gets a number, and stands alone
-adt_sound : (n : ℕ) (s : State) → Gives s (λ w ty. IsAlone w.items ty) (interned (Ty.Adt n) s)
+adt_sound : (n : ℕ) (s : TypingState) → Gives s (λ w ty. IsAlone w.items ty) (interned (Ty.Adt n) s)
 adt_sound n s =
     with_ready λ all. weaker (λ w ty. IsAlone w.items ty) (interned_sound (Ty.Adt n) s (adt_made s.items all n)) λ ty
     w ready g
@@ -87,7 +87,7 @@ box_made items content ready plain =
       );
     }
 
-box_sound : (content : TyId) (s : State) → IsReady s.items content → IsTrue (not (is_reference s.items content)) →
+box_sound : (content : TyId) (s : TypingState) → IsReady s.items content → IsTrue (not (is_reference s.items content)) →
     Gives s (λ w
     ty. IsAlone w.items ty) (interned (Ty.Boxed content) s)
 box_sound content s ready plain =
@@ -103,10 +103,10 @@ dyn_made items n =
       inside = λ to is. absurd (none-some to is);
     }
 
-abbrev pub AllAlone : List TyId → State → Type 0
+abbrev pub AllAlone : List TyId → TypingState → Type 0
 AllAlone tys w = (n : ℕ) (ty : TyId) → slice_get tys n ≡ Some ty → IsAlone w.items ty
 
-tuple_by_sound : (tys : List TyId) (s : State) → AllAlone tys s → Gives s (λ w ty. IsAlone w.items ty) (rules.tuple_by
+tuple_by_sound : (tys : List TyId) (s : TypingState) → AllAlone tys s → Gives s (λ w ty. IsAlone w.items ty) (rules.tuple_by
     tys s)
 tuple_by_sound [] s all = with_ready λ ready. given _ λ r w g. unit_ready w.items (g.ready ready)
 tuple_by_sound (t ∷ tys) s all =
@@ -114,23 +114,23 @@ tuple_by_sound (t ∷ tys) s all =
     ty w ready
     g is. (Ty.Tuple (t ∷ tys), is, tt)
 
-pub both_alone : (ty : TyId) (tys : List TyId) (w : State) → IsAlone w.items ty → AllAlone tys w → AllAlone (ty ∷ tys) w
+pub both_alone : (ty : TyId) (tys : List TyId) (w : TypingState) → IsAlone w.items ty → AllAlone tys w → AllAlone (ty ∷ tys) w
 both_alone ty tys w h all zero t is = subst (IsAlone w.items) (same_Some ty t is) h
 both_alone ty tys w h all (suc n) t is = all n t is
 
-named_sound : (at : Pos) (adt : Option ℕ) (scalar : Option TyId) (s : State) → ((ty : TyId) → scalar ≡ Some ty → IsAlone
+named_sound : (at : Pos) (adt : Option ℕ) (scalar : Option TyId) (s : TypingState) → ((ty : TyId) → scalar ≡ Some ty → IsAlone
     s.items ty) → Gives s (λ w t. IsAlone w.items t) (rules.named_by at adt scalar s)
 named_sound at adt (Some ty) s alone = given ty λ ready w g. alone_later g.items ty (alone ty refl)
 named_sound at adt None s alone = found Rule.T01 at adt _ λ n h. adt_sound n s
 
 -- ---- the recursion
 
-module _ (around : Around) (limits : around.has_limits ≡ true) where
+module _ (around : WrittenScope) (limits : around.has_limits ≡ true) where
   mutual
-    pub written_sound : (ty : Syn) (s : State) → Gives s (λ w t. IsAlone w.items t) (rules.written around ty s)
+    pub written_sound : (ty : Syn) (s : TypingState) → Gives s (λ w t. IsAlone w.items t) (rules.written around ty s)
     written_sound (syn at form) s = written_form_sound at form s
 
-    written_form_sound : (at : Pos) (form : Shape) (s : State) → Gives s (λ w t. IsAlone w.items t)
+    written_form_sound : (at : Pos) (form : Shape) (s : TypingState) → Gives s (λ w t. IsAlone w.items t)
         (rules.written_form around at
         form s)
     written_form_sound at (NamedType name) s =
@@ -170,7 +170,7 @@ module _ (around : Around) (limits : around.has_limits ≡ true) where
         absurd (let no_ : IsTrue false = subst (λ b. IsTrue (not b)) limits no_limits in cc)
     written_form_sound at _ s = gives_nothing Rule.T20 at
 
-    all_written_sound : (parts : Syns) (s : State) → Gives s (λ w tys. AllAlone tys w) (rules.all_written around parts
+    all_written_sound : (parts : Syns) (s : TypingState) → Gives s (λ w tys. AllAlone tys w) (rules.all_written around parts
         s)
     all_written_sound no_syn s = given [] λ ready w g. λ n ty h. absurd (none-some ty h)
     all_written_sound (a_syn first rest) s =

@@ -22,14 +22,14 @@ use Rattle.well_typed.specs.Nodes.{is_variable, captured}
 use Rattle.well_typed.specs.Places.{form_of, ty_of}
 use Rattle.well_typed.specs.Types.{closure_in, is_same, is_dyn, is_reference}
 use Rattle.typing_rules.specs.Bodies as bodies
-use Rattle.typing_rules.specs.Check.{State, Broken, pure, closure_added}
+use Rattle.typing_rules.specs.Check.{TypingState, Broken, pure, closure_added}
 use Rattle.well_typed.proofs.ClaimLemmas.{and_true}
 use Rattle.typing_rules.specs.Numbered.{param_renumbered}
 use Rattle.typing_rules.specs.Places.{a_node_of, used, meaning_form, is_fixed, in_own_guard}
-use Rattle.typing_rules.specs.Promises.{Extends, IsReady, IsAlone, AreReady, AreClosures, IsBelow, Grows, Gives, Spot, at_spot, Stands, Means, Knows, KnowsItems, IsValue, IsValueType, Sound, SoundTemporary, IsTemporary, ComesAfter}
+use Rattle.typing_rules.specs.Promises.{Extends, IsReady, IsAlone, AreReady, AreClosures, IsBelow, Grows, Gives, TypingSpot, at_spot, Stands, Means, Knows, KnowsItems, IsValue, IsValueType, Sound, SoundTemporary, IsTemporary, ComesAfter}
 use Rattle.typing_rules.specs.RowPromises.{IsMade}
 use Rattle.typing_rules.specs.Rows.{taken, taking}
-use Rattle.typing_rules.specs.Scope.{Env, Entry, Meaning, Local, Capture, InGuard, variable}
+use Rattle.typing_rules.specs.Scope.{Env, NamedEntry, VariableMeaning, Local, Capture, InGuard, variable}
 use Rattle.typing_rules.specs.Typed as typing
 use Rattle.typing_rules.specs.Written as types
 use Rattle.src_ast.specs.Syntax.{Word, Syn, syn, Ident, Syns, no_syn, a_syn, MaybeSyn}
@@ -55,7 +55,7 @@ use Rattle.typing_soundness.proofs.Walking.Steps.{walk_obeyed, walk_ends}
 -- ---- captures
 
 -- uses of variables, and the names that they have inside, which are parts of the closure's value from a number on
-abbrev AreCaptures : Env → State → ℕ → Nodes → List Entry → Type 0
+abbrev AreCaptures : Env → TypingState → ℕ → Nodes → List NamedEntry → Type 0
 AreCaptures env w k no_node [] = Unit {0}
 AreCaptures env w k no_node (x ∷ xs) = ⊥
 AreCaptures env w k (a_node first rest) [] = ⊥
@@ -63,21 +63,21 @@ AreCaptures env w k (a_node first rest) (x ∷ xs) =
     (IsValue env None w first × IsTrue (is_variable (form_of first)) × (ty_of first ≡ x.ty) × (x.meaning ≡ Capture 0 k)) ×
     AreCaptures env w (suc k) rest xs
 
-record IsCaptured (env : Env) (k : ℕ) (earlier : List Entry) (w : State) (c : Nodes × List Entry) : Type 0 where
-  new_ : List Entry
+record IsCaptured (env : Env) (k : ℕ) (earlier : List NamedEntry) (w : TypingState) (c : Nodes × List NamedEntry) : Type 0 where
+  new_ : List NamedEntry
   is : c.1 ≡ earlier ++ new_
   are : AreCaptures env w k c.0 new_
 
-meaning_variable : (name : Word) (m : Meaning) → IsTrue (is_variable (meaning_form name m))
+meaning_variable : (name : Word) (m : VariableMeaning) → IsTrue (is_variable (meaning_form name m))
 meaning_variable name (Local key) = refl
 meaning_variable name (Capture closure part) = refl
 meaning_variable name (InGuard key) = refl
 
 -- a variable that is taken stays one
-abbrev IsVariableOf : TyId → Node → State → Type 0
+abbrev IsVariableOf : TyId → Node → TypingState → Type 0
 IsVariableOf ty n t = IsTrue (is_variable (form_of n)) × (ty_of n ≡ ty)
 
-variable_stays : (env : Env) (id : ℕ) (at : Pos) (x : Entry) (t : State) → Walked (IsVariableOf x.ty) (taken env None
+variable_stays : (env : Env) (id : ℕ) (at : Pos) (x : NamedEntry) (t : TypingState) → Walked (IsVariableOf x.ty) (taken env None
     (a_node_of id at x.ty (meaning_form x.name x.meaning)) t)
 variable_stays env id at x t =
     walk_obeyed Rule.T07 at (is_copy t.items x.ty || not (is_fixed t.items (in_own_guard env.variables) n || is_dyn
@@ -91,19 +91,19 @@ variable_stays env id at x t =
     n = a_node_of id at x.ty (meaning_form x.name x.meaning)
 
 -- what a variable's name gives
-abbrev IsNamed : Pos → Entry → Node → State → Type 0
+abbrev IsNamed : Pos → NamedEntry → Node → TypingState → Type 0
 IsNamed at x n t = (id : ℕ) × (n ≡ a_node_of id at x.ty (meaning_form x.name x.meaning))
 
-abbrev named : Word → TyId → ℕ → Entry
+abbrev named : Word → TyId → ℕ → NamedEntry
 named name ty k = record { name = name; ty = ty; meaning = Capture 0 k }
 
-capture_sound : (env : Env) (k : ℕ) (e : Syn) (earlier : List Entry) (s : State) → Knows env s → Gives s (λ w c.
+capture_sound : (env : Env) (k : ℕ) (e : Syn) (earlier : List NamedEntry) (s : TypingState) → Knows env s → Gives s (λ w c.
     IsCaptured env k earlier w (a_node c.0 no_node, c.1)) (bodies.capture env k e earlier s)
 capture_sound env k (syn at (Ident name)) earlier s knows =
     obeyed Rule.T01 at (bodies.is_captured name env.variables) _ λ there.
     obeyed Rule.T02 at (not (bodies.is_captured name earlier)) _ λ new_name.
     found Rule.T01 at (variable env.variables name) _ λ x is.
-    bind_walked {P = IsNamed at x} (variable_sound env at x (found_in (λ (y : Entry). bytes_eq y.name name)
+    bind_walked {P = IsNamed at x} (variable_sound env at x (found_in (λ (y : NamedEntry). bytes_eq y.name name)
     env.variables x is).1 s knows) (walk_ends (s.next_node, refl)) λ p t g d shape.
     bind_walked {P = IsVariableOf x.ty} {f = λ n. pure (n, earlier ++ named name x.ty k ∷ [])} (taken_sound env None p t
     (d t (grows_refl t)) d) (subst (λ q. Walked (IsVariableOf x.ty) (taken env None q t)) (sym shape.1) (variable_stays
@@ -115,7 +115,7 @@ capture_sound env k (syn at (Ident name)) earlier s knows =
     }
 capture_sound env k (syn at _) earlier s knows = record { so = λ ready. tt }
 
-captured_sound : (env : Env) (k : ℕ) (captures : Syns) (earlier : List Entry) (s : State) → Knows env s → Gives s
+captured_sound : (env : Env) (k : ℕ) (captures : Syns) (earlier : List NamedEntry) (s : TypingState) → Knows env s → Gives s
     (IsCaptured env k earlier) (bodies.captured env k captures earlier s)
 captured_sound env k no_syn earlier s knows =
     given (no_node, earlier) λ ready w g. record { new_ = []; is = sym (append-nil earlier); are = tt }
@@ -124,14 +124,14 @@ captured_sound env k (a_syn first rest) earlier s knows =
     env g knows)) λ cs u h e. given (a_node c.0 cs.0, cs.1) λ ready w l. joined_captures c.0 c.1 cs w (d w (grows_trans
     h l)) (e w l)
   where
-    joined_captures : (n : Node) (middle : List Entry) (cs : Nodes × List Entry) (w : State) → IsCaptured env k earlier
+    joined_captures : (n : Node) (middle : List NamedEntry) (cs : Nodes × List NamedEntry) (w : TypingState) → IsCaptured env k earlier
         w (a_node n no_node, middle) → IsCaptured env (suc k) middle w cs → IsCaptured env k earlier w (
           a_node n cs.0,
           cs.1,
         )
     joined_captures n middle cs w one more = by one.new_ one.is one.are
       where
-        by : (new_ : List Entry) → middle ≡ earlier ++ new_ → AreCaptures env w k (a_node n no_node) new_ → IsCaptured
+        by : (new_ : List NamedEntry) → middle ≡ earlier ++ new_ → AreCaptures env w k (a_node n no_node) new_ → IsCaptured
             env k earlier w (a_node n cs.0, cs.1)
         by [] e are = absurd are
         by (x ∷ []) e are =
@@ -278,7 +278,7 @@ module _ (items : ItemTable) (captures : List TyId) (body : ℕ) where
           after = after_more;
         }
 
-closure_added_sound : (captures : List TyId) (body : ℕ) (s : State) → ((ty : TyId) → Contains captures ty → IsAlone
+closure_added_sound : (captures : List TyId) (body : ℕ) (s : TypingState) → ((ty : TyId) → Contains captures ty → IsAlone
     s.items ty) → Gives s (λ w k. slice_get w.items.closures k ≡ Some (record { captures = captures; body = body }))
     (closure_added captures body s)
 closure_added_sound captures body s alone =
@@ -321,33 +321,33 @@ pub types_kept : (f : ℕ → ℕ) (ps : List ParamTree) → map (λ (p : ParamT
 types_kept f [] = refl
 types_kept f (p ∷ ps) = ap (λ tys. p.ty ∷ tys) (types_kept f ps)
 
-pub both_walk : {A : Type 0} {P Q : A → State → Type 0} (r : Result (A × State) Broken) → Walked P r → Walked Q r → Walked
+pub both_walk : {A : Type 0} {P Q : A → TypingState → Type 0} (r : Result (A × TypingState) Broken) → Walked P r → Walked Q r → Walked
     (λ a t. P a t × Q a t) r
 both_walk (Ok a) h k = record { so = (h.so, k.so) }
 both_walk (Err e) h k = record { so = tt }
 
 -- what is known of a capture's name inside
-abbrev IsPartOf : ItemTable → List Entry → Entry → Type 0
+abbrev IsPartOf : ItemTable → List NamedEntry → NamedEntry → Type 0
 IsPartOf items captures x =
     (j : ℕ) × (x.meaning ≡ Capture 0 j) × (slice_get (bodies.types_of captures) j ≡ Some x.ty) × IsReady items x.ty
 
-module _ (env : Env) (at : Pos) (number k : ℕ) (ty : TyId) (captures : List Entry) (params : Syns) (answer : MaybeSyn)
-    (body : Syn) (s : State) (items : KnowsItems env.kinds env.self_adt s.items) (is : type_at s.items ty ≡ Some
+module _ (env : Env) (at : Pos) (number k : ℕ) (ty : TyId) (captures : List NamedEntry) (params : Syns) (answer : MaybeSyn)
+    (body : Syn) (s : TypingState) (items : KnowsItems env.kinds env.self_adt s.items) (is : type_at s.items ty ≡ Some
     (Ty.Closure k)) (def : slice_get s.items.closures k ≡ Some (record {
       captures = bodies.types_of captures;
       body = number;
-    })) (parts : (x : Entry) → Contains captures x → IsPartOf s.items captures x) (shape : IsTrue (is_block body)) (first :
+    })) (parts : (x : NamedEntry) → Contains captures x → IsPartOf s.items captures x) (shape : IsTrue (is_block body)) (first :
     IsTrue (self_first params)) (good : (inner : Env) → Sound inner (typing.typed inner body)) where
   abbrev outside : Env
   outside = bodies.inside_closure env captures
 
-  abbrev start : State
+  abbrev start : TypingState
   start = numbered (inner_state s)
 
   abbrev self_pattern : Node
   self_pattern = used (taking s.items ty) (a_node_of 0 at ty (tree.Binding []))
 
-  captured_only : (x : Entry) → Contains outside.variables x → IsPartOf s.items captures x
+  captured_only : (x : NamedEntry) → Contains outside.variables x → IsPartOf s.items captures x
   captured_only x has = by (joined_cases captures [] x has)
     where
       by : Contains captures x ⊎ Contains [] x → IsPartOf s.items captures x
@@ -360,11 +360,11 @@ module _ (env : Env) (at : Pos) (number k : ℕ) (ty : TyId) (captures : List En
       none. absurd (omega (arith, none.1))) items
 
   -- the closure's value is around
-  abbrev value_spot : Spot
+  abbrev value_spot : TypingSpot
   value_spot =
       record { entries = []; closure = Some (value_of (record { pattern = self_pattern; ty = ty })); loops = [] }
 
-  stands_first : (a : TyId) (w : State) → Grows start w → AreClosures w.items → Stands (record outside {
+  stands_first : (a : TyId) (w : TypingState) → Grows start w → AreClosures w.items → Stands (record outside {
     loops = [];
     answer = a;
   }) w value_spot
@@ -380,7 +380,7 @@ module _ (env : Env) (at : Pos) (number k : ℕ) (ty : TyId) (captures : List En
           ap (option_and_then (λ u. slice_get (parts_of w.items u 0) j)) (type_later g.items ty (Ty.Closure k) is) ∙ (ap
           (λ o. slice_get (captures_of o) j) (g.items.closures k _ def) ∙ h)
 
-      means : (x : Entry) → IsPartOf s.items captures x → Means w.items value_spot x.ty x.meaning
+      means : (x : NamedEntry) → IsPartOf s.items captures x → Means w.items value_spot x.ty x.meaning
       means x p =
           subst (Means w.items value_spot x.ty) (sym p.1) (
             value_of (record { pattern = self_pattern; ty = ty }),
@@ -431,8 +431,8 @@ module _ (env : Env) (at : Pos) (number k : ℕ) (ty : TyId) (captures : List En
 
 -- ---- the whole
 
-captured_facts : (items : ItemTable) (env : Env) (w : State) (k : ℕ) (ns : Nodes) (xs : List Entry) → AreCaptures env w k
-    ns xs → (x : Entry) → Contains xs x → (j : ℕ) × (x.meaning ≡ Capture 0 (k + j)) × (slice_get (bodies.types_of xs) j
+captured_facts : (items : ItemTable) (env : Env) (w : TypingState) (k : ℕ) (ns : Nodes) (xs : List NamedEntry) → AreCaptures env w k
+    ns xs → (x : NamedEntry) → Contains xs x → (j : ℕ) × (x.meaning ≡ Capture 0 (k + j)) × (slice_get (bodies.types_of xs) j
     ≡ Some x.ty) × IsAlone w.items x.ty
 captured_facts items env w k no_node [] are x has = absurd (omega (arith, has.1))
 captured_facts items env w k no_node (y ∷ ys) are x has = absurd are
@@ -445,14 +445,14 @@ captured_facts items env w k (a_node first rest) (y ∷ ys) are x has =
         (slice_get (bodies.types_of (y ∷ ys)) j ≡ Some x.ty) × IsAlone w.items x.ty
     by (inl same) on = (
       0,
-      ap (λ (z : Entry). z.meaning) (sym same) ∙ (are.0.3 ∙ ap (Capture 0) (omega arith)),
-      ap (λ (z : Entry). Some z.ty) same,
-      subst (IsAlone w.items) (are.0.2 ∙ ap (λ (z : Entry). z.ty) same) are.0.0.alone,
+      ap (λ (z : NamedEntry). z.meaning) (sym same) ∙ (are.0.3 ∙ ap (Capture 0) (omega arith)),
+      ap (λ (z : NamedEntry). Some z.ty) same,
+      subst (IsAlone w.items) (are.0.2 ∙ ap (λ (z : NamedEntry). z.ty) same) are.0.0.alone,
     )
     by (inr more) on = let f = on more in (suc f.0, f.1 ∙ ap (Capture 0) (omega arith), f.2, f.3)
 
 -- the types of captures stand alone
-captured_alone : (env : Env) (w : State) (k : ℕ) (ns : Nodes) (xs : List Entry) → AreCaptures env w k ns xs → (ty : TyId)
+captured_alone : (env : Env) (w : TypingState) (k : ℕ) (ns : Nodes) (xs : List NamedEntry) → AreCaptures env w k ns xs → (ty : TyId)
     → Contains (bodies.types_of xs) ty → IsAlone w.items ty
 captured_alone env w k no_node [] are ty has = absurd (omega (arith, has.1))
 captured_alone env w k no_node (y ∷ ys) are ty has = absurd are
@@ -465,7 +465,7 @@ captured_alone env w k (a_node first rest) (y ∷ ys) are ty has =
     by (inl same) on = subst (IsAlone w.items) (are.0.2 ∙ same) are.0.0.alone
     by (inr more) on = on more
 
-captures_hold : (env : Env) (w : State) (p : Spot) → Stands env w p → (k : ℕ) (ns : Nodes) (xs : List Entry) →
+captures_hold : (env : Env) (w : TypingState) (p : TypingSpot) → Stands env w p → (k : ℕ) (ns : Nodes) (xs : List NamedEntry) →
     AreCaptures env w k ns xs → Holds (captured (at_spot w.items env.answer p) (bodies.types_of xs) ns)
 captures_hold env w p stands k no_node [] are = refl
 captures_hold env w p stands k no_node (x ∷ xs) are = absurd are
@@ -474,7 +474,7 @@ captures_hold env w p stands k (a_node first rest) (x ∷ xs) are =
     are.0.0.holds p stands ⋆ and_true (is_variable (form_of first)) _ are.0.1 (subst (λ t. IsTrue (is_same x.ty t)) (sym
     are.0.2) (same_self x.ty.0)) ⋆ captures_hold env w p stands (suc k) rest xs are.1
 
-pub grows_body : (s : State) → Grows s (record s { next_body = suc s.next_body })
+pub grows_body : (s : TypingState) → Grows s (record s { next_body = suc s.next_body })
 grows_body s = record {
   items = extends_refl s.items;
   ready = λ h. h;
@@ -517,14 +517,14 @@ closure_sound env at captures params answer body shape first good want s k =
           (grows_trans g' (grows_trans h gw))))),
     )))
   where
-    s' : State
+    s' : TypingState
     s' = record (numbered s) { next_body = suc s.next_body }
 
-    as_captures : (caps : Nodes × List Entry) (w : State) → IsCaptured env 0 [] w caps → AreCaptures env w 0 caps.0
+    as_captures : (caps : Nodes × List NamedEntry) (w : TypingState) → IsCaptured env 0 [] w caps → AreCaptures env w 0 caps.0
         caps.1
     as_captures caps w c = subst (AreCaptures env w 0 caps.0) (sym c.is) c.are
 
-    after_body : {r : Result (Node × State) Broken} → Gives s' (IsTemporary env want) r → Gives (numbered s)
+    after_body : {r : Result (Node × TypingState) Broken} → Gives s' (IsTemporary env want) r → Gives (numbered s)
         (IsTemporary env want) r
     after_body {r} h =
         record { so = λ ready. then_map r (h.so ready) λ b t g. (grows_trans (grows_body (numbered s)) g.0, g.1) }

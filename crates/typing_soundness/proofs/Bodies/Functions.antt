@@ -16,10 +16,10 @@ use Rattle.well_typed.specs.Claim.{Holds}
 use Rattle.well_typed.specs.Program.{closure_with}
 use Rattle.well_typed.specs.Types.{closure_in}
 use Rattle.typing_rules.specs.Bodies as bodies
-use Rattle.typing_rules.specs.Check.{Check, State, Broken, ◌>>=◌}
+use Rattle.typing_rules.specs.Check.{Check, TypingState, Broken, ◌>>=◌}
 use Rattle.typing_rules.specs.Promises.{AreClosures, Gives, Stands, Knows, KnowsItems, Sound}
 use Rattle.typing_rules.specs.Rows.{Typer}
-use Rattle.typing_rules.specs.Scope.{Env, Entry}
+use Rattle.typing_rules.specs.Scope.{Env, NamedEntry}
 use Rattle.typing_rules.specs.Typed as typing
 use Rattle.typing_rules.specs.Written as types
 use Rattle.src_ast.specs.Syntax.{Syn, Syns, MaybeSyn}
@@ -72,14 +72,14 @@ in_function env at n params answer block = do
   b ← block (bodies.inside env ty ps.1) (Some ty)
   bodies.within_limit at (bodies.body_of n ps.0 ty b)
 
-module _ (env : Env) (at : Pos) (number : ℕ) (params : Syns) (answer : MaybeSyn) (body : Syn) (s : State) (items :
-    KnowsItems env.kinds env.self_adt s.items) (bare : (x : Entry) → Contains env.variables x → ⊥) (shape : IsTrue
+module _ (env : Env) (at : Pos) (number : ℕ) (params : Syns) (answer : MaybeSyn) (body : Syn) (s : TypingState) (items :
+    KnowsItems env.kinds env.self_adt s.items) (bare : (x : NamedEntry) → Contains env.variables x → ⊥) (shape : IsTrue
     (is_block body)) (first : IsTrue (self_first params)) (h : Holds (shaped body)) where
   known_first : (a : TyId) → Knows (record env { loops = []; answer = a }) (inner_state s)
   known_first a =
       knows_first env a (inner_state s) (λ x has. absurd (bare x has)) (λ b none. absurd (omega (arith, none.1))) items
 
-  stands_first : (a : TyId) (w : State) → AreClosures w.items → Stands (record env { loops = []; answer = a }) w (record
+  stands_first : (a : TyId) (w : TypingState) → AreClosures w.items → Stands (record env { loops = []; answer = a }) w (record
       { entries = []; closure = None; loops = [] })
   stands_first a w heads =
       record {
@@ -119,16 +119,16 @@ module _ (env : Env) (at : Pos) (number : ℕ) (params : Syns) (answer : MaybeSy
       result
 
 -- the walk of a function's body only adds what is well typed
-pub function_sound : (env : Env) (at : Pos) (params : Syns) (answer : MaybeSyn) (body : Syn) (s : State) → KnowsItems
-    env.kinds env.self_adt s.items → ((x : Entry) → Contains env.variables x → ⊥) → IsTrue (is_block body) → IsTrue
+pub function_sound : (env : Env) (at : Pos) (params : Syns) (answer : MaybeSyn) (body : Syn) (s : TypingState) → KnowsItems
+    env.kinds env.self_adt s.items → ((x : NamedEntry) → Contains env.variables x → ⊥) → IsTrue (is_block body) → IsTrue
     (self_first params) → Holds (shaped body) → Gives s (λ w b. Unit {0}) (bodies.fn_body env at params answer (λ inner.
     typing.typed inner body) s)
 function_sound env at params answer body s items bare shape first h =
     after_body (new_body_sound (in_function env at s.next_body params answer (λ inner. typing.typed inner body)) s'
     (function_inner env at s.next_body params answer body s' items bare shape first h))
   where
-    s' : State
+    s' : TypingState
     s' = record s { next_body = suc s.next_body }
 
-    after_body : {r : Result (BodyTree × State) Broken} → Gives s' (λ w b. Unit {0}) r → Gives s (λ w b. Unit {0}) r
+    after_body : {r : Result (BodyTree × TypingState) Broken} → Gives s' (λ w b. Unit {0}) r → Gives s (λ w b. Unit {0}) r
     after_body {r} h = record { so = λ ready. then_map r (h.so ready) λ b t g. (grows_trans (grows_body s) g.0, g.1) }

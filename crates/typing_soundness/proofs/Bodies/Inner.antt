@@ -16,11 +16,11 @@ use Rattle.well_typed.specs.Nodes.{typed}
 use Rattle.well_typed.specs.Places.{InScope, Wanted, form_of}
 use Rattle.well_typed.specs.Program.{closure_with}
 use Rattle.typing_rules.specs.Bodies as bodies
-use Rattle.typing_rules.specs.Check.{Check, State, Broken, with_body, in_new_body, put_before, within_body}
+use Rattle.typing_rules.specs.Check.{Check, TypingState, Broken, with_body, in_new_body, put_before, within_body}
 use Rattle.typing_rules.specs.Places.{unit, agrees}
-use Rattle.typing_rules.specs.Promises.{Extends, IsBelow, IsReady, IsAlone, AreReady, AreClosures, AreBreaks, IsBodyIn, IsWhole, Grows, Gives, Spot, at_spot, Stands, Knows, KnowsItems, IsValue, AreFresh, AreReadyTypes, are_bound}
+use Rattle.typing_rules.specs.Promises.{Extends, IsBelow, IsReady, IsAlone, AreReady, AreClosures, AreBreaks, IsBodyIn, IsWhole, Grows, Gives, TypingSpot, at_spot, Stands, Knows, KnowsItems, IsValue, AreFresh, AreReadyTypes, are_bound}
 use Rattle.typing_rules.specs.Rows.{block_ty}
-use Rattle.typing_rules.specs.Scope.{Env, Entry, with_variables}
+use Rattle.typing_rules.specs.Scope.{Env, NamedEntry, with_variables}
 use Rattle.typing_rules.specs.Typed as typing
 use Rattle.src_ast.specs.Syntax.{Syn, syn, Braces, MaybeSyn, nothing, just}
 use Rattle.typing_rules.proofs.Sound.Bindings.{words}
@@ -40,10 +40,10 @@ use Rattle.typing_soundness.proofs.Walking.Steps.{walk, walk_obeyed, walk_ends}
 -- ---- a walk of its own
 
 -- items that a later state may have
-abbrev with_items : State → ItemTable → State
+abbrev with_items : TypingState → ItemTable → TypingState
 with_items t later = record t { items = later }
 
-grows_items : (t : State) (later : ItemTable) → Extends t.items later → AreReady later → Grows t (with_items t later)
+grows_items : (t : TypingState) (later : ItemTable) → Extends t.items later → AreReady later → Grows t (with_items t later)
 grows_items t later e ready = record {
   items = e;
   ready = λ h. ready;
@@ -53,21 +53,21 @@ grows_items t later e ready = record {
   made = λ body h. inl h;
 }
 
-abbrev pub inner_state : State → State
+abbrev pub inner_state : TypingState → TypingState
 inner_state s = record s { bodies = []; next_node = 0; breaks = [] }
 
 -- a body is well typed among later items
-abbrev pub IsGoodBody : State → BodyTree → Type 0
+abbrev pub IsGoodBody : TypingState → BodyTree → Type 0
 IsGoodBody w body = AreReady w.items → AreClosures w.items → IsBodyIn w.items body
 
-pub new_body_sound : (check : Check BodyTree) (s : State) → Gives (inner_state s) IsGoodBody (check (inner_state s)) →
+pub new_body_sound : (check : Check BodyTree) (s : TypingState) → Gives (inner_state s) IsGoodBody (check (inner_state s)) →
     Gives s (λ w b. Unit {0}) (with_body (λ b. b) (in_new_body check) s)
 new_body_sound check s h = by (check (inner_state s)) h
   where
-    whole : (b : BodyTree) (t : State) → ((w : State) → Grows t w → IsGoodBody w b) → IsWhole t.items b
+    whole : (b : BodyTree) (t : TypingState) → ((w : TypingState) → Grows t w → IsGoodBody w b) → IsWhole t.items b
     whole b t good later e ready heads = good (with_items t later) (grows_items t later e ready) ready heads
 
-    by : (r : Result (BodyTree × State) Broken) → Gives (inner_state s) IsGoodBody r → Gives s (λ w b. Unit {0})
+    by : (r : Result (BodyTree × TypingState) Broken) → Gives (inner_state s) IsGoodBody r → Gives s (λ w b. Unit {0})
         (put_before s.bodies (λ b. b) (within_body (record s { bodies = [] }) r))
     by (Ok a) h = record {
       so = λ ready. let g = h.so ready in (
@@ -84,17 +84,17 @@ new_body_sound check s h = by (check (inner_state s)) h
       );
     }
       where
-        inner : (t : State) → Grows (inner_state s) t → (body : BodyTree) → Contains [] body ⊎ IsWhole t.items body →
+        inner : (t : TypingState) → Grows (inner_state s) t → (body : BodyTree) → Contains [] body ⊎ IsWhole t.items body →
             Contains s.bodies body ⊎ IsWhole t.items body
         inner t g body (inl none) = absurd (omega (arith, none.1))
         inner t g body (inr is) = inr is
 
-        first : (b : BodyTree) (t : State) → Grows (inner_state s) t → IsWhole t.items b → (body : BodyTree) → (b ≡
+        first : (b : BodyTree) (t : TypingState) → Grows (inner_state s) t → IsWhole t.items b → (body : BodyTree) → (b ≡
             body) ⊎ Contains t.bodies body → Contains s.bodies body ⊎ IsWhole t.items body
         first b t g is body (inl same) = inr (subst (IsWhole t.items) same is)
         first b t g is body (inr more) = inner t g body (g.made body more)
 
-        made : (b : BodyTree) (t : State) → Grows (inner_state s) t → IsWhole t.items b → (body : BodyTree) → Contains
+        made : (b : BodyTree) (t : TypingState) → Grows (inner_state s) t → IsWhole t.items b → (body : BodyTree) → Contains
             s.bodies body ⊎ Contains (b ∷ t.bodies) body → Contains s.bodies body ⊎ IsWhole t.items body
         made b t g is body (inl was) = inl was
         made b t g is body (inr more) = first b t g is body (contains_cases b t.bodies body more)
@@ -102,7 +102,7 @@ new_body_sound check s h = by (check (inner_state s)) h
 
 -- ---- the result and the block
 
-pub answer_sound : (env : Env) (answer : MaybeSyn) (s : State) → Gives s (λ w t. IsAlone w.items t) (bodies.answer_of env
+pub answer_sound : (env : Env) (answer : MaybeSyn) (s : TypingState) → Gives s (λ w t. IsAlone w.items t) (bodies.answer_of env
     answer s)
 answer_sound env nothing s = with_ready λ all. given unit λ ready w g. unit_ready w.items (g.ready all)
 answer_sound env (just ty) s = written_sound (bodies.all_rules env) refl ty s
@@ -111,7 +111,7 @@ answer_sound env (just ty) s = written_sound (bodies.all_rules env) refl ty s
 abbrev pub IsBlock : Node → Type 0
 IsBlock n = (statements : tree.Nodes) × (tail : tree.MaybeNode) × (form_of n ≡ Block statements tail)
 
-pub block_shape : (env : Env) (e : Syn) → IsTrue (is_block e) → (want : Option TyId) (s : State) → Walked (λ n t.
+pub block_shape : (env : Env) (e : Syn) → IsTrue (is_block e) → (want : Option TyId) (s : TypingState) → Walked (λ n t.
     IsBlock n) (typing.typed env e want s)
 block_shape env (syn at (Braces statements tail)) h want s =
     walk (any (typing.typed_all env statements (numbered s))) λ done t _. walk (any (typing.typed_maybe done.2 tail want
@@ -121,38 +121,38 @@ block_shape env (syn at (Braces statements tail)) h want s =
       refl,
     )
   where
-    any : {A : Type 0} (r : Result (A × State) Broken) → Walked (λ a t. Unit {0}) r
+    any : {A : Type 0} (r : Result (A × TypingState) Broken) → Walked (λ a t. Unit {0}) r
     any (Ok a) = record { so = tt }
     any (Err e) = record { so = tt }
 block_shape env (syn at _) h want s = absurd (let no_ : IsTrue false = h in cc)
 
 -- ---- names of parameters
 
-pub words_differ : (n : ℕ) (w : State) (ps : List ParamTree × List Entry) → AreBound [] n w ps → IsTrue (are_distinct
+pub words_differ : (n : ℕ) (w : TypingState) (ps : List ParamTree × List NamedEntry) → AreBound [] n w ps → IsTrue (are_distinct
     (names_in ps.0))
 words_differ n w ps is =
     subst (λ ws. IsTrue (are_distinct ws)) (sym (names_same ps.0 ∙ is.binds.names)) (subst (λ xs. IsTrue (are_distinct
     (words xs))) is.binds.is (is.binds.distinct refl))
 
 -- the entries of parameters are those that their names mean
-pub bound_entries : (n : ℕ) (w : State) (ps : List ParamTree × List Entry) → AreBound [] n w ps → are_bound false ps.1
+pub bound_entries : (n : ℕ) (w : TypingState) (ps : List ParamTree × List NamedEntry) → AreBound [] n w ps → are_bound false ps.1
     ++ [] ≡ entries_of_params ps.0
 bound_entries n w ps is =
     append-nil (are_bound false ps.1) ∙ (ap (are_bound false) is.binds.is ∙ (sym is.binds.entries ∙ sym (entries_same
     ps.0)))
 
-pub bound_fresh : (n : ℕ) (w : State) (ps : List ParamTree × List Entry) → AreBound [] n w ps → AreFresh n ps.1
+pub bound_fresh : (n : ℕ) (w : TypingState) (ps : List ParamTree × List NamedEntry) → AreBound [] n w ps → AreFresh n ps.1
     w.next_node
 bound_fresh n w ps is = subst (λ xs. AreFresh n xs w.next_node) (sym is.binds.is) is.binds.fresh
 
-pub bound_types : (n : ℕ) (w : State) (ps : List ParamTree × List Entry) → AreBound [] n w ps → AreReadyTypes w.items
+pub bound_types : (n : ℕ) (w : TypingState) (ps : List ParamTree × List NamedEntry) → AreBound [] n w ps → AreReadyTypes w.items
     ps.1
 bound_types n w ps is = subst (AreReadyTypes w.items) (sym is.binds.is) is.binds.types
 
 -- ---- the block of a body
 
 -- what is known before parameters, in a walk of its own
-pub knows_first : (env : Env) (answer : TyId) (s : State) → ((x : Entry) → Contains env.variables x →
+pub knows_first : (env : Env) (answer : TyId) (s : TypingState) → ((x : NamedEntry) → Contains env.variables x →
     IsReady s.items x.ty × IsBelow s.next_node x.meaning) → AreBreaks s → KnowsItems
     env.kinds env.self_adt s.items → Knows (record env { loops = []; answer = answer }) s
 knows_first env answer s each breaks items = record {
@@ -164,8 +164,8 @@ knows_first env answer s each breaks items = record {
 }
 
 -- in a later state the block is well typed where the entries of the parameters and the closure's value are around
-pub block_holds : (env : Env) (answer : TyId) (s w : State) (n : ℕ) (closure : Option InScope) (ps : List ParamTree ×
-    List Entry) (b : Node) → Knows (record env { loops = []; answer = answer }) s → s.next_node ≤ n → AreBound [] n w ps
+pub block_holds : (env : Env) (answer : TyId) (s w : TypingState) (n : ℕ) (closure : Option InScope) (ps : List ParamTree ×
+    List NamedEntry) (b : Node) → Knows (record env { loops = []; answer = answer }) s → s.next_node ≤ n → AreBound [] n w ps
     → Stands (record env { loops = []; answer = answer }) w (record { entries = []; closure = closure; loops = [] }) →
     IsValue (with_variables ps.1 (record env { loops = []; answer = answer })) (Some answer) w b → Holds (typed
     (body_context w.items closure ps.0 answer) (Wanted answer) b)
@@ -183,7 +183,7 @@ block_holds env answer s w n closure ps b k from is stands v =
       loops = [];
     }) n w.next_node ps.1 k from (bound_fresh n w ps is) stands)) v.fit)
   where
-    spot : Spot
+    spot : TypingSpot
     spot = behind (are_bound false ps.1) (record { entries = []; closure = closure; loops = [] })
 
 -- a closure with a body is found by its number

@@ -16,14 +16,14 @@ use Rattle.typed_tree.specs.Nodes.{numbers_of}
 use Rattle.typed_tree.specs.Tree.{ParamTree, BodyTree, ProgramTree}
 use Rattle.well_typed.specs.Names.{is_among}
 use Rattle.typing_rules.specs.Bodies as bodies
-use Rattle.typing_rules.specs.Check.{Check, State, Broken, and_then, obeys, in_new_body, within_body}
+use Rattle.typing_rules.specs.Check.{Check, TypingState, Broken, and_then, obeys, in_new_body, within_body}
 use Rattle.typing_rules.specs.Collected.{starting_with}
 use Rattle.typing_rules.specs.Items.{items_of, item_syns}
 use Rattle.typing_rules.specs.Program as rules
 use Rattle.typing_rules.specs.Scope.{Env, adt_named, body_named}
 use Rattle.typing_rules.specs.Written as types
 use Rattle.src_ast.specs.Syntax.{Word, Named, Syn, syn, StructItem, EnumItem, FieldDecl, VariantDecl, TraitItem, ImplItem, FnItem, Syns, list_of, MaybeSyn, nothing, just}
-use Rattle.typing_soundness.specs.Closures.{BodySyn, Function, Head, Tape, closures_if_any, function_text, functions_text, around_impl, item_text, items_text, program_text}
+use Rattle.typing_soundness.specs.Closures.{BodySyn, Function, WrittenHead, Tape, closures_if_any, function_text, functions_text, around_impl, item_text, items_text, program_text}
 use Rattle.typing_soundness.specs.Met.{AreTypesOf, HaveClosures, IsBodyOf, AreMade, Met, types_of}
 use Rattle.typing_soundness.specs.Types.{HaveTypes}
 use Rattle.typing_soundness.specs.Walks.{counted, numbers_of_bodies, Ordered, InOrder, Walked}
@@ -58,16 +58,16 @@ no_ok x p e = false≢true (ap is_given e)
 
 -- ---- orders
 
-order_of : {s t : State} → Ordered s t → InOrder s t
+order_of : {s t : TypingState} → Ordered s t → InOrder s t
 order_of o = record { count = o.count; next = o.next; bodies = o.bodies }
 
-order_stays : {s t : State} → Stays s t → InOrder s t
+order_stays : {s t : TypingState} → Stays s t → InOrder s t
 order_stays e = order_of (ordered_of e)
 
-order_refl : (s : State) → InOrder s s
+order_refl : (s : TypingState) → InOrder s s
 order_refl s = order_stays (stays_refl s)
 
-order_both : {s t u : State} → InOrder s t → InOrder t u → InOrder s u
+order_both : {s t u : TypingState} → InOrder s t → InOrder t u → InOrder s u
 order_both {s} {t} {u} p q = record {
   count = p.count + q.count;
   next = let a = p.next in let b = q.next in omega (arith, a, b);
@@ -77,38 +77,38 @@ order_both {s} {t} {u} p q = record {
 }
 
 -- what only adds bodies in order, those of a text
-pub record Adds (f : Tape) (s t : State) : Type 0 where
+pub record Adds (f : Tape) (s t : TypingState) : Type 0 where
   pub order : InOrder s t
   pub met : Met f s t
 
-adds_stays : {s t : State} → Stays s t → Adds no_closure s t
+adds_stays : {s t : TypingState} → Stays s t → Adds no_closure s t
 adds_stays e = record { order = order_stays e; met = met_none e }
 
-adds_none : (s : State) → Adds no_closure s s
+adds_none : (s : TypingState) → Adds no_closure s s
 adds_none s = adds_stays (stays_refl s)
 
-adds_both : {f g : Tape} {s t u : State} → Adds f s t → Adds g t u → Adds (f ⨾ g) s u
+adds_both : {f g : Tape} {s t u : TypingState} → Adds f s t → Adds g t u → Adds (f ⨾ g) s u
 adds_both p q = record { order = order_both p.order q.order; met = met_both p.met q.met }
 
-abbrev pub Keeps : {A : Type 0} → Tape → State → Result (A × State) Broken → Type 0
+abbrev pub Keeps : {A : Type 0} → Tape → TypingState → Result (A × TypingState) Broken → Type 0
 Keeps f s r = Walked (λ a t. Adds f s t) r
 
 -- one such check after another
-then_ : {A B : Type 0} {f g : Tape} {s : State} {r : Result (A × State) Broken} {k : A → Check B} → Keeps f s r → ((a : A)
-    (t : State) → Keeps g t (k a t)) → Keeps (f ⨾ g) s (and_then r k)
+then_ : {A B : Type 0} {f g : Tape} {s : TypingState} {r : Result (A × TypingState) Broken} {k : A → Check B} → Keeps f s r → ((a : A)
+    (t : TypingState) → Keeps g t (k a t)) → Keeps (f ⨾ g) s (and_then r k)
 then_ {r = Ok a} h k = walk_map (k a.0 a.1) λ b u o. adds_both h.so o
 then_ {r = Err e} h k = record { so = tt }
 
-then_so : {A B : Type 0} {f g : Tape} {s : State} {r : Result (A × State) Broken} {k : A → Check B} → Keeps f s r → ((a :
-    A) (t : State) → Adds f s t → Keeps g t (k a t)) → Keeps (f ⨾ g) s (and_then r k)
+then_so : {A B : Type 0} {f g : Tape} {s : TypingState} {r : Result (A × TypingState) Broken} {k : A → Check B} → Keeps f s r → ((a :
+    A) (t : TypingState) → Adds f s t → Keeps g t (k a t)) → Keeps (f ⨾ g) s (and_then r k)
 then_so {r = Ok a} h k = walk_map (k a.0 a.1 h.so) λ b u o. adds_both h.so o
 then_so {r = Err e} h k = record { so = tt }
 
-new_keeps : {A : Type 0} {f : Tape} (check : Check A) (s : State) → Keeps f (record s { next_node = 0; breaks = [] })
+new_keeps : {A : Type 0} {f : Tape} (check : Check A) (s : TypingState) → Keeps f (record s { next_node = 0; breaks = [] })
     (check (record s { next_node = 0; breaks = [] })) → Keeps f s (in_new_body check s)
 new_keeps {A} {f} check s h = by (check (record s { next_node = 0; breaks = [] })) h
   where
-    by : (r : Result (A × State) Broken) → Keeps f (record s { next_node = 0; breaks = [] }) r → Keeps f s (within_body s
+    by : (r : Result (A × TypingState) Broken) → Keeps f (record s { next_node = 0; breaks = [] }) r → Keeps f s (within_body s
         r)
     by (Ok a) h =
         walk_ends (record {
@@ -129,34 +129,34 @@ new_keeps {A} {f} check s h = by (check (record s { next_node = 0; breaks = [] }
 -- ---- heads of items
 
 module _ (env : Env) where
-  type_keeps : (ty : Syn) (s : State) → Keeps no_closure s (types.written (bodies.all_rules env) ty s)
+  type_keeps : (ty : Syn) (s : TypingState) → Keeps no_closure s (types.written (bodies.all_rules env) ty s)
   type_keeps ty s = walk_map (written_still (bodies.all_rules env) ty s) λ t u e. adds_stays e.stays
 
-  field_keeps : (earlier : List Word) (f : Syn) (s : State) → Keeps no_closure s (rules.field env earlier f s)
+  field_keeps : (earlier : List Word) (f : Syn) (s : TypingState) → Keeps no_closure s (rules.field env earlier f s)
   field_keeps earlier (syn at (FieldDecl name ty)) s =
       then_ (type_keeps ty s) λ _ t. walk_obeyed Rule.T02 at (not (is_among name earlier)) _ λ _. walk_ends (adds_none
       t)
   field_keeps earlier (syn at form) s = then_ (type_keeps (syn at form) s) λ _ t. walk_ends {a = earlier} (adds_none t)
 
-  fields_keep : (earlier : List Word) (fs : List Syn) (s : State) → Keeps no_closure s (rules.fields env earlier fs s)
+  fields_keep : (earlier : List Word) (fs : List Syn) (s : TypingState) → Keeps no_closure s (rules.fields env earlier fs s)
   fields_keep earlier [] s = walk_ends (adds_none s)
   fields_keep earlier (f ∷ fs) s = then_ (field_keeps earlier f s) λ names t. fields_keep names fs t
 
-  variants_keep : (earlier : List Word) (vs : List Syn) (s : State) → Keeps no_closure s (rules.variants env earlier vs s)
+  variants_keep : (earlier : List Word) (vs : List Syn) (s : TypingState) → Keeps no_closure s (rules.variants env earlier vs s)
   variants_keep earlier [] s = walk_ends (adds_none s)
   variants_keep earlier (syn at (VariantDecl name kind fs) ∷ vs) s =
       then_ (fields_keep [] (list_of fs) s) λ _ t. walk_obeyed Rule.T02 at (not (is_among name earlier)) _ λ _.
       walk_obeyed Rule.T19 at (nat_le (rules.count_of fs) 32) _ λ _. variants_keep (name ∷ earlier) vs t
   variants_keep earlier (syn at _ ∷ vs) s = record { so = tt }
 
-  head_keeps : (params : Syns) (answer : MaybeSyn) (s : State) → Keeps no_closure s (rules.head_rules env params answer s)
+  head_keeps : (params : Syns) (answer : MaybeSyn) (s : TypingState) → Keeps no_closure s (rules.head_rules env params answer s)
   head_keeps params answer s =
       then_ (new_keeps (bodies.params_of env (types.written_param (bodies.all_rules env)) params []) s (walk_map
       (params_walk env (types.written_param (bodies.all_rules env)) (λ p t. written_param_still (bodies.all_rules env) p
       t) params [] (record s { next_node = 0; breaks = [] })) λ ps t w. record { order = order_of w.ordered; met = w.met })) λ _ t. then_ (walk_map
       (answer_still env answer t) λ _ u e. adds_stays e.stays) λ _ u. walk_ends (adds_none u)
 
-  trait_heads_keep : (earlier : List Word) (hs : List Syn) (s : State) → Keeps no_closure s (rules.trait_heads env earlier hs s)
+  trait_heads_keep : (earlier : List Word) (hs : List Syn) (s : TypingState) → Keeps no_closure s (rules.trait_heads env earlier hs s)
   trait_heads_keep earlier [] s = walk_ends (adds_none s)
   trait_heads_keep earlier (syn at (FnItem name params answer block) ∷ hs) s =
       then_ (head_keeps (rules.behind_self params) answer s) λ _ t. walk_obeyed Rule.T02 name.0 (not (is_among name.1
@@ -164,7 +164,7 @@ module _ (env : Env) where
       λ _. trait_heads_keep (name.1 ∷ earlier) hs t
   trait_heads_keep earlier (syn at _ ∷ hs) s = record { so = tt }
 
-  method_heads_keep : (trait_ : Option Named) (owner : Word) (seen : rules.Seen) (ms : List Syn) (s : State) → Keeps no_closure s
+  method_heads_keep : (trait_ : Option Named) (owner : Word) (seen : rules.Seen) (ms : List Syn) (s : TypingState) → Keeps no_closure s
       (rules.method_heads env trait_ owner seen ms s)
   method_heads_keep trait_ owner seen [] s = walk_ends (adds_none s)
   method_heads_keep trait_ owner seen (syn at (FnItem name params answer block) ∷ ms) s =
@@ -173,7 +173,7 @@ module _ (env : Env) where
       owner ((owner, name.1) ∷ seen) ms t
   method_heads_keep trait_ owner seen (syn at _ ∷ ms) s = record { so = tt }
 
-main_keeps : (at : Pos) (name : Word) (params : Syns) (o : Option Sig) (s : State) → Keeps no_closure s (rules.main_rule at name
+main_keeps : (at : Pos) (name : Word) (params : Syns) (o : Option Sig) (s : TypingState) → Keeps no_closure s (rules.main_rule at name
     params s.items o s)
 main_keeps at name params None s = walk_ends (adds_none s)
 main_keeps at name params (Some sig) s = by (rules.is_main_head name params sig s.items)
@@ -182,7 +182,7 @@ main_keeps at name params (Some sig) s = by (rules.is_main_head name params sig 
     by true = walk_ends (adds_none s)
     by false = record { so = tt }
 
-pub item_keeps : (env : Env) (before : rules.Before) (i : Syn) (s : State) → Keeps no_closure s (rules.item_rules env before i s)
+pub item_keeps : (env : Env) (before : rules.Before) (i : Syn) (s : TypingState) → Keeps no_closure s (rules.item_rules env before i s)
 item_keeps env before (syn at (StructItem ds name kind fs)) s =
     then_ (fields_keep (rules.in_impl env (adt_named s.items name.1)) [] (list_of fs) s) λ _ t. walk_obeyed Rule.T19 at
     (nat_le (rules.count_of fs) 32) _ λ _. walk_ends (adds_none t)
@@ -202,7 +202,7 @@ item_keeps env before (syn at _) s = record { so = tt }
 
 -- ---- bodies
 
-function_inner : (env : Env) (at : Pos) (n : ℕ) (params : Syns) (answer : MaybeSyn) (block : MaybeSyn) (s : State) →
+function_inner : (env : Env) (at : Pos) (n : ℕ) (params : Syns) (answer : MaybeSyn) (block : MaybeSyn) (s : TypingState) →
     Walked (λ b t. (b.number ≡ n) × Ordered s t × IsOf (bodies.all_rules env) (head_legal legal_param params answer) params answer [] (closures_if_any
     (bodies.all_rules env) block) s b t) (in_function env at n params answer (rules.block_of block at) s)
 function_inner env at n params answer (just body) s =
@@ -234,10 +234,10 @@ function_inner env at n params answer nothing s =
     env) p t) params [] s) λ ps t w1. walk (answer_still env answer t) λ a u e. record { so = tt }
 
 module _ (env : Env) (name : Word) (params : Syns) (answer : MaybeSyn) (block : MaybeSyn) where
-  abbrev head : Head
+  abbrev head : WrittenHead
   head = record { around = bodies.all_rules env; name = name; params = params; answer = answer }
 
-  added_text : (s v : State) → IsAdded s.next_body (IsOf (bodies.all_rules env) (head_legal legal_param params answer) params answer [] (closures_if_any
+  added_text : (s v : TypingState) → IsAdded s.next_body (IsOf (bodies.all_rules env) (head_legal legal_param params answer) params answer [] (closures_if_any
       (bodies.all_rules env) block) (record s { next_body = suc s.next_body; bodies = []; next_node = 0; breaks = [] }))
       (record s { next_body = suc s.next_body }) v → Adds (λ rest. Function head ∷ closures_if_any (bodies.all_rules env)
       block rest) s v
@@ -281,7 +281,7 @@ module _ (env : Env) (name : Word) (params : Syns) (answer : MaybeSyn) (block : 
           subst (λ (i : ItemTable). AreMade (IsBodyOf i) (length s.items.closures) (length i.closures) (closures_if_any
           (bodies.all_rules env) block rest) rest inner.new) (sym added.items) (inner.made rest)
 
-  function_keeps : (at : Pos) (s : State) → Keeps (λ rest. Function head ∷ closures_if_any (bodies.all_rules env) block
+  function_keeps : (at : Pos) (s : TypingState) → Keeps (λ rest. Function head ∷ closures_if_any (bodies.all_rules env) block
       rest) s (bodies.fn_body env at params answer (rules.block_of block at) s)
   function_keeps at s =
       walk_map (body_added {Q = IsOf (bodies.all_rules env) (head_legal legal_param params answer) params answer [] (closures_if_any (bodies.all_rules env)
@@ -293,25 +293,25 @@ module _ (env : Env) (name : Word) (params : Syns) (answer : MaybeSyn) (block : 
         breaks = [];
       }))) λ b v added. added_text s v added
     where
-      s' : State
+      s' : TypingState
       s' = record s { next_body = suc s.next_body }
 
-fn_keeps : (env : Env) (f : Syn) (s : State) → Keeps (function_text (bodies.all_rules env) f) s (rules.fn_rules env f s)
+fn_keeps : (env : Env) (f : Syn) (s : TypingState) → Keeps (function_text (bodies.all_rules env) f) s (rules.fn_rules env f s)
 fn_keeps env (syn at (FnItem name params answer block)) s =
     then_ (function_keeps env name.1 params answer block at s) λ _ t. walk_ends (adds_none t)
 fn_keeps env (syn at _) s = record { so = tt }
 
-all_fn_keep : (env : Env) (fs : List Syn) (s : State) → Keeps (functions_text (bodies.all_rules env) fs) s
+all_fn_keep : (env : Env) (fs : List Syn) (s : TypingState) → Keeps (functions_text (bodies.all_rules env) fs) s
     (rules.all_fn_rules env fs s)
 all_fn_keep env [] s = walk_ends (adds_none s)
 all_fn_keep env (f ∷ fs) s = then_ (fn_keeps env f s) λ _ t. all_fn_keep env fs t
 
 -- a struct or an enum has the same number in all states of a walk
-same_number : (env : Env) (adts : List Adt) (name : Word) (s : State) → s.items.adts ≡ adts → bodies.all_rules
+same_number : (env : Env) (adts : List Adt) (name : Word) (s : TypingState) → s.items.adts ≡ adts → bodies.all_rules
     (rules.in_impl env (adt_named s.items name)) ≡ around_impl (bodies.all_rules env) adts name
 same_number env adts name s e = λ i. record (bodies.all_rules env) { self_adt = position_of (λ adt. bytes_eq adt.name name) (e i) }
 
-pub bodies_keep : (env : Env) (adts : List Adt) (i : Syn) (s : State) → s.items.adts ≡ adts → Keeps (item_text (bodies.all_rules
+pub bodies_keep : (env : Env) (adts : List Adt) (i : Syn) (s : TypingState) → s.items.adts ≡ adts → Keeps (item_text (bodies.all_rules
     env) adts i) s (rules.bodies_of env i s)
 bodies_keep env adts (syn at (ImplItem trait_ name methods)) s e =
     subst (λ around. Keeps (functions_text around (list_of methods)) s (rules.all_fn_rules (rules.in_impl env (adt_named
@@ -321,7 +321,7 @@ bodies_keep env adts (syn at (FnItem name params answer block)) s e =
     fn_keeps env (syn at (FnItem name params answer block)) s
 bodies_keep env adts (syn at _) s e = walk_ends (adds_none s)
 
-items_keep : (env : Env) (adts : List Adt) (before : rules.Before) (is : List Syn) (s : State) → s.items.adts ≡ adts →
+items_keep : (env : Env) (adts : List Adt) (before : rules.Before) (is : List Syn) (s : TypingState) → s.items.adts ≡ adts →
     Keeps (items_text (bodies.all_rules env) adts is) s (rules.all_items env before is s)
 items_keep env adts before [] s e = walk_ends (adds_none s)
 items_keep env adts before (i ∷ is) s e =
@@ -335,15 +335,15 @@ counted_length from zero = refl
 counted_length from (suc count) = ap suc (counted_length (suc from) count)
 
 -- the walk over a text adds the bodies of the text
-pub walk_adds : (parts : Parts Pos) (items : ItemTable) (p : ProgramTree) → rules.checked parts items ≡ Ok p → (t : State) ×
+pub walk_adds : (parts : Parts Pos) (items : ItemTable) (p : ProgramTree) → rules.checked parts items ≡ Ok p → (t : TypingState) ×
     Adds (program_text items.adts parts) (starting_with items) t × (p ≡ record { items = t.items; bodies = t.bodies })
 walk_adds parts items p e =
     by (rules.all_items (rules.outermost (item_syns (items_of parts))) (record { methods = []; impls = [] }) (item_syns
     (items_of parts)) (starting_with items)) (items_keep (rules.outermost (item_syns (items_of parts))) items.adts
     (record { methods = []; impls = [] }) (item_syns (items_of parts)) (starting_with items) refl) e
   where
-    by : (r : Result (Unit {0} × State) Broken) → Keeps (program_text items.adts parts) (starting_with items) r →
-        rules.program_in r ≡ Ok p → (t : State) × Adds (program_text items.adts parts) (starting_with items) t × (p ≡
+    by : (r : Result (Unit {0} × TypingState) Broken) → Keeps (program_text items.adts parts) (starting_with items) r →
+        rules.program_in r ≡ Ok p → (t : TypingState) × Adds (program_text items.adts parts) (starting_with items) t × (p ≡
         record { items = t.items; bodies = t.bodies })
     by (Ok a) h e = (a.1, h.so, sym (same_ok _ p e))
     by (Err x) h e = absurd (no_ok x p e)

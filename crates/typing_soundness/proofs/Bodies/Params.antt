@@ -20,12 +20,12 @@ use Rattle.well_typed.specs.Places.{is_by}
 use Rattle.well_typed.specs.Types.{dyn_in, is_dyn, is_enum, is_reference, is_same, reference_in}
 use Rattle.typing_rules.specs.Bodies as bodies
 use Rattle.typing_rules.specs.Bodies.{param_expected, is_name_or_wildcard, is_name_or_wildcard_form}
-use Rattle.typing_rules.specs.Check.{Check, State, Broken, and_then, breaks}
+use Rattle.typing_rules.specs.Check.{Check, TypingState, Broken, and_then, breaks}
 use Rattle.typing_rules.specs.Patterns as rules
 use Rattle.typing_rules.specs.Places.{used, a_node_of}
 use Rattle.typing_rules.specs.Promises.{IsThere, IsReady, AreReady, Grows, Fact, Gives}
 use Rattle.typing_rules.specs.Rows.{Expected, taking}
-use Rattle.typing_rules.specs.Scope.{Env, Entry, Local, adt_named, kind_at, variable}
+use Rattle.typing_rules.specs.Scope.{Env, NamedEntry, Local, adt_named, kind_at, variable}
 use Rattle.src_ast.specs.Syntax.{Word, Syn, syn, Shape, AnyPattern, BindPattern, ParensPattern, ParamOf, SelfParam, Syns, no_syn, a_syn}
 use Rattle.src_ast.specs.View.{self_name}
 use Rattle.typing_rules.proofs.Sound.AllPatterns.{pattern_sound}
@@ -42,7 +42,7 @@ use Rattle.typing_soundness.proofs.Bodies.Whole.{IsSimple, AreParams, names_in, 
 
 -- ---- two facts of one check
 
-pub both_give : {A : Type 0} {s : State} {Q R : Fact A} (r : Result (A × State) Broken) → Gives s Q r → Gives s R r →
+pub both_give : {A : Type 0} {s : TypingState} {Q R : Fact A} (r : Result (A × TypingState) Broken) → Gives s Q r → Gives s R r →
     Gives s (λ w a. Q w a × R w a) r
 both_give (Ok a) h k =
     record { so = λ ready. let g = h.so ready in let f = k.so ready in (g.0, λ w l. (g.1 w l, f.1 w l)) }
@@ -50,7 +50,7 @@ both_give (Err e) h k = record { so = λ ready. tt }
 
 -- ---- a name or `_`, where the type is a reference
 
-bind_simple : (at : Pos) (e : Expected) (ty : TyId) (name : Word) (earlier : List Entry) (s : State) → Gives s (λ w b.
+bind_simple : (at : Pos) (e : Expected) (ty : TyId) (name : Word) (earlier : List NamedEntry) (s : TypingState) → Gives s (λ w b.
     IsSimple w.items ty b.0) (rules.bind at e ty name earlier s)
 bind_simple at e ty name earlier s =
     after_number (obeyed Rule.T02 at (not (is_some (variable earlier name))) _ λ new_. obeyed Rule.T07 at (is_copy
@@ -61,7 +61,7 @@ adt_no_reference : (items : ItemTable) (ty : TyId) (n : ℕ) → type_at items t
 adt_no_reference items ty n is =
     subst (λ o. IsTrue (not (is_some (option_and_then reference_in o)))) (sym is) refl
 
-lone_simple : (env : Env) (at : Pos) (e : Expected) (ty : TyId) (adt : ℕ) (earlier : List Entry) (s : State) → Gives s
+lone_simple : (env : Env) (at : Pos) (e : Expected) (ty : TyId) (adt : ℕ) (earlier : List NamedEntry) (s : TypingState) → Gives s
     (λ w b. IsSimple w.items ty b.0) (rules.lone_struct env at e ty adt earlier s)
 lone_simple env at e ty adt earlier s = by (rules.is_unit_kind (kind_at env.kinds adt 0))
   where
@@ -74,7 +74,7 @@ lone_simple env at e ty adt earlier s = by (rules.is_unit_kind (kind_at env.kind
         w.items) (same_id ty self same) ∙ d w l)))
     by false = gives_nothing Rule.T18 at
 
-lone_name_simple : (env : Env) (at : Pos) (e : Expected) (ty : TyId) (name : Word) (earlier : List Entry) (s : State) →
+lone_name_simple : (env : Env) (at : Pos) (e : Expected) (ty : TyId) (name : Word) (earlier : List NamedEntry) (s : TypingState) →
     Gives s (λ w b. IsSimple w.items ty b.0) (rules.lone_name env at e ty name earlier s)
 lone_name_simple env at e ty name earlier s = by (adt_named s.items name)
   where
@@ -88,11 +88,11 @@ lone_name_simple env at e ty name earlier s = by (adt_named s.items name)
     by (Some adt) = if_enum adt (is_enum s.items adt)
 
 mutual
-  simple_sound : (env : Env) (e : Expected) (ty : TyId) (p : Syn) (earlier : List Entry) (s : State) → IsTrue
+  simple_sound : (env : Env) (e : Expected) (ty : TyId) (p : Syn) (earlier : List NamedEntry) (s : TypingState) → IsTrue
       (is_name_or_wildcard p) → Gives s (λ w b. IsSimple w.items ty b.0) (rules.pattern env e ty p earlier s)
   simple_sound env e ty (syn at form) earlier s = simple_form env e ty at form earlier s
 
-  simple_form : (env : Env) (e : Expected) (ty : TyId) (at : Pos) (form : Shape) (earlier : List Entry) (s : State) →
+  simple_form : (env : Env) (e : Expected) (ty : TyId) (at : Pos) (form : Shape) (earlier : List NamedEntry) (s : TypingState) →
       IsTrue (is_name_or_wildcard_form form) → Gives s (λ w b. IsSimple w.items ty b.0) (rules.pattern_form env e ty at
       form earlier s)
   simple_form env e ty at AnyPattern earlier s = λ h. after_number (given _ λ ready w g. inr (inl refl))
@@ -118,7 +118,7 @@ not_dyn items id ty is none =
     none) refl)
 
 -- a binding of a whole value
-pub name_holds : (s w : State) (id : ℕ) (at : Pos) (name : Word) (ty : TyId) (t : Ty) → AreReady s.items → Grows s w →
+pub name_holds : (s w : TypingState) (id : ℕ) (at : Pos) (name : Word) (ty : TyId) (t : Ty) → AreReady s.items → Grows s w →
     IsReady s.items ty → type_at s.items ty ≡ Some t → dyn_in t ≡ None → Holds (pattern w.items (record {
       takes_all = true;
       may_move = true;
@@ -134,19 +134,19 @@ abbrev pub FirstPlain : ItemTable → List ParamTree → Type 0
 FirstPlain items [] = Unit {0}
 FirstPlain items (p ∷ ps) = IsParamTy items p.ty
 
-pub record AreBound (earlier : List Entry) (n : ℕ) (w : State) (ps : List ParamTree × List Entry) : Type 0 where
+pub record AreBound (earlier : List NamedEntry) (n : ℕ) (w : TypingState) (ps : List ParamTree × List NamedEntry) : Type 0 where
   pub params : AreParams w.items ps.0
   pub binds : Binds earlier n (param_nodes ps.0) w ps.1
   pub first : FirstPlain w.items ps.0
 
 -- a parameter, after names of earlier ones
-record IsBound (earlier : List Entry) (n : ℕ) (w : State) (p : ParamTree × List Entry) : Type 0 where
+record IsBound (earlier : List NamedEntry) (n : ℕ) (w : TypingState) (p : ParamTree × List NamedEntry) : Type 0 where
   holds : Holds (pattern w.items (record { takes_all = true; may_move = true }) p.0.ty p.0.pattern)
   simple : IsSimple w.items p.0.ty p.0.pattern
   binds : Binds earlier n (nodes_of p.0.pattern) w p.1
   ty : IsParamTy w.items p.0.ty
 
-param_later : {old new : State} (ty : TyId) → Grows old new → IsParamTy old.items ty → IsParamTy new.items ty
+param_later : {old new : TypingState} (ty : TyId) → Grows old new → IsParamTy old.items ty → IsParamTy new.items ty
 param_later {new = new} ty g h =
     let r = ready_later g.items ty (h.0, h.1, h.2) in (
       h.0,
@@ -157,9 +157,9 @@ param_later {new = new} ty g h =
       h.4,
     )
 
-module _ (env : Env) (ty_of_param : Syn → Check TyId) (good : (ty : Syn) (s : State) → Gives s (λ w t. IsParamTy
+module _ (env : Env) (ty_of_param : Syn → Check TyId) (good : (ty : Syn) (s : TypingState) → Gives s (λ w t. IsParamTy
     w.items t) (ty_of_param ty s)) where
-  one_bound : (at : Pos) (p ty : Syn) (earlier : List Entry) (s : State) → Gives s (IsBound earlier s.next_node)
+  one_bound : (at : Pos) (p ty : Syn) (earlier : List NamedEntry) (s : TypingState) → Gives s (IsBound earlier s.next_node)
       (bodies.param env ty_of_param (syn at (ParamOf p ty)) earlier s)
   one_bound at p ty earlier s =
       bind (good ty s) λ t u g d.
@@ -176,7 +176,7 @@ module _ (env : Env) (ty_of_param : Syn → Check TyId) (good : (ty : Syn) (s : 
         ty = d w (grows_trans h l);
       }
     where
-      by : (t : TyId) (u : State) → IsParamTy u.items t → IsTrue (is_name_or_wildcard p) ⊎ IsTrue (not (is_reference
+      by : (t : TyId) (u : TypingState) → IsParamTy u.items t → IsTrue (is_name_or_wildcard p) ⊎ IsTrue (not (is_reference
           u.items t)) → Gives u (λ w b. IsSimple w.items t b.0) (rules.pattern env param_expected t p earlier u)
       by t u now (inl is) = simple_sound env param_expected t p earlier u is
       by t u now (inr plain) =
@@ -184,8 +184,8 @@ module _ (env : Env) (ty_of_param : Syn → Check TyId) (good : (ty : Syn) (s : 
           now)) λ b w all g is. inl (subst (λ b. IsTrue (not b)) (sym (same_reference g.items t (param_ready u.items t
           now))) plain)
 
-  join_bound : (earlier : List Entry) (n : ℕ) (p : ParamTree × List Entry) (ps : List ParamTree × List Entry) (t w :
-      State) → IsBound earlier n t p → IsBound earlier n w p → AreBound p.1 t.next_node w ps → AreBound earlier n w (
+  join_bound : (earlier : List NamedEntry) (n : ℕ) (p : ParamTree × List NamedEntry) (ps : List ParamTree × List NamedEntry) (t w :
+      TypingState) → IsBound earlier n t p → IsBound earlier n w p → AreBound p.1 t.next_node w ps → AreBound earlier n w (
         p.0 ∷ ps.0,
         ps.1,
       )
@@ -198,7 +198,7 @@ module _ (env : Env) (ty_of_param : Syn → Check TyId) (good : (ty : Syn) (s : 
       }
 
   -- parameters without `self`
-  rest_bound : (params : Syns) → IsTrue (no_self params) → (earlier : List Entry) (s : State) → Gives s (AreBound
+  rest_bound : (params : Syns) → IsTrue (no_self params) → (earlier : List NamedEntry) (s : TypingState) → Gives s (AreBound
       earlier s.next_node) (bodies.params_of env ty_of_param params earlier s)
   rest_bound no_syn h earlier s =
       given ([], earlier) λ ready w g. record {
@@ -212,7 +212,7 @@ module _ (env : Env) (ty_of_param : Syn → Check TyId) (good : (ty : Syn) (s : 
   rest_bound (a_syn (syn at (SelfParam receiver)) rest) h earlier s = absurd (let no_ : IsTrue false = h in cc)
   rest_bound (a_syn (syn at _) rest) h earlier s = record { so = λ ready. tt }
 
-  self_bound : (at : Pos) (ty : TyId) (s : State) → IsParamTy s.items ty → Gives s (IsBound [] s.next_node) (and_then
+  self_bound : (at : Pos) (ty : TyId) (s : TypingState) → IsParamTy s.items ty → Gives s (IsBound [] s.next_node) (and_then
       (bodies.name_param at self_name ty s) (λ p t. Ok ((p.0, [] ++ p.1 ∷ []), t)))
   self_bound at ty s is =
       with_ready λ all. after_number (given _ λ ready w g. record {
@@ -223,7 +223,7 @@ module _ (env : Env) (ty_of_param : Syn → Check TyId) (good : (ty : Syn) (s : 
         ty = param_later ty g is;
       })
 
-  pub params_bound : (params : Syns) → IsTrue (self_first params) → (s : State) → Gives s (AreBound [] s.next_node)
+  pub params_bound : (params : Syns) → IsTrue (self_first params) → (s : TypingState) → Gives s (AreBound [] s.next_node)
       (bodies.params_of env ty_of_param params [] s)
   params_bound no_syn h s = rest_bound no_syn refl [] s
   params_bound (a_syn (syn at (ParamOf p ty)) rest) h s = rest_bound (a_syn (syn at (ParamOf p ty)) rest) h [] s

@@ -11,17 +11,17 @@ use Rattle.src_tree.specs.Layout.{Parts}
 use Rattle.typed_tree.specs.Tree.{BodyTree, ProgramTree}
 use Rattle.well_typed.specs.Claim.{Holds, each}
 use Rattle.typing_rules.specs.Bodies as bodies
-use Rattle.typing_rules.specs.Check.{Check, State, Broken, obeys, in_new_body, within_body}
+use Rattle.typing_rules.specs.Check.{Check, TypingState, Broken, obeys, in_new_body, within_body}
 use Rattle.typing_rules.specs.Collected.{starting_with}
 use Rattle.typing_rules.specs.Items.{items_of, item_syns}
 use Rattle.typing_rules.specs.Program as rules
 use Rattle.typing_rules.specs.Promises.{AreReady, AreClosures, IsBodyIn, IsWhole, Extends, Grows, Gives, KnowsItems}
-use Rattle.typing_rules.specs.Scope.{Env, Entry, adt_named, body_named}
+use Rattle.typing_rules.specs.Scope.{Env, NamedEntry, adt_named, body_named}
 use Rattle.typing_rules.specs.Written as types
 use Rattle.well_typed.specs.Names.{is_among}
 use Rattle.well_typed.specs.Program.{are_bodies, is_body}
 use Rattle.typing_soundness.specs.Program.{AreCollected, HaveHeads}
-use Rattle.src_ast.specs.Syntax.{Word, Named, Kind, Syn, syn, StructItem, EnumItem, FieldDecl, VariantDecl, TraitItem, ImplItem, FnItem, SelfParam, Syns, no_syn, a_syn, list_of, MaybeSyn, nothing, just}
+use Rattle.src_ast.specs.Syntax.{Word, Named, FieldsKind, Syn, syn, StructItem, EnumItem, FieldDecl, VariantDecl, TraitItem, ImplItem, FnItem, SelfParam, Syns, no_syn, a_syn, list_of, MaybeSyn, nothing, just}
 use Rattle.typing_rules.proofs.Sound.Gives.{bind, weaker, obeyed, given, then_map, grows_trans, items_later}
 use Rattle.typing_rules.proofs.Sound.Later.{alone_later, extends_refl, is_some_by}
 use Rattle.typing_rules.proofs.Sound.Written.{written_sound}
@@ -36,21 +36,21 @@ use Rattle.typing_soundness.proofs.Bodies.Order.{same_ok, no_ok}
 use Rattle.typing_soundness.proofs.Sound.Names.{found_there}
 
 -- a check that only adds what is well typed
-abbrev pub Keeps : {A : Type 0} → State → Result (A × State) Broken → Type 0
+abbrev pub Keeps : {A : Type 0} → TypingState → Result (A × TypingState) Broken → Type 0
 Keeps s r = Gives s (λ w a. Unit {0}) r
 
-keeps : {A : Type 0} {s : State} {Q : State → A → Type 0} {r : Result (A × State) Broken} → Gives s Q r → Keeps s r
+keeps : {A : Type 0} {s : TypingState} {Q : TypingState → A → Type 0} {r : Result (A × TypingState) Broken} → Gives s Q r → Keeps s r
 keeps h = weaker (λ w a. Unit {0}) h λ a w all g q. tt
 
-pub done : {A : Type 0} {s : State} (a : A) → Gives s (λ w b. Unit {0}) (Ok (a, s))
+pub done : {A : Type 0} {s : TypingState} (a : A) → Gives s (λ w b. Unit {0}) (Ok (a, s))
 done a = given a λ ready w g. tt
 
 -- a walk of its own whose bodies stay
-new_keeps : {A : Type 0} (check : Check A) (s : State) → Keeps (record s { next_node = 0; breaks = [] }) (check (record s
+new_keeps : {A : Type 0} (check : Check A) (s : TypingState) → Keeps (record s { next_node = 0; breaks = [] }) (check (record s
     { next_node = 0; breaks = [] })) → Keeps s (in_new_body check s)
 new_keeps {A} check s h = by (check (record s { next_node = 0; breaks = [] })) h
   where
-    by : (r : Result (A × State) Broken) → Keeps (record s { next_node = 0; breaks = [] }) r → Keeps s (within_body s r)
+    by : (r : Result (A × TypingState) Broken) → Keeps (record s { next_node = 0; breaks = [] }) r → Keeps s (within_body s r)
     by (Ok a) h = record {
       so = λ ready. let g = h.so ready in (
         record {
@@ -79,25 +79,25 @@ behind_first (a_syn (syn at (SelfParam receiver)) rest) h = no_self_first rest h
 behind_first (a_syn (syn at form) rest) h = h
 
 module _ (env : Env) where
-  field_keeps : (earlier : List Word) (f : Syn) (s : State) → Keeps s (rules.field env earlier f s)
+  field_keeps : (earlier : List Word) (f : Syn) (s : TypingState) → Keeps s (rules.field env earlier f s)
   field_keeps earlier (syn at (FieldDecl name ty)) s =
       bind (written_sound (bodies.all_rules env) refl ty s) λ t u g d. obeyed Rule.T02 at (not (is_among name earlier))
       _ λ h. done (name ∷ earlier)
   field_keeps earlier (syn at form) s =
       bind (written_sound (bodies.all_rules env) refl (syn at form) s) λ t u g d. done earlier
 
-  fields_keep : (earlier : List Word) (fs : List Syn) (s : State) → Keeps s (rules.fields env earlier fs s)
+  fields_keep : (earlier : List Word) (fs : List Syn) (s : TypingState) → Keeps s (rules.fields env earlier fs s)
   fields_keep earlier [] s = done tt
   fields_keep earlier (f ∷ fs) s = bind (field_keeps earlier f s) λ names t g d. fields_keep names fs t
 
-  variants_keep : (earlier : List Word) (vs : List Syn) (s : State) → Keeps s (rules.variants env earlier vs s)
+  variants_keep : (earlier : List Word) (vs : List Syn) (s : TypingState) → Keeps s (rules.variants env earlier vs s)
   variants_keep earlier [] s = done tt
   variants_keep earlier (syn at (VariantDecl name kind fs) ∷ vs) s =
       bind (fields_keep [] (list_of fs) s) λ _ t g d. obeyed Rule.T02 at (not (is_among name earlier)) _ λ _. obeyed
       Rule.T19 at (nat_le (rules.count_of fs) 32) _ λ _. variants_keep (name ∷ earlier) vs t
   variants_keep earlier (syn at _ ∷ vs) s = record { so = λ ready. tt }
 
-  pub head_keeps : (params : Syns) (answer : MaybeSyn) (s : State) → IsTrue (self_first params) → Keeps s (rules.head_rules
+  pub head_keeps : (params : Syns) (answer : MaybeSyn) (s : TypingState) → IsTrue (self_first params) → Keeps s (rules.head_rules
       env params answer s)
   head_keeps params answer s first =
       bind (new_keeps (bodies.params_of env (types.written_param (bodies.all_rules env)) params []) s (keeps
@@ -105,7 +105,7 @@ module _ (env : Env) where
       refl p t) params first (record s { next_node = 0; breaks = [] })))) λ _ t g d. bind (answer_sound env answer t) λ
       _ u h e. done tt
 
-  trait_heads_keep : (earlier : List Word) (hs : List Syn) (s : State) → Holds (each function_shaped hs) → Keeps s
+  trait_heads_keep : (earlier : List Word) (hs : List Syn) (s : TypingState) → Holds (each function_shaped hs) → Keeps s
       (rules.trait_heads env earlier hs s)
   trait_heads_keep earlier [] s h = done tt
   trait_heads_keep earlier (syn at (FnItem name params answer block) ∷ hs) s h =
@@ -114,7 +114,7 @@ module _ (env : Env) where
       name.1 (codes "drop"))) _ λ _. trait_heads_keep (name.1 ∷ earlier) hs t h.1
   trait_heads_keep earlier (syn at _ ∷ hs) s h = record { so = λ ready. tt }
 
-  method_heads_keep : (trait_ : Option Named) (owner : Word) (seen : rules.Seen) (ms : List Syn) (s : State) → Holds
+  method_heads_keep : (trait_ : Option Named) (owner : Word) (seen : rules.Seen) (ms : List Syn) (s : TypingState) → Holds
       (each function_shaped ms) → Keeps s (rules.method_heads env trait_ owner seen ms s)
   method_heads_keep trait_ owner seen [] s h = done seen
   method_heads_keep trait_ owner seen (syn at (FnItem name params answer block) ∷ ms) s h =
@@ -123,7 +123,7 @@ module _ (env : Env) where
       owner ((owner, name.1) ∷ seen) ms t h.1
   method_heads_keep trait_ owner seen (syn at _ ∷ ms) s h = record { so = λ ready. tt }
 
-main_keeps : (at : Pos) (name : Word) (params : Syns) (o : Option Sig) (s : State) → Keeps s (rules.main_rule at name
+main_keeps : (at : Pos) (name : Word) (params : Syns) (o : Option Sig) (s : TypingState) → Keeps s (rules.main_rule at name
     params s.items o s)
 main_keeps at name params None s = done tt
 main_keeps at name params (Some sig) s =
@@ -133,7 +133,7 @@ main_keeps at name params (Some sig) s =
     by true = done tt
     by false = record { so = λ ready. tt }
 
-pub item_keeps : (env : Env) (before : rules.Before) (i : Syn) (s : State) → Holds (item_shaped i) → Keeps s
+pub item_keeps : (env : Env) (before : rules.Before) (i : Syn) (s : TypingState) → Holds (item_shaped i) → Keeps s
     (rules.item_rules env before i s)
 item_keeps env before (syn at (StructItem ds name kind fs)) s h =
     bind (fields_keep (rules.in_impl env (adt_named s.items name.1)) [] (list_of fs) s) λ _ t g d. obeyed Rule.T19 at
@@ -155,7 +155,7 @@ item_keeps env before (syn at _) s h = record { so = λ ready. tt }
 -- ---- bodies
 
 -- the items that are known, inside an impl
-knows_impl : {kinds : List (List Kind)} {self_adt : Option ℕ} (items : ItemTable) → KnowsItems kinds self_adt items →
+knows_impl : {kinds : List (List FieldsKind)} {self_adt : Option ℕ} (items : ItemTable) → KnowsItems kinds self_adt items →
     (name : Word) → KnowsItems kinds (adt_named items name) items
 knows_impl items k name = record {
   structs = k.structs;
@@ -168,7 +168,7 @@ knows_impl items k name = record {
 }
 
 -- a function without a block is broken
-no_block_keeps : (env : Env) (at : Pos) (params : Syns) (answer : MaybeSyn) (s : State) → IsTrue (self_first params) →
+no_block_keeps : (env : Env) (at : Pos) (params : Syns) (answer : MaybeSyn) (s : TypingState) → IsTrue (self_first params) →
     Keeps s (bodies.fn_body env at params answer (rules.block_of nothing at) s)
 no_block_keeps env at params answer s first =
     after_body (new_body_sound (in_function env at s.next_body params answer (rules.block_of nothing at)) s' (bind
@@ -177,14 +177,14 @@ no_block_keeps env at params answer s first =
       so = λ ready. tt;
     }))
   where
-    s' : State
+    s' : TypingState
     s' = record s { next_body = suc s.next_body }
 
-    after_body : {r : Result (BodyTree × State) Broken} → Gives s' (λ w b. Unit {0}) r → Gives s (λ w b. Unit {0}) r
+    after_body : {r : Result (BodyTree × TypingState) Broken} → Gives s' (λ w b. Unit {0}) r → Gives s (λ w b. Unit {0}) r
     after_body {r} h = record { so = λ ready. then_map r (h.so ready) λ b t g. (grows_trans (grows_body s) g.0, g.1) }
 
-module _ (env : Env) (bare : (x : Entry) → Contains env.variables x → ⊥) where
-  fn_keeps : (f : Syn) (s : State) → Holds (function_shaped f) → KnowsItems env.kinds env.self_adt s.items → Keeps s
+module _ (env : Env) (bare : (x : NamedEntry) → Contains env.variables x → ⊥) where
+  fn_keeps : (f : Syn) (s : TypingState) → Holds (function_shaped f) → KnowsItems env.kinds env.self_adt s.items → Keeps s
       (rules.fn_rules env f s)
   fn_keeps (syn at (FnItem name params answer (just b))) s h k =
       bind (function_sound env at params answer b s k bare h.1.0 h.0 h.1.1) λ _ t g d. done tt
@@ -192,13 +192,13 @@ module _ (env : Env) (bare : (x : Entry) → Contains env.variables x → ⊥) w
       bind (no_block_keeps env at params answer s h.0) λ _ t g d. done tt
   fn_keeps (syn at _) s h k = record { so = λ ready. tt }
 
-  all_fn_keep : (fs : List Syn) (s : State) → Holds (each function_shaped fs) → KnowsItems env.kinds env.self_adt
+  all_fn_keep : (fs : List Syn) (s : TypingState) → Holds (each function_shaped fs) → KnowsItems env.kinds env.self_adt
       s.items → Keeps s (rules.all_fn_rules env fs s)
   all_fn_keep [] s h k = done tt
   all_fn_keep (f ∷ fs) s h k =
       bind (fn_keeps f s h.0 k) λ _ t g d. all_fn_keep fs t h.1 (items_later g.items k)
 
-pub bodies_keep : (env : Env) → ((x : Entry) → Contains env.variables x → ⊥) → (i : Syn) (s : State) → Holds (item_shaped i)
+pub bodies_keep : (env : Env) → ((x : NamedEntry) → Contains env.variables x → ⊥) → (i : Syn) (s : TypingState) → Holds (item_shaped i)
     → KnowsItems env.kinds env.self_adt s.items → Keeps s (rules.bodies_of env i s)
 bodies_keep env bare (syn at (ImplItem trait_ name methods)) s h k =
     all_fn_keep (rules.in_impl env (adt_named s.items name.1)) bare (list_of methods) s h (knows_impl s.items k name.1)
@@ -206,8 +206,8 @@ bodies_keep env bare (syn at (FnItem name params answer block)) s h k =
     fn_keeps env bare (syn at (FnItem name params answer block)) s h k
 bodies_keep env bare (syn at _) s h k = done tt
 
-pub items_keep : (env : Env) → ((x : Entry) → Contains env.variables x → ⊥) → (before : rules.Before) (is : List Syn) (s
-    : State) → Holds (each item_shaped is) → KnowsItems env.kinds env.self_adt s.items → Gives s (λ w u. Unit {0})
+pub items_keep : (env : Env) → ((x : NamedEntry) → Contains env.variables x → ⊥) → (before : rules.Before) (is : List Syn) (s
+    : TypingState) → Holds (each item_shaped is) → KnowsItems env.kinds env.self_adt s.items → Gives s (λ w u. Unit {0})
     (rules.all_items env before is s)
 items_keep env bare before [] s h k = done tt
 items_keep env bare before (i ∷ is) s h k =
@@ -225,16 +225,16 @@ bodies_typed parts items p c e =
     absurd (omega (arith, none.1))) (record { methods = []; impls = [] }) (item_syns (items_of parts)) (starting_with
     items) c.shaped c.known) e
   where
-    typed_in : (t : State) → Grows (starting_with items) t → AreClosures t.items → (body : BodyTree) → Contains []
+    typed_in : (t : TypingState) → Grows (starting_with items) t → AreClosures t.items → (body : BodyTree) → Contains []
         body ⊎ IsWhole t.items body → IsBodyIn t.items body
     typed_in t g heads body (inl none) = absurd (omega (arith, none.1))
     typed_in t g heads body (inr whole) = whole t.items (extends_refl t.items) (g.ready c.ready) heads
 
-    given_by : (t : State) → Grows (starting_with items) t → Extends items t.items × AreReady t.items × (AreClosures
+    given_by : (t : TypingState) → Grows (starting_with items) t → Extends items t.items × AreReady t.items × (AreClosures
         t.items → (body : BodyTree) → Contains t.bodies body → IsBodyIn t.items body)
     given_by t g = (g.items, g.ready c.ready, λ heads body has. typed_in t g heads body (g.made body has))
 
-    by : (r : Result (Unit {0} × State) Broken) → Gives (starting_with items) (λ w u. Unit {0}) r → rules.program_in r ≡
+    by : (r : Result (Unit {0} × TypingState) Broken) → Gives (starting_with items) (λ w u. Unit {0}) r → rules.program_in r ≡
         Ok p → Extends items p.items × AreReady p.items × (AreClosures p.items → (body : BodyTree) → Contains p.bodies
         body → IsBodyIn p.items body)
     by (Ok a) g e =

@@ -10,7 +10,7 @@ use Rattle.mir_ty.specs.declared.ty.Ty.{Ty}
 use Rattle.mir_ty.specs.declared.ty.TyId.{TyId}
 use Rattle.mir_ty.specs.ItemTable.{ItemTable, type_at}
 use Rattle.well_typed.specs.Types.{closure_in, dyn_in, is_reference, reference_in}
-use Rattle.typing_rules.specs.Check.{State, interned}
+use Rattle.typing_rules.specs.Check.{TypingState, interned}
 use Rattle.typing_rules.specs.Places.{int, bool, unit, never}
 use Rattle.typing_rules.specs.Promises.{Extends, IsThere, IsReady, IsAlone, IsValueType, AreReady, Gives}
 use Rattle.typing_rules.specs.RowPromises.{IsMade}
@@ -18,7 +18,7 @@ use Rattle.src_ast.specs.Syntax.{Word, Receiver, ByValue, ByShared, ByUnique, Sy
 use Rattle.typing_rules.specs.Bodies as bodies
 use Rattle.typing_rules.specs.Scope.{Env}
 use Rattle.typing_rules.specs.Written as rules
-use Rattle.typing_rules.specs.Written.{Around}
+use Rattle.typing_rules.specs.Written.{WrittenScope}
 use Rattle.typing_rules.proofs.Sound.Constructors.{tuple_made, array_made}
 use Rattle.typing_rules.proofs.Sound.Gives.{bind, weaker, with_ready, given, gives_nothing, obeyed, found, grows_refl, grows_trans}
 use Rattle.typing_rules.proofs.Sound.Interned.{interned_sound}
@@ -112,23 +112,23 @@ scalar_plain items all name ty h = among_plain items names each name ty h
 
 -- ---- one type at a time
 
-pub adt_plain : (n : ℕ) (s : State) → Gives s (λ w ty. IsPlain w.items ty) (interned (Ty.Adt n) s)
+pub adt_plain : (n : ℕ) (s : TypingState) → Gives s (λ w ty. IsPlain w.items ty) (interned (Ty.Adt n) s)
 adt_plain n s =
     with_ready λ all. weaker (λ w ty. IsPlain w.items ty) (interned_sound (Ty.Adt n) s (adt_made s.items all n)) λ ty w
     ready g is. (Ty.Adt n, is, tt, refl)
 
-box_plain : (content : TyId) (s : State) → IsReady s.items content → IsTrue (not (is_reference s.items content)) → Gives
+box_plain : (content : TyId) (s : TypingState) → IsReady s.items content → IsTrue (not (is_reference s.items content)) → Gives
     s (λ w ty. IsPlain w.items ty) (interned (Ty.Boxed content) s)
 box_plain content s ready plain =
     weaker (λ w ty. IsPlain w.items ty) (interned_sound (Ty.Boxed content) s (box_made s.items content ready plain)) λ
     ty w all g is. (Ty.Boxed content, is, tt, refl)
 
-named_plain : (at : Pos) (adt : Option ℕ) (scalar : Option TyId) (s : State) → ((ty : TyId) → scalar ≡ Some ty →
+named_plain : (at : Pos) (adt : Option ℕ) (scalar : Option TyId) (s : TypingState) → ((ty : TyId) → scalar ≡ Some ty →
     IsPlain s.items ty) → Gives s (λ w t. IsPlain w.items t) (rules.named_by at adt scalar s)
 named_plain at adt (Some ty) s plain = given ty λ ready w g. value_plain s.items w.items g.items ty (plain ty refl)
 named_plain at adt None s plain = found Rule.T01 at adt _ λ n h. adt_plain n s
 
-tuple_by_plain : (tys : List TyId) (s : State) → AllAlone tys s → Gives s (λ w ty. IsPlain w.items ty) (rules.tuple_by
+tuple_by_plain : (tys : List TyId) (s : TypingState) → AllAlone tys s → Gives s (λ w ty. IsPlain w.items ty) (rules.tuple_by
     tys s)
 tuple_by_plain [] s all = with_ready λ ready. given _ λ r w g. unit_plain w.items (g.ready ready)
 tuple_by_plain (t ∷ tys) s all =
@@ -156,24 +156,24 @@ ref_made items false to alone =
       );
     }
 
-pub ref_param : (unique : Bool) (to : TyId) (s : State) → IsAlone s.items to → Gives s (λ w ty. IsParamTy w.items ty)
+pub ref_param : (unique : Bool) (to : TyId) (s : TypingState) → IsAlone s.items to → Gives s (λ w ty. IsParamTy w.items ty)
     (interned (rules.reference_to unique to) s)
 ref_param unique to s alone =
     weaker (λ w ty. IsParamTy w.items ty) (interned_sound (rules.reference_to unique to) s (ref_made s.items unique to
     alone)) λ ty w ready g is. by unique ty w is
   where
-    by : (b : Bool) (ty : TyId) (w : State) → type_at w.items ty ≡ Some (rules.reference_to b to) → IsParamTy w.items ty
+    by : (b : Bool) (ty : TyId) (w : TypingState) → type_at w.items ty ≡ Some (rules.reference_to b to) → IsParamTy w.items ty
     by true ty w is = (Ty.Unique to, is, tt, refl, refl)
     by false ty w is = (Ty.Shared to, is, tt, refl, refl)
 
 -- ---- the recursion
 
-module _ (around : Around) (limits : around.has_limits ≡ true) where
+module _ (around : WrittenScope) (limits : around.has_limits ≡ true) where
   mutual
-    pub written_plain : (ty : Syn) (s : State) → Gives s (λ w t. IsPlain w.items t) (rules.written around ty s)
+    pub written_plain : (ty : Syn) (s : TypingState) → Gives s (λ w t. IsPlain w.items t) (rules.written around ty s)
     written_plain (syn at form) s = written_form_plain at form s
 
-    written_form_plain : (at : Pos) (form : Shape) (s : State) → Gives s (λ w t. IsPlain w.items t) (rules.written_form
+    written_form_plain : (at : Pos) (form : Shape) (s : TypingState) → Gives s (λ w t. IsPlain w.items t) (rules.written_form
         around at form s)
     written_form_plain at (NamedType name) s =
         with_ready λ all. named_plain at (rules.number_of around.adts name) (rules.scalar_named name) s (λ ty h.
@@ -208,24 +208,24 @@ module _ (around : Around) (limits : around.has_limits ≡ true) where
         IsTrue false = subst (λ b. IsTrue (not b)) limits no_limits in cc)
     written_form_plain at _ s = gives_nothing Rule.T20 at
 
-    all_written_plain : (parts : Syns) (s : State) → Gives s (λ w tys. AllAlone tys w) (rules.all_written around parts
+    all_written_plain : (parts : Syns) (s : TypingState) → Gives s (λ w tys. AllAlone tys w) (rules.all_written around parts
         s)
     all_written_plain no_syn s = given [] λ ready w g. λ n ty h. absurd (none-some ty h)
     all_written_plain (a_syn first rest) s =
         bind (written_plain first s) λ ty t g d. bind (all_written_plain rest t) λ tys u h e. given (ty ∷ tys) λ ready w
         l. both_alone ty tys w (plain_alone w.items ty (d w (grows_trans h l))) (e w l)
 
-  plain_given : (at : Pos) (form : Shape) (s : State) → Gives s (λ w t. IsParamTy w.items t) (rules.written_form around
+  plain_given : (at : Pos) (form : Shape) (s : TypingState) → Gives s (λ w t. IsParamTy w.items t) (rules.written_form around
       at form s)
   plain_given at form s =
       weaker (λ w t. IsParamTy w.items t) (written_form_plain at form s) λ t w all g is. plain_param w.items t is
 
   mutual
-    pub written_param_sound : (ty : Syn) (s : State) → Gives s (λ w t. IsParamTy w.items t) (rules.written_param around
+    pub written_param_sound : (ty : Syn) (s : TypingState) → Gives s (λ w t. IsParamTy w.items t) (rules.written_param around
         ty s)
     written_param_sound (syn at form) s = written_param_form_sound at form s
 
-    written_param_form_sound : (at : Pos) (form : Shape) (s : State) → Gives s (λ w t. IsParamTy w.items t)
+    written_param_form_sound : (at : Pos) (form : Shape) (s : TypingState) → Gives s (λ w t. IsParamTy w.items t)
         (rules.written_param_form around at form s)
     written_param_form_sound at (ParensType inside) s = written_param_sound inside s
     written_param_form_sound at (RefType unique to) s =
@@ -234,12 +234,12 @@ module _ (around : Around) (limits : around.has_limits ≡ true) where
 
 -- ---- `self`
 
-pub receiver_sound : (env : Env) (at : Pos) (receiver : Receiver) (s : State) → Gives s (λ w t. IsParamTy w.items t)
+pub receiver_sound : (env : Env) (at : Pos) (receiver : Receiver) (s : TypingState) → Gives s (λ w t. IsParamTy w.items t)
     (bodies.receiver_ty env at receiver s)
 receiver_sound env at receiver s =
     found Rule.T01 at env.self_adt _ λ n is. bind (adt_plain n s) λ own t g d. by receiver own t (d t (grows_refl t))
   where
-    by : (r : Receiver) (own : TyId) (t : State) → IsPlain t.items own → Gives t (λ w x. IsParamTy w.items x)
+    by : (r : Receiver) (own : TyId) (t : TypingState) → IsPlain t.items own → Gives t (λ w x. IsParamTy w.items x)
         (bodies.self_ty r own t)
     by ByValue own t plain =
         given own λ ready w g. plain_param w.items own (value_plain t.items w.items g.items own plain)

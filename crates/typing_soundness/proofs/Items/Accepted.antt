@@ -17,7 +17,7 @@ use Rattle.well_typed.specs.Names.{is_among}
 use Rattle.well_typed.specs.Types.{inside_in}
 use Rattle.typing_rules.specs.Bodies as bodies
 use Rattle.typing_rules.specs.Bodies.{all_rules}
-use Rattle.typing_rules.specs.Check.{Check, State, Broken, in_new_body, within_body}
+use Rattle.typing_rules.specs.Check.{Check, TypingState, Broken, in_new_body, within_body}
 use Rattle.typing_rules.specs.Collected as collected
 use Rattle.typing_rules.specs.Items.{ItemSyn, items_of, item_syns, impl_owner}
 use Rattle.typing_rules.specs.Places.{scalars}
@@ -40,18 +40,18 @@ use Rattle.typing_soundness.proofs.Walking.Steps.{walk, walk_map, walk_obeyed, w
 
 -- ---- items, by the rules on heads
 
-in_body_so : {A : Type 0} {P : Type 0} (check : Check A) (s : State) → Walked (λ a t. P) (check (record s {
+in_body_so : {A : Type 0} {P : Type 0} (check : Check A) (s : TypingState) → Walked (λ a t. P) (check (record s {
   next_node = 0;
   breaks = [];
 })) → Walked (λ a t. P) (in_new_body check s)
 in_body_so {A} {P} check s h = by (check (record s { next_node = 0; breaks = [] })) h
   where
-    by : (r : Result (A × State) Broken) → Walked (λ a t. P) r → Walked (λ a t. P) (within_body s r)
+    by : (r : Result (A × TypingState) Broken) → Walked (λ a t. P) r → Walked (λ a t. P) (within_body s r)
     by (Ok a) h = walk_ends h.so
     by (Err e) h = record { so = tt }
 
 module _ (env : Env) where
-  field_accepted : (earlier : List Word) (f : Syn) (s : State) → Walked (λ a t. IsTrue (field_legal f)) (rules.field env
+  field_accepted : (earlier : List Word) (f : Syn) (s : TypingState) → Walked (λ a t. IsTrue (field_legal f)) (rules.field env
       earlier f s)
   field_accepted earlier (syn at (FieldDecl name ty)) s =
       walk (written_legal (all_rules env) ty s) λ x t h. walk_obeyed Rule.T02 at (not (is_among name earlier)) _ λ _.
@@ -59,13 +59,13 @@ module _ (env : Env) where
   field_accepted earlier (syn at form) s =
       walk (written_legal (all_rules env) (syn at form) s) λ x t h. walk_ends {a = earlier} {t = t} h
 
-  fields_accepted : (earlier : List Word) (fs : List Syn) (s : State) → Walked (λ a t. IsTrue (fields_legal fs))
+  fields_accepted : (earlier : List Word) (fs : List Syn) (s : TypingState) → Walked (λ a t. IsTrue (fields_legal fs))
       (rules.fields env earlier fs s)
   fields_accepted earlier [] s = walk_ends refl
   fields_accepted earlier (f ∷ fs) s =
       walk (field_accepted earlier f s) λ ns t h. walk_map (fields_accepted ns fs t) λ a u k. and_so (field_legal f) _ h k
 
-  variants_accepted : (earlier : List Word) (vs : List Syn) (s : State) → Walked (λ a t. IsTrue (variants_legal vs))
+  variants_accepted : (earlier : List Word) (vs : List Syn) (s : TypingState) → Walked (λ a t. IsTrue (variants_legal vs))
       (rules.variants env earlier vs s)
   variants_accepted earlier [] s = walk_ends refl
   variants_accepted earlier (syn at (VariantDecl name kind fs) ∷ vs) s =
@@ -74,7 +74,7 @@ module _ (env : Env) where
       u k. and_so (fields_legal (list_of fs)) _ h k
   variants_accepted earlier (syn at _ ∷ vs) s = record { so = tt }
 
-  head_accepted : (params : Syns) (answer : MaybeSyn) (s : State) → Walked (λ a t. IsTrue (head_legal legal_param params
+  head_accepted : (params : Syns) (answer : MaybeSyn) (s : TypingState) → Walked (λ a t. IsTrue (head_legal legal_param params
       answer)) (rules.head_rules env params answer s)
   head_accepted params answer s =
       walk (in_body_so (bodies.params_of env (types.written_param (all_rules env)) params []) s (params_are_legal env
@@ -82,7 +82,7 @@ module _ (env : Env) where
       { next_node = 0; breaks = [] }))) λ _ t h. walk (answer_is_legal env answer t) λ _ u k. walk_ends (and_so
       (params_legal legal_param params) _ h k)
 
-  trait_heads_accepted : (earlier : List Word) (hs : List Syn) (s : State) → Walked (λ a t. IsTrue (trait_heads_legal hs))
+  trait_heads_accepted : (earlier : List Word) (hs : List Syn) (s : TypingState) → Walked (λ a t. IsTrue (trait_heads_legal hs))
       (rules.trait_heads env earlier hs s)
   trait_heads_accepted earlier [] s = walk_ends refl
   trait_heads_accepted earlier (syn at (FnItem name params answer block) ∷ hs) s =
@@ -92,7 +92,7 @@ module _ (env : Env) where
       params) answer) _ h k
   trait_heads_accepted earlier (syn at _ ∷ hs) s = record { so = tt }
 
-item_accepted : (env : Env) (before : rules.Before) (i : Syn) (s : State) → Walked (λ a t. IsTrue (item_legal i))
+item_accepted : (env : Env) (before : rules.Before) (i : Syn) (s : TypingState) → Walked (λ a t. IsTrue (item_legal i))
     (rules.item_rules env before i s)
 item_accepted env before (syn at (StructItem ds name kind fs)) s =
     walk (fields_accepted (rules.in_impl env (adt_named s.items name.1)) [] (list_of fs) s) λ _ t h. walk_obeyed Rule.T19
@@ -104,7 +104,7 @@ item_accepted env before (syn at (TraitItem name heads)) s =
     walk (trait_heads_accepted env [] (list_of heads) s) λ _ t h. walk_ends h
 item_accepted env before (syn at form) s = whatever _ refl
 
-items_accepted : (env : Env) (before : rules.Before) (is : List Syn) (s : State) → Walked (λ a t. All (λ i. IsTrue (item_legal
+items_accepted : (env : Env) (before : rules.Before) (is : List Syn) (s : TypingState) → Walked (λ a t. All (λ i. IsTrue (item_legal
     i)) is) (rules.all_items env before is s)
 items_accepted env before [] s = walk_ends tt
 items_accepted env before (i ∷ is) s =
@@ -120,7 +120,7 @@ made_legal items from to [] (body ∷ bodies) h = absurd h
 made_legal items from to (text ∷ texts) (body ∷ bodies) h =
     (h.0.2, made_legal items (behind text from) to texts bodies h.1)
 
-module _ (around : types.Around) where
+module _ (around : types.WrittenScope) where
   body_listed : (b : Syn) (rest : List BodySyn) → All (λ t. IsTrue (text_legal t)) (body_text around b rest) → IsTrue
       (body_legal b) × All (λ t. IsTrue (text_legal t)) rest
   body_listed (syn at (FnItem name params answer block)) rest h = h
@@ -234,7 +234,7 @@ items_kept parts end items p is_collected is_checked tell =
         items_accepted (rules.outermost (item_syns (items_of parts))) (record { methods = []; impls = [] }) (item_syns
         (items_of parts)) (collected.starting_with items)
 
-    legal_items : (r : Result (Unit {0} × State) Broken) → Walked (λ a t. All (λ i. IsTrue (item_legal i)) (item_syns (items_of
+    legal_items : (r : Result (Unit {0} × TypingState) Broken) → Walked (λ a t. All (λ i. IsTrue (item_legal i)) (item_syns (items_of
         parts))) r → rules.program_in r ≡ Ok p → All (λ i. IsTrue (item_legal i)) (item_syns (items_of parts))
     legal_items (Ok a) w e = w.so
     legal_items (Err x) w e = absurd (no_ok x p e)
@@ -255,7 +255,7 @@ items_ready parts end items p is_collected is_checked tell =
     by (collected.collecting (items_of parts) end (collected.starting_with collected.no_items)) (collecting_ready (items_of
     parts) end (items_kept parts end items p is_collected is_checked tell)) is_collected
   where
-    by : (r : Result (Unit {0} × State) Broken) → Walked (λ a t. AreReady collected.no_items → AreReady t.items) r →
+    by : (r : Result (Unit {0} × TypingState) Broken) → Walked (λ a t. AreReady collected.no_items → AreReady t.items) r →
         collected.items_in r ≡ Ok items → AreReady items
     by (Ok a) w e = subst AreReady (ok_same a.1.items items e) (w.so ready_at_first)
     by (Err x) w e = absurd (no_items_ok x e)

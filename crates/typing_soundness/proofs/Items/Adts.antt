@@ -15,7 +15,7 @@ use Rattle.src_tree.specs.Layout.{Parts}
 use Rattle.typed_tree.specs.Tree.{ProgramTree}
 use Rattle.well_typed.specs.Items.{stands_alone}
 use Rattle.well_typed.specs.Names.{is_among, are_distinct}
-use Rattle.typing_rules.specs.Check.{State, Broken}
+use Rattle.typing_rules.specs.Check.{TypingState, Broken}
 use Rattle.typing_rules.specs.Collected.{starting_with}
 use Rattle.typing_rules.specs.Items.{ItemSyn, items_of, item_syns}
 use Rattle.typing_rules.specs.Program as rules
@@ -51,7 +51,7 @@ ItemKept (syn at (EnumItem derives name variants)) =
     VariantsKept [] (list_of variants) × IsTrue (nat_le (rules.count_of variants) 64)
 ItemKept _ = Unit {0}
 
-variants_kept : (env : Env) (earlier : List Word) (vs : List Syn) (s : State) → Walked (λ a t. VariantsKept earlier vs)
+variants_kept : (env : Env) (earlier : List Word) (vs : List Syn) (s : TypingState) → Walked (λ a t. VariantsKept earlier vs)
     (rules.variants env earlier vs s)
 variants_kept env earlier [] s = walk_ends tt
 variants_kept env earlier (syn at (VariantDecl name kind fields) ∷ vs) s =
@@ -60,7 +60,7 @@ variants_kept env earlier (syn at (VariantDecl name kind fields) ∷ vs) s =
     (variants_kept env (name ∷ earlier) vs t) λ a u k. (h, few, k)
 variants_kept env earlier (syn at _ ∷ vs) s = record { so = tt }
 
-item_kept : (env : Env) (before : rules.Before) (i : Syn) (s : State) → Walked (λ a t. ItemKept i) (rules.item_rules env
+item_kept : (env : Env) (before : rules.Before) (i : Syn) (s : TypingState) → Walked (λ a t. ItemKept i) (rules.item_rules env
     before i s)
 item_kept env before (syn at (StructItem derives name kind fields)) s =
     walk (whatever {P = Unit {0}} (rules.fields (rules.in_impl env (adt_named s.items name.1)) [] (list_of fields) s) tt)
@@ -70,7 +70,7 @@ item_kept env before (syn at (EnumItem derives name variants)) s =
     Rule.T19 at (nat_le (rules.count_of variants) 64) _ λ few. walk_ends (h, few)
 item_kept env before (syn at _) s = whatever _ tt
 
-items_kept : (env : Env) (before : rules.Before) (is : List Syn) (s : State) → Walked (λ a t. All ItemKept is)
+items_kept : (env : Env) (before : rules.Before) (is : List Syn) (s : TypingState) → Walked (λ a t. All ItemKept is)
     (rules.all_items env before is s)
 items_kept env before [] s = walk_ends tt
 items_kept env before (i ∷ is) s =
@@ -215,7 +215,7 @@ module _ (parts : Parts Pos) (items : ItemTable) (p : ProgramTree) (h : IsAccept
   abbrev texts : List Syn
   texts = item_syns (items_of parts)
 
-  kept_of : (r : Result (Unit {0} × State) Broken) → Walked (λ a t. All ItemKept texts) r → rules.program_in r ≡ Ok p →
+  kept_of : (r : Result (Unit {0} × TypingState) Broken) → Walked (λ a t. All ItemKept texts) r → rules.program_in r ≡ Ok p →
       All ItemKept texts
   kept_of (Ok a) w e = w.so
   kept_of (Err x) w e = absurd (no_ok x p e)

@@ -15,12 +15,12 @@ use Rattle.src_tree.specs.Layout.{Parts}
 use Rattle.typed_tree.specs.Tree.{ProgramTree}
 use Rattle.well_typed.specs.Claim.{Holds, each}
 use Rattle.well_typed.specs.Types.{is_unit, is_unit_ty, is_same, are_same, reference_in, reference_of}
-use Rattle.typing_rules.specs.Check.{Check, State, Broken}
+use Rattle.typing_rules.specs.Check.{Check, TypingState, Broken}
 use Rattle.typing_rules.specs.Collected.{starting_with}
 use Rattle.typing_rules.specs.Items.{items_of, item_syns}
 use Rattle.typing_rules.specs.Program as rules
 use Rattle.typing_rules.specs.Promises.{AreReady, IsKnown, Extends, Grows, Gives, KnowsItems}
-use Rattle.typing_rules.specs.Scope.{Env, Entry, adt_named, trait_named, body_named, method_word}
+use Rattle.typing_rules.specs.Scope.{Env, NamedEntry, adt_named, trait_named, body_named, method_word}
 use Rattle.src_ast.specs.Syntax.{Word, Named, Syn, syn, StructItem, EnumItem, TraitItem, ImplItem, FnItem, Syns, list_of, MaybeSyn}
 use Rattle.typing_rules.proofs.Sound.Gives.{bind, weaker, with_ready, obeyed, given, grows_refl, grows_trans, items_later}
 use Rattle.typing_soundness.specs.Program.{AreCollected}
@@ -150,15 +150,15 @@ IsAsked items (syn at (ImplItem trait_ name methods)) =
     methods))
 IsAsked items _ = Unit {0}
 
-one_more : {A : Type 0} (t : State) (trait_ : Option Named) (owner : Word) (at : Pos) (name : Named) (params : Syns) (answer
-    block : MaybeSyn) (ms : List Syn) → IsTrue (rules.has_head t.items trait_ owner name.1 params) → {r : Result (A × State)
+one_more : {A : Type 0} (t : TypingState) (trait_ : Option Named) (owner : Word) (at : Pos) (name : Named) (params : Syns) (answer
+    block : MaybeSyn) (ms : List Syn) → IsTrue (rules.has_head t.items trait_ owner name.1 params) → {r : Result (A × TypingState)
     Broken} → Gives t (λ w _. HeadsAsked w.items trait_ owner ms) r → Gives t (λ w _. HeadsAsked w.items trait_ owner (syn at
     (FnItem name params answer block) ∷ ms)) r
 one_more t trait_ owner at name params answer block ms asked h =
     with_ready λ ready. weaker (λ w _. HeadsAsked w.items trait_ owner (syn at (FnItem name params answer block) ∷ ms)) h λ a w _
     g q. (head_later t.items w.items g.items ready trait_ owner name.1 params ∙ asked, q)
 
-methods_asked : (env : Env) (trait_ : Option Named) (owner : Word) (seen : rules.Seen) (ms : List Syn) (s : State) → Holds (each
+methods_asked : (env : Env) (trait_ : Option Named) (owner : Word) (seen : rules.Seen) (ms : List Syn) (s : TypingState) → Holds (each
     function_shaped ms) → Gives s (λ w _. HeadsAsked w.items trait_ owner ms) (rules.method_heads env trait_ owner seen ms s)
 methods_asked env trait_ owner seen [] s h = given seen λ ready w g. tt
 methods_asked env trait_ owner seen (syn at (FnItem name params answer block) ∷ ms) s h =
@@ -175,11 +175,11 @@ asked_later old new e (Some trait_) =
     def.methods) (option_and_then (slice_get ts) (position_of (λ (def : TraitDef). bytes_eq def.name trait_.1) ts)) [])
     e.traits
 
-no_more : (env : Env) (before : rules.Before) (i : Syn) (s : State) → Holds (item_shaped i) → ((items : ItemTable) → IsAsked
+no_more : (env : Env) (before : rules.Before) (i : Syn) (s : TypingState) → Holds (item_shaped i) → ((items : ItemTable) → IsAsked
     items i) → Gives s (λ w _. IsAsked w.items i) (rules.item_rules env before i s)
 no_more env before i s h all = weaker (λ w _. IsAsked w.items i) (item_keeps env before i s h) λ a w _ g q. all w.items
 
-item_asked : (env : Env) (before : rules.Before) (i : Syn) (s : State) → Holds (item_shaped i) → Gives s (λ w _. IsAsked w.items
+item_asked : (env : Env) (before : rules.Before) (i : Syn) (s : TypingState) → Holds (item_shaped i) → Gives s (λ w _. IsAsked w.items
     i) (rules.item_rules env before i s)
 item_asked env before (syn at (ImplItem trait_ name methods)) s h =
     bind (methods_asked (rules.in_impl env (adt_named s.items name.1)) trait_ name.1 before.methods (list_of methods) s h) λ
@@ -191,7 +191,7 @@ item_asked env before (syn at (ImplItem trait_ name methods)) s h =
     )
 item_asked env before (syn at form) s h = no_more env before (syn at form) s h λ items. tt
 
-all_asked : (env : Env) → ((x : Entry) → Contains env.variables x → ⊥) → (before : rules.Before) (is : List Syn) (s : State) →
+all_asked : (env : Env) → ((x : NamedEntry) → Contains env.variables x → ⊥) → (before : rules.Before) (is : List Syn) (s : TypingState) →
     Holds (each item_shaped is) → KnowsItems env.kinds env.self_adt s.items → Gives s (λ w _. All (IsAsked w.items) is)
     (rules.all_items env before is s)
 all_asked env bare before [] s h k = given tt λ ready w g. tt
@@ -212,7 +212,7 @@ text_asked parts items p c e =
     texts : List Syn
     texts = item_syns (items_of parts)
 
-    by : (r : Result (Unit {0} × State) Broken) → Gives (starting_with items) (λ w _. All (IsAsked w.items) (item_syns (items_of
+    by : (r : Result (Unit {0} × TypingState) Broken) → Gives (starting_with items) (λ w _. All (IsAsked w.items) (item_syns (items_of
         parts))) r → rules.program_in r ≡ Ok p → All (IsAsked p.items) (item_syns (items_of parts))
     by (Ok a) g e =
         subst (λ (q : ProgramTree). All (IsAsked q.items) (item_syns (items_of parts))) (same_ok _ p e) ((g.so c.ready).1 a.1

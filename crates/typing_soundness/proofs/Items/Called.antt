@@ -11,7 +11,7 @@ use Rattle.mir_ty.specs.declared.ty.Ty.{Ty}
 use Rattle.mir_ty.specs.ItemTable.{ItemTable}
 use Rattle.src_tree.specs.Layout.{Parts}
 use Rattle.well_typed.specs.Names.{is_among, built_in}
-use Rattle.typing_rules.specs.Check.{State, Broken}
+use Rattle.typing_rules.specs.Check.{TypingState, Broken}
 use Rattle.typing_rules.specs.Collected as rules
 use Rattle.typing_rules.specs.Items.{ItemSyn, items_of, item_syns, body_paths, impl_owner, full_name, closure_name}
 use Rattle.typing_rules.specs.Written as types
@@ -47,20 +47,20 @@ all_traits_called (i ∷ is) = traits_called i.item ++ all_traits_called is
 
 -- ---- what a step of the collection adds
 
-abbrev pub heads_of : State → List Word
+abbrev pub heads_of : TypingState → List Word
 heads_of s = map (λ (sig : Sig). sig.name) s.items.bodies
 
-abbrev pub traits_of : State → List Word
+abbrev pub traits_of : TypingState → List Word
 traits_of s = map (λ (def : TraitDef). def.name) s.items.traits
 
 -- from one state to a later one come the names of these bodies and traits
-record Calls (fs : List (Option Word)) (ts : List Word) (c d : rules.Count) (s t : State) : Type 0 where
+record Calls (fs : List (Option Word)) (ts : List Word) (c d : rules.Count) (s t : TypingState) : Type 0 where
   new : List Word
   heads : heads_of t ≡ heads_of s ++ new
   names : (rest : List (Option Word)) → names_of c.outer c.in_outer (fs ++ rest) ≡ new ++ names_of d.outer d.in_outer rest
   traits : traits_of t ≡ traits_of s ++ ts
 
-calls_none : (c : rules.Count) {s t : State} → t.items.bodies ≡ s.items.bodies → t.items.traits ≡ s.items.traits → Calls [] [] c
+calls_none : (c : rules.Count) {s t : TypingState} → t.items.bodies ≡ s.items.bodies → t.items.traits ≡ s.items.traits → Calls [] [] c
     c s t
 calls_none c {s} {t} heads traits = record {
   new = [];
@@ -69,10 +69,10 @@ calls_none c {s} {t} heads traits = record {
   traits = ap (map (λ (def : TraitDef). def.name)) traits ∙ sym (append-nil (traits_of s));
 }
 
-calls_still : (c : rules.Count) {s t : State} → SameWalk s t → Calls [] [] c c s t
+calls_still : (c : rules.Count) {s t : TypingState} → SameWalk s t → Calls [] [] c c s t
 calls_still c e = calls_none c e.stays.heads e.stays.traits
 
-calls_both : {fs gs : List (Option Word)} {ts us : List Word} {c d e : rules.Count} {s t u : State} → Calls fs ts c d s t → Calls
+calls_both : {fs gs : List (Option Word)} {ts us : List Word} {c d e : rules.Count} {s t u : TypingState} → Calls fs ts c d s t → Calls
     gs us d e t u → Calls (fs ++ gs) (ts ++ us) c e s u
 calls_both {fs} {gs} {ts} {us} {c} {d} {e} {s} {t} {u} p q = record {
   new = p.new ++ q.new;
@@ -85,8 +85,8 @@ calls_both {fs} {gs} {ts} {us} {c} {d} {e} {s} {t} {u} p q = record {
 
 -- one more head
 called : (fs : List (Option Word)) (c d : rules.Count) (name : Word) → ((rest : List (Option Word)) → names_of c.outer c.in_outer
-    (fs ++ rest) ≡ name ∷ names_of d.outer d.in_outer rest) → {s t : State} → SameWalk s t → (sig : Sig) → sig.name ≡ name →
-    (u : State) → u.items.bodies ≡ t.items.bodies ++ sig ∷ [] → u.items.traits ≡ t.items.traits → Calls fs [] c d s u
+    (fs ++ rest) ≡ name ∷ names_of d.outer d.in_outer rest) → {s t : TypingState} → SameWalk s t → (sig : Sig) → sig.name ≡ name →
+    (u : TypingState) → u.items.bodies ≡ t.items.bodies ++ sig ∷ [] → u.items.traits ≡ t.items.traits → Calls fs [] c d s u
 called fs c d name is {s} {t} e sig named u heads traits = record {
   new = name ∷ [];
   heads = ap (map (λ (x : Sig). x.name)) heads ∙ (map-append (λ (x : Sig). x.name) t.items.bodies (sig ∷ []) ∙ (ap (λ hs. map (λ
@@ -98,7 +98,7 @@ called fs c d name is {s} {t} e sig named u heads traits = record {
 -- ---- the collection
 
 module _ (k : rules.Known) where
-  body_calls : (owner : Option Word) (c : rules.Count) (b : Syn) (s : State) → Walked (λ d t. Calls (bodies_called owner (b ∷
+  body_calls : (owner : Option Word) (c : rules.Count) (b : Syn) (s : TypingState) → Walked (λ d t. Calls (bodies_called owner (b ∷
       [])) [] c d s t) (rules.body_sig k owner c b s)
   body_calls owner c (syn at (FnItem name params answer block)) s =
       walk (sig_collected (all_names k owner) at (full_name owner name.1) params answer s) λ sig t h. walk_ends (called (Some
@@ -129,14 +129,14 @@ module _ (k : rules.Known) where
   bodies_with owner (syn at (MoveOf captures params answer body)) bs = refl
   bodies_with owner (syn at _) bs = refl
 
-  bodies_call : (owner : Option Word) (c : rules.Count) (bs : List Syn) (s : State) → Walked (λ d t. Calls (bodies_called owner
+  bodies_call : (owner : Option Word) (c : rules.Count) (bs : List Syn) (s : TypingState) → Walked (λ d t. Calls (bodies_called owner
       bs) [] c d s t) (rules.body_sigs k owner c bs s)
   bodies_call owner c [] s = walk_ends (calls_still c (still s))
   bodies_call owner c (b ∷ bs) s =
       walk (body_calls owner c b s) λ d t h. walk_map (bodies_call owner d bs t) λ e u g. subst (λ fs. Calls fs [] c e s u)
       (bodies_with owner b bs) (calls_both h g)
 
-  item_calls : (c : rules.Count) (i : Syn) (s : State) → Walked (λ _ t. Calls [] (traits_called i) c c s t) (rules.item_head k i
+  item_calls : (c : rules.Count) (i : Syn) (s : TypingState) → Walked (λ _ t. Calls [] (traits_called i) c c s t) (rules.item_head k i
       s)
   item_calls c (syn at (StructItem ds name kind fields)) s =
       walk (derives_still ds s) λ _ t e. walk (variant_collected (rules.names_alone k (types.number_of k.adts name.1)) name.1
@@ -161,7 +161,7 @@ module _ (k : rules.Known) where
       (obeyed_still Rule.T01 name.0 (is_some (types.number_of k.adts name.1)) s) λ _ t e. calls_still c e
   item_calls c (syn at _) s = walk_ends (calls_still c (still s))
 
-  items_call : (c : rules.Count) (is : List ItemSyn) (s : State) → Walked (λ _ t. (d : rules.Count) × Calls (all_called is)
+  items_call : (c : rules.Count) (is : List ItemSyn) (s : TypingState) → Walked (λ _ t. (d : rules.Count) × Calls (all_called is)
       (all_traits_called is) c d s t) (rules.heads_collected k c is s)
   items_call c [] s = walk_ends (c, calls_still c (still s))
   items_call c (i ∷ is) s =
@@ -185,13 +185,13 @@ collecting_calls is end =
     (obeyed_still Rule.T01 end (is_some (types.number_of (body_paths is) (codes "main"))) x) λ _ y o. there (calls_both
     (calls_still first e) h.1) (same_both f (same_heads (onward g (onward d o))))
   where
-    start : State
+    start : TypingState
     start = rules.starting_with rules.no_items
 
     first : rules.Count
     first = record { outer = []; in_outer = 0; closures = 0 }
 
-    there : {d : rules.Count} {u y : State} → Calls (all_called is) (all_traits_called is) (record {
+    there : {d : rules.Count} {u y : TypingState} → Calls (all_called is) (all_traits_called is) (record {
       outer = [];
       in_outer = 0;
       closures = 0;
@@ -207,7 +207,7 @@ pub are_called : (parts : Parts Pos) (end : Pos) (items : ItemTable) → rules.c
 are_called parts end items e =
     by (rules.collecting (items_of parts) end (rules.starting_with rules.no_items)) (collecting_calls (items_of parts) end) e
   where
-    by : (r : Result (Unit {0} × State) Broken) → Walked (λ _ t. AreCalled (items_of parts) t.items) r → rules.items_in r ≡ Ok
+    by : (r : Result (Unit {0} × TypingState) Broken) → Walked (λ _ t. AreCalled (items_of parts) t.items) r → rules.items_in r ≡ Ok
         items → AreCalled (items_of parts) items
     by (Ok a) w e = subst (AreCalled (items_of parts)) (ok_same a.1.items items e) w.so
     by (Err x) w e = absurd (no_ok x e)
@@ -219,7 +219,7 @@ NamesKept [] earlier = Unit {0}
 NamesKept (n ∷ ns) earlier =
     IsTrue (not (is_among n.1 earlier || is_among n.1 built_in)) × NamesKept ns (earlier ++ n.1 ∷ [])
 
-names_kept : (ns : List Named) (earlier : List Word) (s : State) → Walked (λ _ t. NamesKept ns earlier) (rules.names_differ ns
+names_kept : (ns : List Named) (earlier : List Word) (s : TypingState) → Walked (λ _ t. NamesKept ns earlier) (rules.names_differ ns
     earlier s)
 names_kept [] earlier s = walk_ends tt
 names_kept (n ∷ ns) earlier s =
@@ -230,7 +230,7 @@ pub text_names_kept : (parts : Parts Pos) (end : Pos) (items : ItemTable) → ru
     (filter_map rules.item_name (item_syns (items_of parts))) []
 text_names_kept parts end items e = by (rules.collecting (items_of parts) end start) walked e
   where
-    start : State
+    start : TypingState
     start = rules.starting_with rules.no_items
 
     walked : Walked (λ _ t. NamesKept (filter_map rules.item_name (item_syns (items_of parts))) []) (rules.collecting (items_of
@@ -239,7 +239,7 @@ text_names_kept parts end items e = by (rules.collecting (items_of parts) end st
         walk (names_kept (filter_map rules.item_name (item_syns (items_of parts))) [] (rules.starting_with rules.no_items)) λ _ t
         h. whatever _ h
 
-    by : (r : Result (Unit {0} × State) Broken) → Walked (λ _ t. NamesKept (filter_map rules.item_name (item_syns (items_of
+    by : (r : Result (Unit {0} × TypingState) Broken) → Walked (λ _ t. NamesKept (filter_map rules.item_name (item_syns (items_of
         parts))) []) r → rules.items_in r ≡ Ok items → NamesKept (filter_map rules.item_name (item_syns (items_of parts))) []
     by (Ok a) w e = w.so
     by (Err x) w e = absurd (no_ok x e)

@@ -21,12 +21,12 @@ use Rattle.mir_ty.specs.ItemTable.{ItemTable, type_at, with_adt, with_body}
 use Rattle.src_tree.specs.Layout.{Parts}
 use Rattle.well_typed.specs.Items.{is_equal}
 use Rattle.well_typed.specs.Names.{is_among, built_in}
-use Rattle.typing_rules.specs.Check.{Check, State, Broken, and_then, obeys, known, each_checked, interned, interned_at}
+use Rattle.typing_rules.specs.Check.{Check, TypingState, Broken, and_then, obeys, known, each_checked, interned, interned_at}
 use Rattle.typing_rules.specs.Collected as rules
 use Rattle.typing_rules.specs.Items.{ItemSyn, items_of, item_syns, body_paths, impl_owner, full_name, closure_name}
 use Rattle.typing_rules.specs.Written as types
 use Rattle.src_ast.specs.Syntax.{number_word, Word, Named, Receiver, ByValue, ByShared, ByUnique, Syn, syn, Shape, NamedType, GenericType, DynType, SelfType, ParensType, TupleType, ArrayType, NeverType, RefType, MoveOf, StructItem, EnumItem, VariantDecl, TraitItem, ImplItem, FnItem, ParamOf, SelfParam, Syns, no_syn, a_syn, list_of, MaybeSyn, nothing, just}
-use Rattle.typing_soundness.specs.Closures.{BodySyn, Function, Closure, Head, Tape}
+use Rattle.typing_soundness.specs.Closures.{BodySyn, Function, Closure, WrittenHead, Tape}
 use Rattle.typing_soundness.specs.Met.{IsReceiver, MeansParam, MeanParams, MeansAnswer, HasTypes, AreMade, behind}
 use Rattle.typing_soundness.specs.Heads.{owner_of, MeansIfAny, MeansClosureParam, MeanClosureParams, MeansClosureAnswer, AreHeadTypes, IsHeadOf, IsVariantOf, AreVariantsOf, IsAdtOf, AreAdtsOf, body_text, bodies_text}
 use Rattle.typing_soundness.specs.Types.{HaveTypes, NamesTy, Means, MeansForm, MeanAll}
@@ -39,50 +39,50 @@ use Rattle.typing_soundness.proofs.Walking.Steps.{walk, walk_map, walk_obeyed, w
 
 -- ---- what means something can be written
 
-abbrev IsOk : {A : Type 0} → Result (A × State) Broken → Type 0
+abbrev IsOk : {A : Type 0} → Result (A × TypingState) Broken → Type 0
 IsOk (Ok a) = Unit {0}
 IsOk (Err e) = ⊥
 
-record IsGiven {A : Type 0} (r : Result (A × State) Broken) : Type 0 where
+record IsGiven {A : Type 0} (r : Result (A × TypingState) Broken) : Type 0 where
   so : IsOk r
 
-is_given : {A : Type 0} (a : A × State) → IsGiven (Ok a)
+is_given : {A : Type 0} (a : A × TypingState) → IsGiven (Ok a)
 is_given a = record { so = tt }
 
-given_both : {A B : Type 0} {r : Result (A × State) Broken} {f : A → Check B} → IsGiven r → ((a : A) (t : State) → IsGiven
+given_both : {A B : Type 0} {r : Result (A × TypingState) Broken} {f : A → Check B} → IsGiven r → ((a : A) (t : TypingState) → IsGiven
     (f a t)) → IsGiven (and_then r f)
 given_both {r = Ok a} h k = k a.0 a.1
 given_both {r = Err e} h k = absurd h.so
 
-interned_is_given : (ty : Ty) (s : State) → IsGiven (interned ty s)
+interned_is_given : (ty : Ty) (s : TypingState) → IsGiven (interned ty s)
 interned_is_given ty s = by (position_of (is_equal ty) s.items.types)
   where
     by : (o : Option ℕ) → IsGiven (interned_at ty o s)
     by (Some n) = is_given _
     by None = is_given _
 
-obeyed_is_given : {B : Type 0} (rule : Rule) (at : Pos) (holds : Bool) (f : Check B) (s : State) → IsTrue holds → IsGiven (f
+obeyed_is_given : {B : Type 0} (rule : Rule) (at : Pos) (holds : Bool) (f : Check B) (s : TypingState) → IsTrue holds → IsGiven (f
     s) → IsGiven (and_then (obeys rule at holds s) (λ _. f))
 obeyed_is_given rule at true f s h k = k
 obeyed_is_given rule at false f s h k = absurd (false≢true h)
 
-module _ (around : types.Around) (items : ItemTable) where
+module _ (around : types.WrittenScope) (items : ItemTable) where
   -- names alone
-  abbrev names : types.Around
+  abbrev names : types.WrittenScope
   names = record around { has_limits = false }
 
   named_is_given : (at : Pos) (adt : Option ℕ) (scalar : Option TyId) (ty : TyId) → NamesTy items adt scalar ty → (s :
-      State) → IsGiven (types.named_by at adt scalar s)
+      TypingState) → IsGiven (types.named_by at adt scalar s)
   named_is_given at adt (Some scalar) ty h s = is_given _
   named_is_given at None None ty h s = absurd h
   named_is_given at (Some n) None ty h s = interned_is_given (Ty.Adt n) s
 
-  tuple_is_given : (tys : List TyId) (s : State) → IsGiven (types.tuple_by tys s)
+  tuple_is_given : (tys : List TyId) (s : TypingState) → IsGiven (types.tuple_by tys s)
   tuple_is_given [] s = is_given _
   tuple_is_given (ty ∷ tys) s = interned_is_given (Ty.Tuple (ty ∷ tys)) s
 
   known_is_given : {A B : Type 0} (rule : Rule) (at : Pos) (o : Option A) (a : A) → o ≡ Some a → (f : A → Check B) (s :
-      State) → ((b : A) → IsGiven (f b s)) → IsGiven (and_then (known rule at o s) f)
+      TypingState) → ((b : A) → IsGiven (f b s)) → IsGiven (and_then (known rule at o s) f)
   known_is_given rule at (Some b) a e f s k = k b
   known_is_given rule at None a e f s k = absurd (none_is a e)
     where
@@ -90,10 +90,10 @@ module _ (around : types.Around) (items : ItemTable) where
       none_is a e = false≢true (ap is_some e)
 
   mutual
-    written_is_given : (e : Syn) (ty : TyId) → Means around items e ty → (s : State) → IsGiven (types.written names e s)
+    written_is_given : (e : Syn) (ty : TyId) → Means around items e ty → (s : TypingState) → IsGiven (types.written names e s)
     written_is_given (syn at form) ty h s = form_is_given at form ty h s
 
-    form_is_given : (at : Pos) (form : Shape) (ty : TyId) → MeansForm around items form ty → (s : State) → IsGiven
+    form_is_given : (at : Pos) (form : Shape) (ty : TyId) → MeansForm around items form ty → (s : TypingState) → IsGiven
         (types.written_form names at form s)
     form_is_given at (NamedType name) ty h s =
         named_is_given at (types.number_of around.adts name) (types.scalar_named name) ty h s
@@ -117,7 +117,7 @@ module _ (around : types.Around) (items : ItemTable) where
         given_both (written_is_given to h.0 h.1 s) λ a t. interned_is_given (types.reference_to unique a) t
     form_is_given at _ ty h s = absurd h
 
-    all_are_given : (xs : Syns) (tys : List TyId) → MeanAll around items xs tys → (s : State) → IsGiven
+    all_are_given : (xs : Syns) (tys : List TyId) → MeanAll around items xs tys → (s : TypingState) → IsGiven
         (types.all_written names xs s)
     all_are_given no_syn tys h s = is_given _
     all_are_given (a_syn first rest) [] h s = absurd h
@@ -128,7 +128,7 @@ module _ (around : types.Around) (items : ItemTable) where
 
 -- From one state to a later one come heads of these bodies, and these structs and enums; closures among the bodies have
 -- the numbers from one up to another.
-pub record Collects (f : Tape) (is : List Syn) (from to : ℕ) (s t : State) : Type 0 where
+pub record Collects (f : Tape) (is : List Syn) (from to : ℕ) (s t : TypingState) : Type 0 where
   pub new_adts : List Adt
   pub adts : t.items.adts ≡ s.items.adts ++ new_adts
   pub are_adts : AreAdtsOf is new_adts
@@ -140,7 +140,7 @@ pub record Collects (f : Tape) (is : List Syn) (from to : ℕ) (s t : State) : T
   pub made : (rest : List BodySyn) → AreMade (IsHeadOf t.items) from to (f rest) rest new
 
 -- nothing but types
-collects_none : (n : ℕ) (s t : State) → t.items.adts ≡ s.items.adts → HaveTypes s.items t.items → (AreDistinct s.items.types → AreDistinct
+collects_none : (n : ℕ) (s t : TypingState) → t.items.adts ≡ s.items.adts → HaveTypes s.items t.items → (AreDistinct s.items.types → AreDistinct
     t.items.types) → t.items.closures ≡ s.items.closures → t.items.bodies ≡ s.items.bodies → Collects no_closure [] n n s t
 collects_none n s t adts types distinct closures heads = record {
   new_adts = [];
@@ -154,10 +154,10 @@ collects_none n s t adts types distinct closures heads = record {
   made = λ rest. (refl, refl);
 }
 
-collects_still : (n : ℕ) {s t : State} → SameWalk s t → Collects no_closure [] n n s t
+collects_still : (n : ℕ) {s t : TypingState} → SameWalk s t → Collects no_closure [] n n s t
 collects_still n {s} {t} e = collects_none n s t e.stays.adts e.stays.types e.stays.distinct e.stays.closures e.stays.heads
 
-collects_refl : (n : ℕ) (s : State) → Collects no_closure [] n n s s
+collects_refl : (n : ℕ) (s : TypingState) → Collects no_closure [] n n s s
 collects_refl n s = collects_still n (still s)
 
 adts_both : (is js : List Syn) (as_ bs : List Adt) → AreAdtsOf is as_ → AreAdtsOf js bs → AreAdtsOf (is ++ js) (as_ ++ bs)
@@ -169,7 +169,7 @@ adts_both (i ∷ is) js (a ∷ as_) bs h k = (h.0, adts_both is js as_ bs h.1 k)
 -- ---- among later items
 
 module _ (old new : ItemTable) (e : HaveTypes old new) where
-  module _ (around : types.Around) where
+  module _ (around : types.WrittenScope) where
     if_any_later : (written : Syn) (ty : TyId) → MeansIfAny around old written ty → MeansIfAny around new written ty
     if_any_later written ty h = λ others t m. means_later around old new e written ty (h others t m)
 
@@ -200,7 +200,7 @@ module _ (old new : ItemTable) (e : HaveTypes old new) where
     closure_answer_later head.around head.answer answer h.2,
   )
 
-collects_both : {f g : Tape} {is js : List Syn} {a b c : ℕ} {s t u : State} → Collects f is a b s t → Collects g js b c t
+collects_both : {f g : Tape} {is js : List Syn} {a b c : ℕ} {s t u : TypingState} → Collects f is a b s t → Collects g js b c t
     u → Collects (f ⨾ g) (is ++ js) a c s u
 collects_both {f} {g} {is} {js} {a} {b} {c} {s} {t} {u} p q = record {
   new_adts = p.new_adts ++ q.new_adts;
@@ -222,17 +222,17 @@ collects_both {f} {g} {is} {js} {a} {b} {c} {s} {t} {u} p q = record {
 -- ---- heads
 
 -- two facts of one check
-pub both_tell : {A : Type 0} {P Q : A → State → Type 0} (r : Result (A × State) Broken) → Walked P r → Walked Q r → Walked (λ
+pub both_tell : {A : Type 0} {P Q : A → TypingState → Type 0} (r : Result (A × TypingState) Broken) → Walked P r → Walked Q r → Walked (λ
     a t. P a t × Q a t) r
 both_tell (Ok a) h k = record { so = (h.so, k.so) }
 both_tell (Err e) h k = record { so = tt }
 
-module _ (around : types.Around) where
+module _ (around : types.WrittenScope) where
   -- names alone, and all rules: what is meant is the same
-  abbrev named : types.Around
+  abbrev named : types.WrittenScope
   named = record around { has_limits = false }
 
-  pub param_collected : (p : Syn) (s : State) → Walked (λ ty t. SameWalk s t × Means around t.items p ty) (types.written_param
+  pub param_collected : (p : Syn) (s : TypingState) → Walked (λ ty t. SameWalk s t × Means around t.items p ty) (types.written_param
       named p s)
   param_collected p s =
       walk_map (both_tell (types.written_param named p s) (written_param_still named p s) (param_given named p s)) λ ty t
@@ -241,7 +241,7 @@ module _ (around : types.Around) where
       as_named : (items : ItemTable) (p : Syn) (ty : TyId) → Means named items p ty → Means around items p ty
       as_named items p ty h = h
 
-  type_collected : (e : Syn) (s : State) → Walked (λ ty t. SameWalk s t × Means around t.items e ty) (types.written named e
+  type_collected : (e : Syn) (s : TypingState) → Walked (λ ty t. SameWalk s t × Means around t.items e ty) (types.written named e
       s)
   type_collected e s =
       walk_map (both_tell (types.written named e s) (written_still named e s) (written_given named e s)) λ ty t h. (
@@ -253,11 +253,11 @@ module _ (around : types.Around) where
       as_named items p ty h = h
 
   -- a type of a closure's head: what cannot be written stands as `()`
-  or_unit_collected : (e : Syn) (s : State) → Walked (λ ty t. SameWalk s t × MeansIfAny around t.items e ty) (types.or_unit
+  or_unit_collected : (e : Syn) (s : TypingState) → Walked (λ ty t. SameWalk s t × MeansIfAny around t.items e ty) (types.or_unit
       (types.written named e) s)
   or_unit_collected e s = by (types.written named e s) (type_collected e s) (λ others t m. written_is_given around others e t m s)
     where
-      by : (r : Result (TyId × State) Broken) → Walked (λ ty t. SameWalk s t × Means around t.items e ty) r → ((others :
+      by : (r : Result (TyId × TypingState) Broken) → Walked (λ ty t. SameWalk s t × Means around t.items e ty) r → ((others :
           ItemTable) (t : TyId) → Means around others e t → IsGiven r) → Walked (λ ty t. SameWalk s t × MeansIfAny around
           t.items e ty) (types.or_unit_in s r)
       by (Ok a) h given = walk_ends (h.so.0, λ others t m. h.so.1)
@@ -265,7 +265,7 @@ module _ (around : types.Around) where
 
   -- ---- parameters and answers
 
-  pub receiver_collected : (own : TyId) (receiver : Receiver) (s : State) → Walked (λ ty t. SameWalk s t × IsReceiver t.items
+  pub receiver_collected : (own : TyId) (receiver : Receiver) (s : TypingState) → Walked (λ ty t. SameWalk s t × IsReceiver t.items
       receiver own ty) (rules.receiver_ty own receiver s)
   receiver_collected own ByValue s = walk_ends (still s, refl)
   receiver_collected own ByShared s =
@@ -275,7 +275,7 @@ module _ (around : types.Around) where
       walk_map (both_tell (interned (Ty.Unique own) s) (interned_still (Ty.Unique own) s (still s)) (interned_means
       (Ty.Unique own) s s (have_refl s.items))) λ ty t h. (h.0, h.1.2)
 
-  head_param_collected : (at : Pos) (p : Syn) (s : State) → Walked (λ ty t. SameWalk s t × MeansParam around t.items p ty)
+  head_param_collected : (at : Pos) (p : Syn) (s : TypingState) → Walked (λ ty t. SameWalk s t × MeansParam around t.items p ty)
       (rules.param_ty named (rules.own_ty at around.self_adt) p s)
   head_param_collected at (syn here (ParamOf p ty)) s = param_collected ty s
   head_param_collected at (syn here (SelfParam receiver)) s =
@@ -292,7 +292,7 @@ module _ (around : types.Around) where
           (Ty.Adt n) s (still s)) (interned_means (Ty.Adt n) s s (have_refl s.items))) λ own t h. (n, is, h.0, h.1.2)
   head_param_collected at (syn here _) s = record { so = tt }
 
-  head_params_collected : (at : Pos) (ps : Syns) (s : State) → Walked (λ tys t. SameWalk s t × MeanParams around t.items ps
+  head_params_collected : (at : Pos) (ps : Syns) (s : TypingState) → Walked (λ tys t. SameWalk s t × MeanParams around t.items ps
       tys) (each_checked (rules.param_ty named (rules.own_ty at around.self_adt)) (list_of ps) s)
   head_params_collected at no_syn s = walk_ends (still s, tt)
   head_params_collected at (a_syn first rest) s =
@@ -301,17 +301,17 @@ module _ (around : types.Around) where
         (param_later t.items u.items k.0.stays.types around first ty h.1, k.1),
       )
 
-  pub answer_collected : (answer : MaybeSyn) (s : State) → Walked (λ ty t. SameWalk s t × MeansAnswer around t.items answer ty)
+  pub answer_collected : (answer : MaybeSyn) (s : TypingState) → Walked (λ ty t. SameWalk s t × MeansAnswer around t.items answer ty)
       (rules.answer_ty named answer s)
   answer_collected nothing s = walk_ends (still s, refl)
   answer_collected (just ty) s = type_collected ty s
 
-  closure_param_collected : (p : Syn) (s : State) → Walked (λ ty t. SameWalk s t × MeansClosureParam around t.items p ty)
+  closure_param_collected : (p : Syn) (s : TypingState) → Walked (λ ty t. SameWalk s t × MeansClosureParam around t.items p ty)
       (rules.closure_param named p s)
   closure_param_collected (syn at (ParamOf p ty)) s = or_unit_collected ty s
   closure_param_collected (syn at _) s = walk_ends (still s, tt)
 
-  pub closure_params_collected : (ps : Syns) (s : State) → Walked (λ tys t. SameWalk s t × MeanClosureParams around t.items ps
+  pub closure_params_collected : (ps : Syns) (s : TypingState) → Walked (λ tys t. SameWalk s t × MeanClosureParams around t.items ps
       tys) (each_checked (rules.closure_param named) (list_of ps) s)
   closure_params_collected no_syn s = walk_ends (still s, tt)
   closure_params_collected (a_syn first rest) s =
@@ -320,7 +320,7 @@ module _ (around : types.Around) where
         (closure_param_later t.items u.items k.0.stays.types around first ty h.1, k.1),
       )
 
-  pub closure_answer_collected : (answer : MaybeSyn) (s : State) → Walked (λ ty t. SameWalk s t × MeansClosureAnswer around
+  pub closure_answer_collected : (answer : MaybeSyn) (s : TypingState) → Walked (λ ty t. SameWalk s t × MeansClosureAnswer around
       t.items answer ty) (types.or_unit (rules.answer_ty named answer) s)
   closure_answer_collected nothing s = walk_ends (still s, refl)
   closure_answer_collected (just ty) s = or_unit_collected ty s
@@ -328,7 +328,7 @@ module _ (around : types.Around) where
   -- ---- a body
 
   -- one more head
-  with_head : (text : BodySyn) (n : ℕ) (s t : State) (sig : Sig) → SameWalk s t → IsHeadOf t.items n text sig → Collects (λ
+  with_head : (text : BodySyn) (n : ℕ) (s t : TypingState) (sig : Sig) → SameWalk s t → IsHeadOf t.items n text sig → Collects (λ
       rest. text ∷ rest) [] n (behind text n) s (record t { items = with_body t.items sig })
   with_head text n s t sig e is = record {
     new_adts = [];
@@ -345,7 +345,7 @@ module _ (around : types.Around) where
     );
   }
 
-  pub sig_collected : (at : Pos) (name : Word) (params : Syns) (answer : MaybeSyn) (s : State) → Walked (λ sig t. SameWalk s
+  pub sig_collected : (at : Pos) (name : Word) (params : Syns) (answer : MaybeSyn) (s : TypingState) → Walked (λ sig t. SameWalk s
       t × HasTypes t.items (record { around = around; name = []; params = params; answer = answer }) sig.params sig.result × (sig.name ≡
       name)) (rules.sig_of named (rules.own_ty at around.self_adt) name params answer s)
   sig_collected at name params answer s =
@@ -356,7 +356,7 @@ module _ (around : types.Around) where
       )
 
 -- what is known of all items, within an impl or outside
-abbrev pub all_names : rules.Known → Option Word → types.Around
+abbrev pub all_names : rules.Known → Option Word → types.WrittenScope
 all_names k owner = record {
   has_limits = true;
   self_adt = option_and_then (types.number_of k.adts) owner;
@@ -381,7 +381,7 @@ marked outer n = ap not (marked_behind n outer)
 abbrev pub IsOwner : rules.Known → Option Word → Type 0
 IsOwner k owner = owner_of (all_names k owner) ≡ owner
 
-pub body_collected : (k : rules.Known) (owner : Option Word) (own : IsOwner k owner) (c : rules.Count) (b : Syn) (s : State) → Walked (λ d t. Collects
+pub body_collected : (k : rules.Known) (owner : Option Word) (own : IsOwner k owner) (c : rules.Count) (b : Syn) (s : TypingState) → Walked (λ d t. Collects
     (body_text (all_names k owner) b) [] c.closures d.closures s t) (rules.body_sig k owner c b s)
 body_collected k owner own c (syn at (FnItem name params answer block)) s =
     walk (sig_collected (all_names k owner) at (full_name owner name.1) params answer s) λ sig t h. walk_ends (with_head
@@ -391,7 +391,7 @@ body_collected k owner own c (syn at (MoveOf captures params answer body)) s =
     walk closure_collected λ _ t h. walk_ends (subst (λ n. Collects (body_text (all_names k owner) (syn at (MoveOf captures
     params answer body))) [] c.closures n s t) (omega arith) h)
   where
-    head : Head
+    head : WrittenHead
     head = record { around = all_names k owner; name = []; params = params; answer = answer }
 
     name : Word
@@ -437,7 +437,7 @@ body_collected k owner own c (syn at (MoveOf captures params answer body)) s =
         ))
 body_collected k owner own c (syn at _) s = record { so = tt }
 
-pub bodies_collected : (k : rules.Known) (owner : Option Word) (own : IsOwner k owner) (c : rules.Count) (bs : List Syn) (s : State) → Walked (λ d t.
+pub bodies_collected : (k : rules.Known) (owner : Option Word) (own : IsOwner k owner) (c : rules.Count) (bs : List Syn) (s : TypingState) → Walked (λ d t.
     Collects (bodies_text (all_names k owner) bs) [] c.closures d.closures s t) (rules.body_sigs k owner c bs s)
 bodies_collected k owner own c [] s = walk_ends (collects_refl c.closures s)
 bodies_collected k owner own c (b ∷ bs) s =
@@ -446,24 +446,24 @@ bodies_collected k owner own c (b ∷ bs) s =
 -- ---- items
 
 -- each of some things, which only makes types
-pub each_still : {A B : Type 0} (f : A → Check B) → ((x : A) (s : State) → Walked (Still s) (f x s)) → (xs : List A) (s :
-    State) → Walked (Still s) (each_checked f xs s)
+pub each_still : {A B : Type 0} (f : A → Check B) → ((x : A) (s : TypingState) → Walked (Still s) (f x s)) → (xs : List A) (s :
+    TypingState) → Walked (Still s) (each_checked f xs s)
 each_still f good [] s = walk_ends (still s)
 each_still f good (x ∷ xs) s =
     walk (good x s) λ y t e. walk (each_still f good xs t) λ ys u g. walk_ends (onward e g)
 
-pub obeyed_still : (rule : Rule) (at : Pos) (holds : Bool) (s : State) → Walked (Still s) (obeys rule at holds s)
+pub obeyed_still : (rule : Rule) (at : Pos) (holds : Bool) (s : TypingState) → Walked (Still s) (obeys rule at holds s)
 obeyed_still rule at true s = walk_ends (still s)
 obeyed_still rule at false s = record { so = tt }
 
-pub derives_still : (ds : List Named) (s : State) → Walked (Still s) (rules.derives_known ds s)
+pub derives_still : (ds : List Named) (s : TypingState) → Walked (Still s) (rules.derives_known ds s)
 derives_still [] s = walk_ends (still s)
 derives_still (d ∷ ds) s =
     walk_obeyed Rule.T01 d.0 (rules.is_derivable d.1) (rules.derives_known ds) λ _. derives_still ds s
 
 -- as many as were checked
-each_counted : {A B : Type 0} (f : A → Check B) → ((x : A) (s : State) → Walked (Still s) (f x s)) → (xs : List A) (s :
-    State) → Walked (λ ys t. SameWalk s t × (length ys ≡ length xs)) (each_checked f xs s)
+each_counted : {A B : Type 0} (f : A → Check B) → ((x : A) (s : TypingState) → Walked (Still s) (f x s)) → (xs : List A) (s :
+    TypingState) → Walked (λ ys t. SameWalk s t × (length ys ≡ length xs)) (each_checked f xs s)
 each_counted f good [] s = walk_ends (still s, refl)
 each_counted f good (x ∷ xs) s =
     walk (good x s) λ y t e. walk (each_counted f good xs t) λ ys u g. walk_ends (onward e g.0, ap suc g.1)
@@ -472,7 +472,7 @@ pub names_counted : (k : ℕ) (fs : List Syn) → length (rules.names_from k fs)
 names_counted k [] = refl
 names_counted k (f ∷ fs) = ap suc (names_counted (suc k) fs)
 
-pub variant_collected : (around : types.Around) (name : Word) (fields : Syns) (s : State) → Walked (λ v t. SameWalk s t × (v.name
+pub variant_collected : (around : types.WrittenScope) (name : Word) (fields : Syns) (s : TypingState) → Walked (λ v t. SameWalk s t × (v.name
     ≡ name) × IsVariantOf fields v) (rules.variant_of around name fields s)
 variant_collected around name fields s =
     walk (each_counted (λ f. types.written around (rules.field_type f)) (λ f t. written_still around (rules.field_type f)
@@ -483,13 +483,13 @@ abbrev IsDeclared : Syn → Variant → Type 0
 IsDeclared (syn at (VariantDecl name kind fields)) v = (v.name ≡ name) × IsVariantOf fields v
 IsDeclared _ v = ⊥
 
-declared_collected : (around : types.Around) (v : Syn) (s : State) → Walked (λ x t. SameWalk s t × IsDeclared v x)
+declared_collected : (around : types.WrittenScope) (v : Syn) (s : TypingState) → Walked (λ x t. SameWalk s t × IsDeclared v x)
     (rules.declared_variant around v s)
 declared_collected around (syn at (VariantDecl name kind fields)) s =
     walk_map (variant_collected around name fields s) λ v t h. (h.0, (h.1, h.2))
 declared_collected around (syn at _) s = record { so = tt }
 
-pub variants_collected : (around : types.Around) (vs : Syns) (s : State) → Walked (λ xs t. SameWalk s t × AreVariantsOf vs xs)
+pub variants_collected : (around : types.WrittenScope) (vs : Syns) (s : TypingState) → Walked (λ xs t. SameWalk s t × AreVariantsOf vs xs)
     (each_checked (rules.declared_variant around) (list_of vs) s)
 variants_collected around no_syn s = walk_ends (still s, tt)
 variants_collected around (a_syn first rest) s =
@@ -503,34 +503,34 @@ variants_collected around (a_syn first rest) s =
     with_variant (syn at (VariantDecl name kind fields)) x rest xs h g = (h, g)
     with_variant (syn at _) x rest xs h g = absurd h
 
-receiver_still : (own : TyId) (receiver : Receiver) (s : State) → Walked (Still s) (rules.receiver_ty own receiver s)
+receiver_still : (own : TyId) (receiver : Receiver) (s : TypingState) → Walked (Still s) (rules.receiver_ty own receiver s)
 receiver_still own ByValue s = walk_ends (still s)
 receiver_still own ByShared s = interned_still (Ty.Shared own) s (still s)
 receiver_still own ByUnique s = interned_still (Ty.Unique own) s (still s)
 
-param_still : (around : types.Around) (self : Check TyId) → ((s : State) → Walked (Still s) (self s)) → (p : Syn) (s :
-    State) → Walked (Still s) (rules.param_ty around self p s)
+param_still : (around : types.WrittenScope) (self : Check TyId) → ((s : TypingState) → Walked (Still s) (self s)) → (p : Syn) (s :
+    TypingState) → Walked (Still s) (rules.param_ty around self p s)
 param_still around self good (syn at (ParamOf p ty)) s = written_param_still around ty s
 param_still around self good (syn at (SelfParam receiver)) s =
     walk (good s) λ own t e. walk_map (receiver_still own receiver t) λ ty u g. onward e g
 param_still around self good (syn at _) s = record { so = tt }
 
-answer_ty_still : (around : types.Around) (answer : MaybeSyn) (s : State) → Walked (Still s) (rules.answer_ty around answer
+answer_ty_still : (around : types.WrittenScope) (answer : MaybeSyn) (s : TypingState) → Walked (Still s) (rules.answer_ty around answer
     s)
 answer_ty_still around nothing s = walk_ends (still s)
 answer_ty_still around (just ty) s = written_still around ty s
 
-sig_still : (around : types.Around) (self : Check TyId) → ((s : State) → Walked (Still s) (self s)) → (name : Word) (params
-    : Syns) (answer : MaybeSyn) (s : State) → Walked (Still s) (rules.sig_of around self name params answer s)
+sig_still : (around : types.WrittenScope) (self : Check TyId) → ((s : TypingState) → Walked (Still s) (self s)) → (name : Word) (params
+    : Syns) (answer : MaybeSyn) (s : TypingState) → Walked (Still s) (rules.sig_of around self name params answer s)
 sig_still around self good name params answer s =
     walk (each_still (rules.param_ty around self) (param_still around self good) (list_of params) s) λ tys t e. walk
     (answer_ty_still around answer t) λ ty u g. walk_ends (onward e g)
 
-pub trait_head_still : (around : types.Around) (own : TyId) (h : Syn) (s : State) → Walked (Still s) (rules.trait_head around
+pub trait_head_still : (around : types.WrittenScope) (own : TyId) (h : Syn) (s : TypingState) → Walked (Still s) (rules.trait_head around
     own h s)
 trait_head_still around own (syn at (FnItem name params answer block)) s = by (rules.has_receiver params)
   where
-    own_still : (t : State) → Walked (Still t) (Ok (own, t))
+    own_still : (t : TypingState) → Walked (Still t) (Ok (own, t))
     own_still t = walk_ends (still t)
 
     by : (b : Bool) → Walked (Still s) ((if b then rules.sig_of around (λ t. Ok (own, t)) name.1 params answer else (λ t.
@@ -548,7 +548,7 @@ adts_in (syn at (StructItem derives name kind fields)) = syn at (StructItem deri
 adts_in (syn at (EnumItem derives name variants)) = syn at (EnumItem derives name variants) ∷ []
 adts_in _ = []
 
-with_adt_collects : (n : ℕ) (i : Syn) {s t : State} → SameWalk s t → (adt : Adt) → IsAdtOf i adt → Collects no_closure (i ∷
+with_adt_collects : (n : ℕ) (i : Syn) {s t : TypingState} → SameWalk s t → (adt : Adt) → IsAdtOf i adt → Collects no_closure (i ∷
     []) n n s (record t { items = with_adt t.items adt })
 with_adt_collects n i {s} {t} e adt is = record {
   new_adts = adt ∷ [];
@@ -562,7 +562,7 @@ with_adt_collects n i {s} {t} e adt is = record {
   made = λ rest. (refl, refl);
 }
 
-pub item_head_collected : (k : rules.Known) (n : ℕ) (i : Syn) (s : State) → Walked (λ _ t. Collects no_closure (adts_in i) n
+pub item_head_collected : (k : rules.Known) (n : ℕ) (i : Syn) (s : TypingState) → Walked (λ _ t. Collects no_closure (adts_in i) n
     n s t) (rules.item_head k i s)
 item_head_collected k n (syn at (StructItem ds name kind fields)) s =
     walk (derives_still ds s) λ _ t e. walk (variant_collected (rules.names_alone k (types.number_of k.adts name.1)) name.1
@@ -600,16 +600,16 @@ is_owner k w h = by (types.number_of k.adts w) refl h
     by (Some n) e h = word_at k.adts w n e
     by None e h = absurd (false≢true h)
 
-obeyed_tells : {P : Type 0} (rule : Rule) (at : Pos) (b : Bool) (s : State) → (IsTrue b → P) → Walked (λ _ t. P) (obeys rule
+obeyed_tells : {P : Type 0} (rule : Rule) (at : Pos) (b : Bool) (s : TypingState) → (IsTrue b → P) → Walked (λ _ t. P) (obeys rule
     at b s)
 obeyed_tells rule at true s h = walk_ends (h refl)
 obeyed_tells rule at false s h = record { so = tt }
 
-tells_so : {A : Type 0} {P : Type 0} (r : Result (A × State) Broken) → P → Walked (λ a t. P) r
+tells_so : {A : Type 0} {P : Type 0} (r : Result (A × TypingState) Broken) → P → Walked (λ a t. P) r
 tells_so (Ok a) p = walk_ends p
 tells_so (Err e) p = record { so = tt }
 
-pub owner_known : (k : rules.Known) (i : Syn) (s : State) → Walked (λ _ t. IsOwner k (impl_owner i)) (rules.item_head k i s)
+pub owner_known : (k : rules.Known) (i : Syn) (s : TypingState) → Walked (λ _ t. IsOwner k (impl_owner i)) (rules.item_head k i s)
 owner_known k (syn at (ImplItem None name methods)) s =
     obeyed_tells Rule.T01 name.0 (is_some (types.number_of k.adts name.1)) s (is_owner k name.1)
 owner_known k (syn at (ImplItem (Some trait_) name methods)) s =
@@ -628,7 +628,7 @@ abbrev pub all_adts : List ItemSyn → List Syn
 all_adts [] = []
 all_adts (i ∷ is) = adts_in i.item ++ all_adts is
 
-heads_collected : (k : rules.Known) (c : rules.Count) (is : List ItemSyn) (s : State) → Walked (λ _ t. (n : ℕ) × Collects
+heads_collected : (k : rules.Known) (c : rules.Count) (is : List ItemSyn) (s : TypingState) → Walked (λ _ t. (n : ℕ) × Collects
     (listed_text k is) (all_adts is) c.closures n s t) (rules.heads_collected k c is s)
 heads_collected k c [] s = walk_ends (c.closures, collects_refl c.closures s)
 heads_collected k c (i ∷ is) s =
@@ -639,7 +639,7 @@ heads_collected k c (i ∷ is) s =
     )
 
 -- what only makes types and impls
-pub record SameHeads (s t : State) : Type 0 where
+pub record SameHeads (s t : TypingState) : Type 0 where
   pub types : HaveTypes s.items t.items
   pub distinct : AreDistinct s.items.types → AreDistinct t.items.types
   pub adts : t.items.adts ≡ s.items.adts
@@ -647,7 +647,7 @@ pub record SameHeads (s t : State) : Type 0 where
   pub closures : t.items.closures ≡ s.items.closures
   pub heads : t.items.bodies ≡ s.items.bodies
 
-pub same_heads : {s t : State} → SameWalk s t → SameHeads s t
+pub same_heads : {s t : TypingState} → SameWalk s t → SameHeads s t
 same_heads e = record {
   types = e.stays.types;
   distinct = e.stays.distinct;
@@ -657,7 +657,7 @@ same_heads e = record {
   heads = e.stays.heads;
 }
 
-pub same_both : {s t u : State} → SameHeads s t → SameHeads t u → SameHeads s u
+pub same_both : {s t u : TypingState} → SameHeads s t → SameHeads t u → SameHeads s u
 same_both p q = record {
   types = λ n ty h. q.types n ty (p.types n ty h);
   distinct = λ h. q.distinct (p.distinct h);
@@ -667,7 +667,7 @@ same_both p q = record {
   heads = q.heads ∙ p.heads;
 }
 
-impl_same : (k : rules.Known) (i : Syn) (s : State) → Walked (λ _ t. SameHeads s t) (rules.impl_of k i s)
+impl_same : (k : rules.Known) (i : Syn) (s : TypingState) → Walked (λ _ t. SameHeads s t) (rules.impl_of k i s)
 impl_same k (syn at (ImplItem (Some trait_) name methods)) s = by (rules.is_drop trait_.1)
   where
     added : Check (Unit {0})
@@ -690,26 +690,26 @@ impl_same k (syn at (ImplItem (Some trait_) name methods)) s = by (rules.is_drop
 impl_same k (syn at (ImplItem None name methods)) s = walk_ends (same_heads (still s))
 impl_same k (syn at _) s = walk_ends (same_heads (still s))
 
-pub impls_same : (k : rules.Known) (is : List Syn) (s : State) → Walked (λ _ t. SameHeads s t) (each_checked (rules.impl_of k)
+pub impls_same : (k : rules.Known) (is : List Syn) (s : TypingState) → Walked (λ _ t. SameHeads s t) (each_checked (rules.impl_of k)
     is s)
 impls_same k [] s = walk_ends (same_heads (still s))
 impls_same k (i ∷ is) s =
     walk (impl_same k i s) λ _ t e. walk (impls_same k is t) λ _ u g. walk_ends (same_both e g)
 
-pub finite_still : (n : ℕ) (as_ : List (Pos × List Named)) (s : State) → Walked (Still s) (rules.all_finite n as_ s)
+pub finite_still : (n : ℕ) (as_ : List (Pos × List Named)) (s : TypingState) → Walked (Still s) (rules.all_finite n as_ s)
 finite_still n [] s = walk_ends (still s)
 finite_still n (a ∷ as_) s =
     walk {f = λ _. rules.all_finite (suc n) as_} (walk (interned_still (Ty.Adt n) s (still s)) λ ty t e. walk_map
     (obeyed_still Rule.T09 a.0 (not (rules.holds t.items ty ty)) t) λ _ u g. onward e g) λ _ t e. walk_map (finite_still
     (suc n) as_ t) λ _ u g. onward e g
 
-pub derive_still : (n : ℕ) (as_ : List (Pos × List Named)) (s : State) → Walked (Still s) (rules.all_derive n as_ s)
+pub derive_still : (n : ℕ) (as_ : List (Pos × List Named)) (s : TypingState) → Walked (Still s) (rules.all_derive n as_ s)
 derive_still n [] s = walk_ends (still s)
 derive_still n (a ∷ as_) s =
     walk (obeyed_still Rule.T10 a.0 (rules.may_derive s.items a.1 (slice_get s.items.adts n)) s) λ _ t e. walk_map
     (derive_still (suc n) as_ t) λ _ u g. onward e g
 
-pub names_still : (ns : List Named) (earlier : List Word) (s : State) → Walked (Still s) (rules.names_differ ns earlier s)
+pub names_still : (ns : List Named) (earlier : List Word) (s : TypingState) → Walked (Still s) (rules.names_differ ns earlier s)
 names_still [] earlier s = walk_ends (still s)
 names_still (n ∷ ns) earlier s =
     walk (obeyed_still Rule.T02 n.0 (not (is_among n.1 earlier || is_among n.1 built_in)) s) λ _ t e. walk_map
@@ -733,7 +733,7 @@ heads_later old new e from to texts rest heads =
       h.1,
     )) from to texts rest heads
 
-pub collecting_collects : (is : List ItemSyn) (end : Pos) → Walked (λ _ t. (u : State) × (n : ℕ) × Collects (listed_text
+pub collecting_collects : (is : List ItemSyn) (end : Pos) → Walked (λ _ t. (u : TypingState) × (n : ℕ) × Collects (listed_text
     (rules.known_of is) is) (all_adts is) 0 n (rules.starting_with rules.no_items) u × SameHeads u t)
     (rules.collecting is end (rules.starting_with rules.no_items))
 collecting_collects is end =
@@ -748,5 +748,5 @@ collecting_collects is end =
       same_both f (same_heads (onward g (onward d o))),
     )
   where
-    start : State
+    start : TypingState
     start = rules.starting_with rules.no_items

@@ -13,7 +13,7 @@ use Rattle.mir_ty.specs.ItemTable.{ItemTable}
 use Rattle.mir_ty.specs.Parts.{fields_of, variants_of}
 use Rattle.src_tree.specs.Layout.{Parts}
 use Rattle.typed_tree.specs.Tree.{ProgramTree}
-use Rattle.typing_rules.specs.Check.{State, Broken, obeys, each_checked}
+use Rattle.typing_rules.specs.Check.{TypingState, Broken, obeys, each_checked}
 use Rattle.typing_rules.specs.Collected as rules
 use Rattle.typing_rules.specs.Items.{ItemSyn, items_of, item_syns, body_paths}
 use Rattle.typing_rules.specs.Promises.{AreReady, Extends, IsAlone, IsReady, IsThere, IsValueType}
@@ -41,7 +41,7 @@ abbrev pub AreDerived : ItemTable → ℕ → Derived → Type 0
 AreDerived items n [] = Unit {0}
 AreDerived items n (a ∷ as_) = IsTrue (rules.may_derive items a.1 (slice_get items.adts n)) × AreDerived items (suc n) as_
 
-pub all_derived : (n : ℕ) (as_ : Derived) (s : State) → Walked (λ _ t. (t.items ≡ s.items) × AreDerived s.items n as_)
+pub all_derived : (n : ℕ) (as_ : Derived) (s : TypingState) → Walked (λ _ t. (t.items ≡ s.items) × AreDerived s.items n as_)
     (rules.all_derive n as_ s)
 all_derived n [] s = walk_ends (refl, tt)
 all_derived n (a ∷ as_) s =
@@ -51,7 +51,7 @@ all_derived n (a ∷ as_) s =
 abbrev pub derived_in : List ItemSyn → Derived
 derived_in is = filter_map rules.adt_item (item_syns is)
 
-collecting_derived : (is : List ItemSyn) (end : Pos) (s : State) → Walked (λ _ t. AreDerived t.items 0 (derived_in is))
+collecting_derived : (is : List ItemSyn) (end : Pos) (s : TypingState) → Walked (λ _ t. AreDerived t.items 0 (derived_in is))
     (rules.collecting is end s)
 collecting_derived is end s =
     walk (whatever {P = Unit {0}} (rules.names_differ (filter_map rules.item_name (item_syns is)) [] s) tt) λ _ t _. walk
@@ -61,7 +61,7 @@ collecting_derived is end s =
     (derived_in is) w) λ _ x h. walk_map (ends (is_some (number_of (body_paths is) (codes "main"))) x) λ _ y e. subst (λ
     items. AreDerived items 0 (derived_in is)) (sym (e ∙ h.0)) h.1
   where
-    ends : (b : Bool) (x : State) → Walked (λ _ y. y.items ≡ x.items) (obeys Rule.T01 end b x)
+    ends : (b : Bool) (x : TypingState) → Walked (λ _ y. y.items ≡ x.items) (obeys Rule.T01 end b x)
     ends true x = walk_ends refl
     ends false x = record { so = tt }
 
@@ -137,7 +137,7 @@ module _ (parts : Parts Pos) (items : ItemTable) (p : ProgramTree) (h : IsAccept
   derived : AreDerived items 0 (derived_in (items_of parts))
   derived = by _ (collecting_derived (items_of parts) h.end (rules.starting_with rules.no_items)) h.collected
     where
-      by : (r : Result (Unit {0} × State) Broken) → Walked (λ _ t. AreDerived t.items 0 (derived_in (items_of parts))) r →
+      by : (r : Result (Unit {0} × TypingState) Broken) → Walked (λ _ t. AreDerived t.items 0 (derived_in (items_of parts))) r →
           rules.items_in r ≡ Ok items → AreDerived items 0 (derived_in (items_of parts))
       by (Ok a) w e = subst (λ i. AreDerived i 0 (derived_in (items_of parts))) (ok_same a.1.items items e) w.so
       by (Err x) w e = absurd (no_ok x e)

@@ -18,7 +18,7 @@ use Rattle.typed_tree.specs.Tree.{ProgramTree}
 use Rattle.well_typed.specs.Claim.{Claim, Holds, fact, ◌&◌, some}
 use Rattle.well_typed.specs.Names.{are_distinct, is_word}
 use Rattle.well_typed.specs.Types.{adt_in, adt_of, is_unit, reference_in, reference_of}
-use Rattle.typing_rules.specs.Check.{State, Broken}
+use Rattle.typing_rules.specs.Check.{TypingState, Broken}
 use Rattle.typing_rules.specs.Collected as rules
 use Rattle.typing_rules.specs.Items.{ItemSyn, items_of, item_syns, adt_names, body_paths, drop_body, method_path, impl_owner}
 use Rattle.typing_rules.specs.Program as checks
@@ -48,7 +48,7 @@ module _ (k : rules.Known) where
   abbrev IsDropOf : Adt → Type 0
   IsDropOf adt = adt.drop_body ≡ drop_body k.paths adt.name
 
-  abbrev KeepsDrops : {A : Type 0} → State → A → State → Type 0
+  abbrev KeepsDrops : {A : Type 0} → TypingState → A → TypingState → Type 0
   KeepsDrops s a t = All IsDropOf s.items.adts → All IsDropOf t.items.adts
 
   same_drops : (old new : List Adt) → new ≡ old → All IsDropOf old → All IsDropOf new
@@ -58,14 +58,14 @@ module _ (k : rules.Known) where
   one_more [] adt h is = (is, tt)
   one_more (a ∷ adts) adt h is = (h.0, one_more adts adt h.1 is)
 
-  no_new : {f : Tape} {a b : ℕ} {s t : State} → Collects f [] a b s t → t.items.adts ≡ s.items.adts
+  no_new : {f : Tape} {a b : ℕ} {s t : TypingState} → Collects f [] a b s t → t.items.adts ≡ s.items.adts
   no_new {s = s} c = c.adts ∙ (ap (λ as_. s.items.adts ++ as_) (none c.new_adts c.are_adts) ∙ append-nil s.items.adts)
     where
       none : (as_ : List Adt) → AreAdtsOf [] as_ → as_ ≡ []
       none [] h = refl
       none (a ∷ as_) h = absurd h
 
-  item_drops : (i : Syn) (s : State) → Walked (KeepsDrops s) (rules.item_head k i s)
+  item_drops : (i : Syn) (s : TypingState) → Walked (KeepsDrops s) (rules.item_head k i s)
   item_drops (syn at (StructItem ds name kind fields)) s =
       walk (derives_still ds s) λ _ t e. walk (variant_collected (rules.names_alone k (types.number_of k.adts name.1)) name.1
       fields t) λ v u g. walk_ends (λ h. one_more u.items.adts (rules.adt_of k ds name.1 false (v ∷ [])) (same_drops
@@ -77,7 +77,7 @@ module _ (k : rules.Known) where
   item_drops (syn at form) s = walk_map (item_head_collected k 0 (syn at form) s) λ _ t c. same_drops s.items.adts
       t.items.adts (no_new c)
 
-  heads_drops : (c : rules.Count) (is : List ItemSyn) (s : State) → Walked (KeepsDrops s) (rules.heads_collected k c is s)
+  heads_drops : (c : rules.Count) (is : List ItemSyn) (s : TypingState) → Walked (KeepsDrops s) (rules.heads_collected k c is s)
   heads_drops c [] s = walk_ends (λ h. h)
   heads_drops c (i ∷ is) s =
       walk (both_tell (rules.item_head k i.item s) (owner_known k i.item s) (item_drops i.item s)) λ _ t e. walk
@@ -96,7 +96,7 @@ collecting_drops is end =
     walk_map (obeyed_still Rule.T01 end (is_some (types.number_of (body_paths is) (codes "main"))) x) λ _ y o. same_drops k
     u.items.adts y.items.adts ((onward g (onward d o)).stays.adts ∙ f.adts) (h (same_drops k [] t.items.adts e.stays.adts tt))
   where
-    start : State
+    start : TypingState
     start = rules.starting_with rules.no_items
 
     k : rules.Known
@@ -132,7 +132,7 @@ module _ (parts : Parts Pos) (items : ItemTable) (p : ProgramTree) (h : IsAccept
   drops : All (IsDropOf known) p.items.adts
   drops = subst (All (IsDropOf known)) (sym extended.adts) (by _ (collecting_drops (items_of parts) h.end) h.collected)
     where
-      by : (r : Result (Unit {0} × State) Broken) → Walked (λ _ t. All (IsDropOf known) t.items.adts) r → rules.items_in r ≡ Ok
+      by : (r : Result (Unit {0} × TypingState) Broken) → Walked (λ _ t. All (IsDropOf known) t.items.adts) r → rules.items_in r ≡ Ok
           items → All (IsDropOf known) items.adts
       by (Ok a) w e = subst (λ (is : ItemTable). All (IsDropOf known) is.adts) (ok_same a.1.items items e) w.so
       by (Err x) w e = absurd (no_items_ok x e)

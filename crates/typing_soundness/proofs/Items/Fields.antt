@@ -13,7 +13,7 @@ use Rattle.typed_tree.specs.Tree.{ProgramTree}
 use Rattle.well_typed.specs.Claim.{Holds, each}
 use Rattle.well_typed.specs.Names.{is_among, are_distinct}
 use Rattle.typing_rules.specs.Bodies.{all_rules}
-use Rattle.typing_rules.specs.Check.{State, Broken, and_then}
+use Rattle.typing_rules.specs.Check.{TypingState, Broken, and_then}
 use Rattle.typing_rules.specs.Collected.{starting_with, names_from}
 use Rattle.typing_rules.specs.Items.{ItemSyn, items_of, item_syns}
 use Rattle.typing_rules.specs.Program as rules
@@ -48,19 +48,19 @@ abbrev FieldsKept : List Word → List Syn → Type 0
 FieldsKept earlier [] = Unit {0}
 FieldsKept earlier (f ∷ fs) = FieldKept earlier f × FieldsKept (with_field f earlier) fs
 
-type_kept : (env : Env) (earlier : List Word) (ty : Syn) (s : State) → Walked (λ names t. earlier ≡ names) (and_then (written
+type_kept : (env : Env) (earlier : List Word) (ty : Syn) (s : TypingState) → Walked (λ names t. earlier ≡ names) (and_then (written
     (all_rules env) ty s) (λ _ t. Ok (earlier, t)))
 type_kept env earlier ty s =
     walk (whatever {P = Unit {0}} (written (all_rules env) ty s) tt) λ _ t _. walk_ends refl
 
-field_kept : (env : Env) (earlier : List Word) (f : Syn) (s : State) → Walked (λ names t. FieldKept earlier f × (with_field f
+field_kept : (env : Env) (earlier : List Word) (f : Syn) (s : TypingState) → Walked (λ names t. FieldKept earlier f × (with_field f
     earlier ≡ names)) (rules.field env earlier f s)
 field_kept env earlier (syn at (FieldDecl name ty)) s =
     walk (whatever {P = Unit {0}} (written (all_rules env) ty s) tt) λ _ t _. walk_obeyed Rule.T02 at (not (is_among name
     earlier)) _ λ h. walk_ends (h, refl)
 field_kept env earlier (syn at form) s = walk_map (type_kept env earlier (syn at form) s) λ names t e. (tt, e)
 
-fields_kept : (env : Env) (earlier : List Word) (fs : List Syn) (s : State) → Walked (λ a t. FieldsKept earlier fs)
+fields_kept : (env : Env) (earlier : List Word) (fs : List Syn) (s : TypingState) → Walked (λ a t. FieldsKept earlier fs)
     (rules.fields env earlier fs s)
 fields_kept env earlier [] s = walk_ends tt
 fields_kept env earlier (f ∷ fs) s =
@@ -78,7 +78,7 @@ ItemKept (syn at (StructItem derives name kind fields)) = FieldsKept [] (list_of
 ItemKept (syn at (EnumItem derives name variants)) = All VariantKept (list_of variants)
 ItemKept _ = Unit {0}
 
-variants_kept : (env : Env) (earlier : List Word) (vs : List Syn) (s : State) → Walked (λ a t. All VariantKept vs)
+variants_kept : (env : Env) (earlier : List Word) (vs : List Syn) (s : TypingState) → Walked (λ a t. All VariantKept vs)
     (rules.variants env earlier vs s)
 variants_kept env earlier [] s = walk_ends tt
 variants_kept env earlier (syn at (VariantDecl name kind fields) ∷ vs) s =
@@ -87,7 +87,7 @@ variants_kept env earlier (syn at (VariantDecl name kind fields) ∷ vs) s =
     λ a u k. (h, k)
 variants_kept env earlier (syn at _ ∷ vs) s = record { so = tt }
 
-item_kept : (env : Env) (before : rules.Before) (i : Syn) (s : State) → Walked (λ a t. ItemKept i) (rules.item_rules env
+item_kept : (env : Env) (before : rules.Before) (i : Syn) (s : TypingState) → Walked (λ a t. ItemKept i) (rules.item_rules env
     before i s)
 item_kept env before (syn at (StructItem derives name kind fields)) s =
     walk (fields_kept (rules.in_impl env (adt_named s.items name.1)) [] (list_of fields) s) λ _ t h. whatever _ h
@@ -95,7 +95,7 @@ item_kept env before (syn at (EnumItem derives name variants)) s =
     walk (variants_kept (rules.in_impl env (adt_named s.items name.1)) [] (list_of variants) s) λ _ t h. whatever _ h
 item_kept env before (syn at _) s = whatever _ tt
 
-items_kept : (env : Env) (before : rules.Before) (is : List Syn) (s : State) → Walked (λ a t. All ItemKept is)
+items_kept : (env : Env) (before : rules.Before) (is : List Syn) (s : TypingState) → Walked (λ a t. All ItemKept is)
     (rules.all_items env before is s)
 items_kept env before [] s = walk_ends tt
 items_kept env before (i ∷ is) s =
@@ -216,7 +216,7 @@ module _ (parts : Parts Pos) (items : ItemTable) (p : ProgramTree) (h : IsAccept
   all_kept =
       by _ (items_kept (rules.outermost texts) (record { methods = []; impls = [] }) texts (starting_with items)) h.checked
     where
-      by : (r : Result (Unit {0} × State) Broken) → Walked (λ a t. All ItemKept texts) r → rules.program_in r ≡ Ok p → All
+      by : (r : Result (Unit {0} × TypingState) Broken) → Walked (λ a t. All ItemKept texts) r → rules.program_in r ≡ Ok p → All
           ItemKept texts
       by (Ok a) w e = w.so
       by (Err x) w e = absurd (no_ok x p e)

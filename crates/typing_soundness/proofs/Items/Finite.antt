@@ -19,7 +19,7 @@ use Rattle.src_tree.specs.Layout.{Parts}
 use Rattle.typed_tree.specs.Tree.{ProgramTree}
 use Rattle.well_typed.specs.Items.{finite_rule, is_finite}
 use Rattle.well_typed.specs.Types.{is_same, closure_in}
-use Rattle.typing_rules.specs.Check.{State, Broken, obeys}
+use Rattle.typing_rules.specs.Check.{TypingState, Broken, obeys}
 use Rattle.typing_rules.specs.Collected as rules
 use Rattle.typing_rules.specs.Items.{ItemSyn, items_of, item_syns, body_paths}
 use Rattle.typing_rules.specs.Promises.{AreReady, Extends, IsAlone, IsValueType, made_of, ComesAfter}
@@ -205,7 +205,7 @@ module _ (old new : ItemTable) (ready : AreReady old) (types : (n : ℕ) (ty : T
 
 -- ---- what is asked at the end of the collection
 
-obeyed_so : {P : Type 0} (r : rule.Rule) (at : Pos) (b : Bool) (s : State) → (IsTrue b → P) → Walked (λ _ t. P × (t ≡ s))
+obeyed_so : {P : Type 0} (r : rule.Rule) (at : Pos) (b : Bool) (s : TypingState) → (IsTrue b → P) → Walked (λ _ t. P × (t ≡ s))
     (obeys r at b s)
 obeyed_so r at true s h = walk_ends (h refl, refl)
 obeyed_so r at false s h = record { so = tt }
@@ -214,12 +214,12 @@ no_truth : (b : Bool) → IsTrue (not b) → b ≡ false
 no_truth true h = absurd (false≢true h)
 no_truth false h = refl
 
-one_checked : (n : ℕ) (at : Pos) (s : State) → Walked (λ _ t. IsChecked t.items n) (rules.is_finite n at s)
+one_checked : (n : ℕ) (at : Pos) (s : TypingState) → Walked (λ _ t. IsChecked t.items n) (rules.is_finite n at s)
 one_checked n at s =
     walk_interned_as (Ty.Adt n) s λ id t same is. walk_map (obeyed_so rule.Rule.T09 at (not (rules.holds t.items id id)) t
-    (no_truth (holds_in t.items id id))) λ _ u h. subst (λ (w : State). IsChecked w.items n) (sym h.1) (id, is, h.0)
+    (no_truth (holds_in t.items id id))) λ _ u h. subst (λ (w : TypingState). IsChecked w.items n) (sym h.1) (id, is, h.0)
 
-all_checked : (n : ℕ) (as_ : Derived) (s : State) → Walked (λ _ t. AreReady s.items → AreChecked t.items n as_)
+all_checked : (n : ℕ) (as_ : Derived) (s : TypingState) → Walked (λ _ t. AreReady s.items → AreChecked t.items n as_)
     (rules.all_finite n as_ s)
 all_checked n [] s = walk_ends (λ ready. tt)
 all_checked n (a ∷ as_) s =
@@ -238,10 +238,10 @@ collecting_checked is end h =
     walk (heads_ready (rules.known_of is) (record { outer = []; in_outer = 0; closures = 0 }) is t h e.1.stays.closures) λ _
     u f. walk (impls_ready (rules.known_of is) (item_syns is) u) λ _ v g. walk (all_checked 0 (derived_in is) v) λ _ w l.
     walk (all_derived 0 (derived_in is) w) λ _ x d. walk_map (obeyed_so {P = Unit {0}} rule.Rule.T01 end (is_some (number_of (body_paths is)
-    (codes "main"))) x (λ _. tt)) λ _ y o. subst (λ items. AreChecked items 0 (derived_in is)) (sym (ap (λ (z : State).
+    (codes "main"))) x (λ _. tt)) λ _ y o. subst (λ items. AreChecked items 0 (derived_in is)) (sym (ap (λ (z : TypingState).
     z.items) o.1 ∙ d.0)) (l (g (f (e.0 ready_at_first).0).0).0)
   where
-    start : State
+    start : TypingState
     start = rules.starting_with rules.no_items
 
 -- ---- types of the collected table
@@ -526,7 +526,7 @@ module _ (parts : Parts Pos) (items : ItemTable) (p : ProgramTree) (h : IsAccept
       by _ (collecting_checked (items_of parts) h.end (items_kept parts h.end items p h.collected h.checked h.text.listed))
       h.collected
     where
-      by : (r : Result (Unit {0} × State) Broken) → Walked (λ _ t. AreChecked t.items 0 (derived_in (items_of parts))) r →
+      by : (r : Result (Unit {0} × TypingState) Broken) → Walked (λ _ t. AreChecked t.items 0 (derived_in (items_of parts))) r →
           rules.items_in r ≡ Ok items → AreChecked items 0 (derived_in (items_of parts))
       by (Ok a) w e = subst (λ i. AreChecked i 0 (derived_in (items_of parts))) (ok_same a.1.items items e) w.so
       by (Err x) w e = absurd (no_ok x e)

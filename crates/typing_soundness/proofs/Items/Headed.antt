@@ -20,7 +20,7 @@ use Rattle.typed_tree.specs.Tree.{BodyTree, ProgramTree}
 use Rattle.well_typed.specs.Claim.{Holds, each}
 use Rattle.well_typed.specs.Items.{is_equal}
 use Rattle.typing_rules.specs.Bodies.{all_rules}
-use Rattle.typing_rules.specs.Check.{State, Broken}
+use Rattle.typing_rules.specs.Check.{TypingState, Broken}
 use Rattle.typing_rules.specs.Collected as rules
 use Rattle.typing_rules.specs.Items.{ItemSyn, items_of, item_syns, adt_names, impl_owner}
 use Rattle.typing_rules.specs.Places.{scalars}
@@ -29,7 +29,7 @@ use Rattle.typing_rules.specs.Promises.{AreClosures}
 use Rattle.typing_rules.specs.Written as types
 use Rattle.src_ast.specs.Syntax.{Word, Receiver, ByValue, ByShared, ByUnique, Syn, syn, Shape, Minus, Bang, Star, Ampersand, Calculate, Compare, Both, Either, Store, CallOf, MethodOf, FieldOf, PartOf, ElementOf, StructOf, FieldInit, Parens, TupleOf, ArrayOf, Braces, IfElse, IfLetElse, MatchOn, ArmOf, LoopOf, WhileOf, WhileLetOf, BreakOf, ReturnOf, MoveOf, LetOf, Semi, StructItem, EnumItem, ImplItem, FnItem, ParamOf, SelfParam, Syns, no_syn, a_syn, list_of, MaybeSyn, nothing, just}
 use Rattle.typing_rules.proofs.Sound.Interned.{not_there}
-use Rattle.typing_soundness.specs.Closures.{BodySyn, Function, Closure, Head, Tape, closures_of, closures_in, closures_among, closures_if_any, function_text, functions_text, around_impl, item_text, items_text, program_text}
+use Rattle.typing_soundness.specs.Closures.{BodySyn, Function, Closure, WrittenHead, Tape, closures_of, closures_in, closures_among, closures_if_any, function_text, functions_text, around_impl, item_text, items_text, program_text}
 use Rattle.typing_soundness.specs.Met.{IsReceiver, MeansParam, MeanParams, MeansAnswer, AreTypesOf, IsBodyOf, AreMade, Met, types_of, behind}
 use Rattle.typing_soundness.specs.Heads.{MeanClosureParams, MeansClosureAnswer, AreHeadTypes, IsHeadOf, IsAdtOf, AreAdtsOf, inner_text, TellBodies, has_no_self}
 use Rattle.typing_soundness.specs.Program.{HaveHeads}
@@ -45,7 +45,7 @@ use Rattle.typing_soundness.proofs.Walking.Steps.{with_type_distinct}
 
 -- ---- no closure has a parameter `self`
 
-module _ (around : types.Around) where
+module _ (around : types.WrittenScope) where
   mutual
     plain_closures : (e : Syn) → Holds (shaped e) → (rest : List BodySyn) → Holds (each has_no_self rest) → Holds (each
         has_no_self (closures_of around e rest))
@@ -116,7 +116,7 @@ module _ (around : types.Around) where
   plain_functions [] h rest p = p
   plain_functions (f ∷ fs) h rest p = plain_function f h.0 _ (plain_functions fs h.1 rest p)
 
-plain_item : (around : types.Around) (adts : List Adt) (i : Syn) → Holds (item_shaped i) → (rest : List BodySyn) → Holds
+plain_item : (around : types.WrittenScope) (adts : List Adt) (i : Syn) → Holds (item_shaped i) → (rest : List BodySyn) → Holds
     (each has_no_self rest) → Holds (each has_no_self (item_text around adts i rest))
 plain_item around adts (syn at (ImplItem trait_ name methods)) h rest p =
     plain_functions (around_impl around adts name.1) (list_of methods) h rest p
@@ -124,7 +124,7 @@ plain_item around adts (syn at (FnItem name params answer block)) h rest p =
     plain_function around (syn at (FnItem name params answer block)) h rest p
 plain_item around adts (syn at _) h rest p = p
 
-plain_items : (around : types.Around) (adts : List Adt) (is : List Syn) → Holds (each item_shaped is) → (rest : List BodySyn)
+plain_items : (around : types.WrittenScope) (adts : List Adt) (is : List Syn) → Holds (each item_shaped is) → (rest : List BodySyn)
     → Holds (each has_no_self rest) → Holds (each has_no_self (items_text around adts is rest))
 plain_items around adts [] h rest p = p
 plain_items around adts (i ∷ is) h rest p = plain_item around adts i h.0 _ (plain_items around adts is h.1 rest p)
@@ -151,7 +151,7 @@ number_found words adts name is =
 
 module _ (all : List ItemSyn) (adts : List Adt) (words : map (λ (adt : Adt). adt.name) adts ≡ adt_names (item_syns all))
   where
-    abbrev outer : types.Around
+    abbrev outer : types.WrittenScope
     outer = all_rules (outermost (item_syns all))
 
     item_listed : (i : Syn) → inner_text (all_names (rules.known_of all) (impl_owner i)) i ≡ item_text outer adts i
@@ -198,7 +198,7 @@ words_collected is adts h = adt_words (all_adts is) adts h ∙ words_of_text is
 -- ---- one head a body
 
 module _ (items : ItemTable) (distinct : AreDistinct items.types) where
-  module _ (around : types.Around) where
+  module _ (around : types.WrittenScope) where
     receiver_once : (receiver : Receiver) (own ty other : TyId) → IsReceiver items receiver own ty → IsReceiver items receiver
         own other → ty ≡ other
     receiver_once ByValue own ty other h g = sym h ∙ g
@@ -317,18 +317,18 @@ heads_of_text parts end items e = by (rules.collecting (items_of parts) end (rul
     all : List ItemSyn
     all = items_of parts
 
-    start : State
+    start : TypingState
     start = rules.starting_with rules.no_items
 
-    Collected : State → Type 0
+    Collected : TypingState → Type 0
     Collected t =
-        (u : State) × (n : ℕ) × Collects (listed_text (rules.known_of (items_of parts)) (items_of parts)) (all_adts
+        (u : TypingState) × (n : ℕ) × Collects (listed_text (rules.known_of (items_of parts)) (items_of parts)) (all_adts
         (items_of parts)) 0 n (rules.starting_with rules.no_items) u × SameHeads u t
 
     walked : Walked (λ _ t. Collected t) (rules.collecting (items_of parts) end (rules.starting_with rules.no_items))
     walked = collected.collecting_collects (items_of parts) end
 
-    as_heads : (t : State) → Collected t → AreHeads parts t.items
+    as_heads : (t : TypingState) → Collected t → AreHeads parts t.items
     as_heads t h = record {
       distinct = h.3.distinct (h.2.distinct scalars_distinct);
       adts = subst (AreAdtsOf (all_adts (items_of parts))) (sym (h.3.adts ∙ h.2.adts)) h.2.are_adts;
@@ -339,7 +339,7 @@ heads_of_text parts end items e = by (rules.collecting (items_of parts) end (rul
           (rules.known_of (items_of parts)) (items_of parts) []) [] h.2.new (h.2.made []));
     }
 
-    by : (r : Result (Unit {0} × State) Broken) → Walked (λ _ t. Collected t) r → rules.items_in r ≡ Ok items → AreHeads
+    by : (r : Result (Unit {0} × TypingState) Broken) → Walked (λ _ t. Collected t) r → rules.items_in r ≡ Ok items → AreHeads
         parts items
     by (Ok a) w e = subst (AreHeads parts) (ok_same a.1.items items e) (as_heads a.1 w.so)
     by (Err x) w e = absurd (no_ok x e)
@@ -365,7 +365,7 @@ headed parts end items p is_collected is_checked shape tell =
     all : List ItemSyn
     all = items_of parts
 
-    in_walk : AreHeads parts items → (t : State) → Met (program_text items.adts parts) (rules.starting_with
+    in_walk : AreHeads parts items → (t : TypingState) → Met (program_text items.adts parts) (rules.starting_with
         items) t → IsHeaded (record { items = t.items; bodies = t.bodies })
     in_walk h t m = record {
       heads = subst (λ hs. HaveHeads hs t.bodies) (sym m.heads) (subst (HaveHeads items.bodies) (sym m.bodies) (heads_once
@@ -397,7 +397,7 @@ headed parts end items p is_collected is_checked shape tell =
 -- ---- closures have their bodies
 
 pub made_closure : (P : ℕ → BodySyn → BodyTree → Type 0) (k : ℕ) (from to : ℕ) (texts rest : List BodySyn) (bodies : List
-    BodyTree) → from ≤ k → k < to → AreMade P from to texts rest bodies → (j : ℕ) × (body : BodyTree) × (head : Head) ×
+    BodyTree) → from ≤ k → k < to → AreMade P from to texts rest bodies → (j : ℕ) × (body : BodyTree) × (head : WrittenHead) ×
     (slice_get bodies j ≡ Some body) × P k (Closure head) body
 made_closure P k from to texts rest [] low high h = absurd (let e = h.1 in omega (arith, low, high, e))
 made_closure P k from to [] rest (body ∷ bodies) low high h = absurd h
@@ -408,10 +408,10 @@ made_closure P k from to (Closure head ∷ texts) rest (body ∷ bodies) low hig
   where
     Found : Type 0
     Found =
-        (j : ℕ) × (b : BodyTree) × (other : Head) × (slice_get (body ∷ bodies) j ≡ Some b) × P k (Closure other) b
+        (j : ℕ) × (b : BodyTree) × (other : WrittenHead) × (slice_get (body ∷ bodies) j ≡ Some b) × P k (Closure other) b
 
-    by : (k ≡ from) ⊎ ((k < from) ⊎ (from < k)) → (suc from ≤ k → (j : ℕ) × (b : BodyTree) × (other : Head) × (slice_get
-        bodies j ≡ Some b) × P k (Closure other) b) → (j : ℕ) × (b : BodyTree) × (other : Head) × (slice_get (body ∷
+    by : (k ≡ from) ⊎ ((k < from) ⊎ (from < k)) → (suc from ≤ k → (j : ℕ) × (b : BodyTree) × (other : WrittenHead) × (slice_get
+        bodies j ≡ Some b) × P k (Closure other) b) → (j : ℕ) × (b : BodyTree) × (other : WrittenHead) × (slice_get (body ∷
         bodies) j ≡ Some b) × P k (Closure other) b
     by (inl e) on = (0, body, head, refl, subst (λ n. P n (Closure head) body) (sym e) h.0)
     by (inr (inl below)) on = absurd (omega (arith, below, low))
@@ -448,7 +448,7 @@ closures_headed p h order k def head at_k at_head =
     let e = have_at p.items.bodies p.bodies f.0 head f.1 h.heads (ap (slice_get p.items.bodies) (sym b) ∙ at_head) f.3 in
     begins (types_of f.1) f.2 f.1.answer f.4.0 e
   where
-    begins : (tys : List TyId) (own : Head) (answer : TyId) → AreTypesOf p.items k (Closure own) tys answer → head.params ≡
+    begins : (tys : List TyId) (own : WrittenHead) (answer : TyId) → AreTypesOf p.items k (Closure own) tys answer → head.params ≡
         tys → (self : TyId) × (rest : List TyId) × (head.params ≡ self ∷ rest) × (type_at p.items self ≡ Some (Ty.Closure
         k))
     begins [] own answer h e = absurd h

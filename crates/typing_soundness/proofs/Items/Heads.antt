@@ -19,10 +19,10 @@ use Rattle.well_typed.specs.Items.{is_equal, are_distinct_types, stands_alone, i
 use Rattle.well_typed.specs.Types.{dyn_in, reference_in}
 use Rattle.typing_rules.specs.Places.{unit}
 use Rattle.typing_rules.specs.Promises.{AreReady, IsAlone, IsValueType}
-use Rattle.typing_rules.specs.Written.{Around, scalar_named, number_of, length_shown, reference_to}
+use Rattle.typing_rules.specs.Written.{WrittenScope, scalar_named, number_of, length_shown, reference_to}
 use Rattle.typing_rules.proofs.Sound.Interned.{equal_is}
 use Rattle.src_ast.specs.Syntax.{Word, Receiver, ByValue, ByShared, ByUnique, Syn, syn, Shape, NamedType, GenericType, DynType, SelfType, ParensType, TupleType, ArrayType, NeverType, RefType, ParamOf, SelfParam, Syns, no_syn, a_syn, MaybeSyn, nothing, just}
-use Rattle.typing_soundness.specs.Closures.{BodySyn, Function, Closure, Head}
+use Rattle.typing_soundness.specs.Closures.{BodySyn, Function, Closure, WrittenHead}
 use Rattle.typing_soundness.specs.Met.{IsReceiver, MeansParam, MeanParams, MeansAnswer, AreTypesOf, IsBodyOf, AreMade, text_legal, types_of, behind}
 use Rattle.typing_soundness.specs.Heads.{has_no_self}
 use Rattle.typing_soundness.specs.Items.{is_head_typed, IsClosureTyped}
@@ -73,7 +73,7 @@ alone_stands items id h =
 
 -- ---- what is written
 
-module _ (items : ItemTable) (all : AreReady items) (around : Around) where
+module _ (items : ItemTable) (all : AreReady items) (around : WrittenScope) where
   plain_made : (test : Bool) (id : TyId) → IsPlain items id → IsMadeTy items test id
   plain_made test id h = (h.0, h.1, value_no_dyn items h.0 h.2, λ _. value_no_reference items h.0 h.2)
 
@@ -219,7 +219,7 @@ closure_typed p all h k def at_k order =
     let g = head_at p.items.bodies p.bodies f.0 f.1 h.heads f.3 in
     begins g.0 (ap (slice_get p.items.bodies) b ∙ g.1) (types_of f.1) f.2 f.1.answer f.4.0.0 f.4.0.2 f.4.1 g.2
   where
-    begins : (head : Sig) → slice_get p.items.bodies def.body ≡ Some head → (tys : List TyId) (own : Head) (answer : TyId) →
+    begins : (head : Sig) → slice_get p.items.bodies def.body ≡ Some head → (tys : List TyId) (own : WrittenHead) (answer : TyId) →
         AreTypesOf p.items k (Closure own) tys answer → IsTrue (head_legal legal own.params own.answer) → Holds (has_no_self
         (Closure own)) → head.params ≡ tys → IsClosureTyped p.items k def
     begins head is [] own answer t l free e = absurd t

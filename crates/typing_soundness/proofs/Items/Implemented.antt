@@ -30,7 +30,7 @@ use Rattle.typing_rules.specs.Scope.{trait_named, method_word}
 use Rattle.typing_rules.specs.Written as types
 use Rattle.typing_rules.proofs.Sound.Places.{contains_cases}
 use Rattle.src_ast.specs.Syntax.{Word, Named, ByShared, ByUnique, ByValue, Syn, syn, ImplItem, FnItem, SelfParam, Syns, no_syn, a_syn, list_of, MaybeSyn, nothing as no_syntax, just}
-use Rattle.typing_soundness.specs.Closures.{BodySyn, Function, Closure, Head, functions_text, closures_if_any}
+use Rattle.typing_soundness.specs.Closures.{BodySyn, Function, Closure, WrittenHead, functions_text, closures_if_any}
 use Rattle.typing_soundness.specs.Heads.{bodies_text, inner_text, TellBodies, TellsBodies}
 use Rattle.typing_soundness.specs.Items.{is_to, are_same_params, implements_head, implements_all, is_impl, ImplsAreTyped}
 use Rattle.typing_soundness.specs.Met.{MeanParams}
@@ -102,12 +102,12 @@ later_member y ys x c = (suc c.0, omega (arith, c.1), c.2)
 
 -- a text of this name
 abbrev HasText : Word → List BodySyn → Type 0
-HasText name texts = (head : Head) × Contains texts (Function head) × (head.name ≡ name)
+HasText name texts = (head : WrittenHead) × Contains texts (Function head) × (head.name ≡ name)
 
 text_later : (name : Word) (text : BodySyn) (texts : List BodySyn) → HasText name texts → HasText name (text ∷ texts)
 text_later name text texts h = (h.0, later_member text texts (Function h.0) h.1, h.2)
 
-module _ (around : types.Around) where
+module _ (around : types.WrittenScope) where
   over_closures : (name : Word) (block : MaybeSyn) (rest : List BodySyn) → HasText name rest → HasText name (closures_if_any
       around block rest)
   over_closures name block rest h = each_if_any (HasText name) (λ head texts. text_later name (Closure head) texts) around block rest h
@@ -134,7 +134,7 @@ module _ (k : rules.Known) where
   item_paths : (i : ItemSyn) → AreBodies (i ∷ []) → TellsBodies i → HasPaths (map (body_path i.item) i.bodies) i
   item_paths i bodies tell name has = by i.item refl has
     where
-      around : types.Around
+      around : types.WrittenScope
       around = all_names k (impl_owner i.item)
 
       found : HasText name (bodies_text around i.bodies []) → Contains (map (body_path i.item) i.bodies) (path_in i.item name)

@@ -14,7 +14,7 @@ use Rattle.mir_ty.specs.declared.def.TraitDef.{TraitDef}
 use Rattle.mir_ty.specs.ItemTable.{ItemTable}
 use Rattle.src_tree.specs.Layout.{Parts}
 use Rattle.typed_tree.specs.Tree.{ProgramTree}
-use Rattle.typing_rules.specs.Check.{Check, State, Broken, and_then, known, each_checked}
+use Rattle.typing_rules.specs.Check.{Check, TypingState, Broken, and_then, known, each_checked}
 use Rattle.typing_rules.specs.Collected as rules
 use Rattle.typing_rules.specs.Items.{ItemSyn, items_of, item_syns, body_paths}
 use Rattle.typing_rules.specs.Program as checks
@@ -56,16 +56,16 @@ module _ (k : rules.Known) where
   impls_joined traits (i ∷ is) js [] bs h g = absurd h
   impls_joined traits (i ∷ is) js (a ∷ as_) bs h g = (h.0, impls_joined traits is js as_ bs h.1 g)
 
-  record AddsImpls (is : List Syn) (s t : State) : Type 0 where
+  record AddsImpls (is : List Syn) (s t : TypingState) : Type 0 where
     traits : t.items.traits ≡ s.items.traits
     new : List ImplDef
     impls : t.items.impls ≡ s.items.impls ++ new
     are : AreImplsOf s.items.traits is new
 
-  adds_no_impl : (s : State) → AddsImpls [] s s
+  adds_no_impl : (s : TypingState) → AddsImpls [] s s
   adds_no_impl s = record { traits = refl; new = []; impls = sym (append-nil s.items.impls); are = tt }
 
-  adds_all : {is js : List Syn} {s t u : State} → AddsImpls is s t → AddsImpls js t u → AddsImpls (is ++ js) s u
+  adds_all : {is js : List Syn} {s t u : TypingState} → AddsImpls is s t → AddsImpls js t u → AddsImpls (is ++ js) s u
   adds_all {is} {js} {s} {t} {u} p q = record {
     traits = q.traits ∙ p.traits;
     new = p.new ++ q.new;
@@ -86,7 +86,7 @@ module _ (k : rules.Known) where
   all_impls [] = []
   all_impls (i ∷ is) = impls_in i ++ all_impls is
 
-  impl_adds : (i : Syn) (s : State) → Walked (λ _ t. AddsImpls (impls_in i) s t) (rules.impl_of k i s)
+  impl_adds : (i : Syn) (s : TypingState) → Walked (λ _ t. AddsImpls (impls_in i) s t) (rules.impl_of k i s)
   impl_adds (syn at (ImplItem (Some trait_) name methods)) s = by (rules.is_drop trait_.1)
     where
       added : Check (Unit {0})
@@ -108,7 +108,7 @@ module _ (k : rules.Known) where
   impl_adds (syn at (ImplItem None name methods)) s = walk_ends (adds_no_impl s)
   impl_adds (syn at _) s = walk_ends (adds_no_impl s)
 
-  impls_add : (is : List Syn) (s : State) → Walked (λ _ t. AddsImpls (all_impls is) s t) (each_checked (rules.impl_of k) is
+  impls_add : (is : List Syn) (s : TypingState) → Walked (λ _ t. AddsImpls (all_impls is) s t) (each_checked (rules.impl_of k) is
       s)
   impls_add [] s = walk_ends (adds_no_impl s)
   impls_add (i ∷ is) s =
@@ -126,10 +126,10 @@ collecting_impls is end =
     rules.adt_item (item_syns is)) w) λ _ x d. walk_map (obeyed_still Rule.T01 end (is_some (types.number_of (body_paths is)
     (codes "main"))) x) λ _ y o. there (h.impls ∙ e.stays.impls) f (onward g (onward d o))
   where
-    start : State
+    start : TypingState
     start = rules.starting_with rules.no_items
 
-    there : {u v y : State} → u.items.impls ≡ [] → AddsImpls (rules.known_of is) (all_impls (rules.known_of is) (item_syns is)) u
+    there : {u v y : TypingState} → u.items.impls ≡ [] → AddsImpls (rules.known_of is) (all_impls (rules.known_of is) (item_syns is)) u
         v → SameWalk v y → AreAllImpls is y.items
     there {u} {v} {y} none f e =
         subst (λ traits. AreImplsOf (rules.known_of is) traits (all_impls (rules.known_of is) (item_syns is)) y.items.impls) (sym
@@ -150,7 +150,7 @@ abbrev ImplsKept : checks.Seen → List Syn → Type 0
 ImplsKept seen [] = Unit {0}
 ImplsKept seen (i ∷ is) = ImplKept seen i × ImplsKept (behind i seen) is
 
-impl_kept : (env : Env) (before : checks.Before) (i : Syn) (s : State) → Walked (λ next t. ImplKept before.impls i × (next.impls ≡
+impl_kept : (env : Env) (before : checks.Before) (i : Syn) (s : TypingState) → Walked (λ next t. ImplKept before.impls i × (next.impls ≡
     behind i before.impls)) (checks.item_rules env before i s)
 impl_kept env before (syn at (StructItem ds name kind fs)) s =
     walk (whatever {P = Unit {0}} (checks.fields (checks.in_impl env (adt_named s.items name.1)) [] (list_of fs) s) tt) λ _ t
@@ -174,7 +174,7 @@ impl_kept env before (syn at (FnItem name params answer block)) s =
     (body_named t.items name.1)) t) tt) λ _ u _. walk_ends (tt, refl)
 impl_kept env before (syn at _) s = record { so = tt }
 
-impls_kept : (env : Env) (before : checks.Before) (is : List Syn) (s : State) → Walked (λ a t. ImplsKept before.impls is)
+impls_kept : (env : Env) (before : checks.Before) (is : List Syn) (s : TypingState) → Walked (λ a t. ImplsKept before.impls is)
     (checks.all_items env before is s)
 impls_kept env before [] s = walk_ends tt
 impls_kept env before (i ∷ is) s =
@@ -282,7 +282,7 @@ module _ (parts : Parts Pos) (items : ItemTable) (p : ProgramTree) (h : IsAccept
   kept = by _ (impls_kept (checks.outermost texts) (record { methods = []; impls = [] }) texts (rules.starting_with items))
       h.checked
     where
-      by : (r : Result (Unit {0} × State) Broken) → Walked (λ a t. ImplsKept [] texts) r → checks.program_in r ≡ Ok p →
+      by : (r : Result (Unit {0} × TypingState) Broken) → Walked (λ a t. ImplsKept [] texts) r → checks.program_in r ≡ Ok p →
           ImplsKept [] texts
       by (Ok a) w e = w.so
       by (Err x) w e = absurd (no_ok x p e)
@@ -290,7 +290,7 @@ module _ (parts : Parts Pos) (items : ItemTable) (p : ProgramTree) (h : IsAccept
   pub impls_of_text : AreAllImpls (items_of parts) items
   impls_of_text = by _ (collecting_impls (items_of parts) h.end) h.collected
     where
-      by : (r : Result (Unit {0} × State) Broken) → Walked (λ _ t. AreAllImpls (items_of parts) t.items) r → rules.items_in r
+      by : (r : Result (Unit {0} × TypingState) Broken) → Walked (λ _ t. AreAllImpls (items_of parts) t.items) r → rules.items_in r
           ≡ Ok items → AreAllImpls (items_of parts) items
       by (Ok a) w e = subst (AreAllImpls (items_of parts)) (ok_same a.1.items items e) w.so
       by (Err x) w e = absurd (no_items_ok x e)

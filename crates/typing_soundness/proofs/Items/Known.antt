@@ -18,8 +18,8 @@ use Rattle.typing_rules.specs.Items.{ItemSyn, items_of, item_syns, all_kinds}
 use Rattle.typing_rules.specs.Patterns.{is_unit_kind}
 use Rattle.typing_rules.specs.Promises.{AreReady, KnowsItems, is_plain_name}
 use Rattle.typing_rules.specs.Scope.{kind_at, or_unit}
-use Rattle.typing_rules.specs.Written.{Around, number_of, scalar_named, length_shown, reference_to}
-use Rattle.src_ast.specs.Syntax.{Kind, Unit_, Tuple_, Fields_, Word, Receiver, ByValue, ByShared, ByUnique, Syn, syn, Shape, NamedType, GenericType, DynType, SelfType, ParensType, TupleType, ArrayType, NeverType, RefType, StructItem, EnumItem, VariantDecl, ParamOf, SelfParam, Syns, no_syn, a_syn, list_of}
+use Rattle.typing_rules.specs.Written.{WrittenScope, number_of, scalar_named, length_shown, reference_to}
+use Rattle.src_ast.specs.Syntax.{FieldsKind, Unit_, Tuple_, Fields_, Word, Receiver, ByValue, ByShared, ByUnique, Syn, syn, Shape, NamedType, GenericType, DynType, SelfType, ParensType, TupleType, ArrayType, NeverType, RefType, StructItem, EnumItem, VariantDecl, ParamOf, SelfParam, Syns, no_syn, a_syn, list_of}
 use Rattle.typing_soundness.specs.Closures.{BodySyn, Function, Closure}
 use Rattle.typing_soundness.specs.Met.{IsReceiver, MeansParam, MeanParams, AreMade, behind}
 use Rattle.typing_soundness.specs.Types.{Means, MeansForm, NamesTy, IsTupleOf}
@@ -31,33 +31,33 @@ use Rattle.typing_soundness.proofs.Items.Collected.{AreHeads, all_adts, adts_in,
 -- ---- variants and their kinds
 
 -- of a variant: as many names as fields, and none where it is written without parts
-abbrev IsFit : Kind → Variant → Type 0
+abbrev IsFit : FieldsKind → Variant → Type 0
 IsFit kind v = (length v.field_names ≡ length v.fields) × (IsTrue (is_unit_kind kind) → v.fields ≡ [])
 
-abbrev AreFit : List Kind → List Variant → Type 0
+abbrev AreFit : List FieldsKind → List Variant → Type 0
 AreFit [] [] = Unit {0}
 AreFit (k ∷ ks) (v ∷ vs) = IsFit k v × AreFit ks vs
 AreFit _ _ = ⊥
 
 -- the kinds of the variants of an enum
-abbrev first_of : List (List Kind) → List Kind
+abbrev first_of : List (List FieldsKind) → List FieldsKind
 first_of [] = []
 first_of (ks ∷ kss) = ks
 
 abbrev somewhere : Pos
 somewhere = record { line = 0; col = 0 }
 
-abbrev variant_kinds : Syns → List Kind
+abbrev variant_kinds : Syns → List FieldsKind
 variant_kinds vs = first_of (all_kinds (syn somewhere (EnumItem [] (somewhere, []) vs) ∷ []))
 
 no_length : (tys : List TyId) → length tys ≡ 0 → tys ≡ []
 no_length [] e = refl
 no_length (ty ∷ tys) e = absurd (omega (arith, e))
 
-variant_fit : (kind : Kind) (fields : Syns) (v : Variant) → IsTrue (has_kind kind fields) → IsVariantOf fields v → IsFit kind v
+variant_fit : (kind : FieldsKind) (fields : Syns) (v : Variant) → IsTrue (has_kind kind fields) → IsVariantOf fields v → IsFit kind v
 variant_fit kind fields v h is = (ap length is.1 ∙ names_counted 0 (list_of fields) ∙ sym is.0, λ unit_. by kind fields h unit_ is.0)
   where
-    by : (kind : Kind) (fields : Syns) → IsTrue (has_kind kind fields) → IsTrue (is_unit_kind kind) → length v.fields ≡ length
+    by : (kind : FieldsKind) (fields : Syns) → IsTrue (has_kind kind fields) → IsTrue (is_unit_kind kind) → length v.fields ≡ length
         (list_of fields) → v.fields ≡ []
     by Unit_ no_syn h u e = no_length v.fields e
     by Unit_ (a_syn first rest) h u e = absurd (false≢true h)
@@ -75,12 +75,12 @@ variants_fit (a_syn (syn at _) rest) (x ∷ xs) h are = absurd are
 
 -- ---- structs and enums
 
-pub record IsFitAdt (ks : List Kind) (adt : Adt) : Type 0 where
+pub record IsFitAdt (ks : List FieldsKind) (adt : Adt) : Type 0 where
   pub variants : AreFit ks adt.variants
   pub first : adt.is_enum ≡ false → (v : Variant) × (slice_get adt.variants 0 ≡ Some v)
   pub name : IsTrue (is_plain_name adt.name)
 
-abbrev AreFitAdts : List (List Kind) → List Adt → Type 0
+abbrev AreFitAdts : List (List FieldsKind) → List Adt → Type 0
 AreFitAdts [] [] = Unit {0}
 AreFitAdts (ks ∷ kss) (adt ∷ adts) = IsFitAdt ks adt × AreFitAdts kss adts
 AreFitAdts _ _ = ⊥
@@ -130,16 +130,16 @@ adts_shaped (i ∷ is) h = shaped_with i.item is h.0 (adts_shaped is h.1)
 
 -- ---- by their numbers
 
-fit_at : (kss : List (List Kind)) (adts : List Adt) (n : ℕ) (adt : Adt) → AreFitAdts kss adts → slice_get adts n ≡ Some adt →
-    (ks : List Kind) × (slice_get kss n ≡ Some ks) × IsFitAdt ks adt
+fit_at : (kss : List (List FieldsKind)) (adts : List Adt) (n : ℕ) (adt : Adt) → AreFitAdts kss adts → slice_get adts n ≡ Some adt →
+    (ks : List FieldsKind) × (slice_get kss n ≡ Some ks) × IsFitAdt ks adt
 fit_at [] [] n adt h is = absurd (none-some adt is)
 fit_at [] (a ∷ adts) n adt h is = absurd h
 fit_at (ks ∷ kss) [] n adt h is = absurd h
 fit_at (ks ∷ kss) (a ∷ adts) zero adt h is = (ks, refl, subst (IsFitAdt ks) (same_Some a adt is) h.0)
 fit_at (ks ∷ kss) (a ∷ adts) (suc n) adt h is = fit_at kss adts n adt h.1 is
 
-variant_fit_at : (ks : List Kind) (vs : List Variant) (n : ℕ) (v : Variant) → AreFit ks vs → slice_get vs n ≡ Some v → (k :
-    Kind) × (slice_get ks n ≡ Some k) × IsFit k v
+variant_fit_at : (ks : List FieldsKind) (vs : List Variant) (n : ℕ) (v : Variant) → AreFit ks vs → slice_get vs n ≡ Some v → (k :
+    FieldsKind) × (slice_get ks n ≡ Some k) × IsFit k v
 variant_fit_at [] [] n v h is = absurd (none-some v is)
 variant_fit_at [] (x ∷ vs) n v h is = absurd h
 variant_fit_at (k ∷ ks) [] n v h is = absurd h
@@ -152,7 +152,7 @@ variant_fit_at (k ∷ ks) (x ∷ vs) (suc n) v h is = variant_fit_at ks vs n v h
 abbrev IsNoClosure : ItemTable → TyId → Type 0
 IsNoClosure items id = (ty : Ty) × (type_at items id ≡ Some ty) × (closure_in ty ≡ None)
 
-module _ (items : ItemTable) (all : AreReady items) (around : Around) where
+module _ (items : ItemTable) (all : AreReady items) (around : WrittenScope) where
   named_plain : (name : Word) (adt : Option ℕ) (scalar : Option TyId) (id : TyId) → scalar_named name ≡ scalar → NamesTy items
       adt scalar id → IsNoClosure items id
   named_plain name adt (Some ty) id is h =
@@ -235,11 +235,11 @@ items_known parts items heads all shape = record {
         subst (λ kss. AreFitAdts kss items.adts) (kinds_of_text (items_of parts)) (adts_fit (all_adts (items_of parts))
         items.adts (adts_shaped (items_of parts) shape) heads.adts)
 
-    fit : (n : ℕ) (def : Adt) → slice_get items.adts n ≡ Some def → (ks : List Kind) × (slice_get (all_kinds (item_syns
+    fit : (n : ℕ) (def : Adt) → slice_get items.adts n ≡ Some def → (ks : List FieldsKind) × (slice_get (all_kinds (item_syns
         (items_of parts))) n ≡ Some ks) × IsFitAdt ks def
     fit n def at = fit_at (all_kinds (item_syns (items_of parts))) items.adts n def fits at
 
-    struct_at : (n : ℕ) (def : Adt) → slice_get items.adts n ≡ Some def → def.is_enum ≡ false → (ks : List Kind) × (slice_get
+    struct_at : (n : ℕ) (def : Adt) → slice_get items.adts n ≡ Some def → def.is_enum ≡ false → (ks : List FieldsKind) × (slice_get
         (all_kinds (item_syns (items_of parts))) n ≡ Some ks) × IsFitAdt ks def → (v : Variant) × (variant_at items n 0 ≡
         Some v)
     struct_at n def at plain f =
@@ -255,14 +255,14 @@ items_known parts items heads all shape = record {
         by None is at = absurd (none-some v at)
         by (Some def) is at = (def, is, at)
 
-    kind_found : (n variant : ℕ) (v : Variant) → variant_at items n variant ≡ Some v → (k : Kind) × (kind_at (all_kinds
+    kind_found : (n variant : ℕ) (v : Variant) → variant_at items n variant ≡ Some v → (k : FieldsKind) × (kind_at (all_kinds
         (item_syns (items_of parts))) n variant ≡ k) × IsFit k v
     kind_found n variant v at =
         let d = found n variant v at in
         let f = fit n d.0 d.1 in
         let k = variant_fit_at f.0 d.0.variants variant v f.2.variants d.2 in (
           k.0,
-          ap or_unit (ap (λ o. option_and_then (λ (ks : List Kind). slice_get ks variant) o) f.1 ∙ k.1),
+          ap or_unit (ap (λ o. option_and_then (λ (ks : List FieldsKind). slice_get ks variant) o) f.1 ∙ k.1),
           k.2,
         )
 

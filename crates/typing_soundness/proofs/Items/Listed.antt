@@ -1,7 +1,7 @@
 -- The functions and methods among the bodies that a text lists are those of its items.
 use Rattle.std.proofs.Common.{◌≡◌, List, [], ◌∷◌, ◌++◌, map, Option, Some, None, refl, ap, sym, ◌∙◌}
 use Rattle.typing_rules.specs.Items.{ItemSyn, item_syns, impl_owner, full_name}
-use Rattle.typing_rules.specs.Written.{Around}
+use Rattle.typing_rules.specs.Written.{WrittenScope}
 use Rattle.src_ast.specs.Syntax.{Word, Syn, syn, Shape, Minus, Bang, Star, Ampersand, Calculate, Compare, Both, Either, Store, CallOf, MethodOf, FieldOf, PartOf, ElementOf, StructOf, FieldInit, Parens, TupleOf, ArrayOf, Braces, IfElse, IfLetElse, MatchOn, ArmOf, LoopOf, WhileOf, WhileLetOf, BreakOf, ReturnOf, MoveOf, LetOf, Semi, ImplItem, FnItem, Syns, no_syn, a_syn, list_of, MaybeSyn, nothing, just}
 use Rattle.typing_soundness.specs.Closures.{BodySyn, Function, Closure, closures_of, closures_in, closures_among, closures_if_any, functions_text}
 use Rattle.typing_soundness.specs.Heads.{bodies_text, inner_text, TellBodies}
@@ -25,7 +25,7 @@ all_functions [] = []
 all_functions (i ∷ is) = functions_in i ++ all_functions is
 
 -- an expression has closures alone
-module _ (owner : Option Word) (around : Around) where
+module _ (owner : Option Word) (around : WrittenScope) where
   mutual
     silent : (e : Syn) (rest : List BodySyn) → names_in owner (closures_of around e rest) ≡ names_in owner rest
     silent (syn at form) rest = silent_form form rest
@@ -80,7 +80,7 @@ module _ (owner : Option Word) (around : Around) where
   called_are (syn at (MoveOf captures params answer body) ∷ bs) = called_are bs
   called_are (syn at _ ∷ bs) = called_are bs
 
-methods_are : (around : Around) (owner : Word) (ms : List Syn) → names_in (Some owner) (functions_text around ms []) ≡ map
+methods_are : (around : WrittenScope) (owner : Word) (ms : List Syn) → names_in (Some owner) (functions_text around ms []) ≡ map
     pair_name (pairs_of owner ms)
 methods_are around owner [] = refl
 methods_are around owner (syn at (FnItem name params answer block) ∷ ms) =
@@ -88,7 +88,7 @@ methods_are around owner (syn at (FnItem name params answer block) ∷ ms) =
     methods_are around owner ms)
 methods_are around owner (syn at _ ∷ ms) = methods_are around owner ms
 
-inner_are : (around : Around) (i : Syn) → names_in (impl_owner i) (inner_text around i []) ≡ functions_in i
+inner_are : (around : WrittenScope) (i : Syn) → names_in (impl_owner i) (inner_text around i []) ≡ functions_in i
 inner_are around (syn at (ImplItem trait_ name methods)) = methods_are around name.1 (list_of methods)
 inner_are around (syn at (FnItem name params answer block)) =
     ap (λ ws. name.1 ∷ ws) (silent_if_any None around block [])
@@ -99,7 +99,7 @@ functions_join [] gs = refl
 functions_join (Some f ∷ fs) gs = ap (λ ws. f ∷ ws) (functions_join fs gs)
 functions_join (None ∷ fs) gs = functions_join fs gs
 
-pub functions_are : (around : Around) (is : List ItemSyn) → TellBodies is → functions (all_called is) ≡ all_functions (item_syns
+pub functions_are : (around : WrittenScope) (is : List ItemSyn) → TellBodies is → functions (all_called is) ≡ all_functions (item_syns
     is)
 functions_are around [] h = refl
 functions_are around (i ∷ is) h =

@@ -17,7 +17,7 @@ use Rattle.mir_ty.proofs.ListLemmas.{slice_get-Contains, Contains-slice_get}
 use Rattle.src_tree.specs.Layout.{Parts}
 use Rattle.typed_tree.specs.Tree.{ProgramTree}
 use Rattle.well_typed.specs.Types.{is_unit, is_unit_ty}
-use Rattle.typing_rules.specs.Check.{State, Broken, obeys, each_checked}
+use Rattle.typing_rules.specs.Check.{TypingState, Broken, obeys, each_checked}
 use Rattle.typing_rules.specs.Collected as rules
 use Rattle.typing_rules.specs.Items.{ItemSyn, items_of, item_syns, body_paths, body_path, impl_owner, full_name}
 use Rattle.typing_rules.specs.Program as checks
@@ -27,7 +27,7 @@ use Rattle.typing_rules.specs.Written as types
 use Rattle.typing_rules.proofs.Sound.Later.{passes_got, passes_by}
 use Rattle.typing_rules.proofs.Sound.Places.{contains_cases}
 use Rattle.src_ast.specs.Syntax.{Word, Named, Syn, syn, Shape, Minus, Bang, Star, Ampersand, Calculate, Compare, Both, Either, Store, CallOf, MethodOf, FieldOf, PartOf, ElementOf, StructOf, FieldInit, Parens, TupleOf, ArrayOf, Braces, IfElse, IfLetElse, MatchOn, ArmOf, LoopOf, WhileOf, WhileLetOf, BreakOf, ReturnOf, MoveOf, LetOf, Semi, ImplItem, FnItem, Syns, no_syn, a_syn, list_of, MaybeSyn, nothing, just}
-use Rattle.typing_soundness.specs.Closures.{BodySyn, Function, Closure, Head, closures_of, closures_in, closures_among, closures_if_any, functions_text}
+use Rattle.typing_soundness.specs.Closures.{BodySyn, Function, Closure, WrittenHead, closures_of, closures_in, closures_among, closures_if_any, functions_text}
 use Rattle.typing_soundness.specs.Heads.{IsHeadOf, function_name, body_text, bodies_text, inner_text, TellBodies}
 use Rattle.typing_soundness.specs.Items.{is_main}
 use Rattle.typing_soundness.specs.Met.{MeanParams, AreMade, behind}
@@ -109,8 +109,8 @@ method_is_no_main owner name e =
 -- ---- closures among the bodies of a text
 
 -- what one closure more keeps, all closures of an expression keep
-module _ (Kept : List BodySyn → Type 0) (closure : (head : Head) (rest : List BodySyn) → Kept rest → Kept (Closure head ∷ rest))
-    (around : types.Around) where
+module _ (Kept : List BodySyn → Type 0) (closure : (head : WrittenHead) (rest : List BodySyn) → Kept rest → Kept (Closure head ∷ rest))
+    (around : types.WrittenScope) where
   mutual
     each_closure : (e : Syn) (rest : List BodySyn) → Kept rest → Kept (closures_of around e rest)
     each_closure (syn at form) rest p = each_in form rest p
@@ -181,12 +181,12 @@ ruled : (b k : Bool) → (not b || k) ≡ true → b ≡ true → k ≡ true
 ruled true k h e = h
 ruled false k h e = absurd (false≢true e)
 
-obeyed_state : {P : State → Type 0} (rule : Rule) (at : Pos) (b : Bool) (s : State) → (IsTrue b → P s) → Walked (λ _ t. P t)
+obeyed_state : {P : TypingState → Type 0} (rule : Rule) (at : Pos) (b : Bool) (s : TypingState) → (IsTrue b → P s) → Walked (λ _ t. P t)
     (obeys rule at b s)
 obeyed_state rule at true s h = walk_ends (h refl)
 obeyed_state rule at false s h = record { so = tt }
 
-main_ruled : (at : Pos) (name : Named) (params : Syns) (answer block : MaybeSyn) (t : State) → Walked (λ _ u. MainItem u.items
+main_ruled : (at : Pos) (name : Named) (params : Syns) (answer block : MaybeSyn) (t : TypingState) → Walked (λ _ u. MainItem u.items
     (syn at (FnItem name params answer block))) (checks.main_rule at name.1 params t.items (option_and_then (slice_get
     t.items.bodies) (body_named t.items name.1)) t)
 main_ruled at name params answer block t =
@@ -210,7 +210,7 @@ main_ruled at name params answer block t =
         let k = and_parts (checks.count_of params == 0) _ (ruled (bytes_eq name.1 main) _ ok called) in
         (no_params params k.0, subst (λ (x : Sig). IsTrue (is_unit t.items x.result)) same k.1)
 
-main_kept : (env : Env) (before : checks.Before) (i : Syn) (s : State) → Walked (λ _ t. MainItem t.items i)
+main_kept : (env : Env) (before : checks.Before) (i : Syn) (s : TypingState) → Walked (λ _ t. MainItem t.items i)
     (checks.item_rules env before i s)
 main_kept env before (syn at (FnItem name params answer block)) s =
     walk (whatever {P = Unit {0}} (checks.head_rules env params answer s) tt) λ _ t _. walk {f = λ _ u. Ok (before, u)}
@@ -225,12 +225,12 @@ main_later old new types bodies (syn at (FnItem name params answer block)) h =
     (k.0, passes_by is_unit_ty (type_at new sig.result) g.0 (types sig.result.0 g.0 g.1) g.2)
 main_later old new types bodies (syn at _) h = h
 
-record MainsKept (is : List Syn) (s t : State) : Type 0 where
+record MainsKept (is : List Syn) (s t : TypingState) : Type 0 where
   types : HaveTypes s.items t.items
   bodies : t.items.bodies ≡ s.items.bodies
   mains : All (MainItem t.items) is
 
-mains_kept : (env : Env) (before : checks.Before) (is : List Syn) (s : State) → Walked (λ _ t. MainsKept is s t)
+mains_kept : (env : Env) (before : checks.Before) (is : List Syn) (s : TypingState) → Walked (λ _ t. MainsKept is s t)
     (checks.all_items env before is s)
 mains_kept env before [] s = walk_ends (record { types = λ n ty h. h; bodies = refl; mains = tt })
 mains_kept env before (i ∷ is) s =
@@ -254,7 +254,7 @@ abbrev pub IsOwned : rules.Known → ItemSyn → Type 0
 IsOwned k i = IsOwner k (impl_owner i.item)
 
 module _ (items : ItemTable) (k : rules.Known) where
-  closures_text : (around : types.Around) (block : MaybeSyn) (rest : List BodySyn) → All (MainText items) rest → All (MainText
+  closures_text : (around : types.WrittenScope) (block : MaybeSyn) (rest : List BodySyn) → All (MainText items) rest → All (MainText
       items) (closures_if_any around block rest)
   closures_text around block rest p = each_if_any (All (MainText items)) (λ head texts q. (tt, q)) around block rest p
 
@@ -281,7 +281,7 @@ module _ (items : ItemTable) (k : rules.Known) where
       subst (λ f. All (MainText items) (f (listed_text k is []))) (sym (tell.0 (all_names k (impl_owner i.item))))
       (item_main i.item h.0 own.0 (listed_text k is []) (mains_listed is h.1 own.1 tell.1))
 
-pub owners_known : (k : rules.Known) (c : rules.Count) (is : List ItemSyn) (s : State) → Walked (λ _ t. All (IsOwned k)
+pub owners_known : (k : rules.Known) (c : rules.Count) (is : List ItemSyn) (s : TypingState) → Walked (λ _ t. All (IsOwned k)
     is) (rules.heads_collected k c is s)
 owners_known k c [] s = walk_ends tt
 owners_known k c (i ∷ is) s =
@@ -292,18 +292,18 @@ owners_known k c (i ∷ is) s =
 
 -- a text among others
 abbrev Called : List BodySyn → Type 0
-Called texts = (head : Head) × Contains texts (Function head) × (function_name head ≡ main)
+Called texts = (head : WrittenHead) × Contains texts (Function head) × (function_name head ≡ main)
 
 called_behind : (text : BodySyn) (texts : List BodySyn) → Called texts → Called (text ∷ texts)
 called_behind text texts (head, has, e) = (head, (suc has.0, omega (arith, has.1), has.2), e)
 
 module _ (k : rules.Known) where
-  over_body : (around : types.Around) (b : Syn) (rest : List BodySyn) → Called rest → Called (body_text around b rest)
+  over_body : (around : types.WrittenScope) (b : Syn) (rest : List BodySyn) → Called rest → Called (body_text around b rest)
   over_body around (syn at (FnItem name params answer block)) rest c = called_behind _ rest c
   over_body around (syn at (MoveOf captures params answer body)) rest c = called_behind _ rest c
   over_body around (syn at _) rest c = c
 
-  over_bodies : (around : types.Around) (bs : List Syn) (rest : List BodySyn) → Called rest → Called (bodies_text around bs
+  over_bodies : (around : types.WrittenScope) (bs : List Syn) (rest : List BodySyn) → Called rest → Called (bodies_text around bs
       rest)
   over_bodies around [] rest c = c
   over_bodies around (b ∷ bs) rest c = over_body around b (bodies_text around bs rest) (over_bodies around bs rest c)
@@ -357,7 +357,7 @@ path_there ws w h = by (types.number_of ws w) refl h
         let at = position-Some (bytes_eq w) ws n [] e in
         Contains-slice_get ws n w (slice_get-get_or ws n [] at.0 ∙ ap Some (sym (same_word w _ at.1)))
 
-collecting_main : (is : List ItemSyn) (end : Pos) (s : State) → Walked (λ _ t. Contains (body_paths is) main × All (IsOwned (rules.known_of is)) is) (rules.collecting is end s)
+collecting_main : (is : List ItemSyn) (end : Pos) (s : TypingState) → Walked (λ _ t. Contains (body_paths is) main × All (IsOwned (rules.known_of is)) is) (rules.collecting is end s)
 collecting_main is end s =
     walk (whatever {P = Unit {0}} (rules.names_differ (filter_map rules.item_name (item_syns is)) [] s) tt) λ _ t _. walk
     (owners_known (rules.known_of is) (record { outer = []; in_outer = 0; closures = 0 }) is t) λ _ u own. walk (whatever {P
@@ -402,7 +402,7 @@ module _ (parts : Parts Pos) (items : ItemTable) (p : ProgramTree) (h : IsAccept
   told : Contains (body_paths (items_of parts)) main × All (IsOwned k) (items_of parts)
   told = by _ (collecting_main (items_of parts) h.end (rules.starting_with rules.no_items)) h.collected
     where
-      by : (r : Result (Unit {0} × State) Broken) → Walked (λ _ t. Contains (body_paths (items_of parts)) main × All (IsOwned k) (items_of parts)) r → rules.items_in r ≡ Ok items → Contains (body_paths (items_of parts))
+      by : (r : Result (Unit {0} × TypingState) Broken) → Walked (λ _ t. Contains (body_paths (items_of parts)) main × All (IsOwned k) (items_of parts)) r → rules.items_in r ≡ Ok items → Contains (body_paths (items_of parts))
           main × All (IsOwned k) (items_of parts)
       by (Ok a) w e = w.so
       by (Err x) w e = absurd (no_items_ok x e)
@@ -411,7 +411,7 @@ module _ (parts : Parts Pos) (items : ItemTable) (p : ProgramTree) (h : IsAccept
   kept = by _ (mains_kept (checks.outermost texts) (record { methods = []; impls = [] }) texts (rules.starting_with items))
       h.checked
     where
-      by : (r : Result (Unit {0} × State) Broken) → Walked (λ _ t. MainsKept texts (rules.starting_with items) t) r →
+      by : (r : Result (Unit {0} × TypingState) Broken) → Walked (λ _ t. MainsKept texts (rules.starting_with items) t) r →
           checks.program_in r ≡ Ok p → All (MainItem p.items) texts
       by (Ok a) w e = subst (λ (q : ProgramTree). All (MainItem q.items) texts) (same_ok _ p e) w.so.mains
       by (Err x) w e = absurd (no_ok x p e)
@@ -420,7 +420,7 @@ module _ (parts : Parts Pos) (items : ItemTable) (p : ProgramTree) (h : IsAccept
   listed = mains_listed p.items k (items_of parts) kept told.1 h.text.listed
 
   -- the head of the function
-  found : (head : Head) (n : ℕ) → slice_get (listed_text k (items_of parts) []) n ≡ Some (Function head) → function_name head
+  found : (head : WrittenHead) (n : ℕ) → slice_get (listed_text k (items_of parts) []) n ≡ Some (Function head) → function_name head
       ≡ main → (m : ℕ) × (sig : Sig) × (body_named items main ≡ Some m) × (slice_get items.bodies m ≡ Some sig) × (sig.name ≡
       main)
   found head n at e =

@@ -10,9 +10,9 @@ use Rattle.mir_ty.specs.AreItems.{AreDistinct}
 use Rattle.mir_ty.specs.ItemTable.{ItemTable, type_at}
 use Rattle.mir_ty.proofs.ListLemmas.{slice_get-append_left, slice_get-last}
 use Rattle.well_typed.specs.Items.{is_equal}
-use Rattle.typing_rules.specs.Check.{State, Broken, interned, interned_at}
+use Rattle.typing_rules.specs.Check.{TypingState, Broken, interned, interned_at}
 use Rattle.typing_rules.specs.Written as rules
-use Rattle.typing_rules.specs.Written.{Around}
+use Rattle.typing_rules.specs.Written.{WrittenScope}
 use Rattle.src_ast.specs.Syntax.{Syn, syn, Shape, NamedType, GenericType, DynType, SelfType, ParensType, TupleType, ArrayType, NeverType, RefType, Syns, no_syn, a_syn}
 use Rattle.typing_rules.proofs.Sound.Interned.{found_at}
 use Rattle.typing_soundness.specs.Types.{HaveTypes, NamesTy, IsTupleOf, Means, MeansForm, MeanAll}
@@ -20,7 +20,7 @@ use Rattle.typing_soundness.proofs.Walking.Later.{means_later, all_later}
 use Rattle.typing_soundness.specs.Walks.{Walked}
 use Rattle.typing_soundness.proofs.Walking.Steps.{walk, walk_map, walk_obeyed, walk_found, walk_ends}
 
-module _ (around : Around) where
+module _ (around : WrittenScope) where
   -- ---- one number
 
   module _ (items : ItemTable) (distinct : AreDistinct items.types) where
@@ -79,7 +79,7 @@ module _ (around : Around) where
 pub have_refl : (items : ItemTable) → HaveTypes items items
 have_refl items n ty h = h
 
-pub interned_means : (ty : Ty) (s u : State) → HaveTypes u.items s.items → Walked (λ id t. HaveTypes u.items
+pub interned_means : (ty : Ty) (s u : TypingState) → HaveTypes u.items s.items → Walked (λ id t. HaveTypes u.items
     t.items × HaveTypes s.items t.items × (type_at t.items id ≡ Some ty)) (interned ty s)
 interned_means ty s u e = by (position_of (is_equal ty) s.items.types) refl
   where
@@ -92,27 +92,27 @@ interned_means ty s u e = by (position_of (is_equal ty) s.items.types) refl
       slice_get-last s.items.types ty,
     )
 
-module _ (around : Around) where
-  abbrev Given : Syn → State → TyId → State → Type 0
+module _ (around : WrittenScope) where
+  abbrev Given : Syn → TypingState → TyId → TypingState → Type 0
   Given x s id t = HaveTypes s.items t.items × Means around t.items x id
 
-  named_given : (at : Pos) (adt : Option ℕ) (scalar : Option TyId) (s : State) → Walked (λ id t. HaveTypes s.items
+  named_given : (at : Pos) (adt : Option ℕ) (scalar : Option TyId) (s : TypingState) → Walked (λ id t. HaveTypes s.items
       t.items × NamesTy t.items adt scalar id) (rules.named_by at adt scalar s)
   named_given at adt (Some ty) s = walk_ends (have_refl s.items, refl)
   named_given at None None s = record { so = tt }
   named_given at (Some n) None s =
       walk_map (interned_means (Ty.Adt n) s s (have_refl s.items)) λ id t h. (h.0, h.2)
 
-  tuple_given : (tys : List TyId) (s u : State) → HaveTypes u.items s.items → Walked (λ id t. HaveTypes
+  tuple_given : (tys : List TyId) (s u : TypingState) → HaveTypes u.items s.items → Walked (λ id t. HaveTypes
       u.items t.items × HaveTypes s.items t.items × IsTupleOf t.items tys id) (rules.tuple_by tys s)
   tuple_given [] s u e = walk_ends (e, have_refl s.items, refl)
   tuple_given (t ∷ ts) s u e = interned_means (Ty.Tuple (t ∷ ts)) s u e
 
   mutual
-    pub written_given : (x : Syn) (s : State) → Walked (Given x s) (rules.written around x s)
+    pub written_given : (x : Syn) (s : TypingState) → Walked (Given x s) (rules.written around x s)
     written_given (syn at form) s = form_given at form s
 
-    form_given : (at : Pos) (form : Shape) (s : State) → Walked (λ id t. HaveTypes s.items t.items × MeansForm around
+    form_given : (at : Pos) (form : Shape) (s : TypingState) → Walked (λ id t. HaveTypes s.items t.items × MeansForm around
         t.items form id) (rules.written_form around at form s)
     form_given at (NamedType name) s =
         named_given at (rules.number_of around.adts name) (rules.scalar_named name) s
@@ -173,7 +173,7 @@ module _ (around : Around) where
         )
     form_given at _ s = record { so = tt }
 
-    all_given : (xs : Syns) (s : State) → Walked (λ tys t. HaveTypes s.items t.items × MeanAll around t.items xs tys)
+    all_given : (xs : Syns) (s : TypingState) → Walked (λ tys t. HaveTypes s.items t.items × MeanAll around t.items xs tys)
         (rules.all_written around xs s)
     all_given no_syn s = walk_ends (have_refl s.items, tt)
     all_given (a_syn first rest) s =
@@ -184,10 +184,10 @@ module _ (around : Around) where
         )
 
   mutual
-    pub param_given : (x : Syn) (s : State) → Walked (Given x s) (rules.written_param around x s)
+    pub param_given : (x : Syn) (s : TypingState) → Walked (Given x s) (rules.written_param around x s)
     param_given (syn at form) s = param_form_given at form s
 
-    param_form_given : (at : Pos) (form : Shape) (s : State) → Walked (λ id t. HaveTypes s.items t.items × MeansForm
+    param_form_given : (at : Pos) (form : Shape) (s : TypingState) → Walked (λ id t. HaveTypes s.items t.items × MeansForm
         around t.items form id) (rules.written_param_form around at form s)
     param_form_given at (ParensType inside) s = param_given inside s
     param_form_given at (RefType unique to) s =
@@ -197,11 +197,11 @@ module _ (around : Around) where
 
 -- ---- the laws
 
-so_at : {A : Type 0} (P : A → State → Type 0) (r : Result (A × State) Broken) (a : A × State) → Walked P r → r ≡ Ok a → P
+so_at : {A : Type 0} (P : A → TypingState → Type 0) (r : Result (A × TypingState) Broken) (a : A × TypingState) → Walked P r → r ≡ Ok a → P
     a.0 a.1
 so_at P r a w e = (subst (Walked P) e w).so
 
-pub one_number : (around : Around) (limits : Bool) (e : Syn) (s u : State) (first second : TyId × State) → rules.written
+pub one_number : (around : WrittenScope) (limits : Bool) (e : Syn) (s u : TypingState) (first second : TyId × TypingState) → rules.written
     around e s ≡ Ok first → rules.written (record around { has_limits = limits }) e u ≡ Ok second → HaveTypes
     first.1.items u.items → AreDistinct second.1.items.types → first.0 ≡ second.0
 one_number around limits e s u first second is_first is_second later distinct =
@@ -215,7 +215,7 @@ one_number around limits e s u first second is_first is_second later distinct =
     as_ : Means (record around { has_limits = limits }) second.1.items e second.0 → Means around second.1.items e second.0
     as_ h = h
 
-pub one_param_number : (around : Around) (limits : Bool) (e : Syn) (s u : State) (first second : TyId × State) →
+pub one_param_number : (around : WrittenScope) (limits : Bool) (e : Syn) (s u : TypingState) (first second : TyId × TypingState) →
     rules.written_param around e s ≡ Ok first → rules.written_param (record around { has_limits = limits }) e u ≡ Ok
     second → HaveTypes first.1.items u.items → AreDistinct second.1.items.types → first.0 ≡ second.0
 one_param_number around limits e s u first second is_first is_second later distinct =

@@ -6,7 +6,7 @@ use Rattle.std.proofs.lemmas.Bool.{false≢true, and_from}
 use Rattle.std.proofs.lemmas.List.{map-append}
 use Rattle.std.proofs.lemmas.Slice.Eq.{bytes_eq-Decides}
 use Rattle.mir_base.specs.declared.rule.Rule.{Rule}
-use Rattle.typing_rules.specs.Check.{State}
+use Rattle.typing_rules.specs.Check.{TypingState}
 use Rattle.typing_rules.specs.Items.{full_name}
 use Rattle.typing_rules.specs.Program as checks
 use Rattle.typing_rules.specs.Scope.{Env, adt_named, body_named}
@@ -51,7 +51,7 @@ behind (p ∷ ps) seen = behind ps (p ∷ seen)
 abbrev IsKept : checks.Seen → List Pair → checks.Seen → Type 0
 IsKept seen ps next = PairsKept seen ps × (behind ps seen ≡ next)
 
-heads_kept : (env : Env) (trait_ : Option Named) (owner : Word) (seen : checks.Seen) (ms : List Syn) (s : State) → Walked (λ next
+heads_kept : (env : Env) (trait_ : Option Named) (owner : Word) (seen : checks.Seen) (ms : List Syn) (s : TypingState) → Walked (λ next
     t. IsKept seen (pairs_of owner ms) next) (checks.method_heads env trait_ owner seen ms s)
 heads_kept env trait_ owner seen [] s = walk_ends (tt, refl)
 heads_kept env trait_ owner seen (syn at (FnItem name params answer block) ∷ ms) s =
@@ -60,7 +60,7 @@ heads_kept env trait_ owner seen (syn at (FnItem name params answer block) ∷ m
     _. walk_map (heads_kept env trait_ owner ((owner, name.1) ∷ seen) ms t) λ next u k. ((h, k.0), k.1)
 heads_kept env trait_ owner seen (syn at _ ∷ ms) s = record { so = tt }
 
-item_kept : (env : Env) (before : checks.Before) (i : Syn) (s : State) → Walked (λ next t. IsKept before.methods (pairs_in i)
+item_kept : (env : Env) (before : checks.Before) (i : Syn) (s : TypingState) → Walked (λ next t. IsKept before.methods (pairs_in i)
     next.methods) (checks.item_rules env before i s)
 item_kept env before (syn at (StructItem ds name kind fs)) s =
     walk (whatever {P = Unit {0}} (checks.fields (checks.in_impl env (adt_named s.items name.1)) [] (list_of fs) s) tt) λ _ t
@@ -84,7 +84,7 @@ abbrev pub ItemsKept : checks.Seen → List Syn → Type 0
 ItemsKept seen [] = Unit {0}
 ItemsKept seen (i ∷ is) = PairsKept seen (pairs_in i) × ItemsKept (behind (pairs_in i) seen) is
 
-pub items_kept : (env : Env) (before : checks.Before) (is : List Syn) (s : State) → Walked (λ a t. ItemsKept before.methods is)
+pub items_kept : (env : Env) (before : checks.Before) (is : List Syn) (s : TypingState) → Walked (λ a t. ItemsKept before.methods is)
     (checks.all_items env before is s)
 items_kept env before [] s = walk_ends tt
 items_kept env before (i ∷ is) s =

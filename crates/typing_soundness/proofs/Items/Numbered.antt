@@ -14,7 +14,7 @@ use Rattle.mir_ty.specs.ItemTable.{ItemTable}
 use Rattle.src_tree.specs.Layout.{Parts}
 use Rattle.typed_tree.specs.Tree.{ProgramTree}
 use Rattle.well_typed.specs.Names.{are_distinct, is_among, is_word}
-use Rattle.typing_rules.specs.Check.{State, Broken, each_checked, obeys}
+use Rattle.typing_rules.specs.Check.{TypingState, Broken, each_checked, obeys}
 use Rattle.typing_rules.specs.Collected as rules
 use Rattle.typing_rules.specs.Items.{ItemSyn, items_of, item_syns, adt_names, trait_names, body_paths, body_path, method_path, full_name, impl_owner}
 use Rattle.typing_rules.specs.Program as checks
@@ -22,7 +22,7 @@ use Rattle.typing_rules.specs.Promises.{Extends}
 use Rattle.typing_rules.specs.Scope.{body_named, method_word}
 use Rattle.typing_rules.specs.Written as types
 use Rattle.src_ast.specs.Syntax.{Word, Named, Syn, syn, StructItem, EnumItem, TraitItem, ImplItem, FnItem, Syns, list_of, MaybeSyn}
-use Rattle.typing_soundness.specs.Closures.{BodySyn, Function, Closure, Head, functions_text}
+use Rattle.typing_soundness.specs.Closures.{BodySyn, Function, Closure, WrittenHead, functions_text}
 use Rattle.typing_soundness.specs.Heads.{IsHeadOf, owner_of, inner_text}
 use Rattle.typing_soundness.specs.Met.{MeanParams}
 use Rattle.typing_soundness.specs.Program.{IsAccepted}
@@ -108,11 +108,11 @@ IsTraitKnown k (syn at (ImplItem (Some trait_) name methods)) =
 IsTraitKnown k (syn at (ImplItem None name methods)) = IsTrue (is_some (types.number_of k.adts name.1))
 IsTraitKnown k (syn at _) = Unit {0}
 
-obeyed_so : {P : Type 0} (rule : Rule) (at : Pos) (b : Bool) (s : State) → (IsTrue b → P) → Walked (λ _ t. P) (obeys rule at b s)
+obeyed_so : {P : Type 0} (rule : Rule) (at : Pos) (b : Bool) (s : TypingState) → (IsTrue b → P) → Walked (λ _ t. P) (obeys rule at b s)
 obeyed_so rule at true s h = walk_ends (h refl)
 obeyed_so rule at false s h = record { so = tt }
 
-impl_known : (k : rules.Known) (i : Syn) (s : State) → Walked (λ _ t. IsTraitKnown k i) (rules.item_head k i s)
+impl_known : (k : rules.Known) (i : Syn) (s : TypingState) → Walked (λ _ t. IsTraitKnown k i) (rules.item_head k i s)
 impl_known k (syn at (ImplItem (Some trait_) name methods)) s =
     walk_obeyed Rule.T01 trait_.0 (rules.is_drop trait_.1 || is_some (types.number_of k.traits trait_.1)) _ λ h. obeyed_so
     Rule.T01 name.0 (is_some (types.number_of k.adts name.1)) s λ g. (h, g)
@@ -120,7 +120,7 @@ impl_known k (syn at (ImplItem None name methods)) s =
     obeyed_so Rule.T01 name.0 (is_some (types.number_of k.adts name.1)) s λ g. g
 impl_known k (syn at _) s = whatever _ tt
 
-impls_known : (k : rules.Known) (c : rules.Count) (is : List ItemSyn) (s : State) → Walked (λ _ t. All (λ i. IsTraitKnown k
+impls_known : (k : rules.Known) (c : rules.Count) (is : List ItemSyn) (s : TypingState) → Walked (λ _ t. All (λ i. IsTraitKnown k
     i.item) is) (rules.heads_collected k c is s)
 impls_known k c [] s = walk_ends tt
 impls_known k c (i ∷ is) s =
@@ -132,7 +132,7 @@ record IsSeen (is : List ItemSyn) : Type 0 where
   owned : All (IsOwned (rules.known_of is)) is
   known : All (λ i. IsTraitKnown (rules.known_of is) i.item) is
 
-collecting_seen : (is : List ItemSyn) (end : Pos) (s : State) → Walked (λ _ t. IsSeen is) (rules.collecting is end s)
+collecting_seen : (is : List ItemSyn) (end : Pos) (s : TypingState) → Walked (λ _ t. IsSeen is) (rules.collecting is end s)
 collecting_seen is end s =
     walk (whatever {P = Unit {0}} (rules.names_differ (filter_map rules.item_name (item_syns is)) [] s) tt) λ _ t _. walk
     (both_tell (rules.heads_collected k c is t) (all_bodies_seen k c is t) (both_tell (rules.heads_collected k c is t)
@@ -152,7 +152,7 @@ module _ (items : ItemTable) (k : rules.Known) where
   IsTraitWord (Some trait_) = IsTrue (is_word trait_.1)
 
   -- a method with what is asked of it; a function, whose name is a word
-  abbrev Fact : Syn → Head → Type 0
+  abbrev Fact : Syn → WrittenHead → Type 0
   Fact (syn at (ImplItem trait_ owner methods)) head =
       (head.around ≡ all_names k (Some owner.1)) × IsTrue (is_word owner.1) × IsTraitWord trait_ × IsTrue (checks.has_head items
       trait_ owner.1 head.name head.params) × IsOwner k (Some owner.1)
@@ -226,7 +226,7 @@ module _ (parts : Parts Pos) (items : ItemTable) (p : ProgramTree) (h : IsAccept
   seen : IsSeen (items_of parts)
   seen = by _ (collecting_seen (items_of parts) h.end (rules.starting_with rules.no_items)) h.collected
     where
-      by : (r : Result (Unit {0} × State) Broken) → Walked (λ _ t. IsSeen (items_of parts)) r → rules.items_in r ≡ Ok items →
+      by : (r : Result (Unit {0} × TypingState) Broken) → Walked (λ _ t. IsSeen (items_of parts)) r → rules.items_in r ≡ Ok items →
           IsSeen (items_of parts)
       by (Ok a) w e = w.so
       by (Err x) w e = absurd (no_items_ok x e)
@@ -250,7 +250,7 @@ module _ (parts : Parts Pos) (items : ItemTable) (p : ProgramTree) (h : IsAccept
         is_begun (byte ∷ bytes) = true
 
     -- the head of a text at a number
-    head_at : (n : ℕ) (head : Head) → slice_get (listed_text k all []) n ≡ Some (Function head) → head.around ≡
+    head_at : (n : ℕ) (head : WrittenHead) → slice_get (listed_text k all []) n ≡ Some (Function head) → head.around ≡
         all_names k (Some owner) → IsOwner k (Some owner) → head.name ≡ name → (of : Named) → of.1 ≡ trait_ → IsTrue
         (checks.has_head p.items (Some of) owner name head.params) → IsMethod p.items k owner trait_ name n
     head_at n head at around own named of of_trait asked =

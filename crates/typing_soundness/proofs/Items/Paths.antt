@@ -6,12 +6,12 @@ use Rattle.std.proofs.lemmas.Bool.{false≢true, and_from, and_parts}
 use Rattle.std.proofs.lemmas.List.{append_assoc}
 use Rattle.std.proofs.lemmas.Option.{none-some, same_Some}
 use Rattle.well_typed.specs.Names.{is_word}
-use Rattle.typing_rules.specs.Check.{State}
+use Rattle.typing_rules.specs.Check.{TypingState}
 use Rattle.typing_rules.specs.Collected as rules
 use Rattle.typing_rules.specs.Items.{ItemSyn, item_syns, body_path, body_paths, path_in, method_path, impl_owner}
 use Rattle.typing_rules.specs.Written as types
 use Rattle.src_ast.specs.Syntax.{Word, Named, Syn, syn, MoveOf, ImplItem, FnItem, Syns, list_of, MaybeSyn}
-use Rattle.typing_soundness.specs.Closures.{BodySyn, Function, Closure, Head, functions_text, function_text}
+use Rattle.typing_soundness.specs.Closures.{BodySyn, Function, Closure, WrittenHead, functions_text, function_text}
 use Rattle.typing_soundness.specs.Heads.{body_text, bodies_text, inner_text, TellBodies}
 use Rattle.typing_soundness.specs.Walks.{Walked}
 use Rattle.typing_soundness.proofs.Items.Collected.{all_names, listed_text}
@@ -145,7 +145,7 @@ abbrev pub AreBodies : List ItemSyn → Type 0
 AreBodies is = All (λ i. All IsBody i.bodies) is
 
 module _ (k : rules.Known) where
-  bodies_seen : (owner : Option Word) (c : rules.Count) (bs : List Syn) (s : State) → Walked (λ _ t. All IsBody bs)
+  bodies_seen : (owner : Option Word) (c : rules.Count) (bs : List Syn) (s : TypingState) → Walked (λ _ t. All IsBody bs)
       (rules.body_sigs k owner c bs s)
   bodies_seen owner c [] s = walk_ends tt
   bodies_seen owner c (syn at (FnItem name params answer block) ∷ bs) s =
@@ -156,7 +156,7 @@ module _ (k : rules.Known) where
       walk_map (bodies_seen owner d bs t) λ _ u h. (tt, h)
   bodies_seen owner c (syn at _ ∷ bs) s = record { so = tt }
 
-  pub all_bodies_seen : (c : rules.Count) (is : List ItemSyn) (s : State) → Walked (λ _ t. AreBodies is) (rules.heads_collected
+  pub all_bodies_seen : (c : rules.Count) (is : List ItemSyn) (s : TypingState) → Walked (λ _ t. AreBodies is) (rules.heads_collected
       k c is s)
   all_bodies_seen c [] s = walk_ends tt
   all_bodies_seen c (i ∷ is) s =
@@ -168,7 +168,7 @@ abbrev pub HasPath : Syn → Word → BodySyn → Type 0
 HasPath i w (Function head) = w ≡ path_in i head.name
 HasPath i w (Closure head) = w ≡ []
 
-module _ (around : types.Around) where
+module _ (around : types.WrittenScope) where
   pub paths_of_bodies : (i : Syn) (bs : List Syn) → All IsBody bs → Aligned (HasPath i) (map (body_path i) bs) (bodies_text around
       bs [])
   paths_of_bodies i [] h = tt
@@ -187,7 +187,7 @@ module _ (around : types.Around) where
       ap (body_text around b) (bodies_first bs rest) ∙ body_first b (bodies_text around bs []) rest
 
 -- what is so of each function or method of an item
-module _ (Fact : Syn → Head → Type 0) where
+module _ (Fact : Syn → WrittenHead → Type 0) where
   abbrev pub IsOf : Syn → BodySyn → Type 0
   IsOf i (Function head) = Fact i head
   IsOf i (Closure head) = Unit {0}
@@ -208,7 +208,7 @@ module _ (Fact : Syn → Head → Type 0) where
         IsListed (map (body_path i.item) i.bodies) (body_paths is) (bodies_text around i.bodies []) (listed_text k is []) one
         (all_listed is bodies.1 tell.1 facts.1))
       where
-        around : types.Around
+        around : types.WrittenScope
         around = all_names k (impl_owner i.item)
 
         of_item : All (IsOf i.item) (bodies_text around i.bodies [])

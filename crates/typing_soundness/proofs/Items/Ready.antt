@@ -16,7 +16,7 @@ use Rattle.mir_ty.specs.ItemTable.{ItemTable, type_at, with_adt, with_trait, wit
 use Rattle.mir_ty.specs.Parts.{held_by, parts_of, fields_of, variants_of, captures_of, of_one_variant}
 use Rattle.mir_ty.proofs.ListLemmas.{slice_get-push_cases, slice_get-Contains}
 use Rattle.well_typed.proofs.ClaimLemmas.{true_left, true_right}
-use Rattle.typing_rules.specs.Check.{Check, State, Broken, and_then, obeys, known, each_checked, interned}
+use Rattle.typing_rules.specs.Check.{Check, TypingState, Broken, and_then, obeys, known, each_checked, interned}
 use Rattle.typing_rules.specs.Collected as rules
 use Rattle.typing_rules.specs.Items.{ItemSyn, item_syns, body_paths, impl_owner, full_name, closure_name}
 use Rattle.well_typed.specs.Names.{is_among, built_in}
@@ -43,18 +43,18 @@ use Rattle.typing_soundness.proofs.Walking.Steps.{walk, walk_map, walk_found, wa
 
 -- ---- names alone and all rules give the same, of what keeps all rules
 
-module _ (around : types.Around) where
-  abbrev names : types.Around
+module _ (around : types.WrittenScope) where
+  abbrev names : types.WrittenScope
   names = record around { has_limits = false }
 
-  abbrev full : types.Around
+  abbrev full : types.WrittenScope
   full = record around { has_limits = true }
 
   mutual
-    pub same_written : (e : Syn) → IsTrue (legal e) → (s : State) → types.written names e s ≡ types.written full e s
+    pub same_written : (e : Syn) → IsTrue (legal e) → (s : TypingState) → types.written names e s ≡ types.written full e s
     same_written (syn at form) h s = same_form at form h s
 
-    same_form : (at : Pos) (form : Shape) → IsTrue (legal_form form) → (s : State) → types.written_form names at form s ≡
+    same_form : (at : Pos) (form : Shape) → IsTrue (legal_form form) → (s : TypingState) → types.written_form names at form s ≡
         types.written_form full at form s
     same_form at (NamedType name) h s = refl
     same_form at (GenericType name content) h s =
@@ -67,7 +67,7 @@ module _ (around : types.Around) where
         (λ i. and_then (same_all parts (true_left (all_legal parts) _ h) s i) (λ tys t. and_then (types.tuple_by tys t) (λ
         ty u. Ok (ty, u)))) ∙ few_parts (types.all_written full parts s) (all_are_legal around parts s)
       where
-        few_parts : (r : Result (List TyId × State) Broken) → Walked (λ tys t. IsTrue (all_legal parts) × (length tys ≡
+        few_parts : (r : Result (List TyId × TypingState) Broken) → Walked (λ tys t. IsTrue (all_legal parts) × (length tys ≡
             length (list_of parts))) r → and_then r (λ tys t. and_then (types.tuple_by tys t) (λ ty u. Ok (ty, u))) ≡
             and_then r (λ tys t. and_then (types.tuple_by tys t) (λ ty u. and_then (obeys Rule.T19 at (nat_le (length tys)
             12) u) (λ _ v. Ok (ty, v))))
@@ -86,7 +86,7 @@ module _ (around : types.Around) where
     same_form at NeverType h s = refl
     same_form at _ h s = absurd (false≢true h)
 
-    same_all : (xs : Syns) → IsTrue (all_legal xs) → (s : State) → types.all_written names xs s ≡ types.all_written full xs
+    same_all : (xs : Syns) → IsTrue (all_legal xs) → (s : TypingState) → types.all_written names xs s ≡ types.all_written full xs
         s
     same_all no_syn h s = refl
     same_all (a_syn first rest) h s =
@@ -94,21 +94,21 @@ module _ (around : types.Around) where
         (legal first) _ h) t i) (λ tys u. Ok (ty ∷ tys, u)))
 
   mutual
-    pub same_param : (e : Syn) → IsTrue (legal_param e) → (s : State) → types.written_param names e s ≡ types.written_param
+    pub same_param : (e : Syn) → IsTrue (legal_param e) → (s : TypingState) → types.written_param names e s ≡ types.written_param
         full e s
     same_param (syn at form) h s = same_param_form at form h s
 
-    same_param_form : (at : Pos) (form : Shape) → IsTrue (legal_param_form form) → (s : State) → types.written_param_form
+    same_param_form : (at : Pos) (form : Shape) → IsTrue (legal_param_form form) → (s : TypingState) → types.written_param_form
         names at form s ≡ types.written_param_form full at form s
     same_param_form at (ParensType inside) h s = same_param inside h s
     same_param_form at (RefType unique to) h s =
         λ i. and_then (same_written to h s i) (λ ty. interned (types.reference_to unique ty))
     same_param_form at form h s = same_form at form h s
 
-  type_ready : (e : Syn) → IsTrue (legal e) → (s : State) → Gives s (λ w t. IsPlain w.items t) (types.written names e s)
+  type_ready : (e : Syn) → IsTrue (legal e) → (s : TypingState) → Gives s (λ w t. IsPlain w.items t) (types.written names e s)
   type_ready e h s = subst (Gives s (λ w t. IsPlain w.items t)) (sym (same_written e h s)) (written_plain full refl e s)
 
-  param_ready : (e : Syn) → IsTrue (legal_param e) → (s : State) → Gives s (λ w t. IsParamTy w.items t)
+  param_ready : (e : Syn) → IsTrue (legal_param e) → (s : TypingState) → Gives s (λ w t. IsParamTy w.items t)
       (types.written_param names e s)
   param_ready e h s =
       subst (Gives s (λ w t. IsParamTy w.items t)) (sym (same_param e h s)) (written_param_sound full refl e s)
@@ -134,8 +134,8 @@ all_in P xs x h has = all_at P xs has.0 x h (slice_get-Contains xs x has)
 
 -- a check of each of some things, of which something is so that stays
 each_gives : {A B : Type 0} (f : A → Check B) (P : A → Type 0) (Q : ItemTable → B → Type 0) → ((old new : ItemTable) →
-    Extends old new → (y : B) → Q old y → Q new y) → ((x : A) (s : State) → P x → Gives s (λ w y. Q w.items y) (f x s)) →
-    (xs : List A) (s : State) → All P xs → Gives s (λ w ys. All (Q w.items) ys) (each_checked f xs s)
+    Extends old new → (y : B) → Q old y → Q new y) → ((x : A) (s : TypingState) → P x → Gives s (λ w y. Q w.items y) (f x s)) →
+    (xs : List A) (s : TypingState) → All P xs → Gives s (λ w ys. All (Q w.items) ys) (each_checked f xs s)
 each_gives f P Q later good [] s h = given [] λ ready w g. tt
 each_gives f P Q later good (x ∷ xs) s h =
     bind (good x s h.0) λ y t g d. bind (each_gives f P Q later good xs t h.1) λ ys u k e. given (y ∷ ys) λ ready w l. (
@@ -157,25 +157,25 @@ plain_later old new e ty h = value_plain old new e ty h
 abbrev HasParams : ItemTable → Sig → Type 0
 HasParams items sig = All (IsParamTy items) sig.params × IsPlain items sig.result
 
-module _ (around : types.Around) where
-  own_ready : (at : Pos) (s : State) → Gives s (λ w ty. IsPlain w.items ty) (rules.own_ty at around.self_adt s)
+module _ (around : types.WrittenScope) where
+  own_ready : (at : Pos) (s : TypingState) → Gives s (λ w ty. IsPlain w.items ty) (rules.own_ty at around.self_adt s)
   own_ready at s = found Rule.T01 at around.self_adt _ λ n is. adt_plain n s
 
-  receiver_ready : (own : TyId) (receiver : Receiver) (s : State) → IsPlain s.items own → Gives s (λ w ty. IsParamTy w.items
+  receiver_ready : (own : TyId) (receiver : Receiver) (s : TypingState) → IsPlain s.items own → Gives s (λ w ty. IsParamTy w.items
       ty) (rules.receiver_ty own receiver s)
   receiver_ready own ByValue s plain =
       given own λ ready w g. plain_param w.items own (value_plain s.items w.items g.items own plain)
   receiver_ready own ByShared s plain = ref_param false own s (plain_alone s.items own plain)
   receiver_ready own ByUnique s plain = ref_param true own s (plain_alone s.items own plain)
 
-  head_param_ready : (at : Pos) (p : Syn) (s : State) → IsTrue (param_legal legal_param p) → Gives s (λ w ty. IsParamTy
+  head_param_ready : (at : Pos) (p : Syn) (s : TypingState) → IsTrue (param_legal legal_param p) → Gives s (λ w ty. IsParamTy
       w.items ty) (rules.param_ty (names around) (rules.own_ty at around.self_adt) p s)
   head_param_ready at (syn here (ParamOf p ty)) s h = param_ready around ty h s
   head_param_ready at (syn here (SelfParam receiver)) s h =
       bind (own_ready at s) λ own t g d. receiver_ready own receiver t (d t (grows_refl t))
   head_param_ready at (syn here _) s h = absurd (false≢true h)
 
-  answer_ready : (answer : MaybeSyn) (s : State) → IsTrue (answer_legal answer) → Gives s (λ w ty. IsPlain w.items ty)
+  answer_ready : (answer : MaybeSyn) (s : TypingState) → IsTrue (answer_legal answer) → Gives s (λ w ty. IsPlain w.items ty)
       (rules.answer_ty (names around) answer s)
   answer_ready nothing s h =
       with_ready λ all. given unit λ ready w g. unit_plain w.items (g.ready all)
@@ -187,8 +187,8 @@ params_all test no_syn h = tt
 params_all test (a_syn first rest) h =
     (true_left (param_legal test first) _ h, params_all test rest (true_right (param_legal test first) _ h))
 
-module _ (around : types.Around) where
-  sig_ready : (at : Pos) (name : Word) (params : Syns) (answer : MaybeSyn) (s : State) → IsTrue (head_legal legal_param
+module _ (around : types.WrittenScope) where
+  sig_ready : (at : Pos) (name : Word) (params : Syns) (answer : MaybeSyn) (s : TypingState) → IsTrue (head_legal legal_param
       params answer) → Gives s (λ w sig. HasParams w.items sig) (rules.sig_of (names around) (rules.own_ty at
       around.self_adt) name params answer s)
   sig_ready at name params answer s h =
@@ -202,23 +202,23 @@ module _ (around : types.Around) where
 
   -- ---- closures
 
-  or_unit_ready : (s : State) (r : Result (TyId × State) Broken) → Gives s (λ w ty. IsPlain w.items ty) r → Gives s (λ w ty.
+  or_unit_ready : (s : TypingState) (r : Result (TyId × TypingState) Broken) → Gives s (λ w ty. IsPlain w.items ty) r → Gives s (λ w ty.
       IsPlain w.items ty) (types.or_unit_in s r)
   or_unit_ready s (Ok a) h = h
   or_unit_ready s (Err e) h = with_ready λ all. given unit λ ready w g. unit_plain w.items (g.ready all)
 
-  closure_param_ready : (p : Syn) (s : State) → IsTrue (param_legal legal p) → Gives s (λ w ty. IsPlain w.items ty)
+  closure_param_ready : (p : Syn) (s : TypingState) → IsTrue (param_legal legal p) → Gives s (λ w ty. IsPlain w.items ty)
       (rules.closure_param (names around) p s)
   closure_param_ready (syn at (ParamOf p ty)) s h =
       or_unit_ready s (types.written (names around) ty s) (type_ready around ty h s)
   closure_param_ready (syn at _) s h = with_ready λ all. given unit λ ready w g. unit_plain w.items (g.ready all)
 
-  closure_answer_ready : (answer : MaybeSyn) (s : State) → IsTrue (answer_legal answer) → Gives s (λ w ty. IsPlain w.items
+  closure_answer_ready : (answer : MaybeSyn) (s : TypingState) → IsTrue (answer_legal answer) → Gives s (λ w ty. IsPlain w.items
       ty) (types.or_unit (rules.answer_ty (names around) answer) s)
   closure_answer_ready answer s h = or_unit_ready s (rules.answer_ty (names around) answer s) (answer_ready around answer s
       h)
 
-  closure_params_ready : (n : ℕ) (params : Syns) (s : State) → s.items.closures ≡ [] → IsTrue (params_legal legal params) →
+  closure_params_ready : (n : ℕ) (params : Syns) (s : TypingState) → s.items.closures ≡ [] → IsTrue (params_legal legal params) →
       Gives s (λ w tys. All (IsKnown w.items) tys) (rules.closure_params (names around) n params s)
   closure_params_ready n params s none h =
       bind (interned_sound (Ty.Closure n) s (closure_made s.items n none)) λ self t g d. bind (each_gives
@@ -427,16 +427,16 @@ ready_with_body items sig all params result = record {
 -- ---- the collection of items, step by step
 
 -- what a check gives of items that are ready
-abbrev pub Readies : {A : Type 0} → State → (A → State → Type 0) → Result (A × State) Broken → Type 0
+abbrev pub Readies : {A : Type 0} → TypingState → (A → TypingState → Type 0) → Result (A × TypingState) Broken → Type 0
 Readies s Q r = Walked (λ a t. AreReady s.items → AreReady t.items × Q a t) r
 
-pub ready_of : {A : Type 0} {s : State} (Q : ItemTable → A → Type 0) (r : Result (A × State) Broken) → Gives s (λ w a. Q
+pub ready_of : {A : Type 0} {s : TypingState} (Q : ItemTable → A → Type 0) (r : Result (A × TypingState) Broken) → Gives s (λ w a. Q
     w.items a) r → Readies s (λ a t. Q t.items a) r
 ready_of Q (Ok a) g = walk_ends (λ ready. ((g.so ready).0.ready ready, (g.so ready).1 a.1 (grows_refl a.1)))
 ready_of Q (Err e) g = record { so = tt }
 
 -- of a check that only has to be ready
-abbrev pub Kept : {A : Type 0} → A → State → Type 0
+abbrev pub Kept : {A : Type 0} → A → TypingState → Type 0
 Kept a t = Unit {0}
 
 pub fields_all : (fs : List Syn) → IsTrue (fields_legal fs) → All (λ f. IsTrue (field_legal f)) fs
@@ -451,20 +451,20 @@ pub heads_all : (hs : List Syn) → IsTrue (trait_heads_legal hs) → All (λ h.
 heads_all [] h = tt
 heads_all (x ∷ hs) h = (true_left (trait_head_legal x) _ h, heads_all hs (true_right (trait_head_legal x) _ h))
 
-module _ (around : types.Around) where
-  field_ready : (f : Syn) (s : State) → IsTrue (field_legal f) → Gives s (λ w ty. IsPlain w.items ty) (types.written (names
+module _ (around : types.WrittenScope) where
+  field_ready : (f : Syn) (s : TypingState) → IsTrue (field_legal f) → Gives s (λ w ty. IsPlain w.items ty) (types.written (names
       around) (rules.field_type f) s)
   field_ready (syn at (FieldDecl name ty)) s h = type_ready around ty h s
   field_ready (syn at form) s h = type_ready around (syn at form) h s
 
-  variant_ready : (name : Word) (fields : Syns) (s : State) → IsTrue (fields_legal (list_of fields)) → Gives s (λ w v. All
+  variant_ready : (name : Word) (fields : Syns) (s : TypingState) → IsTrue (fields_legal (list_of fields)) → Gives s (λ w v. All
       (IsPlain w.items) v.fields) (rules.variant_of (names around) name fields s)
   variant_ready name fields s h =
       bind (each_gives (λ f. types.written (names around) (rules.field_type f)) (λ f. IsTrue (field_legal f)) IsPlain
       plain_later (λ f t legal_f. field_ready f t legal_f) (list_of fields) s (fields_all (list_of fields) h)) λ tys t g d.
       given _ λ ready w l. d w l
 
-  declared_ready : (v : Syn) (s : State) → IsTrue (variant_legal v) → Gives s (λ w v. All (IsPlain w.items) v.fields)
+  declared_ready : (v : Syn) (s : TypingState) → IsTrue (variant_legal v) → Gives s (λ w v. All (IsPlain w.items) v.fields)
       (rules.declared_variant (names around) v s)
   declared_ready (syn at (VariantDecl name kind fields)) s h = variant_ready name fields s h
   declared_ready (syn at _) s h = absurd (false≢true h)
@@ -473,7 +473,7 @@ fields_later : (old new : ItemTable) → Extends old new → (v : Variant) → A
     v.fields
 fields_later old new e v h = all_map (IsPlain old) (IsPlain new) (plain_later old new e) v.fields h
 
-derives_ready : (ds : List Named) (s : State) → Gives s (λ w u. Unit {0}) (rules.derives_known ds s)
+derives_ready : (ds : List Named) (s : TypingState) → Gives s (λ w u. Unit {0}) (rules.derives_known ds s)
 derives_ready [] s = given tt λ ready w g. tt
 derives_ready (d ∷ ds) s = obeyed Rule.T01 d.0 (rules.is_derivable d.1) (rules.derives_known ds) λ _. derives_ready ds s
 
@@ -490,8 +490,8 @@ sig_later old new e sig h = (
 abbrev MayBeBorrowed : ItemTable → TyId → Type 0
 MayBeBorrowed items own = IsReady items own × IsTrue (not (is_reference items own))
 
-module _ (around : types.Around) (own : TyId) where
-  dyn_receiver_ready : (receiver : Receiver) (s : State) → MayBeBorrowed s.items own → Gives s (λ w ty. IsKnown w.items ty)
+module _ (around : types.WrittenScope) (own : TyId) where
+  dyn_receiver_ready : (receiver : Receiver) (s : TypingState) → MayBeBorrowed s.items own → Gives s (λ w ty. IsKnown w.items ty)
       (rules.receiver_ty own receiver s)
   dyn_receiver_ready ByValue s h = given own λ ready w g. known_later g.items own (h.0.0, h.0.1)
   dyn_receiver_ready ByShared s h =
@@ -504,7 +504,7 @@ module _ (around : types.Around) (own : TyId) where
   abbrev pure_own : Check TyId
   pure_own t = Ok (own, t)
 
-  dyn_param_ready : (p : Syn) (s : State) → IsTrue (param_legal legal_param p) × MayBeBorrowed s.items own → Gives s (λ w ty.
+  dyn_param_ready : (p : Syn) (s : TypingState) → IsTrue (param_legal legal_param p) × MayBeBorrowed s.items own → Gives s (λ w ty.
       IsKnown w.items ty) (rules.param_ty (names around) pure_own p s)
   dyn_param_ready (syn here (ParamOf p ty)) s h =
       weaker (λ w t. IsKnown w.items t) (param_ready around ty h.0 s) λ t w ready g is. (is.0, is.1)
@@ -517,7 +517,7 @@ module _ (around : types.Around) (own : TyId) where
     subst (λ o. IsTrue (not (is_some (option_and_then reference_in o)))) (h.0.1 ∙ sym (e.types own.0 h.0.0 h.0.1)) h.1,
   )
 
-  dyn_params_ready : (ps : Syns) (s : State) → IsTrue (params_legal legal_param ps) → MayBeBorrowed s.items own → Gives s (λ w
+  dyn_params_ready : (ps : Syns) (s : TypingState) → IsTrue (params_legal legal_param ps) → MayBeBorrowed s.items own → Gives s (λ w
       tys. All (IsKnown w.items) tys) (each_checked (rules.param_ty (names around) pure_own) (list_of ps) s)
   dyn_params_ready no_syn s h b = given [] λ ready w g. tt
   dyn_params_ready (a_syn first rest) s h b =
@@ -525,7 +525,7 @@ module _ (around : types.Around) (own : TyId) where
       rest t (true_right (param_legal legal_param first) _ h) (borrowed_later s.items t.items g.items b)) λ tys u k e. given
       (ty ∷ tys) λ ready w l. (d w (grows_trans k l), e w l)
 
-  dyn_sig_ready : (name : Word) (params : Syns) (answer : MaybeSyn) (s : State) → IsTrue (params_legal legal_param params) →
+  dyn_sig_ready : (name : Word) (params : Syns) (answer : MaybeSyn) (s : TypingState) → IsTrue (params_legal legal_param params) →
       IsTrue (answer_legal answer) → MayBeBorrowed s.items own → Gives s (λ w sig. HasKnown w.items sig) (rules.sig_of (names
       around) pure_own name params answer s)
   dyn_sig_ready name params answer s h k b =
@@ -545,7 +545,7 @@ module _ (around : types.Around) (own : TyId) where
   same_behind (a_syn (syn at (SelfParam receiver)) rest) h = h
   same_behind (a_syn (syn at _) rest) h = h
 
-  trait_head_ready : (x : Syn) (s : State) → IsTrue (trait_head_legal x) → MayBeBorrowed s.items own → Gives s (λ w sig.
+  trait_head_ready : (x : Syn) (s : TypingState) → IsTrue (trait_head_legal x) → MayBeBorrowed s.items own → Gives s (λ w sig.
       HasKnown w.items sig) (rules.trait_head (names around) own x s)
   trait_head_ready (syn at (FnItem name params answer block)) s h b = by (rules.has_receiver params)
     where
@@ -568,22 +568,22 @@ module _ (around : types.Around) (own : TyId) where
 
 -- ---- items
 
-obeyed_ready : (rule : Rule) (at : Pos) (holds : Bool) (s : State) → Gives s (λ w u. Unit {0}) (obeys rule at holds s)
+obeyed_ready : (rule : Rule) (at : Pos) (holds : Bool) (s : TypingState) → Gives s (λ w u. Unit {0}) (obeys rule at holds s)
 obeyed_ready rule at true s = given tt λ ready w g. tt
 obeyed_ready rule at false s = gives_nothing rule at
 
 -- one more struct or enum behind a check
-with_fields : (s t : State) (adt : Adt) → (AreReady s.items → AreReady t.items × AreFields t.items adt.variants) → AreReady
+with_fields : (s t : TypingState) (adt : Adt) → (AreReady s.items → AreReady t.items × AreFields t.items adt.variants) → AreReady
     s.items → AreReady (with_adt t.items adt) × Unit {0}
 with_fields s t adt h ready = let r = h ready in (ready_with_adt t.items adt r.0 r.1, tt)
 
-item_head_ready : (k : rules.Known) (i : Syn) (s : State) → IsTrue (item_legal i) → Readies s Kept (rules.item_head k i s)
+item_head_ready : (k : rules.Known) (i : Syn) (s : TypingState) → IsTrue (item_legal i) → Readies s Kept (rules.item_head k i s)
 item_head_ready k (syn at (StructItem ds name kind fields)) s h =
     walk (ready_of (λ items u. Unit {0}) (rules.derives_known ds s) (derives_ready ds s)) λ _ t e. walk (ready_of (λ items v.
     All (IsPlain items) v.fields) _ (variant_ready (around k name.1) name.1 fields t h)) λ v u g. walk_ends (with_fields
     s u (rules.adt_of k ds name.1 false (v ∷ [])) (λ ready. let r = g (e ready).0 in (r.0, (r.1, tt))))
   where
-    around : rules.Known → Word → types.Around
+    around : rules.Known → Word → types.WrittenScope
     around k name = rules.names_alone k (types.number_of k.adts name)
 item_head_ready k (syn at (EnumItem ds name variants)) s h =
     walk (ready_of (λ items u. Unit {0}) (rules.derives_known ds s) (derives_ready ds s)) λ _ t e. walk (ready_of (λ items
@@ -603,7 +603,7 @@ item_head_ready k (syn at (TraitItem name heads)) s h =
       subst (λ o. IsTrue (not (is_some (option_and_then reference_in o)))) (sym is) refl,
     )
 
-    sigs_ready : (own : TyId) (xs : List Syn) (t : State) → All (λ x. IsTrue (trait_head_legal x)) xs → MayBeBorrowed t.items
+    sigs_ready : (own : TyId) (xs : List Syn) (t : TypingState) → All (λ x. IsTrue (trait_head_legal x)) xs → MayBeBorrowed t.items
         own → Gives t (λ w sigs. All (HasKnown w.items) sigs) (each_checked (rules.trait_head (rules.names_alone k None) own)
         xs t)
     sigs_ready own [] t h b = given [] λ ready w g. tt
@@ -612,13 +612,13 @@ item_head_ready k (syn at (TraitItem name heads)) s h =
         (borrowed_later (rules.names_alone k None) own t.items u.items g.items b)) λ sigs v l e. given (sig ∷ sigs) λ ready w
         m. (d w (grows_trans l m), e w m)
 
-    walk_ready : (own : TyId) (t : State) → (AreReady s.items → AreReady t.items × (type_at t.items own ≡ Some (Ty.Dyn (length
+    walk_ready : (own : TyId) (t : TypingState) → (AreReady s.items → AreReady t.items × (type_at t.items own ≡ Some (Ty.Dyn (length
         s.items.traits)))) → Readies s Kept (and_then (each_checked (rules.trait_head (rules.names_alone k None) own) (list_of
         heads) t) (λ sigs. rules.added (λ items. with_trait items (record { name = name.1; methods = sigs }))))
     walk_ready own t e = by (each_checked (rules.trait_head (rules.names_alone k None) own) (list_of heads) t) (λ b. sigs_ready
         own (list_of heads) t (heads_all (list_of heads) h) b)
       where
-        by : (r : Result (List Sig × State) Broken) → (MayBeBorrowed t.items own → Gives t (λ w sigs. All (HasKnown w.items)
+        by : (r : Result (List Sig × TypingState) Broken) → (MayBeBorrowed t.items own → Gives t (λ w sigs. All (HasKnown w.items)
             sigs) r) → Readies s Kept (and_then r (λ sigs. rules.added (λ items. with_trait items (record {
               name =
                   name.1;
@@ -641,7 +641,7 @@ item_head_ready k (syn at _) s h = walk_ends (λ ready. (ready, tt))
 
 -- ---- bodies
 
-body_ready : (k : rules.Known) (owner : Option Word) (c : rules.Count) (b : Syn) (s : State) → IsTrue (body_legal b) →
+body_ready : (k : rules.Known) (owner : Option Word) (c : rules.Count) (b : Syn) (s : TypingState) → IsTrue (body_legal b) →
     s.items.closures ≡ [] → Readies s Kept (rules.body_sig k owner c b s)
 body_ready k owner c (syn at (FnItem name params answer block)) s h none =
     walk (ready_of (λ items sig. HasParams items sig) _ (sig_ready (all_names k owner) at (full_name owner name.1) params
@@ -658,7 +658,7 @@ body_ready k owner c (syn at (MoveOf captures params answer body)) s h none =
     name : Word
     name = closure_name c.outer (c.in_outer + 1)
 
-    behind : (tys : List TyId) (t : State) → (AreReady s.items → AreReady t.items × All (IsKnown t.items) tys) → Readies s Kept
+    behind : (tys : List TyId) (t : TypingState) → (AreReady s.items → AreReady t.items × All (IsKnown t.items) tys) → Readies s Kept
         (and_then (types.or_unit (rules.answer_ty (names (all_names k owner)) answer) t) (λ ty. rules.body_added (record {
           name = name;
           params = tys;
@@ -668,7 +668,7 @@ body_ready k owner c (syn at (MoveOf captures params answer body)) s h none =
         by (types.or_unit (rules.answer_ty (names (all_names k owner)) answer) t) (closure_answer_ready (all_names k owner)
         answer t (true_right (params_legal legal params) _ h))
       where
-        by : (r : Result (TyId × State) Broken) → Gives t (λ w ty. IsPlain w.items ty) r → Readies s Kept (and_then r (λ ty.
+        by : (r : Result (TyId × TypingState) Broken) → Gives t (λ w ty. IsPlain w.items ty) r → Readies s Kept (and_then r (λ ty.
             rules.body_added (record { name = name; params = tys; result = ty })))
         by (Err x) g = record { so = tt }
         by (Ok a) g =
@@ -683,12 +683,12 @@ body_ready k owner c (syn at (MoveOf captures params answer body)) s h none =
 body_ready k owner c (syn at _) s h none = record { so = tt }
 
 -- two facts of one check
-both_ready : {A : Type 0} {P Q : A → State → Type 0} (r : Result (A × State) Broken) → Walked P r → Walked Q r → Walked (λ a t.
+both_ready : {A : Type 0} {P Q : A → TypingState → Type 0} (r : Result (A × TypingState) Broken) → Walked P r → Walked Q r → Walked (λ a t.
     P a t × Q a t) r
 both_ready (Ok a) h k = record { so = (h.so, k.so) }
 both_ready (Err e) h k = record { so = tt }
 
-bodies_ready : (k : rules.Known) (owner : Option Word) (own : IsOwner k owner) (c : rules.Count) (bs : List Syn) (s : State) → All (λ b. IsTrue
+bodies_ready : (k : rules.Known) (owner : Option Word) (own : IsOwner k owner) (c : rules.Count) (bs : List Syn) (s : TypingState) → All (λ b. IsTrue
     (body_legal b)) bs → s.items.closures ≡ [] → Readies s Kept (rules.body_sigs k owner c bs s)
 bodies_ready k owner own c [] s h none = walk_ends (λ ready. (ready, tt))
 bodies_ready k owner own c (b ∷ bs) s h none =
@@ -700,7 +700,7 @@ bodies_ready k owner own c (b ∷ bs) s h none =
 abbrev pub ItemKeeps : ItemSyn → Type 0
 ItemKeeps i = IsTrue (item_legal i.item) × All (λ b. IsTrue (body_legal b)) i.bodies
 
-pub heads_ready : (k : rules.Known) (c : rules.Count) (is : List ItemSyn) (s : State) → All ItemKeeps is → s.items.closures ≡ [] →
+pub heads_ready : (k : rules.Known) (c : rules.Count) (is : List ItemSyn) (s : TypingState) → All ItemKeeps is → s.items.closures ≡ [] →
     Readies s Kept (rules.heads_collected k c is s)
 heads_ready k c [] s h none = walk_ends (λ ready. (ready, tt))
 heads_ready k c (i ∷ is) s h none =
@@ -728,7 +728,7 @@ with_impl_ready items def all = record {
   after = all.after;
 }
 
-impl_ready : (k : rules.Known) (i : Syn) (s : State) → Readies s Kept (rules.impl_of k i s)
+impl_ready : (k : rules.Known) (i : Syn) (s : TypingState) → Readies s Kept (rules.impl_of k i s)
 impl_ready k (syn at (ImplItem (Some trait_) name methods)) s = by (rules.is_drop trait_.1)
   where
     added : Check (Unit {0})
@@ -744,29 +744,29 @@ impl_ready k (syn at (ImplItem (Some trait_) name methods)) s = by (rules.is_dro
 impl_ready k (syn at (ImplItem None name methods)) s = walk_ends (λ ready. (ready, tt))
 impl_ready k (syn at _) s = walk_ends (λ ready. (ready, tt))
 
-pub impls_ready : (k : rules.Known) (is : List Syn) (s : State) → Readies s Kept (each_checked (rules.impl_of k) is s)
+pub impls_ready : (k : rules.Known) (is : List Syn) (s : TypingState) → Readies s Kept (each_checked (rules.impl_of k) is s)
 impls_ready k [] s = walk_ends (λ ready. (ready, tt))
 impls_ready k (i ∷ is) s =
     walk (impl_ready k i s) λ _ t e. walk (impls_ready k is t) λ _ u g. walk_ends (λ ready. g (e ready).0)
 
-pub is_finite_ready : (n : ℕ) (at : Pos) (s : State) → Readies s Kept (rules.is_finite n at s)
+pub is_finite_ready : (n : ℕ) (at : Pos) (s : TypingState) → Readies s Kept (rules.is_finite n at s)
 is_finite_ready n at s =
     ready_of (λ items u. Unit {0}) (rules.is_finite n at s) (bind (adt_plain n s) λ ty t g d. obeyed_ready Rule.T09 at (not
     (rules.holds t.items ty ty)) t)
 
-finite_ready : (n : ℕ) (as_ : List (Pos × List Named)) (s : State) → Readies s Kept (rules.all_finite n as_ s)
+finite_ready : (n : ℕ) (as_ : List (Pos × List Named)) (s : TypingState) → Readies s Kept (rules.all_finite n as_ s)
 finite_ready n [] s = walk_ends (λ ready. (ready, tt))
 finite_ready n (a ∷ as_) s =
     walk {f = λ _. rules.all_finite (suc n) as_} (is_finite_ready n a.0 s) λ _ t e. walk_map (finite_ready (suc n) as_ t) λ
     x u g ready. g (e ready).0
 
-derive_ready : (n : ℕ) (as_ : List (Pos × List Named)) (s : State) → Readies s Kept (rules.all_derive n as_ s)
+derive_ready : (n : ℕ) (as_ : List (Pos × List Named)) (s : TypingState) → Readies s Kept (rules.all_derive n as_ s)
 derive_ready n [] s = walk_ends (λ ready. (ready, tt))
 derive_ready n (a ∷ as_) s =
     walk (ready_of (λ items u. Unit {0}) _ (obeyed_ready Rule.T10 a.0 (rules.may_derive s.items a.1 (slice_get s.items.adts
     n)) s)) λ _ t e. walk_map (derive_ready (suc n) as_ t) λ x u g ready. g (e ready).0
 
-pub names_ready : (ns : List Named) (earlier : List Word) (s : State) → Readies s Kept (rules.names_differ ns earlier s)
+pub names_ready : (ns : List Named) (earlier : List Word) (s : TypingState) → Readies s Kept (rules.names_differ ns earlier s)
 names_ready [] earlier s = walk_ends (λ ready. (ready, tt))
 names_ready (n ∷ ns) earlier s =
     walk (ready_of (λ items u. Unit {0}) _ (obeyed_ready Rule.T02 n.0 (not (is_among n.1 earlier || is_among n.1 built_in))
@@ -783,5 +783,5 @@ collecting_ready is end h =
     (ready_of (λ items u. Unit {0}) _ (obeyed_ready Rule.T01 end (is_some (types.number_of (body_paths is) (codes "main")))
     x)) λ _ y o ready. (o (m (l (g (f (e.0 ready).0).0).0).0).0).0
   where
-    start : State
+    start : TypingState
     start = rules.starting_with rules.no_items

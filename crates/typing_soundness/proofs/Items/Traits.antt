@@ -21,7 +21,7 @@ use Rattle.well_typed.specs.Claim.{Holds, each}
 use Rattle.well_typed.specs.Items.{stands_alone, is_param}
 use Rattle.well_typed.specs.Names.{is_among, are_distinct}
 use Rattle.well_typed.specs.Types.{trait_of, dyn_in, reference_in}
-use Rattle.typing_rules.specs.Check.{Check, State, Broken, and_then, interned, each_checked}
+use Rattle.typing_rules.specs.Check.{Check, TypingState, Broken, and_then, interned, each_checked}
 use Rattle.typing_rules.specs.Collected as rules
 use Rattle.typing_rules.specs.Items.{ItemSyn, items_of, item_syns, trait_names, body_paths, impl_owner, full_name, closure_name}
 use Rattle.typing_rules.specs.Program as checks
@@ -50,7 +50,7 @@ use Rattle.typing_soundness.proofs.Walking.Steps.{walk, walk_map, walk_obeyed, w
 
 -- ---- the types of a head, where `self` is `dyn` of the trait
 
-module _ (around : types.Around) (own : TyId) where
+module _ (around : types.WrittenScope) (own : TyId) where
   abbrev MeansTraitParam : ItemTable → Syn → TyId → Type 0
   MeansTraitParam items (syn at (ParamOf p written)) ty = Means around items written ty
   MeansTraitParam items (syn at (SelfParam receiver)) ty = IsReceiver items receiver own ty
@@ -98,19 +98,19 @@ module _ (around : types.Around) (own : TyId) where
 
   -- ---- as they are collected
 
-  abbrev named : types.Around
+  abbrev named : types.WrittenScope
   named = record around { has_limits = false }
 
   abbrev pure_own : Check TyId
   pure_own t = Ok (own, t)
 
-  trait_param_given : (p : Syn) (s : State) → Walked (λ ty t. SameWalk s t × MeansTraitParam t.items p ty) (rules.param_ty
+  trait_param_given : (p : Syn) (s : TypingState) → Walked (λ ty t. SameWalk s t × MeansTraitParam t.items p ty) (rules.param_ty
       named pure_own p s)
   trait_param_given (syn at (ParamOf p ty)) s = param_collected around ty s
   trait_param_given (syn at (SelfParam receiver)) s = receiver_collected around own receiver s
   trait_param_given (syn at _) s = record { so = tt }
 
-  trait_params_given : (ps : Syns) (s : State) → Walked (λ tys t. SameWalk s t × MeanTraitParams t.items ps tys)
+  trait_params_given : (ps : Syns) (s : TypingState) → Walked (λ tys t. SameWalk s t × MeanTraitParams t.items ps tys)
       (each_checked (rules.param_ty named pure_own) (list_of ps) s)
   trait_params_given no_syn s = walk_ends (still s, tt)
   trait_params_given (a_syn first rest) s =
@@ -119,7 +119,7 @@ module _ (around : types.Around) (own : TyId) where
         (param_on t.items u.items k.0.stays.types first ty h.1, k.1),
       )
 
-  trait_sig_given : (name : Word) (params : Syns) (answer : MaybeSyn) (s : State) → Walked (λ sig t. (sig.name ≡
+  trait_sig_given : (name : Word) (params : Syns) (answer : MaybeSyn) (s : TypingState) → Walked (λ sig t. (sig.name ≡
       name) × MeanTraitParams t.items params sig.params) (rules.sig_of named pure_own name params answer s)
   trait_sig_given name params answer s =
       walk (trait_params_given params s) λ tys t h. walk (answer_collected around answer t) λ ty u k. walk_ends (
@@ -127,7 +127,7 @@ module _ (around : types.Around) (own : TyId) where
         params_on t.items u.items k.0.stays.types params tys h.1,
       )
 
-  trait_head_given : (x : Syn) (s : State) → Walked (λ sig t. IsTraitHead t.items x sig) (rules.trait_head named own x s)
+  trait_head_given : (x : Syn) (s : TypingState) → Walked (λ sig t. IsTraitHead t.items x sig) (rules.trait_head named own x s)
   trait_head_given (syn at (FnItem name params answer block)) s = by (rules.has_receiver params) refl
     where
       by : (b : Bool) → rules.has_receiver params ≡ b → Walked (λ sig t. IsTrue (rules.has_receiver params) → (sig.name ≡
@@ -139,7 +139,7 @@ module _ (around : types.Around) (own : TyId) where
           walk_map (whatever {P = Unit {0}} _ tt) λ sig t _ has. absurd (false≢true (sym e ∙ has))
   trait_head_given (syn at _) s = record { so = tt }
 
-  trait_heads_given : (xs : List Syn) (s : State) → Walked (λ sigs t. SameWalk s t × AreTraitHeads t.items xs sigs)
+  trait_heads_given : (xs : List Syn) (s : TypingState) → Walked (λ sigs t. SameWalk s t × AreTraitHeads t.items xs sigs)
       (each_checked (rules.trait_head named own) xs s)
   trait_heads_given [] s = walk_ends (still s, tt)
   trait_heads_given (x ∷ xs) s =
@@ -151,7 +151,7 @@ module _ (around : types.Around) (own : TyId) where
 
 -- ---- traits in the order of the text
 
-module _ (around : types.Around) where
+module _ (around : types.WrittenScope) where
   abbrev IsTraitOf : ItemTable → ℕ → Syn → TraitDef → Type 0
   IsTraitOf items n (syn at (TraitItem name heads)) def =
       (own : TyId) × (type_at items own ≡ Some (Ty.Dyn n)) × AreTraitHeads around own items (list_of heads)
@@ -186,7 +186,7 @@ module _ (around : types.Around) where
       (h.0, traits_joined items (suc n) is js as_ bs h.1 (subst (λ m. AreTraitsOf items m js bs) (omega arith) k))
 
   -- from one state to a later one come these traits
-  pub record AddsTraits (is : List Syn) (s t : State) : Type 0 where
+  pub record AddsTraits (is : List Syn) (s t : TypingState) : Type 0 where
     pub impls : t.items.impls ≡ s.items.impls
     new : List TraitDef
     traits : t.items.traits ≡ s.items.traits ++ new
@@ -194,7 +194,7 @@ module _ (around : types.Around) where
     are : AreTraitsOf t.items (length s.items.traits) is new
 
   -- nothing but types, heads, structs and enums
-  adds_none : {s u : State} → (e : SameWalk s u) → (t : State) → t.items.types ≡ u.items.types → t.items.traits ≡ u.items.traits →
+  adds_none : {s u : TypingState} → (e : SameWalk s u) → (t : TypingState) → t.items.types ≡ u.items.types → t.items.traits ≡ u.items.traits →
       t.items.impls ≡ u.items.impls → AddsTraits [] s t
   adds_none {s} e t types traits impls = record {
     impls = impls ∙ e.stays.impls;
@@ -204,10 +204,10 @@ module _ (around : types.Around) where
     are = tt;
   }
 
-  pub adds_still : {s t : State} → SameWalk s t → AddsTraits [] s t
+  pub adds_still : {s t : TypingState} → SameWalk s t → AddsTraits [] s t
   adds_still {s} {t} e = adds_none e t refl refl refl
 
-  pub adds_both : {is js : List Syn} {s t u : State} → AddsTraits is s t → AddsTraits js t u → AddsTraits (is ++ js) s u
+  pub adds_both : {is js : List Syn} {s t u : TypingState} → AddsTraits is s t → AddsTraits js t u → AddsTraits (is ++ js) s u
   adds_both {is} {js} {s} {t} {u} p q = record {
     impls = q.impls ∙ p.impls;
     new = p.new ++ q.new;
@@ -229,10 +229,10 @@ all_traits (i ∷ is) = traits_in i.item ++ all_traits is
 -- ---- the collection
 
 module _ (k : rules.Known) where
-  abbrev Adds : List Syn → State → State → Type 0
+  abbrev Adds : List Syn → TypingState → TypingState → Type 0
   Adds = AddsTraits (all_names k None)
 
-  body_adds : (owner : Option Word) (c : rules.Count) (b : Syn) (s : State) → Walked (λ _ t. Adds [] s t) (rules.body_sig k
+  body_adds : (owner : Option Word) (c : rules.Count) (b : Syn) (s : TypingState) → Walked (λ _ t. Adds [] s t) (rules.body_sig k
       owner c b s)
   body_adds owner c (syn at (FnItem name params answer block)) s =
       walk (sig_collected (all_names k owner) at (full_name owner name.1) params answer s) λ sig t h. walk_ends (adds_none
@@ -253,13 +253,13 @@ module _ (k : rules.Known) where
           in walk_ends (adds_none (all_names k None) e _ refl refl refl)
   body_adds owner c (syn at _) s = record { so = tt }
 
-  bodies_add : (owner : Option Word) (c : rules.Count) (bs : List Syn) (s : State) → Walked (λ _ t. Adds [] s t)
+  bodies_add : (owner : Option Word) (c : rules.Count) (bs : List Syn) (s : TypingState) → Walked (λ _ t. Adds [] s t)
       (rules.body_sigs k owner c bs s)
   bodies_add owner c [] s = walk_ends (adds_still (all_names k None) (still s))
   bodies_add owner c (b ∷ bs) s =
       walk (body_adds owner c b s) λ d t h. walk_map (bodies_add owner d bs t) λ e u g. adds_both (all_names k None) h g
 
-  item_adds : (i : Syn) (s : State) → Walked (λ _ t. Adds (traits_in i) s t) (rules.item_head k i s)
+  item_adds : (i : Syn) (s : TypingState) → Walked (λ _ t. Adds (traits_in i) s t) (rules.item_head k i s)
   item_adds (syn at (StructItem ds name kind fields)) s =
       walk (derives_still ds s) λ _ t e. walk (variant_collected (rules.names_alone k (types.number_of k.adts name.1))
       name.1 fields t) λ v u g. let w = onward e g.0 in walk_ends (adds_none (all_names k None) w _ refl refl refl)
@@ -270,8 +270,8 @@ module _ (k : rules.Known) where
       walk_interned_as (Ty.Dyn (length s.items.traits)) s λ own t e is. walk (trait_heads_given (all_names k None) own
       (list_of heads) t) λ sigs u g. walk_ends (added own t e is sigs u g)
     where
-      added : (own : TyId) (t : State) → SameWalk s t → type_at t.items own ≡ Some (Ty.Dyn (length s.items.traits)) → (sigs :
-          List Sig) (u : State) → SameWalk t u × AreTraitHeads (all_names k None) own u.items (list_of heads) sigs → Adds
+      added : (own : TyId) (t : TypingState) → SameWalk s t → type_at t.items own ≡ Some (Ty.Dyn (length s.items.traits)) → (sigs :
+          List Sig) (u : TypingState) → SameWalk t u × AreTraitHeads (all_names k None) own u.items (list_of heads) sigs → Adds
           (syn at (TraitItem name heads) ∷ []) s (record u {
             items = with_trait u.items (record {
               name = name.1;
@@ -303,7 +303,7 @@ module _ (k : rules.Known) where
       (obeyed_still Rule.T01 name.0 (is_some (types.number_of k.adts name.1)) s) λ _ t e. adds_still (all_names k None) e
   item_adds (syn at _) s = walk_ends (adds_still (all_names k None) (still s))
 
-  pub items_add : (c : rules.Count) (is : List ItemSyn) (s : State) → Walked (λ _ t. Adds (all_traits is) s t)
+  pub items_add : (c : rules.Count) (is : List ItemSyn) (s : TypingState) → Walked (λ _ t. Adds (all_traits is) s t)
       (rules.heads_collected k c is s)
   items_add c [] s = walk_ends (adds_still (all_names k None) (still s))
   items_add c (i ∷ is) s =
@@ -323,20 +323,20 @@ collecting_traits is end =
     (codes "main"))) x) λ _ y o. there (adds_both around (adds_still around e) h) (same_both f (same_heads (onward g (onward d
     o))))
   where
-    start : State
+    start : TypingState
     start = rules.starting_with rules.no_items
 
-    around : types.Around
+    around : types.WrittenScope
     around = all_names (rules.known_of is) None
 
-    there : {u y : State} → AddsTraits (all_names (rules.known_of is) None) (all_traits is) (rules.starting_with
+    there : {u y : TypingState} → AddsTraits (all_names (rules.known_of is) None) (all_traits is) (rules.starting_with
         rules.no_items) u → SameHeads u y → AreAllTraits is y.items
     there {u} {y} h s =
         subst (AreTraitsOf (all_names (rules.known_of is) None) y.items 0 (all_traits is)) (sym (s.traits ∙ h.traits))
         (traits_on (all_names (rules.known_of is) None) u.items y.items s.types 0 (all_traits is) h.new h.are)
 
 -- traits have the names of the text
-module _ (around : types.Around) (items : ItemTable) where
+module _ (around : types.WrittenScope) (items : ItemTable) where
   first_name : (n : ℕ) (i : Syn) (def : TraitDef) (is : List Syn) (ws : List Word) → IsTraitOf around items n i def → ws ≡
       trait_names is → def.name ∷ ws ≡ trait_names (i ∷ is)
   first_name n (syn at (TraitItem name heads)) def is ws h e = λ j. h.3 j ∷ e j
@@ -405,7 +405,7 @@ abbrev TraitKept : Syn → Type 0
 TraitKept (syn at (TraitItem name heads)) = HeadsKept [] (list_of heads)
 TraitKept _ = Unit {0}
 
-heads_kept : (env : Env) (earlier : List Word) (hs : List Syn) (s : State) → Walked (λ a t. HeadsKept earlier hs)
+heads_kept : (env : Env) (earlier : List Word) (hs : List Syn) (s : TypingState) → Walked (λ a t. HeadsKept earlier hs)
     (checks.trait_heads env earlier hs s)
 heads_kept env earlier [] s = walk_ends tt
 heads_kept env earlier (syn at (FnItem name params answer block) ∷ hs) s =
@@ -414,13 +414,13 @@ heads_kept env earlier (syn at (FnItem name params answer block) ∷ hs) s =
     (bytes_eq name.1 (codes "drop"))) _ λ k. walk_map (heads_kept env (name.1 ∷ earlier) hs t) λ a u g. (h, k, g)
 heads_kept env earlier (syn at _ ∷ hs) s = record { so = tt }
 
-trait_kept : (env : Env) (before : checks.Before) (i : Syn) (s : State) → Walked (λ a t. TraitKept i) (checks.item_rules env
+trait_kept : (env : Env) (before : checks.Before) (i : Syn) (s : TypingState) → Walked (λ a t. TraitKept i) (checks.item_rules env
     before i s)
 trait_kept env before (syn at (TraitItem name heads)) s =
     walk (heads_kept env [] (list_of heads) s) λ _ t h. walk_ends h
 trait_kept env before (syn at _) s = whatever _ tt
 
-traits_kept : (env : Env) (before : checks.Before) (is : List Syn) (s : State) → Walked (λ a t. All TraitKept is)
+traits_kept : (env : Env) (before : checks.Before) (is : List Syn) (s : TypingState) → Walked (λ a t. All TraitKept is)
     (checks.all_items env before is s)
 traits_kept env before [] s = walk_ends tt
 traits_kept env before (i ∷ is) s =
@@ -442,7 +442,7 @@ traits_are (i ∷ is) h s = kept_with i.item (all_traits is) (h.0, s.0) (traits_
 
 -- ---- one trait
 
-module _ (items : ItemTable) (all : AreReady items) (around : types.Around) (own : TyId) (n : ℕ) (is_own : type_at items own ≡
+module _ (items : ItemTable) (all : AreReady items) (around : types.WrittenScope) (own : TyId) (n : ℕ) (is_own : type_at items own ≡
     Some (Ty.Dyn n)) where
   -- a reference to `dyn` of the trait
   self_is : (ty : TyId) (unique : Bool) (t : Ty) → type_at items ty ≡ Some t → reference_in t ≡ Some (unique, own) → dyn_in t
@@ -522,7 +522,7 @@ module _ (items : ItemTable) (all : AreReady items) (around : types.Around) (own
 
 -- ---- the whole
 
-traits_at : (around : types.Around) (items : ItemTable) (n : ℕ) (is : List Syn) (defs : List TraitDef) → AreTraitsOf around
+traits_at : (around : types.WrittenScope) (items : ItemTable) (n : ℕ) (is : List Syn) (defs : List TraitDef) → AreTraitsOf around
     items n is defs → All TraitIs is → (k : ℕ) (def : TraitDef) → slice_get defs k ≡ Some def → (i : Syn) × IsTraitOf around
     items (n + k) i def × TraitIs i
 traits_at around items n [] [] are so k def at = absurd (none-some def at)
@@ -552,12 +552,12 @@ module _ (parts : Parts Pos) (items : ItemTable) (p : ProgramTree) (h : IsAccept
   kept = by _ (traits_kept (checks.outermost texts) (record { methods = []; impls = [] }) texts (rules.starting_with items))
       h.checked
     where
-      by : (r : Result (Unit {0} × State) Broken) → Walked (λ a t. All TraitKept texts) r → checks.program_in r ≡ Ok p → All
+      by : (r : Result (Unit {0} × TypingState) Broken) → Walked (λ a t. All TraitKept texts) r → checks.program_in r ≡ Ok p → All
           TraitKept texts
       by (Ok a) w e = w.so
       by (Err x) w e = absurd (no_ok x p e)
 
-  abbrev around : types.Around
+  abbrev around : types.WrittenScope
   around = all_names (rules.known_of (items_of parts)) None
 
   traits : AreTraitsOf around p.items 0 (all_traits (items_of parts)) p.items.traits
@@ -565,7 +565,7 @@ module _ (parts : Parts Pos) (items : ItemTable) (p : ProgramTree) (h : IsAccept
       p.items extends.types 0 (all_traits (items_of parts)) items.traits (by _ (collecting_traits (items_of parts) h.end)
       h.collected))
     where
-      by : (r : Result (Unit {0} × State) Broken) → Walked (λ _ t. AreAllTraits (items_of parts) t.items) r → rules.items_in r
+      by : (r : Result (Unit {0} × TypingState) Broken) → Walked (λ _ t. AreAllTraits (items_of parts) t.items) r → rules.items_in r
           ≡ Ok items → AreAllTraits (items_of parts) items
       by (Ok a) w e = subst (AreAllTraits (items_of parts)) (ok_same a.1.items items e) w.so
       by (Err x) w e = absurd (no_items_ok x e)

@@ -16,7 +16,7 @@ use Rattle.src_tree.specs.Layout.{Parts}
 use Rattle.typed_tree.specs.Tree.{ProgramTree}
 use Rattle.well_typed.specs.Claim.{Holds, each}
 use Rattle.well_typed.specs.Names.{is_among, are_distinct, built_in, is_word}
-use Rattle.typing_rules.specs.Check.{State, Broken}
+use Rattle.typing_rules.specs.Check.{TypingState, Broken}
 use Rattle.typing_rules.specs.Collected.{starting_with, item_name, known_of}
 use Rattle.typing_rules.specs.Items.{ItemSyn, items_of, item_syns, adt_names, trait_names, closure_name}
 use Rattle.typing_rules.specs.Program as checks
@@ -357,7 +357,7 @@ module _ (parts : Parts Pos) (items : ItemTable) (p : ProgramTree) (h : IsAccept
   methods_kept =
       by _ (items_kept (checks.outermost texts) (record { methods = []; impls = [] }) texts (starting_with items)) h.checked
     where
-      by : (r : Result (Unit {0} × State) Broken) → Walked (λ a t. ItemsKept [] texts) r → checks.program_in r ≡ Ok p →
+      by : (r : Result (Unit {0} × TypingState) Broken) → Walked (λ a t. ItemsKept [] texts) r → checks.program_in r ≡ Ok p →
           ItemsKept [] texts
       by (Ok a) w e = w.so
       by (Err x) w e = absurd (no_ok x p e)

@@ -19,15 +19,15 @@ use Rattle.well_typed.specs.Patterns as well
 use Rattle.well_typed.specs.Places.{Context, Taken, Wanted, Passed, ty_of, is_taken, is_borrow}
 use Rattle.well_typed.specs.Types.{fits, is_same, is_never, is_reference, reference_of, reference_in}
 use Rattle.typing_rules.specs.Bodies as bodies
-use Rattle.typing_rules.specs.Check.{Check, State, Broken, and_then, breaks, interned, ◌>>=◌, ◌<$>◌}
+use Rattle.typing_rules.specs.Check.{Check, TypingState, Broken, and_then, breaks, interned, ◌>>=◌, ◌<$>◌}
 use Rattle.typing_rules.specs.Named.{PathValue, Makes, IsBroken, path_value, Callee, Function, Constructor, Prints, Asks, Drops, Forgets, Boxes, AValue, Unnamed, NoCallee, callee_of, method_named}
 use Rattle.typing_rules.specs.Patterns.{pattern, count_of, target_of}
 use Rattle.typing_rules.specs.Places.{bool, struct_field, numbered_part, variable_place}
-use Rattle.typing_rules.specs.Promises.{IsReady, IsAlone, IsKnown, Grows, Fact, Gives, Spot, at_spot, Stands, Knows, IsValue, IsTemporary, IsBase, Sound, SoundTemporary, SoundBase}
+use Rattle.typing_rules.specs.Promises.{IsReady, IsAlone, IsKnown, Grows, Fact, Gives, TypingSpot, at_spot, Stands, Knows, IsValue, IsTemporary, IsBase, Sound, SoundTemporary, SoundBase}
 use Rattle.typing_rules.specs.RowPromises.{IsPlace, IsArgument, SoundReferrer, AreGiven, IsGiven, SoundArgs, AreParts, SoundElements, SoundMaybe, IsLoopOf, AreStatements, SoundStatements, IsStatement, AreArms, IsInParts, SoundInitialiser, SoundDeclared, AreInits, SoundInits}
 use Rattle.typing_rules.specs.Rows as rows
 use Rattle.typing_rules.specs.Rows.{Typer, Referrer, Expected, Given, taken}
-use Rattle.typing_rules.specs.Scope.{Env, Entry, Around, with_variables, within_loop, jumps_to, in_guard, field_named, labelled, innermost}
+use Rattle.typing_rules.specs.Scope.{Env, NamedEntry, LabelledLoop, with_variables, within_loop, jumps_to, in_guard, field_named, labelled, innermost}
 use Rattle.typing_rules.specs.Typed as typing
 use Rattle.typing_rules.specs.Typed.{is_one_name}
 use Rattle.src_ast.specs.Syntax.{Word, Syn, syn, Shape, Literal, TruthLiteral, Path, Minus, Bang, Star, Ampersand, Calculate, Compare, Both, Either, Store, CallOf, MethodOf, FieldOf, PartOf, ElementOf, StructOf, FieldInit, Parens, TupleOf, ArrayOf, Braces, IfElse, IfLetElse, MatchOn, ArmOf, LoopOf, WhileOf, WhileLetOf, BreakOf, ContinueOf, ReturnOf, MoveOf, PanicOf, LetOf, Semi, SelfParam, Syns, no_syn, a_syn, MaybeSyn, nothing, just}
@@ -63,23 +63,23 @@ use Rattle.typing_soundness.proofs.Walking.Expressions.{typed_walks}
 
 -- ---- one of two checks
 
-gives_if : {A : Type 0} {s : State} {Q : Fact A} (b : Bool) (p q : Check A) → (b ≡ true → Gives s Q (p s)) → (b ≡ false
+gives_if : {A : Type 0} {s : TypingState} {Q : Fact A} (b : Bool) (p q : Check A) → (b ≡ true → Gives s Q (p s)) → (b ≡ false
     → Gives s Q (q s)) → Gives s Q ((if b then p else q) s)
 gives_if true p q h k = h refl
 gives_if false p q h k = k refl
 
 -- what is broken in the end gives nothing
-broken_ends : {A B : Type 0} {s : State} {Q : Fact B} (rule : Rule) (at : Pos) (r : Result (A × State) Broken) → Gives s
+broken_ends : {A B : Type 0} {s : TypingState} {Q : Fact B} (rule : Rule) (at : Pos) (r : Result (A × TypingState) Broken) → Gives s
     Q (and_then r (λ _. breaks rule at))
 broken_ends rule at (Ok a) = record { so = λ ready. tt }
 broken_ends rule at (Err e) = record { so = λ ready. tt }
 
 abbrev SoundPlace : Env → Check Node → Type 0
-SoundPlace env check = (s : State) → Knows env s → Gives s (IsPlace env) (check s)
+SoundPlace env check = (s : TypingState) → Knows env s → Gives s (IsPlace env) (check s)
 
 -- ---- paths
 
-path_value_sound : (env : Env) (at : Pos) (v : PathValue) (want : Option TyId) (s : State) → (k : Knows env s) → IsUnit
+path_value_sound : (env : Env) (at : Pos) (v : PathValue) (want : Option TyId) (s : TypingState) → (k : Knows env s) → IsUnit
     s.items env k.items v → Gives s (IsTemporary env want) (typing.makes_unit at v want s)
 path_value_sound env at (Makes adt variant) want s k is = unit_struct_sound env at adt variant is.0 want s is.1 is.2 k
 path_value_sound env at (IsBroken rule) want s k is = gives_nothing rule at
@@ -90,19 +90,19 @@ path_alone_sound env at first second want s k =
     path_value_sound env at (path_value s.items env first second) want s k (path_is s.items env k.items first second)
 
 -- a variable that a path names is in scope
-in_scope : (env : Env) (first second : Option Word) (x : Entry) → typing.variable_of env first second ≡ Some x →
+in_scope : (env : Env) (first second : Option Word) (x : NamedEntry) → typing.variable_of env first second ≡ Some x →
     Contains env.variables x
-in_scope env (Some name) None x e = (found_in (λ (y : Entry). bytes_eq y.name name) env.variables x e).1
+in_scope env (Some name) None x e = (found_in (λ (y : NamedEntry). bytes_eq y.name name) env.variables x e).1
 in_scope env None None x e = absurd (none-some x e)
 in_scope env (Some name) (Some second) x e = absurd (none-some x e)
 in_scope env None (Some second) x e = absurd (none-some x e)
 
-variable_taken : (env : Env) (at : Pos) (x : Entry) → Contains env.variables x → Sound env (λ want. variable_place at x
+variable_taken : (env : Env) (at : Pos) (x : NamedEntry) → Contains env.variables x → Sound env (λ want. variable_place at x
     >>= taken env want)
 variable_taken env at x has want s k =
     bind (variable_sound env at x has s k) λ n t g d. taken_sound env want n t (d t (grows_refl t)) d
 
-path_by_sound : (env : Env) (at : Pos) (first second : Option Word) (x : Option Entry) → ((y : Entry) → x ≡ Some y →
+path_by_sound : (env : Env) (at : Pos) (first second : Option Word) (x : Option NamedEntry) → ((y : NamedEntry) → x ≡ Some y →
     Contains env.variables y) → Sound env (typing.path_by env at first second x)
 path_by_sound env at first second (Some x) has want s k = variable_taken env at x (has x refl) want s k
 path_by_sound env at first second None has want s k =
@@ -112,7 +112,7 @@ path_sound : (env : Env) (at : Pos) (first second : Option Word) → Sound env (
 path_sound env at first second =
     path_by_sound env at first second (typing.variable_of env first second) (in_scope env first second)
 
-base_place : (env : Env) (at : Pos) (first second : Option Word) (x : Option Entry) → is_some x ≡ true → ((y : Entry) →
+base_place : (env : Env) (at : Pos) (first second : Option Word) (x : Option NamedEntry) → is_some x ≡ true → ((y : NamedEntry) →
     x ≡ Some y → Contains env.variables y) → SoundPlace env (typing.variable_base env at first second x)
 base_place env at first second (Some x) e has s k = variable_sound env at x (has x refl) s k
 base_place env at first second None e has s k = absurd (false≢true e)
@@ -120,8 +120,8 @@ base_place env at first second None e has s k = absurd (false≢true e)
 -- ---- calls
 
 called_sound : (env : Env) (at : Pos) (count : ℕ) (callee : Check Node) (args : List TyId → Check Nodes) (c : Callee) →
-    ((s : State) → Knows env s → Gives s (IsValue env None) (callee s)) → SoundArgs env count args → (want : Option
-    TyId) (s : State) → (k : Knows env s) → IsCallee s env k.items c → Gives s (IsTemporary env want)
+    ((s : TypingState) → Knows env s → Gives s (IsValue env None) (callee s)) → SoundArgs env count args → (want : Option
+    TyId) (s : TypingState) → (k : Knows env s) → IsCallee s env k.items c → Gives s (IsTemporary env want)
     (typing.called_by at count callee args c want s)
 called_sound env at count callee args (Function body is_drop head) good_c good want s k is =
     subst (λ b. Gives s (IsTemporary env want) (rows.call at (tree.Call body) head.result count head.params args (not b)
@@ -170,7 +170,7 @@ value_passed c param (node id at ty by form) is no_reference h f =
         go false = (h, f)
     else_by false e h f = absurd (let no_ : IsTrue false = e in cc)
 
-value_argument : (env : Env) (param : TyId) (unique : Bool) (to : TyId) (s w : State) (n : Node) → Grows s w →
+value_argument : (env : Env) (param : TyId) (unique : Bool) (to : TyId) (s w : TypingState) (n : Node) → Grows s w →
     reference_of s.items param ≡ Some (unique, to) → IsValue env (Some param) w n → IsArgument env param w n
 value_argument env param unique to s w n g is v =
     let known = some_got reference_in (type_at s.items param) (unique, to) is in
@@ -180,7 +180,7 @@ value_argument env param unique to s w n g is v =
           v.fit;
     }
 
-passed_sound : (env : Env) (at : Pos) (by_value : Typer) (x : Option Entry) → ((y : Entry) → x ≡ Some y → Contains
+passed_sound : (env : Env) (at : Pos) (by_value : Typer) (x : Option NamedEntry) → ((y : NamedEntry) → x ≡ Some y → Contains
     env.variables y) → Sound env by_value → SoundReferrer env (typing.passed at by_value x)
 passed_sound env at by_value None has good param to unique s k is =
     weaker (IsArgument env param) (good (Some param) s k) λ n w all g v. value_argument env param unique to s w n g is v
@@ -194,26 +194,26 @@ passed_sound env at by_value (Some x) has good param to unique s k is =
 loop_in : (env : Env) (label : Option Word) → IsLoopOf env (jumps_to env.loops label)
 loop_in env None a e = first env.loops e
   where
-    first : (ls : List Around) → innermost ls ≡ Some a → Contains ls a
+    first : (ls : List LabelledLoop) → innermost ls ≡ Some a → Contains ls a
     first [] e = absurd (none-some a e)
     first (l ∷ ls) e = (0, omega arith, same_Some l a e)
-loop_in env (Some name) a e = (found_in (λ (b : Around). labelled name b.label) env.loops a e).1
+loop_in env (Some name) a e = (found_in (λ (b : LabelledLoop). labelled name b.label) env.loops a e).1
 
 -- ---- statements
 
 -- a statement, or nothing
-record IsPart (env : Env) (w : State) (done : Option Node × Bool × Env) : Type 0 where
-  holds : (p : Spot) → Stands env w p → (rest : Nodes) (behind : Context → Claim) → ((q : Spot) → Stands done.2 w q →
+record IsPart (env : Env) (w : TypingState) (done : Option Node × Bool × Env) : Type 0 where
+  holds : (p : TypingSpot) → Stands env w p → (rest : Nodes) (behind : Context → Claim) → ((q : TypingSpot) → Stands done.2 w q →
       Holds (statements (at_spot w.items env.answer q) rest behind)) → Holds (statements (at_spot w.items env.answer p)
       (typing.with_statement done.0 rest) behind)
   ends : (rest : Nodes) → ends_in w.items (typing.with_statement done.0 rest) ≡ (done.1 || ends_in w.items rest)
   answer : done.2.answer ≡ env.answer
 
-as_part : (env : Env) (w : State) (done : Node × Bool × Env) → IsStatement env w done → IsPart env w (typing.a_statement
+as_part : (env : Env) (w : TypingState) (done : Node × Bool × Env) → IsStatement env w done → IsPart env w (typing.a_statement
     done)
 as_part env w done is = record { holds = is.holds; ends = is.ends; answer = is.answer }
 
-join_parts : (env : Env) (w : State) (n : Option Node × Bool × Env) (ns : Nodes × Bool × Env) → IsPart env w n →
+join_parts : (env : Env) (w : TypingState) (n : Option Node × Bool × Env) (ns : Nodes × Bool × Env) → IsPart env w n →
     AreStatements n.2 w ns → AreStatements env w (typing.with_statement n.0 ns.0, n.1 || ns.1, ns.2)
 join_parts env w n ns one more = record {
   holds = λ p stands behind then_.
@@ -246,7 +246,7 @@ field_there v name n h same =
     there (y ∷ ys) (ty ∷ tys) zero x at same = refl
     there (y ∷ ys) (ty ∷ tys) (suc n) x at same = there ys tys n x at (omega (arith, same))
 
-one_init : (env : Env) (v : Variant) (name : Word) (w : State) (n : Node) (fs : Fields) (given_ : Given) (o : Option ℕ)
+one_init : (env : Env) (v : Variant) (name : Word) (w : TypingState) (n : Node) (fs : Fields) (given_ : Given) (o : Option ℕ)
     → field_named v name ≡ o → length v.field_names ≡ length v.fields → IsValue env (typing.field_want v o) w n →
     AreInits env v w fs given_ → AreInits env v w (a_field (typing.or_zero o) n fs) (o ∷ given_)
 one_init env v name w n fs given_ None e same value rest = rest
@@ -261,9 +261,9 @@ later_want : (wants : List (Option TyId)) (ty : TyId) → Contains (typing.other
 later_want [] ty has = has
 later_want (x ∷ xs) ty has = (suc has.0, omega (arith, has.1), has.2)
 
-one_part : (env : Env) (w : State) (n : Node) (wants : List (Option TyId)) → IsValue env (typing.first_want wants) w n →
+one_part : (env : Env) (w : TypingState) (n : Node) (wants : List (Option TyId)) → IsValue env (typing.first_want wants) w n →
     ((ty : TyId) → Contains wants (Some ty) → IsAlone w.items ty) → IsAlone w.items (typing.part_ty (typing.first_want
-    wants) n) × ((p : Spot) → Stands env w p → Holds (typed (at_spot w.items env.answer p) (Wanted (typing.part_ty
+    wants) n) × ((p : TypingSpot) → Stands env w p → Holds (typed (at_spot w.items env.answer p) (Wanted (typing.part_ty
     (typing.first_want wants) n)) n))
 one_part env w n [] v alone = (
   v.alone,
@@ -278,7 +278,7 @@ one_part env w n (None ∷ wants) v alone = (
 one_part env w n (Some ty ∷ wants) v alone =
     (alone ty (0, omega arith, refl), λ p stands. as_wanted (at_spot w.items env.answer p) ty n (v.holds p stands) v.fit)
 
-no_more : (env : Env) (w : State) (params : List TyId) → AreGiven env params w no_node
+no_more : (env : Env) (w : TypingState) (params : List TyId) → AreGiven env params w no_node
 no_more env w [] = tt
 no_more env w (ty ∷ tys) = tt
 
@@ -445,7 +445,7 @@ module _ (closures : (env : Env) (at : Pos) (captures params : Syns) (answer : M
           (e w l).1,
         )
 
-    statement_sound : (env : Env) (e : Syn) → Holds (shaped e) → (s : State) → Knows env s → Gives s (λ w done. IsPart
+    statement_sound : (env : Env) (e : Syn) → Holds (shaped e) → (s : TypingState) → Knows env s → Gives s (λ w done. IsPart
         env w done × Knows done.2 w) (typing.statement env e s)
     statement_sound env (syn at form) h s k =
         gives_if (typing.is_expression form) (typing.a_statement <$> rows.evaluate at env false (λ want. if
@@ -458,7 +458,7 @@ module _ (closures : (env : Env) (at : Pos) (captures params : Syns) (answer : M
         d. given (typing.a_statement done) λ ready w l. (as_part env w done (d w l).0, (d w l).1)) (λ e. other_sound env
         at form h s k)
 
-    other_sound : (env : Env) (at : Pos) (form : Shape) → Holds (shaped_form form) → (s : State) → Knows env s → Gives s
+    other_sound : (env : Env) (at : Pos) (form : Shape) → Holds (shaped_form form) → (s : TypingState) → Knows env s → Gives s
         (λ w done. IsPart env w done × Knows done.2 w) (typing.other_statement env at form s)
     other_sound env at (LetOf p ty initialiser) h s k =
         bind (let_sound env at (is_one_name s.items p) (typing.declared env ty) (typing.initialised env (is_one_name
@@ -482,7 +482,7 @@ module _ (closures : (env : Env) (at : Pos) (captures params : Syns) (answer : M
     initialised_sound env false (just e) h want s k =
         bind (for_parts_sound env e h want s k) λ n t g d. given (present n) λ ready w l. d w l
 
-    for_parts_sound : (env : Env) (e : Syn) → Holds (shaped e) → (want : Option TyId) (s : State) → Knows env s → Gives
+    for_parts_sound : (env : Env) (e : Syn) → Holds (shaped e) → (want : Option TyId) (s : TypingState) → Knows env s → Gives
         s (IsInParts env want) (typing.for_parts env want e s)
     for_parts_sound env (syn at form) h want s k =
         gives_if (typing.is_place env form) (typing.place env at form >>= rows.place_for_parts env want) (typing.value
@@ -495,7 +495,7 @@ module _ (closures : (env : Env) (at : Pos) (captures params : Syns) (answer : M
           own = no_place_own want n v.is_no_place;
         })
 
-    args_sound : (env : Env) (args : Syns) → Holds (all_shaped args) → (params : List TyId) (s : State) → Knows env s →
+    args_sound : (env : Env) (args : Syns) → Holds (all_shaped args) → (params : List TyId) (s : TypingState) → Knows env s →
         ((ty : TyId) → Contains params ty → IsKnown s.items ty) → Gives s (IsGiven env params (count_of args))
         (typing.typed_args env params args s)
     args_sound env no_syn h params s k known = given no_node λ ready w g. record { are = no_more env w params; counted = refl }
@@ -556,7 +556,7 @@ module _ (closures : (env : Env) (at : Pos) (captures params : Syns) (answer : M
     init_sound env at name nothing h want s k = path_sound env at (Some name) None want s k
     init_sound env at name (just e) h want s k = typed_sound env e h want s k
 
-    parts_sound : (env : Env) (parts : Syns) → Holds (all_shaped parts) → (wants : List (Option TyId)) (s : State) →
+    parts_sound : (env : Env) (parts : Syns) → Holds (all_shaped parts) → (wants : List (Option TyId)) (s : TypingState) →
         Knows env s → ((ty : TyId) → Contains wants (Some ty) → IsAlone s.items ty) → Gives s (λ w ps. AreParts env w
         ps.0 ps.1) (typing.typed_parts env wants parts s)
     parts_sound env no_syn h wants s k alone = given (no_node, []) λ ready w g. tt
@@ -580,7 +580,7 @@ module _ (closures : (env : Env) (at : Pos) (captures params : Syns) (answer : M
         )
 
     arms_sound : (env : Env) (arms : Syns) → Holds (all_shaped arms) → (e : Expected) (ty : TyId) (want : Option TyId) (s
-        : State) → Knows env s → IsReady s.items ty → Gives s (λ w ns. AreArms env e ty want w ns.0 ns.1 ×
+        : TypingState) → Knows env s → IsReady s.items ty → Gives s (λ w ns. AreArms env e ty want w ns.0 ns.1 ×
         (well.count_of ns.0 ≡ count_of arms)) (typing.typed_arms env e ty want arms s)
     arms_sound env no_syn h e ty want s k ready = given (no_node, []) λ all w g. (tt, refl)
     arms_sound env (a_syn (syn at (ArmOf p guard body)) rest) h e ty want s k ready =

@@ -12,11 +12,11 @@ use Rattle.typed_tree.specs.Tree.{Node, node, MaybeNode, absent, present}
 use Rattle.well_typed.specs.Nodes.{is_loop_ty, carries_ty, carried}
 use Rattle.well_typed.specs.Places.{LoopAround, ty_of}
 use Rattle.well_typed.specs.Types.{fits, is_same, is_never, is_never_ty, is_unit}
-use Rattle.typing_rules.specs.Check.{Check, State, Broken, and_then, types_for}
+use Rattle.typing_rules.specs.Check.{Check, TypingState, Broken, and_then, types_for}
 use Rattle.typing_rules.specs.Places.{unit, never}
-use Rattle.typing_rules.specs.Promises.{IsAlone, AreReady, Grows, Fact, Gives, Spot, Stands, Carries, Knows, Sound, SoundTemporary}
+use Rattle.typing_rules.specs.Promises.{IsAlone, AreReady, Grows, Fact, Gives, TypingSpot, Stands, Carries, Knows, Sound, SoundTemporary}
 use Rattle.typing_rules.specs.Rows.{Typer, loop_row, loop_around, ty_carried, one_type}
-use Rattle.typing_rules.specs.Scope.{Env, Around, within_loop}
+use Rattle.typing_rules.specs.Scope.{Env, LabelledLoop, within_loop}
 use Rattle.src_ast.specs.Syntax.{Word}
 use Rattle.typing_rules.proofs.Sound.Branches.{unit_is, unit_fits}
 use Rattle.typing_rules.proofs.Sound.Fitted.{settled_ends, same_self, or_left, or_right}
@@ -97,8 +97,8 @@ break_of_type loop (c ∷ bs) b has is = by (c.0 == loop) refl (contains_cases c
 
 -- ---- what is known of the walk as well
 
-pub bind_walked : {A B : Type 0} {s : State} {Q : Fact A} {P : A → State → Type 0} {R : Fact B} {r : Result (A × State)
-    Broken} {f : A → Check B} → Gives s Q r → Walked P r → ((a : A) (t : State) → Grows s t → ((w : State) → Grows t w →
+pub bind_walked : {A B : Type 0} {s : TypingState} {Q : Fact A} {P : A → TypingState → Type 0} {R : Fact B} {r : Result (A × TypingState)
+    Broken} {f : A → Check B} → Gives s Q r → Walked P r → ((a : A) (t : TypingState) → Grows s t → ((w : TypingState) → Grows t w →
     Q w a) → P a t → Gives t R (f a t)) → Gives s R (and_then r f)
 bind_walked {s = s} {Q = Q} {P = P} {R = R} {r = Ok a} {f = f} h w k =
     record {
@@ -110,10 +110,10 @@ bind_walked {r = Err e} h w k = record { so = λ ready. tt }
 -- ---- loops
 
 -- a later state with the breaks of an earlier one
-abbrev with_breaks : State → State → State
+abbrev with_breaks : TypingState → TypingState → TypingState
 with_breaks t w = record w { breaks = t.breaks }
 
-grows_with : {t w : State} → Grows t w → Grows t (with_breaks t w)
+grows_with : {t w : TypingState} → Grows t w → Grows t (with_breaks t w)
 grows_with g = record {
   items = g.items;
   ready = g.ready;
@@ -126,7 +126,7 @@ grows_with g = record {
   made = g.made;
 }
 
-stands_with : (env : Env) {t w : State} (p : Spot) → Grows t w → Stands env w p → Stands env (with_breaks t w) p
+stands_with : (env : Env) {t w : TypingState} (p : TypingSpot) → Grows t w → Stands env w p → Stands env (with_breaks t w) p
 stands_with env {t} {w} p g stands =
     record {
       variables = stands.variables;
@@ -143,8 +143,8 @@ module _ (items : ItemTable) (ty : TyId) where
   carry_ty ready absent is = subst (λ t. IsTrue (is_unit items t)) is (unit_is items ready)
   carry_ty ready (present n) is = subst (λ t. IsTrue (is_same t (ty_of n))) is (same_self (ty_of n).0)
 
-pub loop_sound : (f : Tape) (env : Env) (at : Pos) (label : Option Word) (body : Around → Typer) → ((a : Around) → Sound
-    (within_loop a env) (body a)) → ((a : Around) (want : Option TyId) → WalksNode f (body a want)) → SoundTemporary env
+pub loop_sound : (f : Tape) (env : Env) (at : Pos) (label : Option Word) (body : LabelledLoop → Typer) → ((a : LabelledLoop) → Sound
+    (within_loop a env) (body a)) → ((a : LabelledLoop) (want : Option TyId) → WalksNode f (body a want)) → SoundTemporary env
     (loop_row at label body)
 loop_sound f env at label body good walks want s k =
     after_number (bind_walked (good a (Some unit) s' k') (walks a (Some unit) s') λ b t g d walked.
@@ -166,10 +166,10 @@ loop_sound f env at label body good walks want s k =
           t.breaks)) _ common)),
     ))
   where
-    s' : State
+    s' : TypingState
     s' = numbered s
 
-    a : Around
+    a : LabelledLoop
     a = loop_around label s.next_node true want
 
     around : TyId → LoopAround
@@ -178,7 +178,7 @@ loop_sound f env at label body good walks want s k =
     k' : Knows (within_loop a env) s'
     k' = knows_loop env s' a (knows_number env k) (omega arith)
 
-    carried_so : (w : State) (b : Node) (ty x : TyId) → AreReady w.items → IsTrue (is_same ty x) → Contains s.breaks
+    carried_so : (w : TypingState) (b : Node) (ty x : TyId) → AreReady w.items → IsTrue (is_same ty x) → Contains s.breaks
         (s.next_node, x) ⊎ IsCarried (s.next_node, x) (nodes_of b) → IsTrue (list_any (carries_ty w.items ty) (carried
         s.next_node b))
     carried_so w b ty x ready same (inl old) = absurd (let less = (k.breaks (s.next_node, x) old).0 in omega (
@@ -189,7 +189,7 @@ loop_sound f env at label body good walks want s k =
         any_of (carries_ty w.items ty) (carried s.next_node b) c.0 c.1 (carry_ty w.items ty ready c.0 (c.2 ∙ sym
         (same_id ty x same)))
 
-    by : (w : State) (b : Node) (ty : TyId) (t : State) → AreReady w.items → Grows t w → Walks f s' t (nodes_of b) →
+    by : (w : TypingState) (b : Node) (ty : TyId) (t : TypingState) → AreReady w.items → Grows t w → Walks f s' t (nodes_of b) →
         IsTrue (is_never t.items ty) ⊎ IsTrue (list_any (is_same ty) (types_for s.next_node t.breaks)) → IsTrue
         (is_loop_ty w.items ty (carried s.next_node b))
     by w b ty t ready l walked (inl never) = or_left (is_never w.items ty) _ (is_later l.items is_never_ty ty never)

@@ -17,13 +17,13 @@ use Rattle.mir_ty.specs.ItemTable.{ItemTable}
 use Rattle.well_typed.specs.Claim.{Holds}
 use Rattle.well_typed.specs.Nodes.{is_drop_body}
 use Rattle.well_typed.specs.Types.{closure_in, closure_of, is_enum, variant_at}
-use Rattle.typing_rules.specs.Check.{State}
+use Rattle.typing_rules.specs.Check.{TypingState}
 use Rattle.typing_rules.specs.Named as looks
 use Rattle.typing_rules.specs.Named.{PathValue, Makes, IsBroken, Callee, Function, Constructor, Prints, Asks, Drops, Forgets, Boxes, AValue, Unnamed, NoCallee, is_tuple_kind, is_unit_kind}
-use Rattle.typing_rules.specs.Patterns.{Target, target, target_of}
+use Rattle.typing_rules.specs.Patterns.{PatternTarget, target, target_of}
 use Rattle.typing_rules.specs.Promises.{KnowsItems, is_plain_name}
 use Rattle.typing_rules.specs.RowPromises.{IsFunction}
-use Rattle.typing_rules.specs.Scope.{Env, Entry, variable, adt_named, body_named, method_of, method_word, variant_named, kind_at, adt_at_head}
+use Rattle.typing_rules.specs.Scope.{Env, NamedEntry, variable, adt_named, body_named, method_of, method_word, variant_named, kind_at, adt_at_head}
 use Rattle.typing_rules.specs.Typed.{no_variant, variant_of}
 use Rattle.src_ast.specs.Syntax.{Word, Syn, syn, Shape, Path, Parens}
 use Rattle.typing_rules.proofs.Sound.Later.{some_got, is_some_got}
@@ -138,13 +138,13 @@ module _ (items : ItemTable) (env : Env) (k : KnowsItems env.kinds env.self_adt 
 
   -- ---- structs that are made by their fields
 
-  pub target_there : (first second : Option Word) (t : Target) → target_of items env first second ≡ Some t → variant_at
+  pub target_there : (first second : Option Word) (t : PatternTarget) → target_of items env first second ≡ Some t → variant_at
       items t.adt t.variant ≡ Some (variant_of items t)
   target_there first None t h =
       let n = some_got (λ n. if is_enum items n then None else Some (target n 0)) (adt_at_head items env first) t h in
       by n.0 (adt_there first n.0 n.1) (is_enum items n.0) refl n.2
     where
-      shown : (u : Target) (v : Variant) → variant_at items u.adt u.variant ≡ Some v → variant_at items u.adt u.variant
+      shown : (u : PatternTarget) (v : Variant) → variant_at items u.adt u.variant ≡ Some v → variant_at items u.adt u.variant
           ≡ Some (variant_of items u)
       shown u v at = at ∙ ap Some (sym (ap (λ o. option_map_or (λ (x : Variant). x) o no_variant) at))
 
@@ -153,14 +153,14 @@ module _ (items : ItemTable) (env : Env) (k : KnowsItems env.kinds env.self_adt 
       by n def true e h = absurd (none-some t h)
       by n def false e h =
           let v = struct_there n def.0 def.1 e in
-          subst (λ (u : Target). variant_at items u.adt u.variant ≡ Some (variant_of items u)) (same_Some (target n 0) t
+          subst (λ (u : PatternTarget). variant_at items u.adt u.variant ≡ Some (variant_of items u)) (same_Some (target n 0) t
           h) (shown (target n 0) v.0 v.1)
   target_there first (Some second) t h =
       let n = some_got (λ n. if is_enum items n then option_map (target n) (variant_named items n second) else None)
       (adt_at_head items env first) t h in
       by n.0 (is_enum items n.0) n.2
     where
-      shown : (u : Target) (v : Variant) → variant_at items u.adt u.variant ≡ Some v → variant_at items u.adt u.variant
+      shown : (u : PatternTarget) (v : Variant) → variant_at items u.adt u.variant ≡ Some v → variant_at items u.adt u.variant
           ≡ Some (variant_of items u)
       shown u v at = at ∙ ap Some (sym (ap (λ o. option_map_or (λ (x : Variant). x) o no_variant) at))
 
@@ -169,7 +169,7 @@ module _ (items : ItemTable) (env : Env) (k : KnowsItems env.kinds env.self_adt 
       at_ n None e h = absurd (none-some t h)
       at_ n (Some m) e h =
           let v = variant_there n second m e in
-          subst (λ (u : Target). variant_at items u.adt u.variant ≡ Some (variant_of items u)) (same_Some (target n m) t
+          subst (λ (u : PatternTarget). variant_at items u.adt u.variant ≡ Some (variant_of items u)) (same_Some (target n m) t
           h) (shown (target n m) v.0 v.1)
 
       by : (n : ℕ) (b : Bool) → (if b then option_map (target n) (variant_named items n second) else None) ≡ Some t →
@@ -177,7 +177,7 @@ module _ (items : ItemTable) (env : Env) (k : KnowsItems env.kinds env.self_adt 
       by n true h = at_ n (variant_named items n second) refl h
       by n false h = absurd (none-some t h)
 
-module _ (s : State) (env : Env) (k : KnowsItems env.kinds env.self_adt s.items) where
+module _ (s : TypingState) (env : Env) (k : KnowsItems env.kinds env.self_adt s.items) where
   -- ---- what is called
 
   abbrev pub IsCallee : Callee → Type 0
@@ -257,7 +257,7 @@ module _ (s : State) (env : Env) (k : KnowsItems env.kinds env.self_adt s.items)
   no_callee_is AValue h = tt
   no_callee_is NoCallee h = tt
 
-  variable_is : (name : Word) → IsTrue (is_plain_name name) → (x : Option Entry) → IsCallee (looks.variable_callee
+  variable_is : (name : Word) → IsTrue (is_plain_name name) → (x : Option NamedEntry) → IsCallee (looks.variable_callee
       s.items env name x)
   variable_is name plain None = body_is name plain
   variable_is name plain (Some x) = by (is_some (closure_of s.items x.ty))

@@ -15,7 +15,7 @@ use Rattle.typed_tree.specs.Nodes.{number_of, nodes_of, nodes_in}
 use Rattle.typed_tree.specs.Tree.{Node, node, Form, Break}
 use Rattle.well_typed.specs.Nodes.{carried_by}
 use Rattle.well_typed.specs.Places.{form_of, is_place}
-use Rattle.typing_rules.specs.Check.{State}
+use Rattle.typing_rules.specs.Check.{TypingState}
 use Rattle.typing_rules.specs.Places.{used}
 use Rattle.typing_rules.specs.Rows.{used_if_place}
 use Rattle.typing_rules.proofs.Sound.Gives.{numbered}
@@ -67,7 +67,7 @@ carried_cases b xs ys c =
 -- ---- bodies and closures
 
 -- states that have the same bodies and closures, and all types
-pub record Stays (s t : State) : Type 0 where
+pub record Stays (s t : TypingState) : Type 0 where
   pub types : HaveTypes s.items t.items
   pub distinct : AreDistinct s.items.types → AreDistinct t.items.types
   pub adts : t.items.adts ≡ s.items.adts
@@ -78,10 +78,10 @@ pub record Stays (s t : State) : Type 0 where
   pub bodies : t.bodies ≡ s.bodies
   pub closures : t.items.closures ≡ s.items.closures
 
-pub stays_refl : (s : State) → Stays s s
+pub stays_refl : (s : TypingState) → Stays s s
 stays_refl s = record { types = λ n ty h. h; distinct = λ h. h; adts = refl; traits = refl; impls = refl; heads = refl; next_body = refl; bodies = refl; closures = refl }
 
-pub stays_both : {s t u : State} → Stays s t → Stays t u → Stays s u
+pub stays_both : {s t u : TypingState} → Stays s t → Stays t u → Stays s u
 stays_both p q = record {
   types = λ n ty h. q.types n ty (p.types n ty h);
   distinct = λ h. q.distinct (p.distinct h);
@@ -94,7 +94,7 @@ stays_both p q = record {
   closures = q.closures ∙ p.closures;
 }
 
-pub ordered_of : {s t : State} → Stays s t → Ordered s t
+pub ordered_of : {s t : TypingState} → Stays s t → Ordered s t
 ordered_of {s} {t} e = record {
   count = 0;
   next = e.next_body ∙ omega arith;
@@ -104,7 +104,7 @@ ordered_of {s} {t} e = record {
 }
 
 -- nothing is met
-pub met_none : {s t : State} → Stays s t → Met (λ rest. rest) s t
+pub met_none : {s t : TypingState} → Stays s t → Met (λ rest. rest) s t
 met_none {s} e = record {
   types = e.types;
   distinct = e.distinct;
@@ -134,7 +134,7 @@ counted_join from (suc a) b =
     sums : suc (a + b) ≡ suc a + b
     sums = omega arith
 
-pub ordered_both : {s t u : State} → Ordered s t → Ordered t u → Ordered s u
+pub ordered_both : {s t u : TypingState} → Ordered s t → Ordered t u → Ordered s u
 ordered_both {s} {t} {u} p q = record {
   count = p.count + q.count;
   next = let a = p.next in let b = q.next in omega (arith, a, b);
@@ -153,7 +153,7 @@ ordered_both {s} {t} {u} p q = record {
 
 -- ---- walks
 
-pub walks_none : (s : State) → Walks (λ rest. rest) s s []
+pub walks_none : (s : TypingState) → Walks (λ rest. rest) s s []
 walks_none s = record {
   numbers = omega arith;
   before = λ k h. refl;
@@ -164,7 +164,7 @@ walks_none s = record {
   met = met_none (stays_refl s);
 }
 
-pub walks_both : {f g : Tape} {s t u : State} {xs ys : List Node} → Walks f s t xs → Walks g t u ys → Walks (λ rest. f (g
+pub walks_both : {f g : Tape} {s t u : TypingState} {xs ys : List Node} → Walks f s t xs → Walks g t u ys → Walks (λ rest. f (g
     rest)) s u (xs ++ ys)
 walks_both {s = s} {t} {u} {xs} {ys} p q = record {
   numbers = omega (arith, p.numbers, q.numbers);
@@ -194,7 +194,7 @@ walks_both {s = s} {t} {u} {xs} {ys} p q = record {
     later b (inr c) = inr (carried_right b xs ys c)
 
 -- the same nodes in another order
-pub walks_so : {f : Tape} {s t : State} {xs : List Node} (ys : List Node) → ((k : ℕ) → occurs k ys ≡ occurs k xs) → ((b : ℕ ×
+pub walks_so : {f : Tape} {s t : TypingState} {xs : List Node} (ys : List Node) → ((k : ℕ) → occurs k ys ≡ occurs k xs) → ((b : ℕ ×
     TyId) → IsCarried b xs → IsCarried b ys) → Walks f s t xs → Walks f s t ys
 walks_so {s = s} {xs = xs} ys same on p =
     record {
@@ -219,14 +219,14 @@ swapped_carry b xs ys c = by (carried_cases b xs ys c)
     by (inr h) = carried_left b ys xs h
 
 -- what is met second stands first in the text
-pub walks_swapped : {f g : Tape} {s t u : State} {xs ys : List Node} → Walks f s t xs → Walks g t u ys → Walks (λ rest. f
+pub walks_swapped : {f g : Tape} {s t u : TypingState} {xs ys : List Node} → Walks f s t xs → Walks g t u ys → Walks (λ rest. f
     (g rest)) s u (ys ++ xs)
 walks_swapped {xs = xs} {ys = ys} p q =
     walks_so (ys ++ xs) (λ k. let a = occurs_both k xs ys in let b = occurs_both k ys xs in omega (arith, a, b)) (λ b c.
     swapped_carry b xs ys c) (walks_both p q)
 
 -- states at both ends that have the same numbers of nodes and breaks
-pub walks_recast : {f g : Tape} (s t u v : State) {xs : List Node} → s.next_node ≡ t.next_node → s.breaks ≡ t.breaks → v.next_node ≡
+pub walks_recast : {f g : Tape} (s t u v : TypingState) {xs : List Node} → s.next_node ≡ t.next_node → s.breaks ≡ t.breaks → v.next_node ≡
     u.next_node → v.breaks ≡ u.breaks → Ordered s v → Met g s v → Walks f t u xs → Walks g s v xs
 walks_recast s t u v {xs} first firsts last lasts ordered met p =
     record {
@@ -244,7 +244,7 @@ walks_recast s t u v {xs} first firsts last lasts ordered met p =
     by b (inr c) = inr c
 
 -- a state that differs in nothing that is looked at
-pub walks_same : {f : Tape} {s t : State} (u : State) {xs : List Node} → u.next_node ≡ t.next_node → u.breaks ≡ t.breaks
+pub walks_same : {f : Tape} {s t : TypingState} (u : TypingState) {xs : List Node} → u.next_node ≡ t.next_node → u.breaks ≡ t.breaks
     → Stays t u → Walks f s t xs → Walks f s u xs
 walks_same {s = s} {t} u number breaks stays p =
     walks_recast s s t u refl refl number breaks (ordered_both p.ordered (ordered_of stays)) (met_both p.met (met_none
@@ -270,11 +270,11 @@ other_occurs k n no_ = by (number_of n == k) refl
     by false e = refl
 
 -- a number is given out
-same_stays : (s : State) → Stays s (numbered s)
+same_stays : (s : TypingState) → Stays s (numbered s)
 same_stays s = record { types = λ n ty h. h; distinct = λ h. h; adts = refl; traits = refl; impls = refl; heads = refl; next_body = refl; bodies = refl; closures = refl }
 
 -- the node that gets the next number
-pub walks_number : (s : State) (at : Pos) (ty : TyId) (by : Option Use) (form : Form) → Walks (λ rest. rest) s
+pub walks_number : (s : TypingState) (at : Pos) (ty : TyId) (by : Option Use) (form : Form) → Walks (λ rest. rest) s
     (numbered s) (node s.next_node at ty by form ∷ [])
 walks_number s at ty by form =
     record {
@@ -288,12 +288,12 @@ walks_number s at ty by form =
     }
 
 -- a node whose number comes before those of its parts
-pub walks_node : {f : Tape} {s t : State} (at : Pos) (ty : TyId) (by : Option Use) (form : Form) → Walks f (numbered s) t
+pub walks_node : {f : Tape} {s t : TypingState} (at : Pos) (ty : TyId) (by : Option Use) (form : Form) → Walks f (numbered s) t
     (nodes_in form) → Walks f s t (nodes_of (node s.next_node at ty by form))
 walks_node {s = s} at ty by form p = walks_both (walks_number s at ty by form) p
 
 -- a node whose number comes behind those of its parts
-pub walks_outer : {f : Tape} {s t : State} (at : Pos) (ty : TyId) (by : Option Use) (form : Form) → Walks f s t (nodes_in
+pub walks_outer : {f : Tape} {s t : TypingState} (at : Pos) (ty : TyId) (by : Option Use) (form : Form) → Walks f s t (nodes_in
     form) → Walks f s (numbered t) (nodes_of (node t.next_node at ty by form))
 walks_outer {t = t} at ty by form p = walks_swapped p (walks_number t at ty by form)
 
@@ -307,7 +307,7 @@ with_first : (loop : ℕ) (n m : Node) (ns : List Node) → carried_by loop n �
 with_first loop n m ns e = ap (λ o. cons_option o (filter_map (carried_by loop) ns)) e
 
 -- a place that is used
-pub walks_used : {f : Tape} {s t : State} (by : Use) (n : Node) → Walks f s t (nodes_of n) → Walks f s t (nodes_of (used
+pub walks_used : {f : Tape} {s t : TypingState} (by : Use) (n : Node) → Walks f s t (nodes_of n) → Walks f s t (nodes_of (used
     by n))
 walks_used by (node id at ty old form) p =
     walks_so (node id at ty (Some by) form ∷ nodes_in form) (λ k. refl) (λ b c. (
@@ -317,11 +317,11 @@ walks_used by (node id at ty old form) p =
       c.2,
     )) p
 
-pub walks_used_if : {f : Tape} {s t : State} (by : Use) (n : Node) → Walks f s t (nodes_of n) → Walks f s t (nodes_of
+pub walks_used_if : {f : Tape} {s t : TypingState} (by : Use) (n : Node) → Walks f s t (nodes_of n) → Walks f s t (nodes_of
     (used_if_place by n))
 walks_used_if by n p = on (is_place (form_of n)) p
   where
-    on : {f : Tape} {s t : State} (b : Bool) → Walks f s t (nodes_of n) → Walks f s t (nodes_of (if b then used by n else
+    on : {f : Tape} {s t : TypingState} (b : Bool) → Walks f s t (nodes_of n) → Walks f s t (nodes_of (if b then used by n else
         n))
     on true p = walks_used by n p
     on false p = p

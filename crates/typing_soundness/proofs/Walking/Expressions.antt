@@ -15,13 +15,13 @@ use Rattle.typed_tree.specs.Tree.{Node, node, Form, Nodes, no_node, a_node, Fiel
 use Rattle.well_typed.specs.Patterns as well
 use Rattle.well_typed.specs.Types.{is_reference}
 use Rattle.typing_rules.specs.Bodies as bodies
-use Rattle.typing_rules.specs.Check.{Check, State, Broken, pure, ◌>>=◌, ◌<$>◌, with_body, in_new_body, put_before, within_body}
+use Rattle.typing_rules.specs.Check.{Check, TypingState, Broken, pure, ◌>>=◌, ◌<$>◌, with_body, in_new_body, put_before, within_body}
 use Rattle.typing_rules.specs.Named.{PathValue, Makes, IsBroken, path_value, Callee, Function, Constructor, Prints, Asks, Drops, Forgets, Boxes, AValue, Unnamed, NoCallee, callee_of, callee_by, method_named}
 use Rattle.typing_rules.specs.Patterns.{pattern, count_of, target_of}
 use Rattle.typing_rules.specs.Places.{unit, bool, never, int, struct_field, numbered_part}
 use Rattle.typing_rules.specs.Rows as rows
 use Rattle.typing_rules.specs.Rows.{Typer, Referrer, Expected, Given, taken}
-use Rattle.typing_rules.specs.Scope.{Env, Entry, Capture, variable, with_variables, within_loop, jumps_to, in_guard, field_named}
+use Rattle.typing_rules.specs.Scope.{Env, NamedEntry, Capture, variable, with_variables, within_loop, jumps_to, in_guard, field_named}
 use Rattle.typing_rules.specs.Typed as typing
 use Rattle.src_ast.specs.Syntax.{Word, Syn, syn, Shape, Empty, Literal, TruthLiteral, Path, Minus, Bang, Star, Ampersand, Calculate, Compare, Both, Either, Store, CallOf, MethodOf, FieldOf, PartOf, ElementOf, StructOf, FieldInit, Ident, Parens, TupleOf, ArrayOf, Braces, IfElse, IfLetElse, MatchOn, ArmOf, LoopOf, WhileOf, WhileLetOf, BreakOf, ContinueOf, ReturnOf, MoveOf, PanicOf, LetOf, Semi, Syns, no_syn, a_syn, MaybeSyn, nothing, just}
 use Rattle.typing_rules.specs.Written as types
@@ -36,7 +36,7 @@ use Rattle.typed_tree.specs.Tree.{ParamTree}
 use Rattle.well_typed.specs.Types.{is_dyn}
 use Rattle.typing_rules.specs.Places.{used, a_node_of, meaning_form, is_fixed, in_own_guard}
 use Rattle.typing_soundness.proofs.Walking.Params.{Still, still, written_still, params_walk, answer_still, in_closure}
-use Rattle.typing_soundness.specs.Closures.{BodySyn, Closure, Head, Tape, closures_of, closures_in, closures_among, closures_if_any}
+use Rattle.typing_soundness.specs.Closures.{BodySyn, Closure, WrittenHead, Tape, closures_of, closures_in, closures_among, closures_if_any}
 use Rattle.typing_soundness.specs.Met.{HasTypes, AreTypesOf, HaveClosures, HasBody, IsBodyOf, AreMade, Met, types_of}
 use Rattle.typing_soundness.specs.Types.{HaveTypes}
 use Rattle.typing_soundness.specs.Walks.{counted, numbers_of_bodies, Ordered, Walks, Walked, WalksNode}
@@ -63,7 +63,7 @@ path_alone_walks : (env : Env) (at : Pos) (first second : Option Word) → Walks
     second)
 path_alone_walks env at first second want s = makes_walks at (path_value s.items env first second) want s
 
-path_by_walks : (env : Env) (at : Pos) (first second : Option Word) (x : Option Entry) → WalksTyper no_closure (typing.path_by
+path_by_walks : (env : Env) (at : Pos) (first second : Option Word) (x : Option NamedEntry) → WalksTyper no_closure (typing.path_by
     env at first second x)
 path_by_walks env at first second (Some x) want s = walk (on.variable_walks at x s) λ p t w. on.taken_walks env want p w
 path_by_walks env at first second None want s = path_alone_walks env at first second want s
@@ -71,7 +71,7 @@ path_by_walks env at first second None want s = path_alone_walks env at first se
 path_walks : (env : Env) (at : Pos) (first second : Option Word) → WalksTyper no_closure (typing.path env at first second)
 path_walks env at first second = path_by_walks env at first second (typing.variable_of env first second)
 
-base_walks : (env : Env) (at : Pos) (first second : Option Word) (x : Option Entry) → WalksNode no_closure (typing.variable_base
+base_walks : (env : Env) (at : Pos) (first second : Option Word) (x : Option NamedEntry) → WalksNode no_closure (typing.variable_base
     env at first second x)
 base_walks env at first second (Some x) s = on.variable_walks at x s
 base_walks env at first second None s = path_alone_walks env at first second None s
@@ -113,7 +113,7 @@ called_walks at count callee args AValue named good_c good want s = on.closure_c
 called_walks at count callee args (Unnamed rule) named good_c good want s = record { so = tt }
 called_walks at count callee args NoCallee named good_c good want s = on.no_call_walks at Rule.T13 args want s
 
-passed_walks : (at : Pos) (by_value : Typer) (x : Option Entry) → WalksTyper no_closure by_value → WalksReferrer no_closure
+passed_walks : (at : Pos) (by_value : Typer) (x : Option NamedEntry) → WalksTyper no_closure by_value → WalksReferrer no_closure
     (typing.passed at by_value x)
 passed_walks at by_value None good want unique to s = good (Some want) s
 passed_walks at by_value (Some x) good want unique to s = by (is_reference s.items x.ty)
@@ -131,13 +131,13 @@ minus_walks at None operand alone good = on.negate_walks at operand good
 
 -- ---- what is declared
 
-declared_still : (env : Env) (ty : MaybeSyn) (s : State) → Walked (Still s) (typing.declared env ty s)
+declared_still : (env : Env) (ty : MaybeSyn) (s : TypingState) → Walked (Still s) (typing.declared env ty s)
 declared_still env nothing s = walk_ends (still s)
 declared_still env (just ty) s = walk (written_still (bodies.all_rules env) ty s) λ t u e. walk_ends e
 
 -- ---- closures
 
-capture_walks : (env : Env) (k : ℕ) (e : Syn) (earlier : List Entry) (s : State) → Walked (λ c t. Walks no_closure s t (nodes_of
+capture_walks : (env : Env) (k : ℕ) (e : Syn) (earlier : List NamedEntry) (s : TypingState) → Walked (λ c t. Walks no_closure s t (nodes_of
     c.0)) (bodies.capture env k e earlier s)
 capture_walks env k (syn at (Ident name)) earlier s =
     walk_obeyed Rule.T01 at (bodies.is_captured name env.variables) _ λ _. walk_obeyed Rule.T02 at (not
@@ -145,31 +145,31 @@ capture_walks env k (syn at (Ident name)) earlier s =
     (on.variable_walks at x s) λ p t w. walk {f = λ n. pure (n, earlier ++ named name x.ty k ∷ [])}
     (on.taken_walks env None p w) λ n u w. walk_ends w
   where
-    named : Word → TyId → ℕ → Entry
+    named : Word → TyId → ℕ → NamedEntry
     named name ty k = record { name = name; ty = ty; meaning = Capture 0 k }
 capture_walks env k (syn at _) earlier s = record { so = tt }
 
-capture_stays : (env : Env) (k : ℕ) (e : Syn) (earlier : List Entry) (s : State) → Walked (λ c t. Stays s t)
+capture_stays : (env : Env) (k : ℕ) (e : Syn) (earlier : List NamedEntry) (s : TypingState) → Walked (λ c t. Stays s t)
     (bodies.capture env k e earlier s)
 capture_stays env k (syn at (Ident name)) earlier s =
     walk_obeyed Rule.T01 at (bodies.is_captured name env.variables) _ λ _. walk_obeyed Rule.T02 at (not
     (bodies.is_captured name earlier)) _ λ _. walk_found Rule.T01 at (variable env.variables name) _ λ x is. walk {f = λ
     n. pure (n, earlier ++ named name x.ty k ∷ [])} (taken_stays x) λ n u e. walk_ends e
   where
-    named : Word → TyId → ℕ → Entry
+    named : Word → TyId → ℕ → NamedEntry
     named name ty k = record { name = name; ty = ty; meaning = Capture 0 k }
 
-    place : Entry → Node
+    place : NamedEntry → Node
     place x = a_node_of s.next_node at x.ty (meaning_form x.name x.meaning)
 
-    taken_stays : (x : Entry) → Walked (λ n t. Stays s t) (taken env None (place x) (numbered s))
+    taken_stays : (x : NamedEntry) → Walked (λ n t. Stays s t) (taken env None (place x) (numbered s))
     taken_stays x =
         walk_obeyed Rule.T07 at (is_copy s.items x.ty || not (is_fixed s.items (in_own_guard env.variables) (place x) ||
         is_dyn s.items x.ty)) _ λ _. walk_obeyed Rule.T08 at (not (is_reference s.items x.ty)) _ λ _. walk_ends (record
         { types = λ n ty h. h; distinct = λ h. h; adts = refl; traits = refl; impls = refl; heads = refl; next_body = refl; bodies = refl; closures = refl })
 capture_stays env k (syn at _) earlier s = record { so = tt }
 
-captured_walks : (env : Env) (k : ℕ) (captures : Syns) (earlier : List Entry) (s : State) → Walked (λ c t. Walks no_closure s t
+captured_walks : (env : Env) (k : ℕ) (captures : Syns) (earlier : List NamedEntry) (s : TypingState) → Walked (λ c t. Walks no_closure s t
     (nodes_among c.0)) (bodies.captured env k captures earlier s)
 captured_walks env k no_syn earlier s = walk_ends (walks_none s)
 captured_walks env k (a_syn first rest) earlier s =
@@ -177,20 +177,20 @@ captured_walks env k (a_syn first rest) earlier s =
     (walks_both w x)
 
 -- captures add no body
-captured_stays : (env : Env) (k : ℕ) (captures : Syns) (earlier : List Entry) (s : State) → Walked (λ c t. Stays s t)
+captured_stays : (env : Env) (k : ℕ) (captures : Syns) (earlier : List NamedEntry) (s : TypingState) → Walked (λ c t. Stays s t)
     (bodies.captured env k captures earlier s)
 captured_stays env k no_syn earlier s = walk_ends (stays_refl s)
 captured_stays env k (a_syn first rest) earlier s =
     walk (capture_stays env k first earlier s) λ c t e. walk (captured_stays env (suc k) rest c.1 t) λ cs u f. walk_ends
     (stays_both e f)
 
-pub both_walk : {A : Type 0} {P Q : A → State → Type 0} (r : Result (A × State) Broken) → Walked P r → Walked Q r → Walked
+pub both_walk : {A : Type 0} {P Q : A → TypingState → Type 0} (r : Result (A × TypingState) Broken) → Walked P r → Walked Q r → Walked
     (λ a t. P a t × Q a t) r
 both_walk (Ok a) h k = record { so = (h.so, k.so) }
 both_walk (Err e) h k = record { so = tt }
 
 -- the body of a closure has its number, and those inside it the next ones; its types are those that are written
-abbrev pub IsOf : types.Around → Bool → Syns → MaybeSyn → List TyId → Tape → State → BodyTree → State → Type 0
+abbrev pub IsOf : types.WrittenScope → Bool → Syns → MaybeSyn → List TyId → Tape → TypingState → BodyTree → TypingState → Type 0
 IsOf around is_legal params answer selves f s b t =
     ((tys : List TyId) × (types_of b ≡ selves ++ tys) × HasTypes t.items (record {
       around = around;
@@ -199,9 +199,9 @@ IsOf around is_legal params answer selves f s b t =
       answer = answer;
     }) tys b.answer × IsTrue is_legal) × Met f s t
 
-inner_walks : {f : Tape} (env : Env) (at : Pos) (n : ℕ) (ty : TyId) (captures : List Entry) (params : Syns) (answer :
+inner_walks : {f : Tape} (env : Env) (at : Pos) (n : ℕ) (ty : TyId) (captures : List NamedEntry) (params : Syns) (answer :
     MaybeSyn) (block : Env → Typer) → ((inner : Env) → bodies.all_rules inner ≡ bodies.all_rules env → WalksTyper f (block
-    inner)) → (s : State) → Walked (λ b t. (b.number ≡ n) × Ordered s t × IsOf (bodies.all_rules env) (head_legal legal params answer) params answer (ty ∷
+    inner)) → (s : TypingState) → Walked (λ b t. (b.number ≡ n) × Ordered s t × IsOf (bodies.all_rules env) (head_legal legal params answer) params answer (ty ∷
     []) f s b t) (in_closure env at n ty captures params answer block s)
 inner_walks {f} env at n ty captures params answer block good s =
     walk (both_walk (params_of (numbered s)) (params_walk (bodies.inside_closure env captures) (types.written
@@ -231,22 +231,22 @@ inner_walks {f} env at n ty captures params answer block good s =
       ),
     )
   where
-    params_of : State → Result ((List ParamTree × List Entry) × State) Broken
+    params_of : TypingState → Result ((List ParamTree × List NamedEntry) × TypingState) Broken
     params_of t = bodies.params_of (bodies.inside_closure env captures) (types.written (bodies.all_rules env)) params [] t
 
-    self_param : State → ParamTree
+    self_param : TypingState → ParamTree
     self_param s =
         record { pattern = used (rows.taking s.items ty) (a_node_of s.next_node at ty (tree.Binding [])); ty = ty }
 
-    first_stays : (s : State) → Stays s (numbered s)
+    first_stays : (s : TypingState) → Stays s (numbered s)
     first_stays s = record { types = λ k x h. h; distinct = λ h. h; adts = refl; traits = refl; impls = refl; heads = refl; next_body = refl; bodies = refl; closures = refl }
 
 -- a body of its own in a walk, of which something is so
-pub record IsAdded (n : ℕ) (Q : BodyTree → State → Type 0) (s t : State) : Type 0 where
+pub record IsAdded (n : ℕ) (Q : BodyTree → TypingState → Type 0) (s t : TypingState) : Type 0 where
   pub number : t.next_node ≡ s.next_node
   pub breaks : t.breaks ≡ s.breaks
   pub body : BodyTree
-  pub inner : State
+  pub inner : TypingState
   pub ordered : Ordered (record s { bodies = []; next_node = 0; breaks = [] }) inner
   pub next : t.next_body ≡ inner.next_body
   pub items : t.items ≡ inner.items
@@ -255,7 +255,7 @@ pub record IsAdded (n : ℕ) (Q : BodyTree → State → Type 0) (s t : State) :
   pub is_number : body.number ≡ n
   pub is : Q body inner
 
-pub body_added : {Q : BodyTree → State → Type 0} (n : ℕ) (check : Check BodyTree) (s : State) → Walked (λ b t. (b.number
+pub body_added : {Q : BodyTree → TypingState → Type 0} (n : ℕ) (check : Check BodyTree) (s : TypingState) → Walked (λ b t. (b.number
     ≡ n) × Ordered (record s { bodies = []; next_node = 0; breaks = [] }) t × Q b t) (check (record s {
       bodies = [];
       next_node = 0;
@@ -263,7 +263,7 @@ pub body_added : {Q : BodyTree → State → Type 0} (n : ℕ) (check : Check Bo
     })) → Walked (λ b t. IsAdded n Q s t) (with_body (λ b. b) (in_new_body check) s)
 body_added {Q} n check s h = by (check (record s { bodies = []; next_node = 0; breaks = [] })) h
   where
-    by : (r : Result (BodyTree × State) Broken) → Walked (λ b t. (b.number ≡ n) × Ordered (record s {
+    by : (r : Result (BodyTree × TypingState) Broken) → Walked (λ b t. (b.number ≡ n) × Ordered (record s {
       bodies = [];
       next_node = 0;
       breaks = [];
@@ -287,9 +287,9 @@ body_added {Q} n check s h = by (check (record s { bodies = []; next_node = 0; b
         })
     by (Err e) h = record { so = tt }
 
-closure_ordered : (s t u v : State) (def : ClosureDef) → def.body ≡ s.next_body → t.next_body ≡ suc s.next_body →
+closure_ordered : (s t u v : TypingState) (def : ClosureDef) → def.body ≡ s.next_body → t.next_body ≡ suc s.next_body →
     t.bodies ≡ s.bodies → t.items.closures ≡ s.items.closures → u.next_body ≡ t.next_body → u.bodies ≡ t.bodies →
-    u.items.closures ≡ t.items.closures ++ def ∷ [] → {Q : BodyTree → State → Type 0} → IsAdded s.next_body Q u v →
+    u.items.closures ≡ t.items.closures ++ def ∷ [] → {Q : BodyTree → TypingState → Type 0} → IsAdded s.next_body Q u v →
     Ordered s v
 closure_ordered s t u v def body next bodies closures next_u bodies_u closures_u added = record {
   count = suc added.ordered.count;
@@ -326,7 +326,7 @@ closure_ordered s t u v def body next bodies closures next_u bodies_u closures_u
     by k d (inr e) = inr (omega (arith, e, as_many, at_u))
 
 -- what is met is the closure, and then what is in its body
-closure_met : {f : Tape} (n : ℕ) (s t u v : State) (around : types.Around) (params : Syns) (answer : MaybeSyn) (ty : TyId) (def :
+closure_met : {f : Tape} (n : ℕ) (s t u v : TypingState) (around : types.WrittenScope) (params : Syns) (answer : MaybeSyn) (ty : TyId) (def :
     ClosureDef) → def.body ≡ n → Stays s t → HaveTypes t.items u.items → (AreDistinct t.items.types → AreDistinct
     u.items.types) → u.items.adts ≡ t.items.adts → u.items.bodies ≡ t.items.bodies →
     u.bodies ≡ t.bodies → u.items.closures ≡ t.items.closures ++ def ∷ [] → type_at u.items ty ≡ Some
@@ -355,7 +355,7 @@ closure_met {f} n s t u v around params answer ty def at_n stays types_u distinc
     later : HaveTypes added.inner.items v.items
     later = subst (HaveTypes added.inner.items) (sym added.items) (λ n x h. h)
 
-    head : Head
+    head : WrittenHead
     head = record { around = around; name = []; params = params; answer = answer }
 
     -- its first parameter is the closure
@@ -417,14 +417,14 @@ closure_walks {f} env at captures params answer block good want s =
       body = s.next_body;
     }) refl w.1 e.stays.types e.stays.distinct e.stays.adts e.stays.heads e.stays.bodies e.stays.closures is g)) w.0))
   where
-    s' : State
+    s' : TypingState
     s' = record (numbered s) { next_body = suc s.next_body }
 
-    with_ : List Entry → State → State
+    with_ : List NamedEntry → TypingState → TypingState
     with_ captures t =
         record t { items = with_closure t.items (record { captures = bodies.types_of captures; body = s.next_body }) }
 
-    on_bodies : {g : Tape} {v : State} → Met g s' v → Met g (numbered s) v
+    on_bodies : {g : Tape} {v : TypingState} → Met g s' v → Met g (numbered s) v
     on_bodies m = record {
       types = m.types;
       distinct = m.distinct;
@@ -439,12 +439,12 @@ closure_walks {f} env at captures params answer block good want s =
 -- ---- the recursion
 
 -- one of two checks
-either : {A : Type 0} {R : A → State → Type 0} (b : Bool) (p q : Check A) (s : State) → Walked R (p s) → Walked R (q s)
+either : {A : Type 0} {R : A → TypingState → Type 0} (b : Bool) (p q : Check A) (s : TypingState) → Walked R (p s) → Walked R (q s)
     → Walked R ((if b then p else q) s)
 either true p q s h k = h
 either false p q s h k = k
 
-either_so : {A : Type 0} {R : A → State → Type 0} (b : Bool) (p q : Check A) (s : State) → Walked R (p s) → (b ≡ false →
+either_so : {A : Type 0} {R : A → TypingState → Type 0} (b : Bool) (p q : Check A) (s : TypingState) → Walked R (p s) → (b ≡ false →
     Walked R (q s)) → Walked R ((if b then p else q) s)
 either_so true p q s h k = h
 either_so false p q s h k = k refl
@@ -460,15 +460,15 @@ with_statement_nodes (Some n) ns = refl
 
 -- ---- what has no closures
 
-literal_alone : (around : types.Around) (e : Syn) → IsTrue (is_some (typing.literal_in e)) → closures_of around e ≡ no_closure
+literal_alone : (around : types.WrittenScope) (e : Syn) → IsTrue (is_some (typing.literal_in e)) → closures_of around e ≡ no_closure
 literal_alone around (syn at (Literal value suffix)) h = refl
 literal_alone around (syn at _) h = absurd (false≢true h)
 
 mutual
-  plain_alone : (around : types.Around) (e : Syn) → IsTrue (typing.is_plain e) → closures_of around e ≡ no_closure
+  plain_alone : (around : types.WrittenScope) (e : Syn) → IsTrue (typing.is_plain e) → closures_of around e ≡ no_closure
   plain_alone around (syn at form) h = plain_form_alone around form h
 
-  plain_form_alone : (around : types.Around) (form : Shape) → IsTrue (typing.is_plain_form form) → closures_in around form ≡
+  plain_form_alone : (around : types.WrittenScope) (form : Shape) → IsTrue (typing.is_plain_form form) → closures_in around form ≡
       no_closure
   plain_form_alone around (Parens inside) h = plain_alone around inside h
   plain_form_alone around (Minus (syn at (Literal value suffix))) h = refl
@@ -477,11 +477,11 @@ mutual
   plain_form_alone around _ h = absurd (false≢true h)
 
 mutual
-  named_alone : (around : types.Around) (items : ItemTable) (env : Env) (e : Syn) → is_value (callee_of items env e) ≡ false →
+  named_alone : (around : types.WrittenScope) (items : ItemTable) (env : Env) (e : Syn) → is_value (callee_of items env e) ≡ false →
       closures_of around e ≡ no_closure
   named_alone around items env (syn at form) h = named_form_alone around items env form h
 
-  named_form_alone : (around : types.Around) (items : ItemTable) (env : Env) (form : Shape) → is_value (callee_by items env
+  named_form_alone : (around : types.WrittenScope) (items : ItemTable) (env : Env) (form : Shape) → is_value (callee_by items env
       form) ≡ false → closures_in around form ≡ no_closure
   named_form_alone around items env (Parens inside) h = named_alone around items env inside h
   named_form_alone around items env (Path first second) h = refl
@@ -597,7 +597,7 @@ mutual
   maybe_walks env nothing want s = walk_ends (walks_none s)
   maybe_walks env (just e) want s = walk (typed_walks env e want s) λ n t w. walk_ends w
 
-  all_walk : (env : Env) (es : Syns) (s : State) → Walked (λ done t. Walks (closures_among
+  all_walk : (env : Env) (es : Syns) (s : TypingState) → Walked (λ done t. Walks (closures_among
       (bodies.all_rules env) es) s t (nodes_among done.0) × Around env done.2) (typing.typed_all env es s)
   all_walk env no_syn s = walk_ends (walks_none s, refl)
   all_walk env (a_syn first rest) s =
@@ -608,7 +608,7 @@ mutual
         x.1 ∙ w.1,
       )
 
-  statement_walks : (env : Env) (e : Syn) (s : State) → Walked (λ done t. Walks (closures_of (bodies.all_rules env) e) s t
+  statement_walks : (env : Env) (e : Syn) (s : TypingState) → Walked (λ done t. Walks (closures_of (bodies.all_rules env) e) s t
       (nodes_in_statement done.0) × Around env done.2) (typing.statement env e s)
   statement_walks env (syn at form) s =
       either_so (typing.is_expression form) (typing.a_statement <$> rows.evaluate at env false (λ want. if
@@ -618,7 +618,7 @@ mutual
       (walk (place_walks env at form t) λ p u w. on.taken_walks env want p w) (value_walks env at form want t)) s) λ n t
       w. walk_ends w) (λ other. other_walks env at form other s)
 
-  other_walks : (env : Env) (at : Pos) (form : Shape) → typing.is_expression form ≡ false → (s : State) → Walked (λ done
+  other_walks : (env : Env) (at : Pos) (form : Shape) → typing.is_expression form ≡ false → (s : TypingState) → Walked (λ done
       t. Walks (closures_in (bodies.all_rules env) form) s t (nodes_in_statement done.0) × Around env done.2)
       (typing.other_statement env at form s)
   other_walks env at (LetOf p ty initialiser) other s =
@@ -643,7 +643,7 @@ mutual
       at form want) s (walk (place_walks env at form s) λ p t w. on.in_parts_walks env want p w) (value_walks env at
       form want s)
 
-  args_walk : (env : Env) (params : List TyId) (args : Syns) (s : State) → Walked (λ ns t. Walks (closures_among
+  args_walk : (env : Env) (params : List TyId) (args : Syns) (s : TypingState) → Walked (λ ns t. Walks (closures_among
       (bodies.all_rules env) args) s t (nodes_among ns) ×
       (well.count_of ns ≡ count_of args)) (typing.typed_args env params args s)
   args_walk env params no_syn s = walk_ends (walks_none s, refl)
@@ -677,7 +677,7 @@ mutual
   reference_walks env at (Parens inside) want unique to s = by_reference_walks env inside want unique to s
   reference_walks env at _ want unique to s = record { so = tt }
 
-  inits_walk : (env : Env) (v : Variant) (inits : Syns) (s : State) → Walked (λ fs t. Walks (closures_among
+  inits_walk : (env : Env) (v : Variant) (inits : Syns) (s : TypingState) → Walked (λ fs t. Walks (closures_among
       (bodies.all_rules env) inits) s t (nodes_of_fields fs.0))
       (typing.typed_inits env v inits s)
   inits_walk env v no_syn s = walk_ends (walks_none s)
@@ -691,7 +691,7 @@ mutual
   init_walks env at name nothing want s = path_walks env at (Some name) None want s
   init_walks env at name (just e) want s = typed_walks env e want s
 
-  parts_walk : (env : Env) (wants : List (Option TyId)) (parts : Syns) (s : State) → Walked (λ ps t. Walks (closures_among
+  parts_walk : (env : Env) (wants : List (Option TyId)) (parts : Syns) (s : TypingState) → Walked (λ ps t. Walks (closures_among
       (bodies.all_rules env) parts) s t
       (nodes_among ps.0)) (typing.typed_parts env wants parts s)
   parts_walk env wants no_syn s = walk_ends (walks_none s)
@@ -699,14 +699,14 @@ mutual
       walk (typed_walks env e (typing.first_want wants) s) λ n t w. walk (parts_walk env (typing.other_wants wants) es
       t) λ ns u x. walk_ends (walks_both w x)
 
-  elements_walk : (env : Env) (want : Option TyId) (elements : Syns) (s : State) → Walked (λ ps t. Walks
+  elements_walk : (env : Env) (want : Option TyId) (elements : Syns) (s : TypingState) → Walked (λ ps t. Walks
       (closures_among (bodies.all_rules env) elements) s t
       (nodes_among ps.0)) (typing.typed_elements env want elements s)
   elements_walk env want no_syn s = walk_ends (walks_none s)
   elements_walk env want (a_syn e es) s =
       walk (typed_walks env e want s) λ n t w. walk (elements_walk env want es t) λ ns u x. walk_ends (walks_both w x)
 
-  arms_walk : (env : Env) (e : Expected) (ty : TyId) (want : Option TyId) (arms : Syns) (s : State) → Walked
+  arms_walk : (env : Env) (e : Expected) (ty : TyId) (want : Option TyId) (arms : Syns) (s : TypingState) → Walked
       (λ ps t. Walks (closures_among (bodies.all_rules env) arms) s t (nodes_among ps.0)) (typing.typed_arms env e ty want arms s)
   arms_walk env e ty want no_syn s = walk_ends (walks_none s)
   arms_walk env e ty want (a_syn (syn at (ArmOf p guard body)) rest) s =

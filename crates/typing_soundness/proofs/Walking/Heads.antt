@@ -9,9 +9,9 @@ use Rattle.typed_tree.specs.Tree.{ParamTree}
 use Rattle.well_typed.specs.Types.{is_reference}
 use Rattle.typing_rules.specs.Bodies as bodies
 use Rattle.typing_rules.specs.Bodies.{param_expected, is_name_or_wildcard}
-use Rattle.typing_rules.specs.Check.{Check, State}
+use Rattle.typing_rules.specs.Check.{Check, TypingState}
 use Rattle.typing_rules.specs.Numbered.{param_renumbered}
-use Rattle.typing_rules.specs.Scope.{Env, Entry}
+use Rattle.typing_rules.specs.Scope.{Env, NamedEntry}
 use Rattle.src_ast.specs.Syntax.{Receiver, ByValue, ByShared, ByUnique, Syn, syn, ParamOf, SelfParam, Syns, no_syn, a_syn, MaybeSyn, nothing, just}
 use Rattle.typing_soundness.specs.Met.{IsReceiver, MeansParam, MeanParams, MeansAnswer}
 use Rattle.typing_soundness.specs.Types.{HaveTypes, Means}
@@ -32,13 +32,13 @@ module _ (env : Env) where
       (n : ℕ) × (own : TyId) × (env.self_adt ≡ Some n) × (type_at items own ≡ Some (Ty.Adt n)) × IsReceiver items
       receiver own ty
 
-  receiver_given : (at : Pos) (receiver : Receiver) (s : State) → Walked (λ ty t. HaveTypes s.items t.items ×
+  receiver_given : (at : Pos) (receiver : Receiver) (s : TypingState) → Walked (λ ty t. HaveTypes s.items t.items ×
       IsGivenReceiver t.items receiver ty) (bodies.receiver_ty env at receiver s)
   receiver_given at receiver s =
       walk_found Rule.T01 at env.self_adt _ λ n is. walk (interned_means (Ty.Adt n) s s (have_refl s.items)) λ own t g.
       by n is own t g.0 g.2 receiver
     where
-      by : (n : ℕ) → env.self_adt ≡ Some n → (own : TyId) (t : State) → HaveTypes s.items t.items → type_at t.items own ≡
+      by : (n : ℕ) → env.self_adt ≡ Some n → (own : TyId) (t : TypingState) → HaveTypes s.items t.items → type_at t.items own ≡
           Some (Ty.Adt n) → (r : Receiver) → Walked (λ ty u. HaveTypes s.items u.items × IsGivenReceiver u.items r ty)
           (bodies.self_ty r own t)
       by n is own t e at_own ByValue = walk_ends (e, (n, own, is, at_own, refl))
@@ -53,9 +53,9 @@ module _ (env : Env) where
             (n, own, is, h.1 own.0 (Ty.Adt n) at_own, h.2),
           )
 
-  module _ (ty_of_param : Syn → Check TyId) (good : (ty : Syn) (s : State) → Walked (λ id t. HaveTypes s.items
+  module _ (ty_of_param : Syn → Check TyId) (good : (ty : Syn) (s : TypingState) → Walked (λ id t. HaveTypes s.items
       t.items × Means (bodies.all_rules env) t.items ty id) (ty_of_param ty s)) where
-    param_given : (p : Syn) (earlier : List Entry) (s : State) → Walked (λ x t. HaveTypes s.items t.items × MeansParam
+    param_given : (p : Syn) (earlier : List NamedEntry) (s : TypingState) → Walked (λ x t. HaveTypes s.items t.items × MeansParam
         (bodies.all_rules env) t.items p x.0.ty) (bodies.param env ty_of_param p earlier s)
     param_given (syn at (ParamOf p ty)) earlier s =
         walk (good ty s) λ t u g. walk_obeyed Rule.T08 at (is_name_or_wildcard p || not (is_reference u.items t)) _ λ
@@ -67,7 +67,7 @@ module _ (env : Env) where
         walk (receiver_given at receiver s) λ ty t g. walk_ends (g.0, g.1)
     param_given (syn at _) earlier s = record { so = tt }
 
-    pub params_given : (params : Syns) (earlier : List Entry) (s : State) → Walked (λ ps t. HaveTypes s.items
+    pub params_given : (params : Syns) (earlier : List NamedEntry) (s : TypingState) → Walked (λ ps t. HaveTypes s.items
         t.items × MeanParams (bodies.all_rules env) t.items params (map (λ (p : ParamTree). p.ty) ps.0))
         (bodies.params_of env ty_of_param params earlier s)
     params_given no_syn earlier s = walk_ends (have_refl s.items, tt)
@@ -77,7 +77,7 @@ module _ (env : Env) where
           (param_later t.items u.items h.0 (bodies.all_rules env) first p.0.ty g.1, h.1),
         )
 
-  pub answer_given : (answer : MaybeSyn) (s : State) → Walked (λ ty t. HaveTypes s.items t.items × MeansAnswer
+  pub answer_given : (answer : MaybeSyn) (s : TypingState) → Walked (λ ty t. HaveTypes s.items t.items × MeansAnswer
       (bodies.all_rules env) t.items answer ty) (bodies.answer_of env answer s)
   answer_given nothing s = walk_ends (have_refl s.items, refl)
   answer_given (just ty) s = written_given (bodies.all_rules env) ty s

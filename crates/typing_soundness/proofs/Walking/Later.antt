@@ -5,17 +5,17 @@ use Rattle.mir_ty.specs.declared.ty.Ty.{Ty}
 use Rattle.mir_ty.specs.declared.ty.TyId.{TyId}
 use Rattle.mir_ty.specs.ItemTable.{ItemTable}
 use Rattle.typed_tree.specs.Tree.{BodyTree}
-use Rattle.typing_rules.specs.Check.{State}
+use Rattle.typing_rules.specs.Check.{TypingState}
 use Rattle.typing_rules.specs.Written as rules
-use Rattle.typing_rules.specs.Written.{Around}
+use Rattle.typing_rules.specs.Written.{WrittenScope}
 use Rattle.src_ast.specs.Syntax.{Receiver, ByValue, ByShared, ByUnique, Syn, syn, Shape, NamedType, GenericType, DynType, SelfType, ParensType, TupleType, ArrayType, NeverType, RefType, ParamOf, SelfParam, Syns, no_syn, a_syn, MaybeSyn, nothing, just}
-use Rattle.typing_soundness.specs.Closures.{BodySyn, Function, Closure, Head, Tape}
+use Rattle.typing_soundness.specs.Closures.{BodySyn, Function, Closure, WrittenHead, Tape}
 use Rattle.typing_soundness.specs.Met.{IsReceiver, MeansParam, MeanParams, MeansAnswer, HasTypes, AreTypesOf, HaveClosures, HasBody, IsBodyOf, AreMade, Met, types_of, behind}
 use Rattle.typing_soundness.specs.Types.{HaveTypes, NamesTy, IsTupleOf, Means, MeansForm, MeanAll}
 
 -- ---- types that are written
 
-module _ (around : Around) where
+module _ (around : WrittenScope) where
   pub named_later : (old new : ItemTable) → HaveTypes old new → (adt : Option ℕ) (scalar : Option TyId) (ty : TyId) →
       NamesTy old adt scalar ty → NamesTy new adt scalar ty
   named_later old new e adt (Some scalar) ty h = h
@@ -63,7 +63,7 @@ module _ (old new : ItemTable) (e : HaveTypes old new) where
   receiver_later ByShared own ty h = e ty.0 (Ty.Shared own) h
   receiver_later ByUnique own ty h = e ty.0 (Ty.Unique own) h
 
-  module _ (around : Around) where
+  module _ (around : WrittenScope) where
     pub param_later : (x : Syn) (ty : TyId) → MeansParam around old x ty → MeansParam around new x ty
     param_later (syn at (ParamOf p written)) ty h = means_later around old new e written ty h
     param_later (syn at (SelfParam receiver)) ty h =
@@ -80,7 +80,7 @@ module _ (old new : ItemTable) (e : HaveTypes old new) where
     answer_later nothing ty h = h
     answer_later (just written) ty h = means_later around old new e written ty h
 
-  pub types_later : (head : Head) (params : List TyId) (answer : TyId) → HasTypes old head params answer → HasTypes new head
+  pub types_later : (head : WrittenHead) (params : List TyId) (answer : TyId) → HasTypes old head params answer → HasTypes new head
       params answer
   types_later head params answer h =
       (params_later head.around head.params params h.0, answer_later head.around head.answer answer h.1)
@@ -126,7 +126,7 @@ made_both P from between to [] more rest (body ∷ bodies) others h k = absurd h
 made_both P from between to (text ∷ texts) more rest (body ∷ bodies) others h k =
     (h.0, made_both P (behind text from) between to texts more rest bodies others h.1 k)
 
-pub met_both : {f g : Tape} {s t u : State} → Met f s t → Met g t u → Met (λ rest. f (g rest)) s u
+pub met_both : {f g : Tape} {s t u : TypingState} → Met f s t → Met g t u → Met (λ rest. f (g rest)) s u
 met_both {f} {g} {s} {t} {u} p q = record {
   types = λ n ty h. q.types n ty (p.types n ty h);
   distinct = λ h. q.distinct (p.distinct h);

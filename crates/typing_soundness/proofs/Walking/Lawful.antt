@@ -6,8 +6,8 @@ use Rattle.mir_base.specs.declared.rule.Rule.{Rule}
 use Rattle.mir_ty.specs.declared.ty.TyId.{TyId}
 use Rattle.typing_rules.specs.Bodies as bodies
 use Rattle.typing_rules.specs.Bodies.{param_expected, is_name_or_wildcard}
-use Rattle.typing_rules.specs.Check.{Check, State, Broken}
-use Rattle.typing_rules.specs.Scope.{Env, Entry}
+use Rattle.typing_rules.specs.Check.{Check, TypingState, Broken}
+use Rattle.typing_rules.specs.Scope.{Env, NamedEntry}
 use Rattle.typing_rules.specs.Written as types
 use Rattle.src_ast.specs.Syntax.{Syn, syn, Shape, NamedType, GenericType, DynType, SelfType, ParensType, TupleType, ArrayType, NeverType, RefType, ParamOf, SelfParam, Syns, no_syn, a_syn, list_of, MaybeSyn, nothing, just}
 use Rattle.typing_soundness.specs.Legal.{legal, legal_form, all_legal, legal_param, legal_param_form, param_legal, params_legal, answer_legal}
@@ -15,7 +15,7 @@ use Rattle.typing_soundness.specs.Walks.{Walked}
 use Rattle.typing_soundness.proofs.Walking.Steps.{walk, walk_obeyed, walk_ends}
 
 -- what does not depend on what is given
-pub whatever : {A : Type 0} {P : Type 0} (r : Result (A × State) Broken) → P → Walked (λ a t. P) r
+pub whatever : {A : Type 0} {P : Type 0} (r : Result (A × TypingState) Broken) → P → Walked (λ a t. P) r
 whatever (Ok a) p = walk_ends p
 whatever (Err e) p = record { so = tt }
 
@@ -25,15 +25,15 @@ and_so false b h k = absurd (false≢true h)
 
 -- ---- written types
 
-module _ (around : types.Around) where
-  abbrev full : types.Around
+module _ (around : types.WrittenScope) where
+  abbrev full : types.WrittenScope
   full = record around { has_limits = true }
 
   mutual
-    pub written_legal : (e : Syn) (s : State) → Walked (λ ty t. IsTrue (legal e)) (types.written full e s)
+    pub written_legal : (e : Syn) (s : TypingState) → Walked (λ ty t. IsTrue (legal e)) (types.written full e s)
     written_legal (syn at form) s = form_is_legal at form s
 
-    form_is_legal : (at : Pos) (form : Shape) (s : State) → Walked (λ ty t. IsTrue (legal_form form)) (types.written_form
+    form_is_legal : (at : Pos) (form : Shape) (s : TypingState) → Walked (λ ty t. IsTrue (legal_form form)) (types.written_form
         full at form s)
     form_is_legal at (NamedType name) s = whatever _ refl
     form_is_legal at (GenericType name content) s =
@@ -54,7 +54,7 @@ module _ (around : types.Around) where
         walk (whatever {P = Unit {0}} (types.written full to s) tt) λ ty t _. record { so = tt }
     form_is_legal at _ s = record { so = tt }
 
-    pub all_are_legal : (xs : Syns) (s : State) → Walked (λ tys t. IsTrue (all_legal xs) × (length tys ≡ length (list_of xs)))
+    pub all_are_legal : (xs : Syns) (s : TypingState) → Walked (λ tys t. IsTrue (all_legal xs) × (length tys ≡ length (list_of xs)))
         (types.all_written full xs s)
     all_are_legal no_syn s = walk_ends (refl, refl)
     all_are_legal (a_syn first rest) s =
@@ -64,11 +64,11 @@ module _ (around : types.Around) where
         )
 
   mutual
-    pub written_param_legal : (e : Syn) (s : State) → Walked (λ ty t. IsTrue (legal_param e)) (types.written_param full e
+    pub written_param_legal : (e : Syn) (s : TypingState) → Walked (λ ty t. IsTrue (legal_param e)) (types.written_param full e
         s)
     written_param_legal (syn at form) s = param_form_is_legal at form s
 
-    param_form_is_legal : (at : Pos) (form : Shape) (s : State) → Walked (λ ty t. IsTrue (legal_param_form form))
+    param_form_is_legal : (at : Pos) (form : Shape) (s : TypingState) → Walked (λ ty t. IsTrue (legal_param_form form))
         (types.written_param_form full at form s)
     param_form_is_legal at (ParensType inside) s = written_param_legal inside s
     param_form_is_legal at (RefType unique to) s = walk (written_legal to s) λ ty t h. whatever _ h
@@ -76,22 +76,22 @@ module _ (around : types.Around) where
 
 -- ---- heads
 
-module _ (env : Env) (test : Syn → Bool) (ty_of_param : Syn → Check TyId) (good : (ty : Syn) (s : State) → Walked (λ id t.
+module _ (env : Env) (test : Syn → Bool) (ty_of_param : Syn → Check TyId) (good : (ty : Syn) (s : TypingState) → Walked (λ id t.
     IsTrue (test ty)) (ty_of_param ty s)) where
-  param_is_legal : (p : Syn) (earlier : List Entry) (s : State) → Walked (λ x t. IsTrue (param_legal test p)) (bodies.param
+  param_is_legal : (p : Syn) (earlier : List NamedEntry) (s : TypingState) → Walked (λ x t. IsTrue (param_legal test p)) (bodies.param
       env ty_of_param p earlier s)
   param_is_legal (syn at (ParamOf p ty)) earlier s = walk (good ty s) λ t u h. whatever _ h
   param_is_legal (syn at (SelfParam receiver)) earlier s = whatever _ refl
   param_is_legal (syn at _) earlier s = record { so = tt }
 
-  pub params_are_legal : (params : Syns) (earlier : List Entry) (s : State) → Walked (λ ps t. IsTrue (params_legal test
+  pub params_are_legal : (params : Syns) (earlier : List NamedEntry) (s : TypingState) → Walked (λ ps t. IsTrue (params_legal test
       params)) (bodies.params_of env ty_of_param params earlier s)
   params_are_legal no_syn earlier s = walk_ends refl
   params_are_legal (a_syn first rest) earlier s =
       walk (param_is_legal first earlier s) λ p t h. walk (params_are_legal rest p.1 t) λ ps u k. walk_ends (and_so
       (param_legal test first) _ h k)
 
-pub answer_is_legal : (env : Env) (answer : MaybeSyn) (s : State) → Walked (λ ty t. IsTrue (answer_legal answer))
+pub answer_is_legal : (env : Env) (answer : MaybeSyn) (s : TypingState) → Walked (λ ty t. IsTrue (answer_legal answer))
     (bodies.answer_of env answer s)
 answer_is_legal env nothing s = walk_ends refl
 answer_is_legal env (just ty) s = written_legal (bodies.all_rules env) ty s

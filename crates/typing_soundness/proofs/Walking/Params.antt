@@ -10,9 +10,9 @@ use Rattle.typed_tree.specs.Tree.{Node, BodyTree}
 use Rattle.well_typed.specs.Types.{is_reference}
 use Rattle.typing_rules.specs.Bodies as bodies
 use Rattle.typing_rules.specs.Bodies.{param_expected, is_name_or_wildcard}
-use Rattle.typing_rules.specs.Check.{Check, State, interned, ◌>>=◌}
+use Rattle.typing_rules.specs.Check.{Check, TypingState, interned, ◌>>=◌}
 use Rattle.typing_rules.specs.Rows.{Typer}
-use Rattle.typing_rules.specs.Scope.{Env, Entry}
+use Rattle.typing_rules.specs.Scope.{Env, NamedEntry}
 use Rattle.typing_rules.specs.Written as types
 use Rattle.src_ast.specs.Syntax.{Syn, syn, Shape, NamedType, GenericType, DynType, SelfType, ParensType, TupleType, ArrayType, NeverType, RefType, ParamOf, SelfParam, Receiver, ByValue, ByShared, ByUnique, Syns, no_syn, a_syn, MaybeSyn, nothing, just}
 use Rattle.src_ast.specs.View.{self_name}
@@ -26,38 +26,38 @@ use Rattle.typing_soundness.proofs.Walking.Steps.{walk, walk_obeyed, walk_found,
 
 -- ---- written types, which have no nodes
 
-abbrev pub Still : {A : Type 0} → State → A → State → Type 0
+abbrev pub Still : {A : Type 0} → TypingState → A → TypingState → Type 0
 Still s a t = SameWalk s t
 
-pub still : (s : State) → SameWalk s s
+pub still : (s : TypingState) → SameWalk s s
 still s = record { number = refl; breaks = refl; stays = stays_refl s }
 
-pub onward : {s t u : State} → SameWalk s t → SameWalk t u → SameWalk s u
+pub onward : {s t u : TypingState} → SameWalk s t → SameWalk t u → SameWalk s u
 onward p q = record {
   number = q.number ∙ p.number;
   breaks = q.breaks ∙ p.breaks;
   stays = stays_both p.stays q.stays;
 }
 
-pub interned_still : (ty : Ty) (s : State) {t : State} → SameWalk t s → Walked (λ id u. SameWalk t u) (interned ty s)
+pub interned_still : (ty : Ty) (s : TypingState) {t : TypingState} → SameWalk t s → Walked (λ id u. SameWalk t u) (interned ty s)
 interned_still ty s e = interned_ends ty s λ id u f. onward e f
 
-module _ (around : types.Around) where
-  named_still : (at : Pos) (adt : Option ℕ) (scalar : Option TyId) (s : State) → Walked (Still s) (types.named_by at adt
+module _ (around : types.WrittenScope) where
+  named_still : (at : Pos) (adt : Option ℕ) (scalar : Option TyId) (s : TypingState) → Walked (Still s) (types.named_by at adt
       scalar s)
   named_still at adt (Some ty) s = walk_ends (still s)
   named_still at adt None s = walk_found Rule.T01 at adt _ λ n is. interned_still (Ty.Adt n) s (still s)
 
-  tuple_still : (tys : List TyId) (s : State) {t : State} → SameWalk t s → Walked (λ id u. SameWalk t u) (types.tuple_by
+  tuple_still : (tys : List TyId) (s : TypingState) {t : TypingState} → SameWalk t s → Walked (λ id u. SameWalk t u) (types.tuple_by
       tys s)
   tuple_still [] s e = walk_ends e
   tuple_still (ty ∷ tys) s e = interned_still (Ty.Tuple (ty ∷ tys)) s e
 
   mutual
-    pub written_still : (ty : Syn) (s : State) → Walked (Still s) (types.written around ty s)
+    pub written_still : (ty : Syn) (s : TypingState) → Walked (Still s) (types.written around ty s)
     written_still (syn at form) s = written_form_still at form s
 
-    written_form_still : (at : Pos) (form : Shape) (s : State) → Walked (Still s) (types.written_form around at form s)
+    written_form_still : (at : Pos) (form : Shape) (s : TypingState) → Walked (Still s) (types.written_form around at form s)
     written_form_still at (NamedType name) s = named_still at (types.number_of around.adts name) (types.scalar_named
         name) s
     written_form_still at (GenericType name content) s =
@@ -82,46 +82,46 @@ module _ (around : types.Around) where
         (types.reference_to unique ty) t e
     written_form_still at _ s = record { so = tt }
 
-    all_written_still : (parts : Syns) (s : State) → Walked (Still s) (types.all_written around parts s)
+    all_written_still : (parts : Syns) (s : TypingState) → Walked (Still s) (types.all_written around parts s)
     all_written_still no_syn s = walk_ends (still s)
     all_written_still (a_syn first rest) s =
         walk (written_still first s) λ ty t e. walk (all_written_still rest t) λ tys u f. walk_ends (onward e f)
 
-pub from_same : {f : Tape} {s t u : State} {xs : List Node} → SameWalk s t → walking.Walks f t u xs → walking.Walks f s u
+pub from_same : {f : Tape} {s t u : TypingState} {xs : List Node} → SameWalk s t → walking.Walks f t u xs → walking.Walks f s u
     xs
 from_same {s} e w = walks_both (on_same e (walks_none s)) w
 
 -- ---- what parameters add to a walk
 
-module _ (around : types.Around) where
-  param_interned : (unique : Bool) (to : TyId) (s : State) {t : State} → SameWalk t s → Walked (λ id u. SameWalk t u)
+module _ (around : types.WrittenScope) where
+  param_interned : (unique : Bool) (to : TyId) (s : TypingState) {t : TypingState} → SameWalk t s → Walked (λ id u. SameWalk t u)
       (interned (types.reference_to unique to) s)
   param_interned unique to s e = interned_still (types.reference_to unique to) s e
 
   mutual
-    pub written_param_still : (ty : Syn) (s : State) → Walked (Still s) (types.written_param around ty s)
+    pub written_param_still : (ty : Syn) (s : TypingState) → Walked (Still s) (types.written_param around ty s)
     written_param_still (syn at form) s = written_param_form_still at form s
 
-    written_param_form_still : (at : Pos) (form : Shape) (s : State) → Walked (Still s) (types.written_param_form around
+    written_param_form_still : (at : Pos) (form : Shape) (s : TypingState) → Walked (Still s) (types.written_param_form around
         at form s)
     written_param_form_still at (ParensType inside) s = written_param_still inside s
     written_param_form_still at (RefType unique to) s =
         walk (written_still around to s) λ ty t e. param_interned unique ty t e
     written_param_form_still at form s = written_still around (syn at form) s
 
-receiver_still : (env : Env) (at : Pos) (receiver : Receiver) (s : State) → Walked (Still s) (bodies.receiver_ty env at
+receiver_still : (env : Env) (at : Pos) (receiver : Receiver) (s : TypingState) → Walked (Still s) (bodies.receiver_ty env at
     receiver s)
 receiver_still env at receiver s =
     walk_found Rule.T01 at env.self_adt _ λ n is. walk_interned (Ty.Adt n) s λ own t e. by receiver own t e
   where
-    by : (r : Receiver) (own : TyId) (t : State) → SameWalk s t → Walked (Still s) (bodies.self_ty r own t)
+    by : (r : Receiver) (own : TyId) (t : TypingState) → SameWalk s t → Walked (Still s) (bodies.self_ty r own t)
     by ByValue own t e = walk_ends e
     by ByShared own t e = interned_still (Ty.Shared own) t e
     by ByUnique own t e = interned_still (Ty.Unique own) t e
 
-module _ (env : Env) (ty_of_param : Syn → Check TyId) (good : (ty : Syn) (s : State) → Walked (Still s) (ty_of_param ty
+module _ (env : Env) (ty_of_param : Syn → Check TyId) (good : (ty : Syn) (s : TypingState) → Walked (Still s) (ty_of_param ty
     s)) where
-  param_walks : (p : Syn) (earlier : List Entry) (s : State) → Walked (λ x t. Walks s t (nodes_of x.0.pattern))
+  param_walks : (p : Syn) (earlier : List NamedEntry) (s : TypingState) → Walked (λ x t. Walks s t (nodes_of x.0.pattern))
       (bodies.param env ty_of_param p earlier s)
   param_walks (syn at (ParamOf p ty)) earlier s =
       walk (good ty s) λ t u e. walk_obeyed Rule.T08 at (is_name_or_wildcard p || not (is_reference u.items t)) _ λ _.
@@ -131,18 +131,18 @@ module _ (env : Env) (ty_of_param : Syn → Check TyId) (good : (ty : Syn) (s : 
       self_name) (walks_none (numbered t))))
   param_walks (syn at _) earlier s = record { so = tt }
 
-  pub params_walk : (params : Syns) (earlier : List Entry) (s : State) → Walked (λ ps t. Walks s t (param_nodes ps.0))
+  pub params_walk : (params : Syns) (earlier : List NamedEntry) (s : TypingState) → Walked (λ ps t. Walks s t (param_nodes ps.0))
       (bodies.params_of env ty_of_param params earlier s)
   params_walk no_syn earlier s = walk_ends (walks_none s)
   params_walk (a_syn first rest) earlier s =
       walk (param_walks first earlier s) λ p t w. walk (params_walk rest p.1 t) λ ps u x. walk_ends (walks_both w x)
 
-pub answer_still : (env : Env) (answer : MaybeSyn) (s : State) → Walked (Still s) (bodies.answer_of env answer s)
+pub answer_still : (env : Env) (answer : MaybeSyn) (s : TypingState) → Walked (Still s) (bodies.answer_of env answer s)
 answer_still env nothing s = walk_ends (still s)
 answer_still env (just ty) s = written_still (bodies.all_rules env) ty s
 
 -- the body of a closure, in a walk of its own
-abbrev pub in_closure : Env → Pos → ℕ → TyId → List Entry → Syns → MaybeSyn → (Env → Typer) → Check BodyTree
+abbrev pub in_closure : Env → Pos → ℕ → TyId → List NamedEntry → Syns → MaybeSyn → (Env → Typer) → Check BodyTree
 in_closure env at n ty captures params answer block = do
   self ← bodies.name_param at [] ty
   ps ← bodies.params_of (bodies.inside_closure env captures) (types.written (bodies.all_rules env)) params []

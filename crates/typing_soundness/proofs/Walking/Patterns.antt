@@ -15,11 +15,11 @@ use Rattle.typed_tree.specs.Nodes.{nodes_of, nodes_in, nodes_among, nodes_of_fie
 use Rattle.typed_tree.specs.Tree as tree
 use Rattle.typed_tree.specs.Tree.{Node, Form, Nodes, no_node, a_node, Fields, no_field, a_field}
 use Rattle.well_typed.specs.Types.{is_same, is_bool, is_dyn, is_enum, kind_of, array_of, variant_at}
-use Rattle.typing_rules.specs.Check.{Check, State, breaks, pure, ◌>>=◌}
+use Rattle.typing_rules.specs.Check.{Check, TypingState, breaks, pure, ◌>>=◌}
 use Rattle.typing_rules.specs.Patterns as rules
 use Rattle.typing_rules.specs.Places.{a_node_of}
 use Rattle.typing_rules.specs.Rows.{Expected, is_signed_kind, most, literal_value, all_given, are_known}
-use Rattle.typing_rules.specs.Scope.{Env, Entry, adt_named, kind_at, variable, field_named}
+use Rattle.typing_rules.specs.Scope.{Env, NamedEntry, adt_named, kind_at, variable, field_named}
 use Rattle.src_ast.specs.Syntax.{Word, Syn, syn, Shape, AnyPattern, BindPattern, LiteralPattern, TruthPattern, PathPattern, PartsPattern, FieldsPattern, FieldPattern, ParensPattern, TuplePattern, ArrayPattern, Alternatives, Syns, no_syn, a_syn, nothing, just}
 use Rattle.typing_rules.proofs.Sound.Gives.{numbered}
 use Rattle.typing_soundness.specs.Walks.{Walked}
@@ -28,28 +28,28 @@ use Rattle.typing_soundness.proofs.Walking.Adding.{walks_none, walks_both, walks
 use Rattle.typing_soundness.proofs.Walking.Steps.{walk, walk_obeyed, walk_found, walk_ends, on_same, walk_interned}
 
 -- a pattern has no closure
-abbrev pub Walks : State → State → List Node → Type 0
+abbrev pub Walks : TypingState → TypingState → List Node → Type 0
 Walks s t ns = walking.Walks (λ rest. rest) s t ns
 
 -- what a pattern gives, and its parts
-abbrev pub OfBound : State → rules.Bound → State → Type 0
+abbrev pub OfBound : TypingState → rules.BoundPattern → TypingState → Type 0
 OfBound s b t = Walks s t (nodes_of b.0)
 
 literal_walks : (at : Pos) (e : Expected) (ty : TyId) (is_negative : Bool) (value : ℕ) (suffix : Option IntKind) (s :
-    State) → Walked (λ n t. Walks s t (nodes_of n)) (rules.literal_pattern at e ty is_negative value suffix s)
+    TypingState) → Walked (λ n t. Walks s t (nodes_of n)) (rules.literal_pattern at e ty is_negative value suffix s)
 literal_walks at e ty is_negative value suffix s =
     walk_found Rule.T03 at (kind_of s.items ty) _ λ kind is. walk_obeyed Rule.T03 at (rules.agrees_kind suffix ty &&
     (not is_negative || is_signed_kind kind)) _ λ _. walk_obeyed Rule.T17 at (nat_le value (most kind is_negative)) _ λ
     _. walk_obeyed Rule.T18 at (not e.takes_all) _ λ _. walk_ends (walks_node at ty (Some Use.Test) (tree.NumberPattern
     (literal_value is_negative value)) (walks_none (numbered s)))
 
-truth_walks : (at : Pos) (e : Expected) (ty : TyId) (value : Bool) (s : State) → Walked (λ n t. Walks s t (nodes_of n))
+truth_walks : (at : Pos) (e : Expected) (ty : TyId) (value : Bool) (s : TypingState) → Walked (λ n t. Walks s t (nodes_of n))
     (rules.truth_pattern at e ty value s)
 truth_walks at e ty value s =
     walk_obeyed Rule.T03 at (is_bool s.items ty) _ λ _. walk_obeyed Rule.T18 at (not e.takes_all) _ λ _. walk_ends
     (walks_node at ty (Some Use.Test) (tree.TruthPattern value) (walks_none (numbered s)))
 
-bind_walks : (at : Pos) (e : Expected) (ty : TyId) (name : Word) (earlier : List Entry) (s : State) → Walked (OfBound s)
+bind_walks : (at : Pos) (e : Expected) (ty : TyId) (name : Word) (earlier : List NamedEntry) (s : TypingState) → Walked (OfBound s)
     (rules.bind at e ty name earlier s)
 bind_walks at e ty name earlier s =
     walk_obeyed Rule.T02 at (not (is_some (variable earlier name))) _ λ _. walk_obeyed Rule.T07 at (is_copy s.items ty
@@ -58,7 +58,7 @@ bind_walks at e ty name earlier s =
 
 -- ---- structs and variants
 
-parts_nodes : (items : ItemTable) (t : rules.Target) (fields : Fields) → nodes_in (rules.parts_form items t fields) ≡
+parts_nodes : (items : ItemTable) (t : rules.PatternTarget) (fields : Fields) → nodes_in (rules.parts_form items t fields) ≡
     nodes_of_fields fields
 parts_nodes items t fields = by (is_enum items t.adt)
   where
@@ -67,16 +67,16 @@ parts_nodes items t fields = by (is_enum items t.adt)
     by true = refl
     by false = refl
 
-tested_walks : {s t : State} (b : Bool) (n : Node) → Walks s t (nodes_of n) → Walks s t (nodes_of (rules.tested_if b n))
+tested_walks : {s t : TypingState} (b : Bool) (n : Node) → Walks s t (nodes_of n) → Walks s t (nodes_of (rules.tested_if b n))
 tested_walks true n w = walks_used Use.Test n w
 tested_walks false n w = w
 
-abbrev WalksParts : (Expected → List TyId → Check (Fields × List Entry × Bool × Bool)) → Type 0
-WalksParts parts = (e : Expected) (tys : List TyId) (s : State) → Walked (λ ps t. Walks s t (nodes_of_fields ps.0))
+abbrev WalksParts : (Expected → List TyId → Check (Fields × List NamedEntry × Bool × Bool)) → Type 0
+WalksParts parts = (e : Expected) (tys : List TyId) (s : TypingState) → Walked (λ ps t. Walks s t (nodes_of_fields ps.0))
     (parts e tys s)
 
-target_walks : (at : Pos) (e : Expected) (ty : TyId) (t : rules.Target) (parts : Expected → List TyId → Check (Fields ×
-    List Entry × Bool × Bool)) → WalksParts parts → (s : State) → Walked (OfBound s) (rules.of_target at e ty t parts s)
+target_walks : (at : Pos) (e : Expected) (ty : TyId) (t : rules.PatternTarget) (parts : Expected → List TyId → Check (Fields ×
+    List NamedEntry × Bool × Bool)) → WalksParts parts → (s : TypingState) → Walked (OfBound s) (rules.of_target at e ty t parts s)
 target_walks at e ty t parts good s =
     walk_interned (Ty.Adt t.adt) (numbered s) λ self u same. walk_obeyed Rule.T03 at (is_same ty self) _ λ _. walk (good
     (rules.inside_of u.items ty e) (rules.fields_of u.items t) u) λ ps v w. walk_obeyed Rule.T04 at ps.2 _ λ _.
@@ -85,10 +85,10 @@ target_walks at e ty t parts good s =
     (walks_node at ty None (rules.parts_form v.items t ps.0) (subst (λ ns. Walks (numbered s) v ns) (sym (parts_nodes
     v.items t ps.0)) (walks_both (on_same same (walks_none (numbered s))) w))))
 
-none_walk : (earlier : List Entry) (is_whole : Bool) → WalksParts (rules.no_parts earlier is_whole)
+none_walk : (earlier : List NamedEntry) (is_whole : Bool) → WalksParts (rules.no_parts earlier is_whole)
 none_walk earlier is_whole e tys s = walk_ends (walks_none s)
 
-lone_walks : (env : Env) (at : Pos) (e : Expected) (ty : TyId) (adt : ℕ) (earlier : List Entry) (s : State) → Walked
+lone_walks : (env : Env) (at : Pos) (e : Expected) (ty : TyId) (adt : ℕ) (earlier : List NamedEntry) (s : TypingState) → Walked
     (OfBound s) (rules.lone_struct env at e ty adt earlier s)
 lone_walks env at e ty adt earlier s = by (rules.is_unit_kind (kind_at env.kinds adt 0))
   where
@@ -97,7 +97,7 @@ lone_walks env at e ty adt earlier s = by (rules.is_unit_kind (kind_at env.kinds
     by true = target_walks at e ty (rules.target adt 0) (rules.no_parts earlier true) (none_walk earlier true) s
     by false = record { so = tt }
 
-lone_name_walks : (env : Env) (at : Pos) (e : Expected) (ty : TyId) (name : Word) (earlier : List Entry) (s : State) →
+lone_name_walks : (env : Env) (at : Pos) (e : Expected) (ty : TyId) (name : Word) (earlier : List NamedEntry) (s : TypingState) →
     Walked (OfBound s) (rules.lone_name env at e ty name earlier s)
 lone_name_walks env at e ty name earlier s = by (adt_named s.items name)
   where
@@ -110,8 +110,8 @@ lone_name_walks env at e ty name earlier s = by (adt_named s.items name)
     by None = bind_walks at e ty name earlier s
     by (Some adt) = if_enum adt (is_enum s.items adt)
 
-path_walks : (env : Env) (at : Pos) (e : Expected) (ty : TyId) (first second : Option Word) (earlier : List Entry) (s :
-    State) → Walked (OfBound s) (rules.path_alone env at e ty first second earlier s)
+path_walks : (env : Env) (at : Pos) (e : Expected) (ty : TyId) (first second : Option Word) (earlier : List NamedEntry) (s :
+    TypingState) → Walked (OfBound s) (rules.path_alone env at e ty first second earlier s)
 path_walks env at e ty first None earlier s =
     walk_found Rule.T01 at env.self_adt _ λ adt is. walk_obeyed Rule.T01 at (not (is_enum s.items adt)) _ λ _.
     lone_walks env at e ty adt earlier s
@@ -134,7 +134,7 @@ with_nodes : (f : Option (ℕ × Node)) (rest : Fields) → nodes_of_fields (rul
 with_nodes None rest = refl
 with_nodes (Some f) rest = refl
 
-field_by_walks : (v : Variant) (name : Word) (earlier : List Entry) (typed : TyId → Check rules.Bound) (s : State) →
+field_by_walks : (v : Variant) (name : Word) (earlier : List NamedEntry) (typed : TyId → Check rules.BoundPattern) (s : TypingState) →
     ((ty : TyId) → Walked (OfBound s) (typed ty s)) → Walked (λ f t. Walks s t (nodes_in_field f.0)) (rules.field_by v
     name earlier typed s)
 field_by_walks v name earlier typed s good = by (rules.field_ty v.fields (field_named v name))
@@ -145,11 +145,11 @@ field_by_walks v name earlier typed s good = by (rules.field_ty v.fields (field_
 
 module _ (env : Env) where
   mutual
-    pub pattern_walks : (e : Expected) (ty : TyId) (p : Syn) (earlier : List Entry) (s : State) → Walked (OfBound s)
+    pub pattern_walks : (e : Expected) (ty : TyId) (p : Syn) (earlier : List NamedEntry) (s : TypingState) → Walked (OfBound s)
         (rules.pattern env e ty p earlier s)
     pattern_walks e ty (syn at form) earlier s = form_walks e ty at form earlier s
 
-    form_walks : (e : Expected) (ty : TyId) (at : Pos) (form : Shape) (earlier : List Entry) (s : State) → Walked
+    form_walks : (e : Expected) (ty : TyId) (at : Pos) (form : Shape) (earlier : List NamedEntry) (s : TypingState) → Walked
         (OfBound s) (rules.pattern_form env e ty at form earlier s)
     form_walks e ty at AnyPattern earlier s = walk_ends (walks_node at ty None tree.Wildcard (walks_none (numbered s)))
     form_walks e ty at (BindPattern name) earlier s = lone_name_walks env at e ty name earlier s
@@ -192,7 +192,7 @@ module _ (env : Env) where
         (walks_node at ty None (tree.OrPattern ps.0) w)
     form_walks e ty at _ earlier s = record { so = tt }
 
-    parts_walk : (e : Expected) (tys : List TyId) (parts : Syns) (earlier : List Entry) (s : State) → Walked (λ ps t.
+    parts_walk : (e : Expected) (tys : List TyId) (parts : Syns) (earlier : List NamedEntry) (s : TypingState) → Walked (λ ps t.
         Walks s t (nodes_among ps.0)) (rules.part_patterns env e tys parts earlier s)
     parts_walk e tys no_syn earlier s = walk_ends (walks_none s)
     parts_walk e [] (a_syn first rest) earlier s = walk_ends (walks_none s)
@@ -200,21 +200,21 @@ module _ (env : Env) where
         walk (pattern_walks e ty first earlier s) λ p t w. walk (parts_walk e tys rest p.1 t) λ ps u x. walk_ends
         (walks_both w x)
 
-    each_walks : (e : Expected) (ty : TyId) (patterns : Syns) (earlier : List Entry) (s : State) → Walked (λ ps t. Walks
+    each_walks : (e : Expected) (ty : TyId) (patterns : Syns) (earlier : List NamedEntry) (s : TypingState) → Walked (λ ps t. Walks
         s t (nodes_among ps.0)) (rules.each_pattern env e ty patterns earlier s)
     each_walks e ty no_syn earlier s = walk_ends (walks_none s)
     each_walks e ty (a_syn first rest) earlier s =
         walk (pattern_walks e ty first earlier s) λ p t w. walk (each_walks e ty rest p.1 t) λ ps u x. walk_ends
         (walks_both w x)
 
-    fields_walk : (e : Expected) (v : Variant) (fields : Syns) (earlier : List Entry) (s : State) → Walked (λ ps t.
+    fields_walk : (e : Expected) (v : Variant) (fields : Syns) (earlier : List NamedEntry) (s : TypingState) → Walked (λ ps t.
         Walks s t (nodes_of_fields ps.0)) (rules.field_patterns env e v fields earlier s)
     fields_walk e v no_syn earlier s = walk_ends (walks_none s)
     fields_walk e v (a_syn first rest) earlier s =
         walk (field_walks e v first earlier s) λ p t w. walk (fields_walk e v rest p.1 t) λ ps u x. walk_ends (subst (λ
         ns. Walks s u ns) (sym (with_nodes p.0 ps.0)) (walks_both w x))
 
-    field_walks : (e : Expected) (v : Variant) (field : Syn) (earlier : List Entry) (s : State) → Walked (λ f t. Walks s
+    field_walks : (e : Expected) (v : Variant) (field : Syn) (earlier : List NamedEntry) (s : TypingState) → Walked (λ f t. Walks s
         t (nodes_in_field f.0)) (rules.field_pattern env e v field earlier s)
     field_walks e v (syn at (FieldPattern name nothing)) earlier s =
         field_by_walks v name earlier (λ ty. rules.bind at e ty name earlier) s (λ ty. bind_walks at e ty name earlier

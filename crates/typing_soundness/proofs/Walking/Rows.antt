@@ -25,11 +25,11 @@ use Rattle.well_typed.specs.Patterns.{count_of}
 use Rattle.well_typed.specs.Places.{ty_of, form_of, is_place}
 use Rattle.well_typed.specs.Types.{inside_of, reference_of, is_reference, is_dyn, is_unit, is_never, is_same, fits, array_of, kind_of}
 use Rattle.mir_ty.specs.Facts.{is_copy}
-use Rattle.typing_rules.specs.Check.{Check, State, ◌>>=◌, ◌>>◌, breaks, types_for}
+use Rattle.typing_rules.specs.Check.{Check, TypingState, ◌>>=◌, ◌>>◌, breaks, types_for}
 use Rattle.typing_rules.specs.Places.{place_in_text, used, a_node_of, unit, bool, never, int, Fit, Fits, Coerced, Differs, fit, meaning_form, variable_place, Member, through_at, through_in, through, is_fixed, in_own_guard, is_behind_shared, wanted}
 use Rattle.typing_rules.specs.Rows as rows
 use Rattle.typing_rules.specs.Rows.{Typer, Referrer, Method, OfAdt, OfTrait, Matcher, Expected, Given, ty_carried, borrow_by, used_if_place}
-use Rattle.typing_rules.specs.Scope.{Env, Entry, Around, Meaning, Local, Capture, InGuard}
+use Rattle.typing_rules.specs.Scope.{Env, NamedEntry, LabelledLoop, VariableMeaning, Local, Capture, InGuard}
 use Rattle.src_ast.specs.Syntax.{Word}
 use Rattle.typing_rules.proofs.Sound.Fitted.{same_self}
 use Rattle.typing_rules.proofs.Sound.Gives.{numbered}
@@ -51,18 +51,18 @@ abbrev pub WalksTyper : Tape → Typer → Type 0
 WalksTyper f check = (want : Option TyId) → WalksNode f (check want)
 
 abbrev pub WalksMaybe : Tape → (Option TyId → Check MaybeNode) → Type 0
-WalksMaybe f check = (want : Option TyId) (s : State) → Walked (λ v t. Walks f s t (nodes_if_any v)) (check want s)
+WalksMaybe f check = (want : Option TyId) (s : TypingState) → Walked (λ v t. Walks f s t (nodes_if_any v)) (check want s)
 
 -- the checks of so many arguments
 abbrev pub WalksArgs : Tape → ℕ → (List TyId → Check Nodes) → Type 0
-WalksArgs f count args = (params : List TyId) (s : State) → Walked (λ ns t. Walks f s t (nodes_among ns) × (count_of ns ≡
+WalksArgs f count args = (params : List TyId) (s : TypingState) → Walked (λ ns t. Walks f s t (nodes_among ns) × (count_of ns ≡
     count)) (args params s)
 
 abbrev pub WalksReferrer : Tape → Referrer → Type 0
 WalksReferrer f check = (want : TyId) (unique : Bool) (to : TyId) → WalksNode f (check want unique to)
 
 abbrev pub WalksMatcher : Matcher → Type 0
-WalksMatcher check = (e : Expected) (ty : TyId) (s : State) → Walked (λ b t. Walks no_closure s t (nodes_of b.0)) (check e ty s)
+WalksMatcher check = (e : Expected) (ty : TyId) (s : TypingState) → Walked (λ b t. Walks no_closure s t (nodes_of b.0)) (check e ty s)
 
 -- ---- leaves
 
@@ -80,17 +80,17 @@ literal_walks at is_negative value suffix want s =
 
 -- ---- places
 
-meaning_nodes : (name : Word) (m : Meaning) → nodes_in (meaning_form name m) ≡ []
+meaning_nodes : (name : Word) (m : VariableMeaning) → nodes_in (meaning_form name m) ≡ []
 meaning_nodes name (Local key) = refl
 meaning_nodes name (Capture closure part) = refl
 meaning_nodes name (InGuard key) = refl
 
-pub variable_walks : (at : Pos) (x : Entry) → WalksNode no_closure (variable_place at x)
+pub variable_walks : (at : Pos) (x : NamedEntry) → WalksNode no_closure (variable_place at x)
 variable_walks at x s =
     walk_ends (walks_node at x.ty None (meaning_form x.name x.meaning) (subst (λ ns. Walks no_closure (numbered s) (numbered s) ns)
     (sym (meaning_nodes x.name x.meaning)) (walks_none (numbered s))))
 
-pub taken_walks : {f : Tape} (env : Env) (want : Option TyId) (n : Node) {s t : State} → Walks f s t (nodes_of n) → Walked
+pub taken_walks : {f : Tape} (env : Env) (want : Option TyId) (n : Node) {s t : TypingState} → Walks f s t (nodes_of n) → Walked
     (λ m u. Walks f s u (nodes_of m)) (rows.taken env want n t)
 taken_walks env want n {t = t} w =
     walk (walk_fitted want (used (rows.taking t.items (ty_of n)) n) (walks_used _ n w)) λ m u w.
@@ -101,10 +101,10 @@ pub plain_walks : {f : Tape} {check : Check Node} → WalksNode f check → Walk
 plain_walks good s = walk (good s) λ n t w. walk_obeyed Rule.T08 (place_in_text n) (not (is_reference t.items (ty_of n))) _ λ _. walk_ends w
 
 module _ {A : Type 0} (member : Member A) (at : Pos) where
-  abbrev Found : Tape → State → Node × Option A → State → Type 0
+  abbrev Found : Tape → TypingState → Node × Option A → TypingState → Type 0
   Found f s r u = Walks f s u (nodes_of r.0)
 
-  through_in_walks : {f : Tape} (n : ℕ) (items : ItemTable) (base : Node) {s t : State} → Walks f s t (nodes_of base) →
+  through_in_walks : {f : Tape} (n : ℕ) (items : ItemTable) (base : Node) {s t : TypingState} → Walks f s t (nodes_of base) →
       Walked (Found f s) (through_in member at n items base t)
   through_in_walks zero items base w = walk_ends w
   through_in_walks {f} (suc n) items base {s} {t} w =
@@ -118,7 +118,7 @@ module _ {A : Type 0} (member : Member A) (at : Pos) where
       by on None None = walk_ends w
       by on None (Some ty) = on ty
 
-  pub through_walks : {f : Tape} (base : Node) {s t : State} → Walks f s t (nodes_of base) → Walked (Found f s) (through
+  pub through_walks : {f : Tape} (base : Node) {s t : TypingState} → Walks f s t (nodes_of base) → Walked (Found f s) (through
       member at base t)
   through_walks base {t = t} w = through_in_walks (suc (length t.items.types)) t.items base w
 
@@ -152,7 +152,7 @@ negate_walks at operand good want s =
 
 -- a plain number has no closures, so it is the same which of two operands comes first
 pub operands_walk : {f g : Tape} (is_literal : Bool) (want : Option TyId) (left right : Typer) → (IsTrue is_literal → f ≡
-    no_closure) → WalksTyper f left → WalksTyper g right → (s : State) → Walked (λ (b : Node × Node) t. Walks (f ⨾ g) s t
+    no_closure) → WalksTyper f left → WalksTyper g right → (s : TypingState) → Walked (λ (b : Node × Node) t. Walks (f ⨾ g) s t
     (nodes_of b.0 ++ nodes_of b.1)) (rows.operands is_literal want left right s)
 operands_walk {f} {g} true None left right alone good_l good_r s =
     walk (good_r None s) λ r t w. walk (good_l (rows.unless_never t.items (ty_of r)) t) λ l u v. walk_ends (subst (λ h.
@@ -206,7 +206,7 @@ borrow_walks at unique base good want is_unique to s =
     b) (not (unique && is_behind_shared t.items b)) _ λ _. walk_interned (rows.reference_ty unique (ty_of b)) t λ ty u e. walk_ends (walks_node at ty None (tree.Borrow unique (used_if_place
     (borrow_by unique) b)) (on_same e (walks_used_if (borrow_by unique) b w)))
 
-pub passed_on_walks : (at : Pos) (x : Entry) → WalksReferrer no_closure (rows.passed_on at x)
+pub passed_on_walks : (at : Pos) (x : NamedEntry) → WalksReferrer no_closure (rows.passed_on at x)
 passed_on_walks at x want unique to s =
     walk_obeyed Rule.T03 at (rows.passes unique to (reference_of s.items x.ty)) _ λ _. walk {f = λ v. rows.borrow_of
     s.next_node at unique (a_node_of (suc s.next_node) at to (Deref v))} (variable_walks at x (numbered (numbered s))) λ
@@ -249,7 +249,7 @@ method_nodes : (m : Method) (receiver : Node) (args : Nodes) → nodes_in (rows.
 method_nodes (OfAdt body is_drop head) receiver args = refl
 method_nodes (OfTrait trait_no method head) receiver args = refl
 
-received_walks : {f : Tape} (env : Env) (at : Pos) (base : Node) (self : TyId) {s t : State} → Walks f s t (nodes_of
+received_walks : {f : Tape} (env : Env) (at : Pos) (base : Node) (self : TyId) {s t : TypingState} → Walks f s t (nodes_of
     base) → Walked (λ n u. Walks f s u (nodes_of n)) (rows.received env at base self t)
 received_walks {f} env at base self {s} {t} w = by (reference_of t.items self)
   where
@@ -270,10 +270,10 @@ pub method_walks : {f g : Tape} (env : Env) (at : Pos) (named : ItemTable → Ty
 method_walks {f} {g} env at named count receiver args good_r good want s =
     walk (good_r (numbered s)) λ b t w. walk (through_walks named at b w) λ r u w. by r.0 r.1 u w
   where
-    R : Node → State → Type 0
+    R : Node → TypingState → Type 0
     R n t = Walks (f ⨾ g) s t (nodes_of n)
 
-    with_self : (base : Node) (m : Method) (params : List TyId) (u : State) → Walks f (numbered s) u (nodes_of base) →
+    with_self : (base : Node) (m : Method) (params : List TyId) (u : TypingState) → Walks f (numbered s) u (nodes_of base) →
         Walked R (rows.with_self env at s.next_node base m count args want params u)
     with_self base m [] u w = walk_nothing Rule.T12 at (args [] u)
     with_self base m (self ∷ params) u w =
@@ -283,13 +283,13 @@ method_walks {f} {g} env at named count receiver args good_r good want s =
         (method_nodes m receiver ns)) (walks_both w x.0)))) λ n y w. walk_obeyed Rule.T04 at (count == length params) _ λ _. walk_obeyed
         Rule.T08 at (not (rows.is_unique_borrow (form_of receiver) && is_behind_shared y.items base)) _ λ _. walk_obeyed Rule.T13 at (not (rows.is_drop_method m)) _ λ _. walk_ends w
 
-    if_takes : (base : Node) (m : Method) (u : State) → Walks f (numbered s) u (nodes_of base) → (b : Bool) → Walked R
+    if_takes : (base : Node) (m : Method) (u : TypingState) → Walks f (numbered s) u (nodes_of base) → (b : Bool) → Walked R
         ((if b then rows.with_self env at s.next_node base m count args want (rows.head_of m).params else (args [] >>
         breaks Rule.T12 at)) u)
     if_takes base m u w true = with_self base m (rows.head_of m).params u w
     if_takes base m u w false = walk_nothing Rule.T12 at (args [] u)
 
-    by : (base : Node) (o : Option Method) (u : State) → Walks f (numbered s) u (nodes_of base) → Walked R
+    by : (base : Node) (o : Option Method) (u : TypingState) → Walks f (numbered s) u (nodes_of base) → Walked R
         (rows.with_method env at s.next_node base o count args want u)
     by base None u w = walk_nothing Rule.T12 at (args [] u)
     by base (Some m) u w = if_takes base m u w (rows.takes_self u.items (ty_of base) (rows.head_of m).params)
@@ -298,7 +298,7 @@ pub closure_call_walks : {f g : Tape} (at : Pos) (count : ℕ) (callee : Check N
 closure_call_walks {f} {g} at count callee args good_c good want s =
     walk (good_c (numbered s)) λ c t w. by c t w _ _
   where
-    by : (c : Node) (t : State) → Walks f (numbered s) t (nodes_of c) → (body : ℕ) (o : Option Sig) → Walked (λ n u. Walks
+    by : (c : Node) (t : TypingState) → Walks f (numbered s) t (nodes_of c) → (body : ℕ) (o : Option Sig) → Walked (λ n u. Walks
         (f ⨾ g) s u (nodes_of n)) (rows.with_closure at s.next_node c count args want body o t)
     by c t w body None = walk_nothing Rule.T13 at (args [] t)
     by c t w body (Some head) =
@@ -355,7 +355,7 @@ pub new_box_walks : {f : Tape} (at : Pos) (count : ℕ) (args : List TyId → Ch
 new_box_walks {f} at count args good want s =
     walk (good _ (numbered s)) λ ns t w. by ns t (w.1) w.0 (wanted rows.box_wanted s.items want)
   where
-    by : (ns : Nodes) (t : State) → count_of ns ≡ count → Walks f (numbered s) t (nodes_among ns) → (content : Option
+    by : (ns : Nodes) (t : TypingState) → count_of ns ≡ count → Walks f (numbered s) t (nodes_among ns) → (content : Option
         TyId) → Walked (λ n u. Walks f s u (nodes_of n)) (rows.box_by at s.next_node count want content (rows.first_node
         ns) t)
     by no_node t e w content = record { so = tt }
@@ -367,7 +367,7 @@ new_box_walks {f} at count args good want s =
 
 -- ---- constructors
 
-pub struct_walks : {f : Tape} (at : Pos) (adt variant : ℕ) (types : List TyId) (fields : Check (Fields × Given)) → ((s : State) →
+pub struct_walks : {f : Tape} (at : Pos) (adt variant : ℕ) (types : List TyId) (fields : Check (Fields × Given)) → ((s : TypingState) →
     Walked (λ fs t. Walks f s t (nodes_of_fields fs.0)) (fields s)) → WalksTyper f (rows.struct_row at adt variant types
     fields)
 struct_walks at adt variant types fields good want s =
@@ -376,13 +376,13 @@ struct_walks at adt variant types fields good want s =
     Rule.T04 at (rows.all_given (length types) fs.1 && length fs.1 == length types) _ λ _. walk_obeyed Rule.T12 at (rows.are_known fs.1) _ λ _. walk_ends w
 
 pub tuple_walks : {f : Tape} (at : Pos) (count : ℕ) (parts : List (Option TyId) → Check (Nodes × List TyId)) → ((wants : List
-    (Option TyId)) (s : State) → Walked (λ ps t. Walks f s t (nodes_among ps.0)) (parts wants s)) → WalksTyper f (rows.tuple_row at count parts)
+    (Option TyId)) (s : TypingState) → Walked (λ ps t. Walks f s t (nodes_among ps.0)) (parts wants s)) → WalksTyper f (rows.tuple_row at count parts)
 tuple_walks at count parts good want s =
     walk (good _ (numbered s)) λ ps t w. walk_interned (Ty.Tuple ps.1) t λ ty u e. walk (walk_fitted want _ (walks_node at ty None
     (tree.Tuple ps.0) (on_same e w))) λ n x w. walk_obeyed Rule.T19 at (nat_le count 12) _ λ _. walk_ends w
 
 pub array_walks : {f : Tape} (at : Pos) (count : ℕ) (elements : Option TyId → Check (Nodes × List TyId)) → ((want : Option TyId) (s
-    : State) → Walked (λ ps t. Walks f s t (nodes_among ps.0)) (elements want s)) → WalksTyper f (rows.array_row at count
+    : TypingState) → Walked (λ ps t. Walks f s t (nodes_among ps.0)) (elements want s)) → WalksTyper f (rows.array_row at count
     elements)
 array_walks at count elements good want s =
     walk (good _ (numbered s)) λ ps t w. walk_found Rule.T03 at (rows.element_ty t.items (wanted rows.element_wanted s.items want) ps.1) _ λ el is. walk_obeyed Rule.T16 at (is_some (wanted rows.element_wanted s.items want) || not (count == 0)) _ λ _.
@@ -391,19 +391,19 @@ array_walks at count elements good want s =
 
 -- ---- blocks and branches
 
-settle : {f : Tape} (s : State) (want : Option TyId) (at : Pos) (ty : TyId) (form : Form) {t : State} → Walks f (numbered
+settle : {f : Tape} (s : TypingState) (want : Option TyId) (at : Pos) (ty : TyId) (form : Form) {t : TypingState} → Walks f (numbered
     s) t (nodes_in form) → Walked (λ m u. Walks f s u (nodes_of m)) (rows.settled want (a_node_of s.next_node at ty form) t)
 settle s want at ty form w = walk_settled want (a_node_of s.next_node at ty form) (walks_node at ty None form w)
 
 pub block_walks : {f g : Tape} (P : Env → Type 0) (at : Pos) (check : Check (Nodes × Bool × Env)) (tail : Env → Option TyId → Check MaybeNode) → ((s :
-    State) → Walked (λ done t. Walks f s t (nodes_among done.0) × P done.2) (check s)) → ((inner : Env) → P inner → WalksMaybe g
+    TypingState) → Walked (λ done t. Walks f s t (nodes_among done.0) × P done.2) (check s)) → ((inner : Env) → P inner → WalksMaybe g
     (tail inner)) →
     WalksTyper (f ⨾ g) (rows.block at check tail)
 block_walks P at check tail good good_t want s =
     walk (good (numbered s)) λ done t w. walk (good_t done.2 w.1 want t) λ v u x. settle s want at (rows.block_ty v done.1)
     (tree.Block done.0 v) (walks_both w.0 x)
 
-nothing_more : {f : Tape} {s t : State} {xs : List Node} → Walks f s t xs → Walks f s t (xs ++ [])
+nothing_more : {f : Tape} {s t : TypingState} {xs : List Node} → Walks f s t xs → Walks f s t (xs ++ [])
 nothing_more {f} {s} {t} {xs} w = subst (λ ns. Walks f s t ns) (sym (append-nil xs)) w
 
 pub if_alone_walks : {f g : Tape} (at : Pos) (c body : Typer) → WalksTyper f c → WalksTyper g body → WalksTyper (f ⨾ g) (rows.if_alone at c body)
@@ -419,29 +419,29 @@ if_else_walks at c body otherwise good_c good_b good_o want s =
 scrutinised_walks : {f : Tape} {check : Check Node} → WalksNode f check → WalksNode f (rows.scrutinised check)
 scrutinised_walks good s = walk (plain_walks good s) λ n t w. walk_ends (walks_used_if Use.Borrow n w)
 
-pub if_let_alone_walks : {f g : Tape} (env : Env) (at : Pos) (scrutinee : Check Node) (matcher : Matcher) (body : List Entry → Typer)
-    → WalksNode f scrutinee → WalksMatcher matcher → ((xs : List Entry) → WalksTyper g (body xs)) → WalksTyper (f ⨾ g) (rows.if_let_alone env at scrutinee matcher body)
+pub if_let_alone_walks : {f g : Tape} (env : Env) (at : Pos) (scrutinee : Check Node) (matcher : Matcher) (body : List NamedEntry → Typer)
+    → WalksNode f scrutinee → WalksMatcher matcher → ((xs : List NamedEntry) → WalksTyper g (body xs)) → WalksTyper (f ⨾ g) (rows.if_let_alone env at scrutinee matcher body)
 if_let_alone_walks env at scrutinee matcher body good good_m good_b want s =
     walk (scrutinised_walks good (numbered s)) λ n t w. walk (good_m _ (ty_of n) t) λ p u x. walk (good_b p.1 (Some
     unit) u) λ b v y. settle s want at unit (tree.IfLet p.0 n b absent) (nothing_more (walks_both (walks_swapped w x) y))
 
-pub if_let_else_walks : {f g h : Tape} (env : Env) (at : Pos) (scrutinee : Check Node) (matcher : Matcher) (body : List Entry → Typer)
-    (otherwise : Typer) → WalksNode f scrutinee → WalksMatcher matcher → ((xs : List Entry) → WalksTyper g (body xs)) →
+pub if_let_else_walks : {f g h : Tape} (env : Env) (at : Pos) (scrutinee : Check Node) (matcher : Matcher) (body : List NamedEntry → Typer)
+    (otherwise : Typer) → WalksNode f scrutinee → WalksMatcher matcher → ((xs : List NamedEntry) → WalksTyper g (body xs)) →
     WalksTyper h otherwise → WalksTyper (f ⨾ g ⨾ h) (rows.if_let_else env at scrutinee matcher body otherwise)
 if_let_else_walks env at scrutinee matcher body otherwise good good_m good_b good_o want s =
     walk (scrutinised_walks good (numbered s)) λ n t w. walk (good_m _ (ty_of n) t) λ p u x. walk (good_b p.1 want u) λ
     b v y. walk (good_o want v) λ o z q. walk_found Rule.T03 at (rows.one_of_two z.items (ty_of b) (ty_of o)) _ λ ty is. settle s want at ty (tree.IfLet p.0 n b (present o)) (walks_both (walks_both (walks_swapped w x) y) q)
 
-pub arm_walks : {f g : Tape} (check : Check (Node × List Entry)) (guard : List Entry → Check MaybeNode) (body : List Entry → Typer) →
-    ((s : State) → Walked (λ b t. Walks no_closure s t (nodes_of b.0)) (check s)) → ((xs : List Entry) (s : State) → Walked (λ v
-    t. Walks f s t (nodes_if_any v)) (guard xs s)) → ((xs : List Entry) → WalksTyper g (body xs)) → WalksTyper (f ⨾ g) (rows.arm
+pub arm_walks : {f g : Tape} (check : Check (Node × List NamedEntry)) (guard : List NamedEntry → Check MaybeNode) (body : List NamedEntry → Typer) →
+    ((s : TypingState) → Walked (λ b t. Walks no_closure s t (nodes_of b.0)) (check s)) → ((xs : List NamedEntry) (s : TypingState) → Walked (λ v
+    t. Walks f s t (nodes_if_any v)) (guard xs s)) → ((xs : List NamedEntry) → WalksTyper g (body xs)) → WalksTyper (f ⨾ g) (rows.arm
     check guard body)
 arm_walks check guard body good good_g good_b want s =
     walk (good (numbered s)) λ p t w. walk (good_g p.1 t) λ g u x. walk (good_b p.1 want u) λ b v y. walk_ends
     (walks_node (place_in_text p.0) (ty_of b) None (tree.Arm p.0 g b) (walks_both (walks_both w x) y))
 
 pub match_walks : {f g : Tape} (env : Env) (at : Pos) (scrutinee : Check Node) (arms : Expected → TyId → Option TyId → Check (Nodes
-    × List TyId)) → WalksNode f scrutinee → ((e : Expected) (ty : TyId) (want : Option TyId) (s : State) → Walked (λ ns
+    × List TyId)) → WalksNode f scrutinee → ((e : Expected) (ty : TyId) (want : Option TyId) (s : TypingState) → Walked (λ ns
     t. Walks g s t (nodes_among ns.0)) (arms e ty want s)) → WalksTyper (f ⨾ g) (rows.match_row env at scrutinee arms)
 match_walks env at scrutinee arms good good_a want s =
     walk (scrutinised_walks good (numbered s)) λ n t w. walk (good_a _ (ty_of n) want t) λ ns u x. walk_found Rule.T03
@@ -449,38 +449,38 @@ match_walks env at scrutinee arms good good_a want s =
 
 -- ---- loops and jumps
 
-pub loop_walks : {f : Tape} (at : Pos) (label : Option Word) (body : Around → Typer) → ((a : Around) → WalksTyper f (body a)) →
+pub loop_walks : {f : Tape} (at : Pos) (label : Option Word) (body : LabelledLoop → Typer) → ((a : LabelledLoop) → WalksTyper f (body a)) →
     WalksTyper f (rows.loop_row at label body)
 loop_walks at label body good want s =
     walk (good _ (Some unit) (numbered s)) λ b t w. walk_found Rule.T03 at (rows.one_type t.items (types_for s.next_node t.breaks)) _ λ ty is. settle s want at ty (tree.Loop b) w
 
-pub while_walks : {f g : Tape} (at : Pos) (label : Option Word) (c body : Around → Typer) → ((a : Around) → WalksTyper f (c a)) → ((a :
-    Around) → WalksTyper g (body a)) → WalksTyper (f ⨾ g) (rows.while_row at label c body)
+pub while_walks : {f g : Tape} (at : Pos) (label : Option Word) (c body : LabelledLoop → Typer) → ((a : LabelledLoop) → WalksTyper f (c a)) → ((a :
+    LabelledLoop) → WalksTyper g (body a)) → WalksTyper (f ⨾ g) (rows.while_row at label c body)
 while_walks at label c body good_c good_b want s =
     walk (good_c _ (Some bool) (numbered s)) λ n t w. walk (good_b _ (Some unit) t) λ b u x. settle s want at unit (tree.While n b) (walks_both w x)
 
-pub while_let_walks : {f g : Tape} (env : Env) (at : Pos) (label : Option Word) (scrutinee : Around → Check Node) (matcher : Matcher)
-    (body : Around → List Entry → Typer) → ((a : Around) → WalksNode f (scrutinee a)) → WalksMatcher matcher → ((a :
-    Around) (xs : List Entry) → WalksTyper g (body a xs)) → WalksTyper (f ⨾ g) (rows.while_let_row env at label scrutinee matcher
+pub while_let_walks : {f g : Tape} (env : Env) (at : Pos) (label : Option Word) (scrutinee : LabelledLoop → Check Node) (matcher : Matcher)
+    (body : LabelledLoop → List NamedEntry → Typer) → ((a : LabelledLoop) → WalksNode f (scrutinee a)) → WalksMatcher matcher → ((a :
+    LabelledLoop) (xs : List NamedEntry) → WalksTyper g (body a xs)) → WalksTyper (f ⨾ g) (rows.while_let_row env at label scrutinee matcher
     body)
 while_let_walks env at label scrutinee matcher body good good_m good_b want s =
     walk (scrutinised_walks (good _) (numbered s)) λ n t w. walk (good_m _ (ty_of n) t) λ p u x. walk (good_b _ p.1
     (Some unit) u) λ b v y. settle s want at unit (tree.WhileLet p.0 n b) (walks_both (walks_swapped w x) y)
 
 -- a break carries what is added to the breaks
-pub break_walks : {f : Tape} (at : Pos) (to : Option Around) (value : Option TyId → Check MaybeNode) → WalksMaybe f value →
+pub break_walks : {f : Tape} (at : Pos) (to : Option LabelledLoop) (value : Option TyId → Check MaybeNode) → WalksMaybe f value →
     WalksTyper f (rows.break_row at to value)
 break_walks {f} at to value good want s =
     walk (good _ (numbered s)) λ v t w. walk_found Rule.T06 at to _ λ a is. walk_obeyed Rule.T06 at (rows.may_carry v a) _ λ _.
     walk_settled want (a_node_of s.next_node at never (Break a.loop v)) (carries v a.loop t (walks_node at never None (Break a.loop v) w))
   where
-    broken_off : (t : State) (loop : ℕ) (v : MaybeNode) → Stays t (record t {
+    broken_off : (t : TypingState) (loop : ℕ) (v : MaybeNode) → Stays t (record t {
       breaks = t.breaks ++ (loop, ty_carried v) ∷
           [];
     })
     broken_off t loop v = record { types = λ n ty h. h; distinct = λ h. h; adts = refl; traits = refl; impls = refl; heads = refl; next_body = refl; bodies = refl; closures = refl }
 
-    carries : (v : MaybeNode) (loop : ℕ) (t : State) → Walks f s t (nodes_of (node s.next_node at never None (Break loop
+    carries : (v : MaybeNode) (loop : ℕ) (t : TypingState) → Walks f s t (nodes_of (node s.next_node at never None (Break loop
         v))) → Walks f s (record t { breaks = t.breaks ++ (loop, ty_carried v) ∷ [] }) (nodes_of (node s.next_node at
         never None (Break loop v)))
     carries v loop t w =
@@ -514,7 +514,7 @@ break_walks {f} at to value good want s =
         by b (inl was) = w.carried b was
         by b (inr new_) = last b (contains_cases (loop, ty_carried v) [] b new_)
 
-pub continue_walks : (at : Pos) (to : Option Around) → WalksTyper no_closure (rows.continue_row at to)
+pub continue_walks : (at : Pos) (to : Option LabelledLoop) → WalksTyper no_closure (rows.continue_row at to)
 continue_walks at to want s =
     walk_found Rule.T06 at to _ λ a is. settle s want at never (tree.Continue a.loop) (walks_none
     (numbered s))
@@ -525,7 +525,7 @@ return_walks at answer value good want s =
 
 -- ---- statements
 
-pub in_parts_walks : {f : Tape} (env : Env) (want : Option TyId) (n : Node) {s t : State} → Walks f s t (nodes_of n) →
+pub in_parts_walks : {f : Tape} (env : Env) (want : Option TyId) (n : Node) {s t : TypingState} → Walks f s t (nodes_of n) →
     Walked (λ m u. Walks f s u (nodes_of m)) (rows.place_for_parts env want n t)
 in_parts_walks env None n {t = t} w = walk_obeyed Rule.T08 (place_in_text n) (not (is_reference t.items (ty_of n))) _ λ _. walk_ends w
 in_parts_walks {f} env (Some want) n {s} {t} w =
@@ -538,8 +538,8 @@ in_parts_walks {f} env (Some want) n {s} {t} w =
     by Differs = taken_walks env (Some want) n w
 
 pub let_walks : {f : Tape} (P : Env → Type 0) (at : Pos) (env : Env) (one : Bool) (written : Check (Option TyId)) (value : Option TyId → Check
-    MaybeNode) (matcher : Matcher) (behind : List Entry → Env) → ((xs : List Entry) → P (behind xs)) → ((s : State) → Walked (λ _ t. SameWalk s t) (written
-    s)) → WalksMaybe f value → WalksMatcher matcher → (s : State) → Walked (λ done t. Walks f s t (nodes_of done.0) × P done.2)
+    MaybeNode) (matcher : Matcher) (behind : List NamedEntry → Env) → ((xs : List NamedEntry) → P (behind xs)) → ((s : TypingState) → Walked (λ _ t. SameWalk s t) (written
+    s)) → WalksMaybe f value → WalksMatcher matcher → (s : TypingState) → Walked (λ done t. Walks f s t (nodes_of done.0) × P done.2)
     (rows.let_row at env one written value matcher behind s)
 let_walks P at env one written value matcher behind stays good_w good_v good_m s =
     walk (good_w (numbered s)) λ ty t e. walk (good_v ty t) λ v u w. walk_found Rule.T16 at (rows.let_ty ty v) _ λ t is. walk (good_m _ _
@@ -549,7 +549,7 @@ let_walks P at env one written value matcher behind stays good_w good_v good_m s
       stays p.1,
     )
 
-pub evaluate_walks : {f : Tape} (P : Env → Type 0) (at : Pos) (env : Env) (has_semicolon : Bool) (e : Typer) → P env → WalksTyper f e → (s : State) →
+pub evaluate_walks : {f : Tape} (P : Env → Type 0) (at : Pos) (env : Env) (has_semicolon : Bool) (e : Typer) → P env → WalksTyper f e → (s : TypingState) →
     Walked (λ done t. Walks f s t (nodes_of done.0) × P done.2) (rows.evaluate at env has_semicolon e s)
 evaluate_walks P at env has_semicolon e stays good s =
     walk (good None (numbered s)) λ n t w. walk_obeyed Rule.T03 (place_in_text n) (has_semicolon || (is_unit t.items (ty_of n) || is_never t.items (ty_of n))) _ λ _. walk_ends (walks_node at unit None (tree.Evaluate n) w, stays)

@@ -13,7 +13,7 @@ use Rattle.typed_tree.specs.Nodes.{nodes_of}
 use Rattle.typed_tree.specs.Tree as tree
 use Rattle.typed_tree.specs.Tree.{Node, node, Form, MaybeNode}
 use Rattle.well_typed.specs.Items.{is_equal}
-use Rattle.typing_rules.specs.Check.{Check, State, Broken, and_then, obeys, known, breaks, interned, interned_at}
+use Rattle.typing_rules.specs.Check.{Check, TypingState, Broken, and_then, obeys, known, breaks, interned, interned_at}
 use Rattle.typing_rules.specs.Places.{Fit, Fits, Coerced, Differs, fit, place_in_text, agrees}
 use Rattle.typing_rules.specs.Rows.{fitted, fitted_by, settled}
 use Rattle.typing_soundness.specs.Closures.{Tape}
@@ -23,46 +23,46 @@ use Rattle.well_typed.specs.Places.{ty_of}
 
 -- ---- one step after another
 
-pub walk : {A B : Type 0} {P : A → State → Type 0} {R : B → State → Type 0} {r : Result (A × State) Broken} {f : A →
-    Check B} → Walked P r → ((a : A) (t : State) → P a t → Walked R (f a t)) → Walked R (and_then r f)
+pub walk : {A B : Type 0} {P : A → TypingState → Type 0} {R : B → TypingState → Type 0} {r : Result (A × TypingState) Broken} {f : A →
+    Check B} → Walked P r → ((a : A) (t : TypingState) → P a t → Walked R (f a t)) → Walked R (and_then r f)
 walk {r = Ok a} h k = k a.0 a.1 h.so
 walk {r = Err e} h k = record { so = tt }
 
-pub walk_obeyed : {B : Type 0} {R : B → State → Type 0} {s : State} (rule : Rule) (at : Pos) (holds : Bool) (f : Check
+pub walk_obeyed : {B : Type 0} {R : B → TypingState → Type 0} {s : TypingState} (rule : Rule) (at : Pos) (holds : Bool) (f : Check
     B) → (IsTrue holds → Walked R (f s)) → Walked R (and_then (obeys rule at holds s) (λ _. f))
 walk_obeyed rule at true f k = k refl
 walk_obeyed rule at false f k = record { so = tt }
 
-pub walk_found : {A B : Type 0} {R : B → State → Type 0} {s : State} (rule : Rule) (at : Pos) (o : Option A) (f : A →
+pub walk_found : {A B : Type 0} {R : B → TypingState → Type 0} {s : TypingState} (rule : Rule) (at : Pos) (o : Option A) (f : A →
     Check B) → ((a : A) → o ≡ Some a → Walked R (f a s)) → Walked R (and_then (known rule at o s) f)
 walk_found rule at (Some a) f k = k a refl
 walk_found rule at None f k = record { so = tt }
 
-pub walk_ends : {A : Type 0} {R : A → State → Type 0} {a : A} {t : State} → R a t → Walked R (Ok (a, t))
+pub walk_ends : {A : Type 0} {R : A → TypingState → Type 0} {a : A} {t : TypingState} → R a t → Walked R (Ok (a, t))
 walk_ends h = record { so = h }
 
-pub walk_broken : {A : Type 0} {R : A → State → Type 0} (rule : Rule) (at : Pos) (s : State) → Walked R (breaks {A = A}
+pub walk_broken : {A : Type 0} {R : A → TypingState → Type 0} (rule : Rule) (at : Pos) (s : TypingState) → Walked R (breaks {A = A}
     rule at s)
 walk_broken rule at s = record { so = tt }
 
-pub walk_map : {A : Type 0} {P R : A → State → Type 0} {r : Result (A × State) Broken} → Walked P r → ((a : A) (t :
-    State) → P a t → R a t) → Walked R r
+pub walk_map : {A : Type 0} {P R : A → TypingState → Type 0} {r : Result (A × TypingState) Broken} → Walked P r → ((a : A) (t :
+    TypingState) → P a t → R a t) → Walked R r
 walk_map {r = Ok a} h k = record { so = k a.0 a.1 h.so }
 walk_map {r = Err e} h k = record { so = tt }
 
 -- what gives nothing, whatever comes first
-pub walk_nothing : {A B : Type 0} {R : B → State → Type 0} (rule : Rule) (at : Pos) (r : Result (A × State) Broken) →
+pub walk_nothing : {A B : Type 0} {R : B → TypingState → Type 0} (rule : Rule) (at : Pos) (r : Result (A × TypingState) Broken) →
     Walked R (and_then r (λ _. breaks rule at))
 walk_nothing rule at (Ok a) = record { so = tt }
 walk_nothing rule at (Err e) = record { so = tt }
 
 -- states that differ in their items alone
-pub record SameWalk (s t : State) : Type 0 where
+pub record SameWalk (s t : TypingState) : Type 0 where
   pub number : t.next_node ≡ s.next_node
   pub breaks : t.breaks ≡ s.breaks
   pub stays : Stays s t
 
-pub on_same : {f : Tape} {s t u : State} {xs : List Node} → SameWalk t u → Walks f s t xs → Walks f s u xs
+pub on_same : {f : Tape} {s t u : TypingState} {xs : List Node} → SameWalk t u → Walks f s t xs → Walks f s u xs
 on_same {u = u} e p = walks_same u e.number e.breaks e.stays p
 
 -- a type that is new
@@ -78,7 +78,7 @@ with_type_distinct ty tys absent all i j t a b =
     by (inr a) (inl b) = absurd (absent j (b ∙ ap Some (sym a.1)))
     by (inr a) (inr b) = a.0 ∙ sym b.0
 
-with_type_stays : (ty : Ty) (s : State) → position_of (is_equal ty) s.items.types ≡ None → Stays s (record s {
+with_type_stays : (ty : Ty) (s : TypingState) → position_of (is_equal ty) s.items.types ≡ None → Stays s (record s {
   items =
       with_type s.items ty;
 })
@@ -95,8 +95,8 @@ with_type_stays ty s is = record {
 }
 
 -- a type gets a number, and has it
-pub walk_interned_as : {B : Type 0} {R : B → State → Type 0} (ty : Ty) (s : State) {f : TyId → Check B} → ((id : TyId) (t
-    : State) → SameWalk s t → type_at t.items id ≡ Some ty → Walked R (f id t)) → Walked R (and_then (interned ty s) f)
+pub walk_interned_as : {B : Type 0} {R : B → TypingState → Type 0} (ty : Ty) (s : TypingState) {f : TyId → Check B} → ((id : TyId) (t
+    : TypingState) → SameWalk s t → type_at t.items id ≡ Some ty → Walked R (f id t)) → Walked R (and_then (interned ty s) f)
 walk_interned_as {R = R} ty s {f} k = by (position_of (is_equal ty) s.items.types) refl
   where
     by : (o : Option ℕ) → position_of (is_equal ty) s.items.types ≡ o → Walked R (and_then (interned_at ty o s) f)
@@ -105,12 +105,12 @@ walk_interned_as {R = R} ty s {f} k = by (position_of (is_equal ty) s.items.type
     by None is =
         k _ _ (record { number = refl; breaks = refl; stays = with_type_stays ty s is }) (slice_get-last s.items.types ty)
 
-pub walk_interned : {B : Type 0} {R : B → State → Type 0} (ty : Ty) (s : State) {f : TyId → Check B} → ((id : TyId) (t :
-    State) → SameWalk s t → Walked R (f id t)) → Walked R (and_then (interned ty s) f)
+pub walk_interned : {B : Type 0} {R : B → TypingState → Type 0} (ty : Ty) (s : TypingState) {f : TyId → Check B} → ((id : TyId) (t :
+    TypingState) → SameWalk s t → Walked R (f id t)) → Walked R (and_then (interned ty s) f)
 walk_interned ty s k = walk_interned_as ty s λ id t e is. k id t e
 
 -- nothing comes behind it
-pub interned_ends : {R : TyId → State → Type 0} (ty : Ty) (s : State) → ((id : TyId) (t : State) → SameWalk s t → R id t) →
+pub interned_ends : {R : TyId → TypingState → Type 0} (ty : Ty) (s : TypingState) → ((id : TyId) (t : TypingState) → SameWalk s t → R id t) →
     Walked R (interned ty s)
 interned_ends {R} ty s k = by (position_of (is_equal ty) s.items.types) refl
   where
@@ -120,7 +120,7 @@ interned_ends {R} ty s k = by (position_of (is_equal ty) s.items.types) refl
 
 -- ---- the end of a row
 
-fitted_so : {C : Type 0} {f : Tape} (want : TyId) (n : Node) {s t : State} (how : Fit) → (C → Walks f s t (nodes_of n)) →
+fitted_so : {C : Type 0} {f : Tape} (want : TyId) (n : Node) {s t : TypingState} (how : Fit) → (C → Walks f s t (nodes_of n)) →
     Walked (λ m u. C → Walks f s u (nodes_of m)) (fitted_by want n how t)
 fitted_so want n Fits p = walk_ends p
 fitted_so want n (Coerced trait_no) p = walk_ends (λ c. walks_outer (place_in_text n) want None (tree.Unsize trait_no n)
@@ -128,16 +128,16 @@ fitted_so want n (Coerced trait_no) p = walk_ends (λ c. walks_outer (place_in_t
 fitted_so want n Differs p = record { so = tt }
 
 -- a leaf, which may be coerced, where something is so
-pub fitted_when : {C : Type 0} {f : Tape} (want : Option TyId) (n : Node) {s t : State} → (C → Walks f s t (nodes_of n)) →
+pub fitted_when : {C : Type 0} {f : Tape} (want : Option TyId) (n : Node) {s t : TypingState} → (C → Walks f s t (nodes_of n)) →
     Walked (λ m u. C → Walks f s u (nodes_of m)) (fitted want n t)
 fitted_when None n p = walk_ends p
 fitted_when (Some want) n {t = t} p = fitted_so want n (fit t.items want (ty_of n)) p
 
-pub walk_fitted : {f : Tape} (want : Option TyId) (n : Node) {s t : State} → Walks f s t (nodes_of n) → Walked (λ m u. Walks f s u
+pub walk_fitted : {f : Tape} (want : Option TyId) (n : Node) {s t : TypingState} → Walks f s t (nodes_of n) → Walked (λ m u. Walks f s u
     (nodes_of m)) (fitted want n t)
 walk_fitted want n p = walk_map (fitted_when {C = Unit {0}} want n (λ _. p)) λ m u h. h tt
 
-pub walk_settled : {f : Tape} (want : Option TyId) (n : Node) {s t : State} → Walks f s t (nodes_of n) → Walked (λ m u. Walks f s u
+pub walk_settled : {f : Tape} (want : Option TyId) (n : Node) {s t : TypingState} → Walks f s t (nodes_of n) → Walked (λ m u. Walks f s u
     (nodes_of m)) (settled want n t)
 walk_settled want n {t = t} p = walk_obeyed Rule.T03 (place_in_text n) (agrees t.items want (ty_of n)) _ λ is. walk_ends
     p

@@ -5,7 +5,7 @@ use Rattle.std.specs.Prelude.{codes}
 use Rattle.mir_base.specs.declared.int_kind.IntKind.{IntKind}
 use Rattle.mir_base.specs.declared.place_in_text.Pos.{Pos}
 use Rattle.src_token.specs.declared.mark.Mark.{Mark}
-use Rattle.src_token.specs.declared.piece.Fault.{Fault}
+use Rattle.src_token.specs.declared.piece.TokenFault.{TokenFault}
 use Rattle.src_token.specs.declared.piece.Reading.{Reading}
 use Rattle.src_token.specs.declared.token.Token.{Token}
 use Rattle.src_token.specs.declared.word.Word.{Word}
@@ -21,7 +21,7 @@ abbrev number : ℕ → Option IntKind → Reading
 number value kind = Reading.Reads (Token.Number value kind)
 
 abbrev no_number : Reading
-no_number = Reading.Fails Fault.BadNumber 0
+no_number = Reading.Fails TokenFault.BadNumber 0
 
 number_of_each : map number_reading (codes "1_" ∷ codes "0_1usize" ∷ codes "2i64" ∷ codes "18446744073709551615" ∷
     codes "18446744073709551616" ∷ codes "18446744073709551616_u64" ∷ codes "1abc" ∷ codes "1u8" ∷ [])
@@ -56,7 +56,7 @@ word_of_each = refl
 -- ---- texts between quotes: a `\` is refused, behind the quote and what stands before it
 
 text_of_each : map text_reading (codes "" ∷ codes "a//" ∷ codes "a\\b" ∷ [])
-    ≡ Reading.Reads (Token.Text []) ∷ Reading.Reads (Token.Text (codes "a//")) ∷ Reading.Fails Fault.BadChar 2 ∷ []
+    ≡ Reading.Reads (Token.Text []) ∷ Reading.Reads (Token.Text (codes "a//")) ∷ Reading.Fails TokenFault.BadChar 2 ∷ []
 unfolding encode
 text_of_each = refl
 

@@ -1,13 +1,13 @@
 use Rattle.std.proofs.Common.{rules, ◌≡◌, ◌∙◌, ℕ, suc, true, false, List, map, sym, ap, subst}
 use Rattle.std.proofs.lemmas.Result.{on_ok_weaker}
 use Rattle.cfg_build.specs.Build as build
-use Rattle.cfg_build.specs.Build.{Frame, Lowers}
+use Rattle.cfg_build.specs.Build.{LoweringFrame, Lowers}
 use Rattle.cfg_build.specs.Codes.{lowers}
 use Rattle.code_blocks.specs.Building.{rest_of, building_of, ways_of}
 use Rattle.code_passes.specs.Scoped.{scopes_of}
 use Rattle.code_passes.proofs.Behind.{before_is}
 use Rattle.code_passes.specs.Spans.{Stands}
-use Rattle.code_passes.specs.declared.marks.Mark.{Mark}
+use Rattle.code_passes.specs.declared.marks.CodeMark.{CodeMark}
 use Rattle.scope_code.specs.Ops.{Op}
 use Rattle.scope_code.specs.View.{op_of}
 use Rattle.src_meaning.specs.Scopes.{Scopes}
@@ -17,7 +17,7 @@ use Rattle.body_blocks.proofs.joining.leave_behind.Goals as goal
 
 pub returns-then-not-has_end : goal.returns-then-not-has_end
 returns-then-not-has_end c = λ code start one.
-    let f : Frame = frame_at c.args.at.now in
+    let f : LoweringFrame = frame_at c.args.at.now in
     let ends : c.args.end ≡ suc c.in-Some.inner = search rules in
     let stands : Stands f (map op_of c.args.at.now.code.words.now) c.args.at.now.code.marks.now code start c.in-Some.inner =
     subst (λ (d : ℕ). Stands f (map op_of c.args.at.now.code.words.now) c.args.at.now.code.marks.now code start d) (before_is c.args.end one.0 c.in-Some.inner one.1.0 ends) one.1.1 in
@@ -27,9 +27,9 @@ returns-then-not-has_end c = λ code start one.
 
 pub returns : goal.returns
 returns c =
-    let f : Frame = frame_at c.args.at.now in
+    let f : LoweringFrame = frame_at c.args.at.now in
     let words : List Op = map op_of c.args.at.now.code.words.now in
-    let marks : List Mark = c.args.at.now.code.marks.now in
+    let marks : List CodeMark = c.args.at.now.code.marks.now in
     let ends : c.args.end ≡ suc c.in-Some.inner = search rules in
     on_ok_weaker c.leave.result
     (λ made code start one.

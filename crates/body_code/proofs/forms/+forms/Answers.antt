@@ -11,22 +11,22 @@ use Rattle.pattern_lower.specs.Seen.{bound_of}
 use Rattle.body_code.proofs.Nodes.{each_onto, codes_onto, so_many, so_many_fields, as_operands}
 use Rattle.scope_code.specs.Code as plain
 use Rattle.scope_code.specs.Code.{Code}
-use Rattle.scope_code.specs.Forms.{code, codes_of_fields, acting, deliver, array_around, reach_element, NodeCode, codes, matching, touched, code_if_any, tail_of, statements, declared, letting, operands}
+use Rattle.scope_code.specs.Forms.{code, codes_of_fields, acting, deliver, array_around, reach_element, NodeWords, codes, matching, touched, code_if_any, tail_of, statements, declared, letting, operands}
 use Rattle.scope_code.specs.Groups.{is_leaf, is_statement}
 use Rattle.body_code.specs.Parted.{reaches_any, is_any_operator, takes_any}
 use Rattle.scope_code.specs.Ops as ops
 use Rattle.scope_code.specs.Ops.{Op, onto, Then, Acts, Matches, InScope, thens}
 use Rattle.scope_code.specs.View.{ops_of, around_of, destination_of, keys_seen, form_code, head_of, wanted_of}
-use Rattle.scope_code.specs.Wanted.{codes_for, AsOperand, Wanted, code_for, made_into, finished_onto}
+use Rattle.scope_code.specs.Wanted.{codes_for, AsOperand, WantedCode, code_for, made_into, finished_onto}
 use Rattle.scope_code.specs.declared.code.Code as words
 use Rattle.src_meaning.specs.Evaluation.{in_number_order, to_own_key}
 use Rattle.src_meaning.specs.Forms.{site_of_key, Around, is_never}
-use Rattle.src_meaning.specs.Shape.{shape_of, shape, Bound, head}
+use Rattle.src_meaning.specs.Shape.{shape_of, shape, BoundName, head}
 use Rattle.std.proofs.Common.{rules, ◌≡◌, ◌∙◌, ◌∷◌, ℕ, List, ap, sym, map, false, length}
 use Rattle.std.proofs.Math.ListN.{drop_of_length-le}
 use Rattle.std.proofs.lemmas.Result.{on_ok_weaker}
 use Rattle.store_model.specs.Effects as effects
-use Rattle.store_model.specs.Effects.{Site, Operand, Action}
+use Rattle.store_model.specs.Effects.{EffectSite, Operand, Action}
 use Rattle.store_model.specs.Places.Place.{Place, whole_local}
 use Rattle.typed_tree.specs.Tree as tree
 use Rattle.typed_tree.specs.Tree.{Fields, Form, MaybeNode}
@@ -40,7 +40,7 @@ pub call_code-returns-in_ok-called-in-Call : goal.call_code-returns-in_ok-called
 call_code-returns-in_ok-called-in-Call t c =
     let items : ItemTable = c.args.items.now in
     let nodes : List Node = c.as_slice-args.result.now in
-    let action : Site → List Operand → Action = λ site. effects.Call site c.in-Call.body in
+    let action : EffectSite → List Operand → Action = λ site. effects.Call site c.in-Call.body in
     let before : List Op = ops_of c.args.code.now in
     let is : on_all c.args.at (each items nodes) action ≡ form_code items (form_of c.args.form.now) c.args.at =
     search (rules, the_lemmas) in
@@ -52,7 +52,7 @@ pub make_code-returns-in_ok-built_of_keys-in-Tuple : goal.make_code-returns-in_o
 make_code-returns-in_ok-built_of_keys-in-Tuple t c =
     let items : ItemTable = c.args.items.now in
     let nodes : List Node = c.as_slice-parts.result.now in
-    let action : Site → List Operand → Action = λ site. effects.Build site effects.OfTuple in
+    let action : EffectSite → List Operand → Action = λ site. effects.Build site effects.OfTuple in
     let before : List Op = ops_of c.args.code.now in
     let is : on_all c.args.at (each items nodes) action ≡ form_code items (form_of c.args.form.now) c.args.at =
     search (rules, the_lemmas) in
@@ -64,7 +64,7 @@ pub make_code-returns-in_ok-built_of_keys-in-Array : goal.make_code-returns-in_o
 make_code-returns-in_ok-built_of_keys-in-Array t c =
     let items : ItemTable = c.args.items.now in
     let nodes : List Node = c.as_slice-elements.result.now in
-    let action : Site → List Operand → Action = λ site. effects.Build site effects.OfArray in
+    let action : EffectSite → List Operand → Action = λ site. effects.Build site effects.OfArray in
     let before : List Op = ops_of c.args.code.now in
     let is : on_all c.args.at (each items nodes) action ≡ form_code items (form_of c.args.form.now) c.args.at =
     search (rules, the_lemmas) in
@@ -76,7 +76,7 @@ pub make_code-returns-in_ok-built_of_keys-in-Closure : goal.make_code-returns-in
 make_code-returns-in_ok-built_of_keys-in-Closure t c =
     let items : ItemTable = c.args.items.now in
     let nodes : List Node = c.as_slice-captures.result.now in
-    let action : Site → List Operand → Action = λ site. effects.Build site (effects.OfClosure c.in-Closure.closure) in
+    let action : EffectSite → List Operand → Action = λ site. effects.Build site (effects.OfClosure c.in-Closure.closure) in
     let before : List Op = ops_of c.args.code.now in
     let is : on_all c.args.at (each items nodes) action ≡ form_code items (form_of c.args.form.now) c.args.at =
     search (rules, the_lemmas) in
@@ -89,7 +89,7 @@ call_code-returns-in_ok-called-in-MethodCall t c =
     let items : ItemTable = c.args.items.now in
     let first : Node = c.deref-first.result.now in
     let nodes : List Node = c.as_slice-args-in-MethodCall.result.now in
-    let action : Site → List Operand → Action = λ site. effects.Call site c.in-MethodCall.body in
+    let action : EffectSite → List Operand → Action = λ site. effects.Call site c.in-MethodCall.body in
     let before : List Op = ops_of c.args.code.now in
     let is : on_all c.args.at (code items (tree_of first) ∷ each items nodes) action ≡ form_code items (form_of c.args.form.now) c.args.at =
     search (rules, the_lemmas) in
@@ -104,7 +104,7 @@ call_code-returns-in_ok-called_virtual-in-VirtualCall t c =
     let items : ItemTable = c.args.items.now in
     let first : Node = c.deref-receiver.result.now in
     let nodes : List Node = c.as_slice-args-in-VirtualCall.result.now in
-    let action : Site → List Operand → Action = λ site. effects.CallVirtual site c.in-VirtualCall.trait_no c.in-VirtualCall.method in
+    let action : EffectSite → List Operand → Action = λ site. effects.CallVirtual site c.in-VirtualCall.trait_no c.in-VirtualCall.method in
     let before : List Op = ops_of c.args.code.now in
     let is : on_all c.args.at (code items (tree_of first) ∷ each items nodes) action ≡ form_code items (form_of c.args.form.now) c.args.at =
     search (rules, the_lemmas) in
@@ -119,7 +119,7 @@ make_code-returns-in_ok-made-in-Make t c =
     let items : ItemTable = c.args.items.now in
     let fields : Fields = fields_from (map field_of c.as_slice-fields.result.now) in
     let id : ℕ = c.args.at.head.id.0 in
-    let action : Site → Action =
+    let action : EffectSite → Action =
     λ site. effects.Build site (effects.OfVariant c.in-Make.adt c.in-Make.variant) (moved_fields id (in_number_order (field_keys fields))) in
     let is : acting id (around_of c.args.at.around) c.args.at.own (codes_of_fields items fields) (deliver id action (destination_of c.args.at.to)) ≡ form_code items (form_of c.args.form.now) c.args.at =
     search (rules, the_lemmas) in
@@ -147,7 +147,7 @@ pub pattern_code-returns-in_ok-push-in-Match-3 : goal.pattern_code-returns-in_ok
 pattern_code-returns-in_ok-push-in-Match-3 t c =
     let items : ItemTable = c.args.items.now in
     let scrutinee : tree.Node = tree_of c.deref-scrutinee.result.now in
-    let ms : List NodeCode = codes items (nodes_from (map tree_of c.as_slice.result.now)) in
+    let ms : List NodeWords = codes items (nodes_from (map tree_of c.as_slice.result.now)) in
     let place : Place = named c.in_ok-place-in-Match.place in
     let number : (code items scrutinee).head.id ≡ c.deref-scrutinee.result.now.id.0 = search (rules, the_lemmas) in
     let form : form_of c.args.form.now ≡ tree.Match scrutinee (nodes_from (map tree_of c.as_slice.result.now)) =
@@ -166,7 +166,7 @@ pattern_code-returns-in_ok-push-in-Match-3 t c =
 pub statement_code-returns-in_ok-push-in-Block-2 : goal.statement_code-returns-in_ok-push-in-Block-2
 statement_code-returns-in_ok-push-in-Block-2 t c =
     let items : ItemTable = c.args.items.now in
-    let ms : List NodeCode = codes items (nodes_from (map tree_of c.as_slice.result.now)) in
+    let ms : List NodeWords = codes items (nodes_from (map tree_of c.as_slice.result.now)) in
     let tail : Code =
     tail_of items (head_of c.args.at.head) (code_if_any items (maybe_of c.in-Block.tail)) (around_of c.args.at.around)
     (destination_of c.args.at.to) in
@@ -184,7 +184,7 @@ pub let_code-returns-in_ok-names-in-None : goal.let_code-returns-in_ok-names-in-
 let_code-returns-in_ok-names-in-None t c =
     let items : ItemTable = c.args.items.now in
     let pattern : tree.Node = tree_of c.args.pattern.now in
-    let bounds : List Bound = map bound_of c.as_slice.result.now in
+    let bounds : List BoundName = map bound_of c.as_slice.result.now in
     let are : bounds ≡ (shape items pattern).bindings (whole_local 0) =
     ap (map bound_of) c.as_slice.ensures ∙ c.in_ok-names-in-None.ensures.bindings items ∙ ap (shape items pattern).bindings c.in_ok-place-in-None.ensures in
     let letting_of : MaybeNode → List Op =
@@ -200,7 +200,7 @@ let_code-returns-in_ok-names-in-Some-2 t c =
     let items : ItemTable = c.args.items.now in
     let n : Node = c.deref-value.result.now in
     let pattern : tree.Node = tree_of c.args.pattern.now in
-    let bounds : List Bound = map bound_of c.as_slice-in-Some-2.result.now in
+    let bounds : List BoundName = map bound_of c.as_slice-in-Some-2.result.now in
     let place : Place = named c.in_ok-place-in-Some-2.place in
     let around : Around = around_of c.args.at.around in
     let before : List Op = ops_of c.args.code.now in
@@ -221,10 +221,10 @@ let_code-returns-in_ok-names-in-Some-2 t c =
 
 pub nodes_code-returns : goal.nodes_code-returns
 nodes_code-returns t c =
-    let each : List Node → List NodeCode = λ nodes. codes c.args.items.now (nodes_from (map tree_of nodes)) in
-    let ms : List NodeCode = each c.args.nodes.now in
+    let each : List Node → List NodeWords = λ nodes. codes c.args.items.now (nodes_from (map tree_of nodes)) in
+    let ms : List NodeWords = each c.args.nodes.now in
     let before : List Op = ops_of c.args.code.now in
-    let so_far : List NodeCode → List Op → List Op = each_onto (wanted_of c.args.wanted) (around_of c.args.around) in
+    let so_far : List NodeWords → List Op → List Op = each_onto (wanted_of c.args.wanted) (around_of c.args.around) in
     let made : ops_of c.loop-node.code ≡ so_far ms before =
     sym (ap (λ (rest : List Node). so_far (each rest) (ops_of c.loop-node.code)) (drop_of_length-le c.args.nodes.now c.loop-node-test.false))
     ∙ c.loop-node.invariant in
@@ -237,10 +237,10 @@ nodes_code-returns t c =
 
 pub fields_code-returns : goal.fields_code-returns
 fields_code-returns t c =
-    let each : List NumberedField → List NodeCode = λ fields. codes_of_fields c.args.items.now (fields_from (map field_of fields)) in
-    let ms : List NodeCode = each c.args.fields.now in
+    let each : List NumberedField → List NodeWords = λ fields. codes_of_fields c.args.items.now (fields_from (map field_of fields)) in
+    let ms : List NodeWords = each c.args.fields.now in
     let before : List Op = ops_of c.args.code.now in
-    let so_far : List NodeCode → List Op → List Op = each_onto AsOperand (around_of c.args.around) in
+    let so_far : List NodeWords → List Op → List Op = each_onto AsOperand (around_of c.args.around) in
     let made : ops_of c.loop-field.code ≡ so_far ms before =
     sym (ap (λ (rest : List NumberedField). so_far (each rest) (ops_of c.loop-field.code)) (drop_of_length-le c.args.fields.now c.loop-field-test.false))
     ∙ c.loop-field.invariant in
@@ -256,7 +256,7 @@ pub node_code-returns : goal.node_code-returns
 node_code-returns t c =
     let items : ItemTable = c.args.items.now in
     let n : Node = c.args.node.now in
-    let w : Wanted = wanted_of c.args.wanted in
+    let w : WantedCode = wanted_of c.args.wanted in
     let around : Around = around_of c.args.around in
     let before : List Op = ops_of c.args.code.now in
     let goes : destination_of c.own_destination.result ≡ to_own_key (is_never items n.ty) n.id.0 (made_into w n.id.0) =

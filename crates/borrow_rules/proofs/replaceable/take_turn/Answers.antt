@@ -1,6 +1,6 @@
 use Rattle.std.proofs.Common.{◌≡◌, ◌<◌, ℕ, Bool, true, false, List, length, get_or, map, ap, sym, subst, ◌∙◌}
 use Rattle.std.proofs.lemmas.List.{length-map}
-use Rattle.typing_rules.specs.Replaced.{Facts, Param}
+use Rattle.typing_rules.specs.Replaced.{Facts, BodyParameter}
 use Rattle.borrow_rules.specs.Found.{Notes, index_of}
 use Rattle.borrow_rules.specs.View.{fact_in, params_in}
 use Rattle.borrow_rules.proofs.Noting.{fact_at, finds, finds_nothing, index_within}
@@ -11,8 +11,8 @@ returns-then-branch c =
     let items = c.args.items.now in
     let facts = c.args.facts.now in
     let n : ℕ = c.index_at-n.result in
-    let old : List Param = params_in c.args.found.now.keys in
-    let new : List Param = params_in c.note.new.found.keys in
+    let old : List BodyParameter = params_in c.args.found.now.keys in
+    let new : List BodyParameter = params_in c.note.new.found.keys in
     let f : Facts = fact_in c.index-facts-n.result in
     let within : n < length facts =
     subst (λ (k : ℕ). k < length facts) (sym c.index_at-n.ensures) (index_within c.args.turn (length facts) c.args.is_back c.requires) in
@@ -25,8 +25,8 @@ returns c =
     let items = c.args.items.now in
     let facts = c.args.facts.now in
     let n : ℕ = c.index_at-n.result in
-    let old : List Param = params_in c.args.found.now.keys in
-    let new : List Param = params_in c.note.new.found.keys in
+    let old : List BodyParameter = params_in c.args.found.now.keys in
+    let new : List BodyParameter = params_in c.note.new.found.keys in
     let f : Facts = fact_in c.index-facts-n.result in
     let within : n < length facts =
     subst (λ (k : ℕ). k < length facts) (sym c.index_at-n.ensures) (index_within c.args.turn (length facts) c.args.is_back c.requires) in

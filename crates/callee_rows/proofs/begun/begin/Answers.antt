@@ -1,7 +1,7 @@
 use Rattle.std.proofs.Common.{sym, subst}
 use Rattle.callee_rows.specs.Callees.{callee_seen}
 use Rattle.callee_rows.specs.Rests.{begun_rest}
-use Rattle.callee_rows.specs.declared.begun.Begun.{Begun}
+use Rattle.callee_rows.specs.declared.begun.BegunCall.{BegunCall}
 use Rattle.callee_rows.specs.declared.callees.Callee.{Callee}
 use Rattle.member_rows.specs.Calls.{GivesCall}
 use Rattle.type_rows.specs.Stand.{state}
@@ -11,17 +11,17 @@ use Rattle.callee_rows.proofs.begun.begin.Goals as goal
 pub returns-in-Function-clause-gives : goal.returns-in-Function-clause-gives
 returns-in-Function-clause-gives c value =
     let before = c.args.checker.now in
-    subst (λ (x : Callee). GivesCall (λ count args. called_by c.args.at count value args (callee_seen before.walk.items x) c.args.want) (state before) (λ (b : Begun). b.params) (begun_rest c.args.at c.args.want) c.function.result c.function.new.checker)
+    subst (λ (x : Callee). GivesCall (λ count args. called_by c.args.at count value args (callee_seen before.walk.items x) c.args.want) (state before) (λ (b : BegunCall). b.params) (begun_rest c.args.at c.args.want) c.function.result c.function.new.checker)
     (sym c.in-Function.is) (c.function.ensures.gives c.args.at c.args.want value)
 
 pub returns-in-Constructor-clause-gives : goal.returns-in-Constructor-clause-gives
 returns-in-Constructor-clause-gives c value =
     let before = c.args.checker.now in
-    subst (λ (x : Callee). GivesCall (λ count args. called_by c.args.at count value args (callee_seen before.walk.items x) c.args.want) (state before) (λ (b : Begun). b.params) (begun_rest c.args.at c.args.want) c.constructor.result c.constructor.new.checker)
+    subst (λ (x : Callee). GivesCall (λ count args. called_by c.args.at count value args (callee_seen before.walk.items x) c.args.want) (state before) (λ (b : BegunCall). b.params) (begun_rest c.args.at c.args.want) c.constructor.result c.constructor.new.checker)
     (sym c.in-Constructor.is) (c.constructor.ensures.gives c.args.at c.args.want value)
 
 pub returns-in-Boxes-clause-gives : goal.returns-in-Boxes-clause-gives
 returns-in-Boxes-clause-gives c value =
     let before = c.args.checker.now in
-    subst (λ (x : Callee). GivesCall (λ count args. called_by c.args.at count value args (callee_seen before.walk.items x) c.args.want) (state before) (λ (b : Begun). b.params) (begun_rest c.args.at c.args.want) c.new_box.result c.new_box.new.checker)
+    subst (λ (x : Callee). GivesCall (λ count args. called_by c.args.at count value args (callee_seen before.walk.items x) c.args.want) (state before) (λ (b : BegunCall). b.params) (begun_rest c.args.at c.args.want) c.new_box.result c.new_box.new.checker)
     (sym c.in-Boxes.is) (c.new_box.ensures.gives c.args.at)

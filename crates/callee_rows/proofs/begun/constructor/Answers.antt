@@ -1,7 +1,7 @@
 use Rattle.std.proofs.Common.{[], ◌∙◌}
 use Rattle.std.specs.Option.{option_map_or}
 use Rattle.callee_rows.proofs.Beginnings.{begins, fields_as, made_as}
-use Rattle.callee_rows.specs.declared.begun.Ending.{Ending}
+use Rattle.callee_rows.specs.declared.begun.CallEnding.{CallEnding}
 use Rattle.type_rows.specs.Stand.{state}
 use Rattle.typing_rules.specs.Named as named
 use Rattle.typing_rules.specs.Typed.{called_by}
@@ -14,7 +14,7 @@ returns-clause-gives c at want value =
     let there = c.interned.new.self in
     let v = variant_at before.walk.items c.args.adt c.args.variant in
     let types = option_map_or (λ v. v.fields) v [] in
-    begins at want c.in_ok-params.params (Ending.Make c.args.adt c.args.variant c.in_ok-ty.ty)
+    begins at want c.in_ok-params.params (CallEnding.Make c.args.adt c.args.variant c.in_ok-ty.ty)
     (λ count args. called_by at count value args (named.Constructor c.args.adt c.args.variant types) want)
     (state before) (state there) c.started.result c.started.new.checker
     (made_as at want c.args.adt c.args.variant c.in_ok-params.params types c.in_ok-ty.ty value (state before) (state there) c.in_ok-ty.ensures.number (c.in_ok-params.ensures.copy ∙ fields_as v))

@@ -1,6 +1,6 @@
 use Rattle.std.proofs.Common.{◌∙◌}
 use Rattle.callee_rows.proofs.Beginnings.{begins, function_as}
-use Rattle.callee_rows.specs.declared.begun.Ending.{Ending}
+use Rattle.callee_rows.specs.declared.begun.CallEnding.{CallEnding}
 use Rattle.type_rows.specs.Stand.{state}
 use Rattle.typing_rules.specs.Named.{function_by}
 use Rattle.std.specs.List.{slice_get}
@@ -13,7 +13,7 @@ returns-in_ok-params-in-Some-clause-gives c at want value =
     let s = state before in
     let head = c.in-Some.sig.now in
     let params = c.in_ok-params-in-Some.params in
-    begins at want params (Ending.Function c.args.body head.result c.is_drop-is_drop.result)
+    begins at want params (CallEnding.Function c.args.body head.result c.is_drop-is_drop.result)
     (λ count args. called_by at count value args (function_by before.walk.items c.args.body (slice_get before.walk.items.bodies c.args.body)) want)
     s s c.started.result c.started.new.checker
     (function_as at want c.args.body head params c.is_drop-is_drop.result value s c.in-Some.ensures.value (c.in_ok-params-in-Some.ensures.copy ∙ c.as_slice.ensures) c.is_drop-is_drop.ensures)

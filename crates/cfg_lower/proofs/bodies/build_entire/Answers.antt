@@ -1,6 +1,6 @@
 use Rattle.std.proofs.Common.{rules, ◌≡◌, ◌∙◌, ◌-◌, ℕ, length, map, sym, ap, subst}
 use Rattle.std.proofs.lemmas.Result.{on_ok_weaker}
-use Rattle.cfg_build.specs.Build.{Frame, Rest, Building}
+use Rattle.cfg_build.specs.Build.{LoweringFrame, BlockRest, Building}
 use Rattle.code_blocks.specs.Building.{built_of}
 use Rattle.code_passes.specs.Framed.{frame_of}
 use Rattle.code_passes.specs.Scoped.{scopes_of}
@@ -18,7 +18,7 @@ use Rattle.cfg_lower.proofs.bodies.build_entire.Goals as goal
 
 pub returns : goal.returns
 returns c =
-    let f : Frame = frame_of c.args.frame in
+    let f : LoweringFrame = frame_of c.args.frame in
     let tree : BodyTree = body_of c.args.body.now in
     let scopes : scopes_of c.in_ok-scopes.scopes.now ≡ low.answer_scope f tree = c.in_ok-scopes.ensures f in
     let key : answer_key tree ≡ c.args.body.now.block.id.0 = search (rules, the_lemmas) in
@@ -27,4 +27,4 @@ returns c =
     (λ filled whole begins. entire f tree (scopes_of c.in_ok-scopes.scopes.now) (built_of c.start.new.blocks) (built_of c.build.new.blocks) (built_of c.fill.new.self)
     scopes (c.in_ok-start.ensures begins ∙ ap begun (sym key)) (c.in_ok-build.ensures (entire_function f.items tree) 0
     (subst (λ (e : ℕ). Stands f (map op_of c.args.code.words.now) c.args.code.marks.now (entire_function f.items tree) 0 e) last whole))
-    (ap (λ (r : Rest × Building). r.1) filled)) c.fill.ensures
+    (ap (λ (r : BlockRest × Building). r.1) filled)) c.fill.ensures

@@ -1,7 +1,7 @@
 use Rattle.std.proofs.Common.{rules, ◌≡◌, ◌∙◌, ℕ, Some, sym, ap}
 use Rattle.std.proofs.lemmas.Result.{on_ok_weaker}
 use Rattle.cfg_build.specs.Build as build
-use Rattle.cfg_build.specs.Build.{Frame, Done, Building}
+use Rattle.cfg_build.specs.Build.{LoweringFrame, Done, Building}
 use Rattle.cfg_graph.specs.declared.graph.Kind.{Kind}
 use Rattle.code_passes.specs.Framed.{frame_of, term_by}
 use Rattle.code_passes.proofs.Nodeless.{stmt_same, effect_same}
@@ -14,7 +14,7 @@ use Rattle.code_blocks.proofs.acting.done.Goals as goal
 
 pub returns-in-Stmt : goal.returns-in-Stmt
 returns-in-Stmt c =
-    let f : Frame = frame_of c.args.frame in
+    let f : LoweringFrame = frame_of c.args.frame in
     let node : ℕ = c.args.node.0 in
     let is : build.ByStmt c.in_ok-line.line ≡ build.done_by f (effect_of node c.args.action.now) =
     c.in_ok-line.ensures ∙ stmt_same f node c.in-Stmt.stmt ∙ ap (λ (a : Action). build.done_by f (effect_of node a)) (sym c.in-Stmt.is) in
@@ -24,7 +24,7 @@ returns-in-Stmt c =
 
 pub returns-in-Some : goal.returns-in-Some
 returns-in-Some c =
-    let f : Frame = frame_of c.args.frame in
+    let f : LoweringFrame = frame_of c.args.frame in
     let node : ℕ = c.args.node.0 in
     let S = scopes_of c.args.scopes.now in
     let k = rest_of c.args.blocks.now.rest in

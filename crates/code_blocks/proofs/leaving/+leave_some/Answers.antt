@@ -1,7 +1,7 @@
 use Rattle.std.proofs.Common.{rules, ◌≡◌, ◌∙◌, ◌∷◌, ℕ, sym, ap}
 use Rattle.std.proofs.lemmas.Result.{on_ok_weaker}
 use Rattle.cfg_build.specs.Build as build
-use Rattle.cfg_build.specs.Build.{Frame}
+use Rattle.cfg_build.specs.Build.{LoweringFrame}
 use Rattle.cfg_graph.specs.declared.terminator.Term.{Term}
 use Rattle.code_passes.specs.Framed.{frame_of}
 use Rattle.code_passes.specs.Scoped.{scopes_of, scope_of}
@@ -21,7 +21,7 @@ returns-then-count-eq0 t c = λ plain blocked so_many.
 
 pub returns-in_ok-leave_some-in-Innermost : goal.returns-in_ok-leave_some-in-Innermost
 returns-in_ok-leave_some-in-Innermost t c =
-    let f : Frame = frame_of c.args.frame in
+    let f : LoweringFrame = frame_of c.args.frame in
     let S : Scopes = scopes_of c.in-Innermost.around.now in
     let scope = scope_of c.in-Innermost.scope in
     let was : scopes_of c.args.scopes.now ≡ scope ∷ S = ap scopes_of c.in-Innermost.is in

@@ -7,7 +7,7 @@ use Rattle.scope_code.specs.View.{op_of, change_of, condition_of}
 use Rattle.scope_code.specs.Ops.{Op}
 use Rattle.scope_code.specs.declared.code.Op as words
 use Rattle.cfg_graph.specs.Places.{named}
-use Rattle.code_passes.specs.declared.marks.Mark.{Mark}
+use Rattle.code_passes.specs.declared.marks.CodeMark.{CodeMark}
 use Rattle.code_passes.specs.Spans.{Stands}
 use Rattle.src_meaning.specs.Scopes.{Scopes}
 use Rattle.code_passes.specs.Scoped.{scopes_of}
@@ -115,7 +115,7 @@ after_either-returns-in-None t c = λ f one another start two.
 pub after_both-returns-in_ok-between-in-Some : goal.after_both-returns-in_ok-between-in-Some
 after_both-returns-in_ok-between-in-Some t c =
     let ws : List Op = map op_of c.args.code.words.now in
-    let marks : List Mark = c.args.code.marks.now in
+    let marks : List CodeMark = c.args.code.marks.now in
     IfOk-weaker c.after-in-Some.result _ _
     (λ (behind : Bor Held) made f one another start two.
     let found = c.in-Some.ensures.two f one another start two in
@@ -126,7 +126,7 @@ after_both-returns-in_ok-between-in-Some t c =
 pub after_either-returns-then-has_end : goal.after_either-returns-then-has_end
 after_either-returns-then-has_end t c =
     let ws : List Op = map op_of c.args.code.words.now in
-    let marks : List Mark = c.args.code.marks.now in
+    let marks : List CodeMark = c.args.code.marks.now in
     IfOk-weaker c.after.result _ _
     (λ (behind : Bor Held) made f one another start two.
     let found = c.in-Some.ensures.two f one another start two in
@@ -138,7 +138,7 @@ after_either-returns-then-has_end t c =
 pub after_either-returns-else-has_end : goal.after_either-returns-else-has_end
 after_either-returns-else-has_end t c =
     let ws : List Op = map op_of c.args.code.words.now in
-    let marks : List Mark = c.args.code.marks.now in
+    let marks : List CodeMark = c.args.code.marks.now in
     IfOk-weaker c.after-else-has_end.result _ _
     (λ (behind : Bor Held) made f one another start two.
     let found = c.in-Some.ensures.two f one another start two in
@@ -150,7 +150,7 @@ after_either-returns-else-has_end t c =
 pub after_one-returns-in-Some : goal.after_one-returns-in-Some
 after_one-returns-in-Some t c =
     let ws : List Op = map op_of c.args.code.words.now in
-    let marks : List Mark = c.args.code.marks.now in
+    let marks : List CodeMark = c.args.code.marks.now in
     let ends : c.args.end ≡ suc c.in-Some.inner = search rules in
     IfOk-weaker c.after.result _ _
     (λ (behind : Bor Held) made f code start one. made f code start

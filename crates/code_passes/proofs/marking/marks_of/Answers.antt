@@ -5,7 +5,7 @@ use Rattle.code_passes.specs.Framed.{frame_of}
 use Rattle.scope_code.specs.Ops.{Op, onto}
 use Rattle.scope_code.specs.View.{op_of}
 use Rattle.scope_code.specs.declared.code.Op as words
-use Rattle.cfg_build.specs.Build.{Frame}
+use Rattle.cfg_build.specs.Build.{LoweringFrame}
 use Rattle.code_passes.specs.MarkRules.{Marking, marking_of, all_marked, none_marked}
 use Rattle.code_passes.specs.Spans.{Stands}
 use Rattle.code_passes.proofs.Marked.{all_stand}
@@ -15,7 +15,7 @@ pub returns : goal.returns
 returns c = λ code are.
     let items : List words.Op = c.as_slice-word-items.result.now in
     let all : List Op = map op_of items in
-    let f : Frame = frame_of c.args.frame in
+    let f : LoweringFrame = frame_of c.args.frame in
     let items_are : items ≡ c.args.code.now.ops = search rules in
     let gone = drop_of_length-le items c.loop-word-test.false in
     let marked : marking_of c.loop-word.marks ≡ all_marked f all none_marked =

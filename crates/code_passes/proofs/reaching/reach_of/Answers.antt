@@ -1,6 +1,6 @@
 use Rattle.std.proofs.Common.{◌≡◌, List, Some, map, slice_get, refl, sym}
 use Rattle.cfg_build.specs.Codes.{lowers}
-use Rattle.code_passes.specs.declared.marks.Mark.{Mark}
+use Rattle.code_passes.specs.declared.marks.CodeMark.{CodeMark}
 use Rattle.scope_code.specs.Code.{changed_by}
 use Rattle.scope_code.specs.View.{op_of, change_of, condition_of}
 use Rattle.scope_code.specs.declared.code.Op as words
@@ -11,7 +11,7 @@ use Rattle.code_passes.proofs.reaching.reach_of.Goals as goal
 pub returns-in-From : goal.returns-in-From
 returns-in-From c = λ f code start known stands.
     let ws : List words.Op = c.args.code.words.now in
-    let marks : List Mark = c.args.code.marks.now in
+    let marks : List CodeMark = c.args.code.marks.now in
     let at : slice_get (map op_of ws) c.args.end ≡ Some (op_of (words.Op.From c.in-From.by)) =
     word_at ws c.args.end c.in-Some.word.now (words.Op.From c.in-From.by) (sym c.in-Some.ensures) c.in-From.is in
     of_from f (map op_of ws) marks code start c.args.end stands c.wider.result (change_of c.in-From.by) at
@@ -21,7 +21,7 @@ returns-in-From c = λ f code start known stands.
 pub returns-in-InScope : goal.returns-in-InScope
 returns-in-InScope c = λ f code start known stands.
     let ws : List words.Op = c.args.code.words.now in
-    let marks : List Mark = c.args.code.marks.now in
+    let marks : List CodeMark = c.args.code.marks.now in
     let at : slice_get (map op_of ws) c.args.end ≡ Some (op_of (words.Op.InScope c.in-InScope.node c.in-InScope.for_temporaries)) =
     word_at ws c.args.end c.in-Some.word.now (words.Op.InScope c.in-InScope.node c.in-InScope.for_temporaries) (sym c.in-Some.ensures) c.in-InScope.is in
     of_scope f (map op_of ws) marks code start c.args.end stands c.around_scope.result c.in-InScope.node.0 c.in-InScope.for_temporaries at
@@ -31,7 +31,7 @@ returns-in-InScope c = λ f code start known stands.
 pub returns-in-Then : goal.returns-in-Then
 returns-in-Then c = λ f code start known stands.
     let ws : List words.Op = c.args.code.words.now in
-    let marks : List Mark = c.args.code.marks.now in
+    let marks : List CodeMark = c.args.code.marks.now in
     let at : slice_get (map op_of ws) c.args.end ≡ Some (op_of words.Op.Then) =
     word_at ws c.args.end c.in-Some.word.now words.Op.Then (sym c.in-Some.ensures) c.in-Then.is in
     of_both f (map op_of ws) marks code start c.args.end stands c.reach_of_two.result at
@@ -40,7 +40,7 @@ returns-in-Then c = λ f code start known stands.
 pub returns-in-Branches : goal.returns-in-Branches
 returns-in-Branches c = λ f code start known stands.
     let ws : List words.Op = c.args.code.words.now in
-    let marks : List Mark = c.args.code.marks.now in
+    let marks : List CodeMark = c.args.code.marks.now in
     let at : slice_get (map op_of ws) c.args.end ≡ Some (op_of (words.Op.Branches c.in-Branches.node c.in-Branches.on)) =
     word_at ws c.args.end c.in-Some.word.now (words.Op.Branches c.in-Branches.node c.in-Branches.on) (sym c.in-Some.ensures) c.in-Branches.is in
     of_either f (map op_of ws) marks code start c.args.end stands c.reach_of_two-in-Branches.result c.in-Branches.node.0 (condition_of c.in-Branches.on) at

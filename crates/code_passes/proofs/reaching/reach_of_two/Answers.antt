@@ -1,6 +1,6 @@
 use Rattle.std.proofs.Common.{List, Option, ℕ, suc, map, sym, subst}
 use Rattle.cfg_build.specs.Codes.{lowers}
-use Rattle.code_passes.specs.declared.marks.Mark.{Mark}
+use Rattle.code_passes.specs.declared.marks.CodeMark.{CodeMark}
 use Rattle.scope_code.specs.Ops.{Op}
 use Rattle.scope_code.specs.View.{op_of}
 use Rattle.code_passes.specs.Reaching.{Keeps}
@@ -10,7 +10,7 @@ use Rattle.code_passes.proofs.reaching.reach_of_two.Goals as goal
 pub returns-in-Some : goal.returns-in-Some
 returns-in-Some c = λ f one another start known two.
     let ws : List Op = map op_of c.args.code.words.now in
-    let marks : List Mark = c.args.code.marks.now in
+    let marks : List CodeMark = c.args.code.marks.now in
     let found = c.in-Some.ensures.two f one another start two in (
       c.wider.ensures.one (lowers f one).after
           (subst (λ (r : Option ℕ). Keeps r (lowers f one).after) (sym c.reach_at.ensures)

@@ -1,7 +1,7 @@
 use Rattle.std.proofs.Common.{rules, ◌≡◌, ◌∙◌, ◌+◌, ◌∷◌, ◌++◌, List, [], Option, ℕ, length, length-append, map, sym, ap, subst}
-use Rattle.cfg_build.specs.Build.{Frame}
+use Rattle.cfg_build.specs.Build.{LoweringFrame}
 use Rattle.code_passes.specs.Spans.{Stands}
-use Rattle.code_passes.specs.declared.marks.Mark.{Mark}
+use Rattle.code_passes.specs.declared.marks.CodeMark.{CodeMark}
 use Rattle.scope_code.specs.Code.{Code}
 use Rattle.scope_code.specs.Ops.{Op}
 use Rattle.scope_code.specs.View.{op_of}
@@ -12,12 +12,12 @@ use Rattle.code_passes.proofs.reaching.reaches_of.Goals as goal
 pub loop-end-preserved : goal.loop-end-preserved
 loop-end-preserved c =
     let ws : List Op = map op_of c.args.code.words.now in
-    let marks : List Mark = c.args.code.marks.now in
+    let marks : List CodeMark = c.args.code.marks.now in
     let rs : List (Option ℕ) = c.loop-end.reaches in
     let r : Option ℕ = c.reach_of-reach.result in
     let pushed : c.push.new.self ≡ rs ++ r ∷ [] = c.in_ok-push.ensures.pushed in
     let slice : rs ≡ c.as_slice.result.now = search rules in
-    let known : (f : Frame) → AreReaches f ws marks c.as_slice.result.now =
+    let known : (f : LoweringFrame) → AreReaches f ws marks c.as_slice.result.now =
     λ f. subst (λ (all : List (Option ℕ)). AreReaches f ws marks all) slice (c.loop-end.invariant.1 f) in (
       ap length pushed ∙ length-append rs (r ∷ []) ∙ ap (λ (n : ℕ). n + 1) c.loop-end.invariant.0,
       λ f. subst (λ (all : List (Option ℕ)). AreReaches f ws marks all) (sym pushed)

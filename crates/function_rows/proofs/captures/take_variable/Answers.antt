@@ -1,7 +1,7 @@
 use Rattle.std.proofs.Common.{None, Result, ap, sym, subst, ◌∙◌}
 use Rattle.type_rows.specs.Stand.{Gives, env, stack, state, top}
 use Rattle.typed_tree.specs.Tree.{Node}
-use Rattle.typing_rules.specs.Check.{Broken, State, and_then}
+use Rattle.typing_rules.specs.Check.{Broken, TypingState, and_then}
 use Rattle.typing_rules.specs.Rows.{taken}
 use Rattle.typing_rules.specs.Scope.{Env}
 use Rattle.function_rows.proofs.captures.take_variable.Goals as goal
@@ -11,7 +11,7 @@ returns-clause-gives c =
     let before = c.args.checker.now in
     let there = c.put_variable.new.checker in
     let put = c.in_ok-put_variable.ensures in
-    subst (λ (o : Result (Node × State) Broken). Gives o c.taken.result c.taken.new.self)
+    subst (λ (o : Result (Node × TypingState) Broken). Gives o c.taken.result c.taken.new.self)
     (ap (λ (e : Env). taken e None (top (stack there)) (state there)) put.kept.1.0
     ∙ sym (ap (λ o. and_then o (taken (env before) None)) put.gives))
     c.taken.ensures.gives

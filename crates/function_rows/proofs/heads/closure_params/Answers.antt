@@ -7,7 +7,7 @@ use Rattle.typed_tree.specs.Tree.{BodyTree, ParamTree}
 use Rattle.typing_rules.specs.Bodies.{params_of}
 use Rattle.typing_rules.specs.Check.{Check}
 use Rattle.typing_rules.specs.Rows.{Typer}
-use Rattle.typing_rules.specs.Scope.{Entry, Env}
+use Rattle.typing_rules.specs.Scope.{NamedEntry, Env}
 use Rattle.function_rows.specs.ParamAnswers.{last_param, last_params}
 use Rattle.function_rows.specs.ParamRests.{type_by}
 use Rattle.function_rows.specs.Heads.{GivesBlock, answered, closure_inside}
@@ -30,7 +30,7 @@ returns-clause-gives c =
     let entries = reverse c.params_of.new.bound in
     let self = last_param c.args.ty (stack first) in
     let here : params_of (env first) (type_by (env first) false) ps [] (state first) ≡ Ok ((last_params later (stack second), entries), state second) =
-    ap (λ (xs : List Entry). params_of (env first) (type_by (env first) false) ps (reverse xs) (state first)) (sym c.new-bound.ensures) ∙ c.in_ok-later.ensures.gives in
+    ap (λ (xs : List NamedEntry). params_of (env first) (type_by (env first) false) ps (reverse xs) (state first)) (sym c.new-bound.ensures) ∙ c.in_ok-later.ensures.gives in
     through (closure_inside c.args.at n c.args.ty e ps a) (answered c.args.at n (last_params tys (stack second)) (env second) a entries) (state before) (state second) c.block_scope.result c.block_scope.new.checker
     (λ block.
     self_given c.args.at n c.args.ty e (env first) (env second) ps a block self _ (last_params later (stack second)) entries (state before) (state first) (state second)
@@ -69,7 +69,7 @@ returns-in_err-later-clause-gives c =
     let check : (Env → Typer) → Check BodyTree = closure_inside c.args.at c.args.number c.args.ty (env before) ps a in
     let is : ◌≡◌ {A = Result BodyHead RuleError} c.from_residual-in_err-later.result (Err err) = search rules in
     let here : Refuses (params_of (env first) (type_by (env first) false) ps [] (state first)) err =
-    subst (λ (xs : List Entry). Refuses (params_of (env first) (type_by (env first) false) ps (reverse xs) (state first)) err) c.new-bound.ensures c.in_err-later.ensures.gives in
+    subst (λ (xs : List NamedEntry). Refuses (params_of (env first) (type_by (env first) false) ps (reverse xs) (state first)) err) c.new-bound.ensures c.in_err-later.ensures.gives in
     subst (λ (r : Result BodyHead RuleError). GivesBlock check (state before) r c.params_of.new.checker) (sym is)
     (λ block. self_params_refused c.args.at c.args.number c.args.ty (env before) (env first) ps a block (last_param c.args.ty (stack first)) _ (state before) (state first) err
     c.in_ok-name_param.ensures.gives c.in_ok-name_param.ensures.kept.1.0 here)

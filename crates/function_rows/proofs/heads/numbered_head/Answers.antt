@@ -6,8 +6,8 @@ use Rattle.typing_rules.specs.Rows.{Typer}
 use Rattle.item_heads.specs.Answers.{Refuses}
 use Rattle.src_ast.specs.Seen.{maybe_of, nodes_of}
 use Rattle.type_rows.specs.Stand.{env, stack, state}
-use Rattle.typing_rules.specs.Check.{Broken, Check, State}
-use Rattle.typing_rules.specs.Scope.{Entry, Env}
+use Rattle.typing_rules.specs.Check.{Broken, Check, TypingState}
+use Rattle.typing_rules.specs.Scope.{NamedEntry, Env}
 use Rattle.function_rows.specs.ParamRests.{type_by}
 use Rattle.function_rows.specs.ParamAnswers.{last_params}
 use Rattle.function_rows.specs.Aside.{alone}
@@ -25,7 +25,7 @@ returns-clause-gives c =
     let ps = nodes_of c.args.params in
     let a = maybe_of c.args.answer in
     let here : params_of (env first) (type_by (env first) true) ps [] (state first) ≡ Ok ((last_params c.in_ok-tys.tys (stack second), reverse c.params_of.new.bound), state second) =
-    ap (λ (xs : List Entry). params_of (env first) (type_by (env first) true) ps (reverse xs) (state first)) (sym c.new-bound.ensures) ∙ c.in_ok-tys.ensures.gives in
+    ap (λ (xs : List NamedEntry). params_of (env first) (type_by (env first) true) ps (reverse xs) (state first)) (sym c.new-bound.ensures) ∙ c.in_ok-tys.ensures.gives in
     whole (numbered_fn c.args.at c.args.number (alone (env before)) ps a)
     (answered c.args.at c.args.number (last_params c.in_ok-tys.tys (stack second)) (env second) a (reverse c.params_of.new.bound))
     c.begin-begun.result.outer (state before) (state second) c.block_scope.result c.block_scope.new.checker
@@ -55,10 +55,10 @@ returns-in_err-tys-clause-gives c =
     let check : (Env → Typer) → Check BodyTree = numbered_fn c.args.at c.args.number (alone (env before)) ps a in
     let is : ◌≡◌ {A = Result BodyHead RuleError} c.from_residual.result (Err err) = search rules in
     let here : Refuses (params_of (env first) (type_by (env first) true) ps [] (state first)) err =
-    subst (λ (xs : List Entry). Refuses (params_of (env first) (type_by (env first) true) ps (reverse xs) (state first)) err) c.new-bound.ensures c.in_err-tys.ensures.gives in
+    subst (λ (xs : List NamedEntry). Refuses (params_of (env first) (type_by (env first) true) ps (reverse xs) (state first)) err) c.new-bound.ensures c.in_err-tys.ensures.gives in
     subst (λ (r : Result BodyHead RuleError). GivesHead check (state before) r c.params_of.new.checker) (sym is)
     (λ block.
-    subst (λ (o : Result (Unit {0} × State) Broken). Refuses o err)
+    subst (λ (o : Result (Unit {0} × TypingState) Broken). Refuses o err)
     (sym (closed_by outer (state before) (state first) (fn_inside c.args.at c.args.number (alone (env before)) ps a block) c.begin-begun.ensures.outer c.begin-begun.ensures.state
     ∙ ap (λ (e : Env). closed outer (fn_inside c.args.at c.args.number e ps a block (state first))) (sym c.begin-begun.ensures.alone)))
     (refused_closed outer _ err (params_refused c.args.at c.args.number (env first) ps a block (state first) err here)))

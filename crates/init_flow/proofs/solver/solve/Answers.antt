@@ -1,5 +1,5 @@
 use Rattle.std.proofs.Common.{◌*◌, ℕ, List, [], sym, subst, length, arith}
-use Rattle.init_flow.specs.WorkList.{Problem, State, Law, Good, problem, state_of}
+use Rattle.init_flow.specs.WorkList.{Problem, SolverState, Law, Good, problem, state_of}
 use Rattle.init_flow.proofs.Turn.{took}
 use Rattle.init_flow.specs.Carried.{AreCarried}
 use Rattle.init_flow.specs.Ways.{target}
@@ -58,5 +58,5 @@ returns-clause-carried g c =
     let state = c.in_default.ensures.same in
     let done : Good f (state_of c.loop-block.flow) [] (length c.args.body.now.blocks * 2) =
     subst (λ (h : List ℕ). Good f (state_of c.loop-block.flow) h (length c.args.body.now.blocks * 2)) c.in_default.ensures.none c.loop-block.invariant.0 in
-    subst (λ (s : State). AreCarried (length c.args.body.now.blocks) (target c.args.items.now c.args.body.now) (g.A.Analysis.passed c.args.analysis.now c.args.body.now) (g.A.Analysis.first c.args.analysis.now) s.rows) (sym state)
+    subst (λ (s : SolverState). AreCarried (length c.args.body.now.blocks) (target c.args.items.now c.args.body.now) (g.A.Analysis.passed c.args.analysis.now c.args.body.now) (g.A.Analysis.first c.args.analysis.now) s.rows) (sym state)
     (are_carried f law (state_of c.loop-block.flow) done c.loop-block.invariant.1 (has_block c.args.items.now c.args.body.now))

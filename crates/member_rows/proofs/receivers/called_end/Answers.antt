@@ -4,7 +4,7 @@ use Rattle.member_rows.proofs.CalledMethods.{refused_as}
 use Rattle.member_rows.specs.Rests.{refused_rest}
 use Rattle.type_rows.specs.Stand.{Gives, stack, state, top}
 use Rattle.typed_tree.specs.Tree.{Node}
-use Rattle.typing_rules.specs.Check.{Broken, State}
+use Rattle.typing_rules.specs.Check.{Broken, TypingState}
 use Rattle.member_rows.proofs.receivers.called_end.Goals as goal
 
 pub returns-clause-gives : goal.returns-clause-gives
@@ -13,7 +13,7 @@ returns-clause-gives c =
     let t = state c.args.checker.now in
     let receiver = top (below_all c.args.count s) in
     let given = last_nodes c.args.count s in
-    subst (λ (o : Result (Node × State) Broken). Gives o c.refused_end.result c.refused_end.new.checker)
+    subst (λ (o : Result (Node × TypingState) Broken). Gives o c.refused_end.result c.refused_end.new.checker)
     (ap (λ (b : Bool). refused_rest c.args.id.0 c.args.at c.args.called c.args.is_count b c.args.want receiver given t) c.is_refused-is_refused.ensures
     ∙ refused_as c.args.id.0 c.args.at c.args.called c.args.want receiver given t c.args.is_count)
     c.refused_end.ensures.gives

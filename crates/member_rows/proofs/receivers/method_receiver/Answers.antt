@@ -3,7 +3,7 @@ use Rattle.member_rows.proofs.CalledMethods.{gives_same, receiver_as, some_of}
 use Rattle.member_rows.specs.Methods.{IsMethod}
 use Rattle.member_rows.specs.Rests.{method_rest, receiver_rest}
 use Rattle.member_rows.specs.declared.methods.Method.{Method}
-use Rattle.member_rows.specs.declared.receivers.Receiver.{Receiver}
+use Rattle.member_rows.specs.declared.receivers.MethodReceiver.{MethodReceiver}
 use Rattle.type_rows.specs.Stand.{env, stack, state, top}
 use Rattle.typing_rules.specs.Named.{method_named}
 use Rattle.typing_rules.specs.Rows.{with_method}
@@ -16,7 +16,7 @@ returns-in-Some-clause-gives c id want =
     let gone = c.in_ok-method.ensures.gives in
     let found = subst (λ (m : Option Method). IsMethod there.walk.items m gone.0) c.in-Some.is gone.1 in
     let f = some_of gone.0 found.0 in
-    gives_same (method_rest (env before) id c.args.at (method_named c.args.name.now) want (top (stack before))) (λ count args. with_method (env there) c.args.at id (top (stack there)) (Some f.0) count args want) (state before) (state there) (λ (r : Receiver). r.params) (receiver_rest id c.args.at want)
+    gives_same (method_rest (env before) id c.args.at (method_named c.args.name.now) want (top (stack before))) (λ count args. with_method (env there) c.args.at id (top (stack there)) (Some f.0) count args want) (state before) (state there) (λ (r : MethodReceiver). r.params) (receiver_rest id c.args.at want)
     c.with_method.result c.with_method.new.checker
     (λ count args. receiver_as (env before) (env there) id c.args.at (method_named c.args.name.now) want (top (stack before)) (top (stack there)) gone.0 f.0 (state before) (state there) gone.2 f.1 c.in_ok-method.ensures.kept.1.0 count args)
     (c.with_method.ensures.gives id f.0 (sym found.1 ∙ f.1) want)

@@ -1,7 +1,7 @@
 use Rattle.std.proofs.Common.{◌≡◌, List, [], ◌∷◌, ◌++◌, drop, length, Option, length-drop, refl, sym, ap, subst, ◌∙◌, arith}
 use Rattle.std.proofs.Common.{Bool}
 use Rattle.std.specs.Option.{option_to_list}
-use Rattle.init_flow.specs.Carried.{Row}
+use Rattle.init_flow.specs.Carried.{Bits}
 use Rattle.move_errors.specs.declared.search.Visit.{Visit}
 use Rattle.move_errors.specs.Runs.{Problem, problem}
 use Rattle.move_errors.specs.Stands.{Stands, Logged, Seen}
@@ -18,7 +18,7 @@ popped f old new items seen reached visits stands same =
       done = s.done;
       logged = subst (λ (z : List Visit). Logged f z s.done) (sym visits) s.logged;
       from_done = s.from_done;
-      seen = subst (λ (z : List Row). Seen f z new.reached s.done) (sym seen) (subst (λ (z : List Bool). Seen f old.seen z s.done) (sym reached) s.seen);
+      seen = subst (λ (z : List Bits). Seen f z new.reached s.done) (sym seen) (subst (λ (z : List Bool). Seen f old.seen z s.done) (sym reached) s.seen);
       visited = s.visited;
       widths = s.widths;
       within = s.within;

@@ -3,8 +3,8 @@ use Rattle.std.specs.Option.{option_map, is_some}
 use Rattle.std.specs.Prelude.{sum_by}
 use Rattle.mir_ty.proofs.ListLemmas.{slice_get-last}
 use Rattle.bit_rows.specs.Words.{union}
-use Rattle.cfg_graph.specs.Moves.Gone.{Action}
-use Rattle.init_flow.specs.Carried.{Row}
+use Rattle.cfg_graph.specs.Moves.Gone.{PathAction}
+use Rattle.init_flow.specs.Carried.{Bits}
 use Rattle.init_flow.specs.WorkList.{off, is_off}
 use Rattle.move_flow.specs.Concerns.{AreOfBody}
 use Rattle.move_errors.specs.Rows.{after, first_by}
@@ -23,13 +23,13 @@ use Rattle.move_errors.proofs.Using.{acts-used, used-anywhere}
 use Rattle.move_errors.proofs.Visiting.{first-least}
 use Rattle.move_errors.proofs.search.turn.Goals as goal
 
-set-at : (old new : List Row) (row : Row) (i n : ℕ) → i ≡ n → new ≡ slice_set old i (union row (slice_index_or old i [])) → new ≡ slice_set old n (union row (slice_index_or old n []))
+set-at : (old new : List Bits) (row : Bits) (i n : ℕ) → i ≡ n → new ≡ slice_set old i (union row (slice_index_or old i [])) → new ≡ slice_set old n (union row (slice_index_or old n []))
 set-at old new row i n same is = is ∙ ap (λ (z : ℕ). slice_set old z (union row (slice_index_or old z []))) same
 
 flag-at : (old new : List Bool) (i n : ℕ) → i ≡ n → new ≡ slice_set old i true → new ≡ slice_set old n true
 flag-at old new i n same is = is ∙ ap (λ (z : ℕ). slice_set old z true) same
 
-none-first : (o : Option Action) (p : Option Act) (g : Act → Action) → option_map g p ≡ o → p ≡ None → is_some o ≡ false
+none-first : (o : Option PathAction) (p : Option Act) (g : Act → PathAction) → option_map g p ≡ o → p ≡ None → is_some o ≡ false
 none-first o p g is none = ap is_some (sym is) ∙ ap (λ (z : Option Act). is_some (option_map g z)) none
 
 less-one : (old new : Search) (u v q : ℕ) → u < v → u ≡ sum_by off new.seen + sum_by is_off new.reached → v ≡ sum_by off old.seen + sum_by is_off old.reached
@@ -86,7 +86,7 @@ returns-in-Some-clause-found c =
       trip = t;
       at = ap (slice_get (s.done ++ t ∷ [])) (c.in_ok-number.ensures.number ∙ ap length c.bring.ensures.visits ∙ s.logged.long) ∙ slice_get-last s.done t;
       run = s.visited.waiting_runs t (here t (waiting_of f s.done old.queue.items));
-      first = ap (λ (z : List Action). first_by w.items.now w.body.now w.forest.paths z item.row) (sym acts)
+      first = ap (λ (z : List PathAction). first_by w.items.now w.body.now w.forest.paths z item.row) (sym acts)
           ∙ sym (c.first_bad.ensures.first at.block) ∙ ap (option_map (action_of at.block)) c.in-Some.is;
       least = first-least f law s.done t (waiting_of f s.done old.queue.items) s.visited;
     }
@@ -125,9 +125,9 @@ returns-clause-stands c = λ none.
     (c.go_on.ensures.reached ∙ c.visit.ensures.reached ∙ flag-at old.reached c.bring.new.self.reached c.index.result n c.index.ensures e.reached)
     (c.go_on.ensures.visits ∙ c.in_ok-number.ensures.visits ∙ ap (λ (z : List Visit). z ++ item.visit ∷ []) e.visits)
     (c.in_ok-number.ensures.number ∙ ap length e.visits)
-    (c.first_bad.ensures.after at.block c.in_default.is ∙ ap (λ (z : List Action). after w.items.now w.body.now w.forest.paths z item.row) acts)
+    (c.first_bad.ensures.after at.block c.in_default.is ∙ ap (λ (z : List PathAction). after w.items.now w.body.now w.forest.paths z item.row) acts)
     (none-first (first_by w.items.now w.body.now w.forest.paths (acts_at w.items.now w.body.now at.block at.stage) item.row) c.first_bad.result (action_of at.block)
-    (c.first_bad.ensures.first at.block ∙ ap (λ (z : List Action). first_by w.items.now w.body.now w.forest.paths z item.row) acts) c.in_default.is)
+    (c.first_bad.ensures.first at.block ∙ ap (λ (z : List PathAction). first_by w.items.now w.body.now w.forest.paths z item.row) acts) c.in_default.is)
     (c.in_ok-go_on.ensures.queue ∙ (λ i. pushed_items (c.goes_on-onward.ensures i) c.in_ok-number.number c.first_bad.new.row (ap (λ q. q.items) (c.visit.ensures.queue ∙ e.queue) i)))
 
 pub returns-clause-less : goal.returns-clause-less

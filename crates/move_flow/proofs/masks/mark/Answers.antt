@@ -1,5 +1,5 @@
 use Rattle.std.proofs.Common.{◌≡◌, ◌<◌, length, List, Some, sym, subst, ◌∙◌, refl, arith}
-use Rattle.init_flow.specs.Carried.{Row}
+use Rattle.init_flow.specs.Carried.{Bits}
 use Rattle.move_flow.specs.Marks.{masks_from}
 use Rattle.move_flow.proofs.Marking.{Marking, begins, ends, goes-on}
 use Rattle.move_flow.proofs.Masking.{length-masks}
@@ -15,11 +15,11 @@ loop-at-init c = (
 pub loop-at-preserved : goal.loop-at-preserved
 loop-at-preserved c =
     let paths = c.args.forest.now.paths in
-    let old : List Row = masks_from c.args.bits 0 c.args.rows.now in
+    let old : List Bits = masks_from c.args.bits 0 c.args.rows.now in
     let size : length old ≡ length paths = length-masks c.args.bits 0 c.args.rows.now ∙ c.requires.long ∙ c.requires.bits in
     let inside : c.args.path < length paths = (let within = c.requires.path in let count = c.requires.bits in omega (within, count, arith)) in (
       c.in_ok-set_mark.ensures.long,
-      subst (λ (z : List Row). Marking paths old z c.args.path c.parent-at.result) (sym c.in_ok-set_mark.ensures.marked)
+      subst (λ (z : List Bits). Marking paths old z c.args.path c.parent-at.result) (sym c.in_ok-set_mark.ensures.marked)
           (goes-on paths c.requires.once old (masks_from c.args.bits 0 c.loop-at.rows) c.args.path c.in-Some.of c.parent-at.result size inside
           (subst (Marking paths old (masks_from c.args.bits 0 c.loop-at.rows) c.args.path) c.in-Some.is c.loop-at.invariant.1) c.parent-at.ensures),
     )

@@ -1,6 +1,6 @@
 use Rattle.std.proofs.Common.{◌≡◌, ℕ, length, replicate, List, Option, None, sym, ap, ◌∙◌, subst, arith}
 use Rattle.std.proofs.lemmas.List.{length-replicate}
-use Rattle.init_flow.specs.Carried.{Row}
+use Rattle.init_flow.specs.Carried.{Bits}
 use Rattle.move_flow.specs.Marks.{masks_from}
 use Rattle.move_flow.proofs.Marking.{Marked, marked-none, marked-more, marked-all}
 use Rattle.move_flow.proofs.masks.masks_of_paths.Goals as goal
@@ -8,7 +8,7 @@ use Rattle.move_flow.proofs.masks.masks_of_paths.Goals as goal
 pub loop-path-init : goal.loop-path-init
 loop-path-init c = (
   ap length c.in_ok-rows.ensures ∙ length-replicate c.len-bits.result None,
-  subst (λ (z : List (Option Row)). Marked c.args.forest.now.paths (masks_from c.len-bits.result 0 z) 0) (sym c.in_ok-rows.ensures)
+  subst (λ (z : List (Option Bits)). Marked c.args.forest.now.paths (masks_from c.len-bits.result 0 z) 0) (sym c.in_ok-rows.ensures)
       (marked-none c.args.forest.now.paths c.len-bits.ensures.once c.len-bits.result c.len-bits.ensures.len),
 )
 

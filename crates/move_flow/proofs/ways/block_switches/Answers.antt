@@ -2,7 +2,7 @@ use Rattle.std.proofs.Common.{ℕ, zero, suc, ◌≡◌, ◌<◌, ◌++◌, Bool
 use Rattle.std.proofs.lemmas.List.{append_assoc}
 use Rattle.cfg_graph.specs.declared.place.Place.{Place}
 use Rattle.cfg_graph.specs.declared.graph.Block.{Block}
-use Rattle.cfg_graph.specs.Uses.{Use, Stores, stmt_uses, term_uses}
+use Rattle.cfg_graph.specs.Uses.{PlaceUse, Stores, stmt_uses, term_uses}
 use Rattle.store_model.specs.Places.Place.{Place as Named}
 use Rattle.move_paths.specs.Uses.{inner_uses}
 use Rattle.move_flow.specs.declared.switches.BlockSwitches.{BlockSwitches}
@@ -11,18 +11,18 @@ use Rattle.move_flow.specs.Switches.{at_most_one, result_switch}
 use Rattle.move_flow.proofs.Fitting.{fits-append}
 use Rattle.move_flow.proofs.ways.block_switches.Goals as goal
 
-abbrev stores : Block → ℕ → List (Use × Place)
+abbrev stores : Block → ℕ → List (PlaceUse × Place)
 stores block way = map (λ (place : Place). (Stores, place)) (way_result block.term way)
 
-on-way : (paths : List Named) (gone : Bool) (block : Block) (made : BlockSwitches) (uses : List (Use × Place)) (way : ℕ) → uses ≡ inner_uses block → Fits paths gone made.uses uses
+on-way : (paths : List Named) (gone : Bool) (block : Block) (made : BlockSwitches) (uses : List (PlaceUse × Place)) (way : ℕ) → uses ≡ inner_uses block → Fits paths gone made.uses uses
     → Fits paths gone (at_most_one (result_switch made way)) (stores block way)
     → Fits paths gone (made.uses ++ at_most_one (result_switch made way)) (way_uses block way)
 on-way paths gone block made uses way is inner last =
     subst (Fits paths gone (made.uses ++ at_most_one (result_switch made way)))
-    (ap (λ (z : List (Use × Place)). z ++ stores block way) is ∙ append_assoc (flat_map stmt_uses block.stmts) (term_uses block.term) (stores block way))
+    (ap (λ (z : List (PlaceUse × Place)). z ++ stores block way) is ∙ append_assoc (flat_map stmt_uses block.stmts) (term_uses block.term) (stores block way))
     (fits-append paths gone made.uses (at_most_one (result_switch made way)) uses (stores block way) inner last)
 
-both : (paths : List Named) (gone : Bool) (block : Block) (made : BlockSwitches) (uses : List (Use × Place)) → uses ≡ inner_uses block → Fits paths gone made.uses uses
+both : (paths : List Named) (gone : Bool) (block : Block) (made : BlockSwitches) (uses : List (PlaceUse × Place)) → uses ≡ inner_uses block → Fits paths gone made.uses uses
     → Fits paths gone (at_most_one made.first) (stores block 0) → Fits paths gone (at_most_one made.second) (stores block 1)
     → FitsBlock paths gone (Some made) block
 both paths gone block made uses is inner one other zero small = on-way paths gone block made uses 0 is inner one

@@ -2,7 +2,7 @@ use Rattle.std.proofs.Common.{◌≡◌, ◌+◌, ◌++◌, ◌<◌, List, lengt
 use Rattle.std.proofs.lemmas.List.{append_assoc}
 use Rattle.cfg_graph.specs.declared.place.Place.{Place}
 use Rattle.cfg_graph.specs.declared.graph.Block.{Block}
-use Rattle.cfg_graph.specs.Uses.{Use, Stores, stmt_uses, term_uses, stored_by_term}
+use Rattle.cfg_graph.specs.Uses.{PlaceUse, Stores, stmt_uses, term_uses, stored_by_term}
 use Rattle.move_paths.specs.declared.uses.Used.{Used}
 use Rattle.move_paths.specs.Forest.{Names}
 use Rattle.move_paths.specs.Uses.{block_uses, inner_uses, listed}
@@ -24,8 +24,8 @@ loop-block-preserved c =
     let body = c.args.body.now in
     let item : Block = c.block-item.result in
     let i = c.loop-block.block-index in
-    let before : List (Use × Place) = flat_map block_uses (take i body.blocks) in
-    let last : List (Use × Place) = map (λ (place : Place). (Stores, place)) (stored_by_term item.term) in
+    let before : List (PlaceUse × Place) = flat_map block_uses (take i body.blocks) in
+    let last : List (PlaceUse × Place) = map (λ (place : Place). (Stores, place)) (stored_by_term item.term) in
     let blocks = c.as_slice-block-items.ensures in
     let within : i < length body.blocks = (let k = ap length blocks in let t = c.loop-block-test.true in omega (k, t, arith)) in
     let is : get_or body.blocks i item ≡ item = ap (λ (z : List Block). get_or z i item) (sym blocks) ∙ sym c.block-item.is in

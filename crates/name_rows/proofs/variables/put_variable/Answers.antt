@@ -1,13 +1,13 @@
 use Rattle.std.proofs.Common.{inl, inr, sym, subst}
 use Rattle.type_env.specs.Scope.{meaning_of}
-use Rattle.type_env.specs.declared.variables.Meaning.{Meaning}
+use Rattle.type_env.specs.declared.variables.VariableMeaning.{VariableMeaning}
 use Rattle.typing_rules.specs.Places.{variable_place}
 use Rattle.type_rows.specs.Stand.{Gives, state}
 use Rattle.name_rows.proofs.variables.put_variable.Goals as goal
 
 pub returns-in-Local-clause-gives : goal.returns-in-Local-clause-gives
 returns-in-Local-clause-gives c =
-    let given : Meaning → Type 0 = λ m. Gives (variable_place c.args.at (record { name = c.args.name.now; ty = c.args.found.ty; meaning = meaning_of m }) (state c.args.checker.now)) c.put_local.result c.put_local.new.checker in
+    let given : VariableMeaning → Type 0 = λ m. Gives (variable_place c.args.at (record { name = c.args.name.now; ty = c.args.found.ty; meaning = meaning_of m }) (state c.args.checker.now)) c.put_local.result c.put_local.new.checker in
     elim c.in-Local.is [
       | inl is ↦ subst given (sym is) (c.put_local.ensures.gives c.args.name.now)
       | inr is ↦ subst given (sym is) (c.put_local.ensures.gives c.args.name.now)

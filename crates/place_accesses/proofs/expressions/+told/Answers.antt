@@ -5,7 +5,7 @@ use Rattle.typed_tree.specs.Tree.{node}
 use Rattle.typed_tree.specs.View.{tree_of, form_of, maybe_of, nodes_from}
 use Rattle.typed_tree.specs.declared.node.Form.{the_lemmas}
 use Rattle.typed_tree.specs.declared.node.Node.{Node}
-use Rattle.typing_rules.specs.Accesses.{◌⊕◌, Argument, Place, accesses_of, arguments, bound, of_scrutinee, of_let, passed_together, place_of, told, told_arm, told_arms, told_guard, told_maybe}
+use Rattle.typing_rules.specs.Accesses.{◌⊕◌, Argument, AccessPlace, accesses_of, arguments, bound, of_scrutinee, of_let, passed_together, place_of, told, told_arm, told_arms, told_guard, told_maybe}
 use Rattle.place_accesses.specs.Forms.{argument_told, arm_told, branch_told, call_told, parts_told}
 use Rattle.place_accesses.specs.View.{aliases_in, argument_in, bound_in, place_if_any, told_in}
 use Rattle.place_accesses.proofs.Arms.{by_form}
@@ -59,7 +59,7 @@ tell_branches-returns-in_ok-place-in-Match t c =
     let place : place_if_any c.in_ok-place-in-Match.place ≡ place_of A scrutinee = c.in_ok-place-in-Match.ensures in
     let parts : branch_told A (form_of c.args.form.now) ≡ (told A scrutinee ⊕ told_arms A (place_of A scrutinee) arms) = search (rules, the_lemmas) in
     let is : branch_told A (form_of c.args.form.now) ≡ (told A scrutinee ⊕ told_arms A (place_if_any c.in_ok-place-in-Match.place) arms) =
-    parts ∙ ap (λ (p : Option Place). told A scrutinee ⊕ told_arms A p arms) (sym place) in
+    parts ∙ ap (λ (p : Option AccessPlace). told A scrutinee ⊕ told_arms A p arms) (sym place) in
     on_ok_weaker c.tell_arms.result
     (two (told_in c.args.out.now) (told_in c.tell-in-Match.new.out) (told A scrutinee) (told_arms A (place_if_any c.in_ok-place-in-Match.place) arms) _
     c.in_ok-tell-in-Match.ensures is (told_in c.tell_arms.new.out))

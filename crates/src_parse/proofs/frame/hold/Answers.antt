@@ -1,6 +1,6 @@
 use Rattle.std.proofs.Common.{rules, ◌≡◌, max, ◌∷◌, ◌++◌, [], ap, ◌∙◌}
-use Rattle.src_tree.specs.declared.node.Node.{Node}
-use Rattle.src_tree.specs.declared.node.Piece
+use Rattle.src_tree.specs.declared.node.SyntaxNode.{SyntaxNode}
+use Rattle.src_tree.specs.declared.node.NodePiece
 use Rattle.src_tree.specs.Grammar.{behind, counts}
 use Rattle.src_tree.specs.Layout.{node}
 use Rattle.src_tree.specs.Reading.{with_sub}
@@ -15,8 +15,8 @@ returns c =
     let f = c.args.frame.now in
     let g = c.args.part in
     let r = c.args.row in
-    let made : Node = record { row = r; at = g.at; parts = g.parts } in
-    let p : c.push.new.self ≡ f.parts ++ Piece.Node made ∷ [] = search rules in
+    let made : SyntaxNode = record { row = r; at = g.at; parts = g.parts } in
+    let p : c.push.new.self ≡ f.parts ++ NodePiece.Node made ∷ [] = search rules in
     let b : rest_of c.behind-frame.result ≡ behind (rest_of f.point) r = search rules in
     let d : c.max-frame.result ≡ max f.deepest (sat g.deepest (counts r)) = search rules in
     let ps : parts_in c.push.new.self ≡ with_sub (parts_in f.parts) (node g.at r (parts_in g.parts)) = ap parts_in p ∙ one_node f.parts made ∙ ap (with_sub (parts_in f.parts)) (node_in made) in

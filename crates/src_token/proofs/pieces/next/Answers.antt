@@ -3,11 +3,11 @@ use Rattle.std.proofs.Common.{◌≡◌, ◌<◌, List, ℕ, length, sym, subst,
 use Rattle.std.specs.Prelude.{IfOk}
 use Rattle.mir_base.specs.declared.memory.NoMemory.{NoMemory}
 use Rattle.src_token.specs.Scanning.{Stands, next_piece}
-use Rattle.src_token.specs.declared.piece.Piece.{Piece}
+use Rattle.src_token.specs.declared.piece.TokenPiece.{TokenPiece}
 use Rattle.src_token.proofs.Longest.{stands}
 use Rattle.src_token.proofs.pieces.next.Goals as goal
 
-fits : (rest : List ℕ) → 0 < length rest → (r : Result Piece NoMemory) → IfOk r (λ p. p ≡ next_piece rest) → IfOk r (λ p. Stands rest p)
+fits : (rest : List ℕ) → 0 < length rest → (r : Result TokenPiece NoMemory) → IfOk r (λ p. p ≡ next_piece rest) → IfOk r (λ p. Stands rest p)
 fits rest h (Ok p) is = subst (Stands rest) (sym is) (stands rest h)
 fits rest h (Err e) is = tt
 

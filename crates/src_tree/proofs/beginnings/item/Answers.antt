@@ -1,7 +1,7 @@
 use Rattle.std.proofs.Common.{rules, ◌≡◌, sym, ap, ◌∙◌}
 use Rattle.src_token.specs.declared.token.Token.{Token}
 use Rattle.src_token.specs.declared.word.Word.{Word}
-use Rattle.src_tree.specs.declared.row.Row.{Row}
+use Rattle.src_tree.specs.declared.row.GrammarRow.{GrammarRow}
 use Rattle.src_tree.specs.Grammar.{by_row, item}
 use Rattle.src_tree.proofs.Named.{fn_is}
 use Rattle.src_tree.proofs.beginnings.item.Goals as goal
@@ -9,4 +9,4 @@ use Rattle.src_tree.proofs.beginnings.item.Goals as goal
 pub returns-in-Word-Fn : goal.returns-in-Word-Fn
 returns-in-Word-Fn c =
     let e : c.args.token.now ≡ Token.Word Word.Fn = search rules in
-    ap (by_row Row.Fn) fn_is ∙ sym (ap item e)
+    ap (by_row GrammarRow.Fn) fn_is ∙ sym (ap item e)

@@ -1,8 +1,8 @@
 use Rattle.std.proofs.Common.{rules, ◌≡◌, Some, None, ◌∷◌, ◌&&◌, [], List, length, map, sym, ap, ◌∙◌, refl}
 use Rattle.std.proofs.lemmas.List.{nil_from_length}
 use Rattle.src_token.specs.declared.token.Token.{Token}
-use Rattle.src_tree.specs.declared.node.Node.{Node}
-use Rattle.src_tree.specs.declared.node.Piece
+use Rattle.src_tree.specs.declared.node.SyntaxNode.{SyntaxNode}
+use Rattle.src_tree.specs.declared.node.NodePiece
 use Rattle.src_tree.specs.Checking.{levels, begun as begun_of, follows as follows_of}
 use Rattle.src_tree.specs.Grammar.{joined}
 use Rattle.src_tree.specs.Layout.{sub, tok}
@@ -12,20 +12,20 @@ use Rattle.src_tree.proofs.Pieces.{node_seen, token_seen}
 use Rattle.src_tree.proofs.Tests.{joined_on, not_joined}
 use Rattle.src_tree.proofs.levels.+levelled.Goals as goal
 
-one : (ps : List Piece.Piece) (g : Node) (rest : List Piece.Piece) → ps ≡ Piece.Node g ∷ rest → parts_in ps ≡ sub (layout_of g) (parts_in rest)
+one : (ps : List NodePiece.NodePiece) (g : SyntaxNode) (rest : List NodePiece.NodePiece) → ps ≡ NodePiece.Node g ∷ rest → parts_in ps ≡ sub (layout_of g) (parts_in rest)
 one ps g rest e =
     ap parts_in e ∙ ap (λ z. parts_from (z ∷ map piece_of rest)) (node_seen g)
 
-two : (ps : List Piece.Piece) (g : Node) (t : Token) (rest : List Piece.Piece) → ps ≡ Piece.Node g ∷ Piece.Token t ∷ rest → parts_in ps ≡ sub (layout_of g) (tok t (parts_in rest))
+two : (ps : List NodePiece.NodePiece) (g : SyntaxNode) (t : Token) (rest : List NodePiece.NodePiece) → ps ≡ NodePiece.Node g ∷ NodePiece.Token t ∷ rest → parts_in ps ≡ sub (layout_of g) (tok t (parts_in rest))
 two ps g t rest e =
-    one ps g (Piece.Token t ∷ rest) e ∙ ap (λ z. sub (layout_of g) (parts_from (z ∷ map piece_of rest))) (token_seen t)
+    one ps g (NodePiece.Token t ∷ rest) e ∙ ap (λ z. sub (layout_of g) (parts_from (z ∷ map piece_of rest))) (token_seen t)
 
 pub begun-returns-then-node_levelled : goal.begun-returns-then-node_levelled
 begun-returns-then-node_levelled t c =
     let first = c.in-Some-Node-default.first in
     let token = c.in-Some-Token-default-split_first.token in
     let rest = c.in-Some-Token-default-split_first.rest.now in
-    let e : c.args.node.now.parts ≡ Piece.Node first ∷ Piece.Token token ∷ rest = search rules in
+    let e : c.args.node.now.parts ≡ NodePiece.Node first ∷ NodePiece.Token token ∷ rest = search rules in
     let j : Some (joined_of c.in-Some-joined.begun) ≡ joined c.args.seen token = search rules in
     let n : c.node_levelled.result ≡ levels (Some c.in-Some-joined.begun.place) (layout_of first) = search rules in
     let f : c.follows-then-node_levelled.result ≡ follows_of c.args.seen.head (Some (rest_at c.in-Some-joined.begun.at)) c.args.node.now.row (parts_in rest) = search rules in
@@ -38,7 +38,7 @@ begun-returns-else-node_levelled t c =
     let first = c.in-Some-Node-default.first in
     let token = c.in-Some-Token-default-split_first.token in
     let rest = c.in-Some-Token-default-split_first.rest.now in
-    let e : c.args.node.now.parts ≡ Piece.Node first ∷ Piece.Token token ∷ rest = search rules in
+    let e : c.args.node.now.parts ≡ NodePiece.Node first ∷ NodePiece.Token token ∷ rest = search rules in
     let j : Some (joined_of c.in-Some-joined.begun) ≡ joined c.args.seen token = search rules in
     let n : c.node_levelled.result ≡ levels (Some c.in-Some-joined.begun.place) (layout_of first) = search rules in
     let b = follows_of c.args.seen.head (Some (rest_at c.in-Some-joined.begun.at)) c.args.node.now.row (parts_in rest) in
@@ -51,7 +51,7 @@ begun-returns-in-None-joined t c =
     let first = c.in-Some-Node-default.first in
     let token = c.in-Some-Token-default-split_first.token in
     let rest = c.in-Some-Token-default-split_first.rest.now in
-    let e : c.args.node.now.parts ≡ Piece.Node first ∷ Piece.Token token ∷ rest = search rules in
+    let e : c.args.node.now.parts ≡ NodePiece.Node first ∷ NodePiece.Token token ∷ rest = search rules in
     let j : None ≡ joined c.args.seen token = search rules in
     not_joined c.args.seen c.args.node.now.row (layout_of first) token (parts_in rest) j
     ∙ ap (begun_of c.args.seen c.args.node.now.row) (sym (two c.args.node.now.parts first token rest e))
@@ -61,5 +61,5 @@ begun-returns-in_default-2 t c =
     let first = c.in-Some-Node-default.first in
     let zero_ : length c.in-Some-Node-default.rest.now ≡ 0 = search rules in
     let none : c.in-Some-Node-default.rest.now ≡ [] = nil_from_length c.in-Some-Node-default.rest.now zero_ in
-    let e : c.args.node.now.parts ≡ Piece.Node first ∷ [] = search (rules, none) in
+    let e : c.args.node.now.parts ≡ NodePiece.Node first ∷ [] = search (rules, none) in
     ap (begun_of c.args.seen c.args.node.now.row) (sym (one c.args.node.now.parts first [] e))

@@ -1,6 +1,6 @@
 use Rattle.std.proofs.Common.{rules, ℕ, ◌≡◌, min, max, [], ◌∷◌, ◌+◌, List, drop, map, sym, ap, ◌∙◌, arith}
 use Rattle.std.proofs.lemmas.List.{at_drop_more}
-use Rattle.src_tree.specs.declared.node.Piece.{Piece}
+use Rattle.src_tree.specs.declared.node.NodePiece.{NodePiece}
 use Rattle.src_tree.specs.Layout.{parts_depth}
 use Rattle.src_tree.specs.View.{piece_of, parts_from, parts_in}
 use Rattle.src_tree.proofs.Spells.{depth_first}
@@ -16,8 +16,8 @@ pieces_depth-loop-piece-preserved t c =
     let xs = c.args.pieces.now in
     let d = c.piece-item.result in
     let rest = drop (i + 1) xs in
-    let F = λ (all : List Piece). parts_depth (parts_in all) in
-    let G = λ (x : Piece). parts_depth (parts_in (x ∷ rest)) in
+    let F = λ (all : List NodePiece). parts_depth (parts_in all) in
+    let G = λ (x : NodePiece). parts_depth (parts_in (x ∷ rest)) in
     let whole : parts_depth (parts_in (drop i xs)) ≡ parts_depth (parts_in (d ∷ rest)) = at_drop_more F xs i d c.loop-piece-test.true ∙ sym (ap G c.piece-item.is) in
     let single : c.piece_depth.result ≡ min (parts_depth (parts_from (piece_of d ∷ []))) 4294967295 = search rules in
     let most : c.max-deepest.result ≡ max c.loop-piece.deepest c.piece_depth.result = search rules in

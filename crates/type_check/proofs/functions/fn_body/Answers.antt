@@ -5,7 +5,7 @@ use Rattle.src_ast.specs.Seen.{maybe_of, nodes_of}
 use Rattle.type_rows.specs.Stand.{GivesValue, env, stack, state}
 use Rattle.typed_tree.specs.Tree.{Node}
 use Rattle.typing_rules.specs.Bodies.{fn_body}
-use Rattle.typing_rules.specs.Check.{Broken, Check, State}
+use Rattle.typing_rules.specs.Check.{Broken, Check, TypingState}
 use Rattle.typing_rules.specs.Program.{block_of}
 use Rattle.typing_rules.specs.Scope.{Env}
 use Rattle.function_rows.specs.Aside.{alone}
@@ -19,7 +19,7 @@ returns-clause-gives c =
     let after = c.block_of.new.checker in
     let head = c.in_ok-head.head in
     let block : Env → Option TyId → Check Node = block_of (maybe_of c.args.block) c.args.at in
-    subst (λ (o : Result (Unit {0} × State) Broken). GivesValue (λ u. u) o c.body_end.result c.body_end.new.checker)
+    subst (λ (o : Result (Unit {0} × TypingState) Broken). GivesValue (λ u. u) o c.body_end.result c.body_end.new.checker)
     (sym (block_given head _ block (env middle) (stack middle) (stack after) (state middle) (state after) (c.in_ok-head.ensures.gives block) c.in_ok-block_of.ensures.gives c.in_ok-block_of.ensures.kept.0))
     c.body_end.ensures.gives
 

@@ -1,13 +1,13 @@
 use Rattle.std.proofs.Common.{sym, subst}
 use Rattle.src_tree.specs.View.{parts_in}
 use Rattle.typing_rules.specs.Items.{item_syns, items_of}
-use Rattle.type_rows.specs.Tables.{IsReady}
+use Rattle.type_rows.specs.Tables.{AreTablesOf}
 use Rattle.type_check.proofs.Starting.{begins, none_made}
 use Rattle.type_check.proofs.start.checker_of.Goals as goal
 
 pub invariant_of-result : goal.invariant_of-result
 invariant_of-result c = record {
-  ready = subst (λ i. IsReady i c.in_ok-tables.tables) (sym c.beginning.ensures.items) c.in_ok-tables.ensures.ready;
+  ready = subst (λ i. AreTablesOf i c.in_ok-tables.tables) (sym c.beginning.ensures.items) c.in_ok-tables.ensures.ready;
 }
 
 pub returns-clause-place : goal.returns-clause-place

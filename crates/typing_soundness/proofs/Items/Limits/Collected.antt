@@ -12,7 +12,7 @@ use Rattle.mir_ty.specs.declared.ty.TyId.{TyId}
 use Rattle.mir_ty.specs.ItemTable.{ItemTable}
 use Rattle.well_typed.proofs.ClaimLemmas.{true_left, true_right}
 use Rattle.well_typed.specs.Names.{is_among, built_in}
-use Rattle.typing_rules.specs.Check.{Check, State, Broken, and_then, obeys, known, each_checked, interned}
+use Rattle.typing_rules.specs.Check.{Check, TypingState, Broken, and_then, obeys, known, each_checked, interned}
 use Rattle.typing_rules.specs.Collected as rules
 use Rattle.typing_rules.specs.Items.{ItemSyn, item_syns, trait_name, adt_names, trait_names, body_paths, impl_owner, full_name, closure_name}
 use Rattle.typing_rules.specs.Places.{scalars}
@@ -38,14 +38,14 @@ pub record IsCollected (b : Bounds) (count : ℕ) (items : ItemTable) : Type 0 w
 
 -- a check that only makes types, within their limits
 abbrev Stays : Bounds → ℕ → {A : Type 0} → Check A → Type 0
-Stays b n {A} check = (s : State) → IsCollected b n s.items → Walked (λ (_ : A) t. IsCollected b n t.items) (check s)
+Stays b n {A} check = (s : TypingState) → IsCollected b n s.items → Walked (λ (_ : A) t. IsCollected b n t.items) (check s)
 
 -- names alone are asked
-abbrev alone : types.Around → types.Around
+abbrev alone : types.WrittenScope → types.WrittenScope
 alone around = record around { has_limits = false }
 
 -- what names there are, and the struct or enum of an impl
-abbrev known_around : rules.Known → Option Word → types.Around
+abbrev known_around : rules.Known → Option Word → types.WrittenScope
 known_around k owner = rules.names_alone k (option_and_then (types.number_of k.adts) owner)
 
 pub known_named : (b : Bounds) (k : rules.Known) → length k.adts ≤ b.adts → length k.traits ≤ b.traits → (owner : Option Word) →
@@ -57,7 +57,7 @@ known_named b k adts traits owner = record { adts = adts; traits = traits; self 
     by (Some w) n is = let e = position_below _ k.adts [] n is in omega (arith, e, adts)
 
 module _ (b : Bounds) (n : ℕ) where
-  kept : {s t : State} → IsCollected b n s.items → AreIn b t.items → SameWalk s t → IsCollected b n t.items
+  kept : {s t : TypingState} → IsCollected b n s.items → AreIn b t.items → SameWalk s t → IsCollected b n t.items
   kept h types e = record { traits = ap length e.stays.traits ∙ h.traits; types = types }
 
   interned_kept : (ty : Ty) → ((closures : ℕ) → IsIn b closures ty) → Stays b n (interned ty)
@@ -80,7 +80,7 @@ module _ (b : Bounds) (n : ℕ) where
   receiver_kept own ByShared s h = interned_kept (Ty.Shared own) (λ closures. tt) s h
   receiver_kept own ByUnique s h = interned_kept (Ty.Unique own) (λ closures. tt) s h
 
-  module _ (around : types.Around) (named : AreNamed b around) where
+  module _ (around : types.WrittenScope) (named : AreNamed b around) where
     written_kept : (e : Syn) → IsTrue (legal e) → Stays b n (types.written (alone around) e)
     written_kept e l s h =
         walk_map (both_walk (types.written (alone around) e s) (subst (λ r. Walked (λ ty t. AreIn b t.items) r) (sym
@@ -148,7 +148,7 @@ module _ (b : Bounds) (n : ℕ) where
     or_unit_kept : (check : Check TyId) → Stays b n check → Stays b n (types.or_unit check)
     or_unit_kept check good s h = by (check s) (good s h)
       where
-        by : (r : Result (TyId × State) Broken) → Walked (λ _ t. IsCollected b n t.items) r → Walked (λ _ t. IsCollected b n
+        by : (r : Result (TyId × TypingState) Broken) → Walked (λ _ t. IsCollected b n t.items) r → Walked (λ _ t. IsCollected b n
             t.items) (types.or_unit_in s r)
         by (Ok a) k = k
         by (Err e) k = walk_ends h
@@ -254,7 +254,7 @@ module _ (adts traits : ℕ) where
     abbrev IsBehind : Tape → ℕ → ℕ → Type 0
     IsBehind f from to = (rest : List BodySyn) → behind_all (f rest) from ≡ behind_all rest to
 
-    body_kept : (owner : Option Word) (c : rules.Count) (x : Syn) (count : ℕ) → IsTrue (body_legal x) → (s : State) →
+    body_kept : (owner : Option Word) (c : rules.Count) (x : Syn) (count : ℕ) → IsTrue (body_legal x) → (s : TypingState) →
         IsCollected (bounds c.closures) count s.items → Walked (λ d t. IsCollected (bounds d.closures) count t.items × IsBehind
         (body_text (all_names k owner) x) c.closures d.closures) (rules.body_sig k owner c x s)
     body_kept owner c (syn at (FnItem name params answer block)) count l s h =
@@ -268,7 +268,7 @@ module _ (adts traits : ℕ) where
     body_kept owner c (syn at (MoveOf captures params answer body)) count l s h =
         walk closure_kept λ _ t g. walk_ends (g, λ rest. ap (behind_all rest) (omega arith))
       where
-        around : types.Around
+        around : types.WrittenScope
         around = known_around k owner
 
         more : Bounds
@@ -290,7 +290,7 @@ module _ (adts traits : ℕ) where
     body_kept owner c (syn at _) count l s h = record { so = tt }
 
     bodies_kept : (owner : Option Word) (c : rules.Count) (xs : List Syn) (count : ℕ) → All (λ x. IsTrue (body_legal x)) xs →
-        (s : State) → IsCollected (bounds c.closures) count s.items → Walked (λ d t. IsCollected (bounds d.closures) count
+        (s : TypingState) → IsCollected (bounds c.closures) count s.items → Walked (λ d t. IsCollected (bounds d.closures) count
         t.items × IsBehind (bodies_text (all_names k owner) xs) c.closures d.closures) (rules.body_sigs k owner c xs s)
     bodies_kept owner c [] count l s h = walk_ends (h, λ rest. refl)
     bodies_kept owner c (x ∷ xs) count l s h =
@@ -305,7 +305,7 @@ module _ (adts traits : ℕ) where
     abbrev traits_of : Syn → ℕ
     traits_of i = length (trait_names (i ∷ []))
 
-    head_kept : (n count : ℕ) (i : Syn) → IsTrue (item_legal i) → count + traits_of i ≤ traits → (s : State) → IsCollected
+    head_kept : (n count : ℕ) (i : Syn) → IsTrue (item_legal i) → count + traits_of i ≤ traits → (s : TypingState) → IsCollected
         (bounds n) count s.items → Walked (λ _ t. IsCollected (bounds n) (count + traits_of i) t.items) (rules.item_head k i s)
     head_kept n count (syn at (StructItem ds name kind fields)) l few s h =
         walk (derives_kept (bounds n) count ds s h) λ _ t g. walk (variant_kept (bounds n) count (known_around k (Some
@@ -351,7 +351,7 @@ module _ (adts traits : ℕ) where
         by (Some w) = omega arith
 
     heads_kept : (c : rules.Count) (is : List ItemSyn) (count : ℕ) → All ItemKeeps is → count + length (trait_names (item_syns
-        is)) ≤ traits → (s : State) → IsCollected (bounds c.closures) count s.items → Walked (λ _ t. (n : ℕ) × IsCollected
+        is)) ≤ traits → (s : TypingState) → IsCollected (bounds c.closures) count s.items → Walked (λ _ t. (n : ℕ) × IsCollected
         (bounds n) (count + length (trait_names (item_syns is))) t.items × IsBehind (listed_text k is) c.closures n)
         (rules.heads_collected k c is s)
     heads_kept c [] count l few s h =
@@ -422,5 +422,5 @@ collecting_kept is end l =
     limits : ℕ → Bounds
     limits = bounds adts traits
 
-    start : State
+    start : TypingState
     start = rules.starting_with rules.no_items

@@ -19,14 +19,14 @@ use Rattle.typed_tree.specs.Tree as tree
 use Rattle.typed_tree.specs.Tree.{Node, Nodes, no_field, BodyTree, ParamTree}
 use Rattle.well_typed.specs.Types.{is_enum, is_reference, variant_at}
 use Rattle.typing_rules.specs.Bodies as bodies
-use Rattle.typing_rules.specs.Check.{Check, State, Broken, pure, ◌>>=◌, ◌<$>◌, with_body, in_new_body, put_before, within_body}
+use Rattle.typing_rules.specs.Check.{Check, TypingState, Broken, pure, ◌>>=◌, ◌<$>◌, with_body, in_new_body, put_before, within_body}
 use Rattle.typing_rules.specs.Named as names
 use Rattle.typing_rules.specs.Named.{PathValue, Makes, IsBroken, path_value, Callee, Function, Constructor, Prints, Asks, Drops, Forgets, Boxes, AValue, Unnamed, NoCallee, callee_of, callee_by, method_named}
 use Rattle.typing_rules.specs.Patterns.{pattern, count_of, target_of}
 use Rattle.typing_rules.specs.Places.{unit, bool, never, int, struct_field, numbered_part, used, a_node_of}
 use Rattle.typing_rules.specs.Rows as rows
 use Rattle.typing_rules.specs.Rows.{Typer, Referrer, Expected, taken}
-use Rattle.typing_rules.specs.Scope.{Env, Entry, Capture, variable, with_variables, within_loop, jumps_to, in_guard, field_named, adt_named, adt_at_head, body_named, method_of, kind_at}
+use Rattle.typing_rules.specs.Scope.{Env, NamedEntry, Capture, variable, with_variables, within_loop, jumps_to, in_guard, field_named, adt_named, adt_at_head, body_named, method_of, kind_at}
 use Rattle.typing_rules.specs.Typed as typing
 use Rattle.typing_rules.specs.Written as types
 use Rattle.src_ast.specs.Syntax.{Word, Syn, syn, Shape, Literal, TruthLiteral, Path, Minus, Bang, Star, Ampersand, Calculate, Compare, Both, Either, Store, CallOf, MethodOf, FieldOf, PartOf, ElementOf, StructOf, FieldInit, Ident, Parens, TupleOf, ArrayOf, Braces, IfElse, IfLetElse, MatchOn, ArmOf, LoopOf, WhileOf, WhileLetOf, BreakOf, ContinueOf, ReturnOf, MoveOf, PanicOf, LetOf, Semi, Syns, no_syn, a_syn, MaybeSyn, nothing, just}
@@ -148,7 +148,7 @@ module _ (b : Bounds) where
     none_else AValue p = tt
     none_else NoCallee p = tt
 
-    variable_is : (name : Word) (o : Option Entry) → IsCallee (names.variable_callee items env name o)
+    variable_is : (name : Word) (o : Option NamedEntry) → IsCallee (names.variable_callee items env name o)
     variable_is name None = body_is name (body_named items name)
     variable_is name (Some x) =
         if_callee _ AValue (names.or_no_callee (names.body_callee items env name (body_named items name))) tt (none_else
@@ -199,7 +199,7 @@ module _ (b : Bounds) where
   path_alone_kept env named at first second want s h =
       makes_kept at (path_value s.items env first second) (path_made s.items h env named first second) want s h
 
-  path_by_kept : (env : Env) → IsNamed b env → (at : Pos) (first second : Option Word) (x : Option Entry) → KeepsTyper b
+  path_by_kept : (env : Env) → IsNamed b env → (at : Pos) (first second : Option Word) (x : Option NamedEntry) → KeepsTyper b
       (typing.path_by env at first second x)
   path_by_kept env named at first second (Some x) want s h =
       walk (on.variable_kept b at x s h) λ p t k. on.taken_kept b env want p t k
@@ -209,7 +209,7 @@ module _ (b : Bounds) where
       second)
   path_kept env named at first second = path_by_kept env named at first second (typing.variable_of env first second)
 
-  base_kept : (env : Env) → IsNamed b env → (at : Pos) (first second : Option Word) (x : Option Entry) → Keeps b
+  base_kept : (env : Env) → IsNamed b env → (at : Pos) (first second : Option Word) (x : Option NamedEntry) → Keeps b
       (typing.variable_base env at first second x)
   base_kept env named at first second (Some x) s h = on.variable_kept b at x s h
   base_kept env named at first second None s h = path_alone_kept env named at first second None s h
@@ -240,7 +240,7 @@ module _ (b : Bounds) where
   called_kept items g env named at count callee args NoCallee is good_c good want s h =
       on.no_call_kept b at Rule.T13 args want s h
 
-  passed_kept : (at : Pos) (by_value : Typer) (x : Option Entry) → KeepsTyper b by_value → KeepsReferrer b (typing.passed at
+  passed_kept : (at : Pos) (by_value : Typer) (x : Option NamedEntry) → KeepsTyper b by_value → KeepsReferrer b (typing.passed at
       by_value x)
   passed_kept at by_value None good want unique to s h = good (Some want) s h
   passed_kept at by_value (Some x) good want unique to s h = by (is_reference s.items x.ty)
@@ -261,18 +261,18 @@ module _ (b : Bounds) where
 
   -- ---- closures
 
-  capture_kept : (env : Env) (k : ℕ) (e : Syn) (earlier : List Entry) → Keeps b (bodies.capture env k e earlier)
+  capture_kept : (env : Env) (k : ℕ) (e : Syn) (earlier : List NamedEntry) → Keeps b (bodies.capture env k e earlier)
   capture_kept env k (syn at (Ident name)) earlier s h =
       walk_obeyed Rule.T01 at (bodies.is_captured name env.variables) _ λ _. walk_obeyed Rule.T02 at (not
       (bodies.is_captured name earlier)) _ λ _. walk_found Rule.T01 at (variable env.variables name) _ λ x is. walk
       (on.variable_kept b at x s h) λ p t l. walk {f = λ n. pure (n, earlier ++ named name x.ty k ∷ [])} (on.taken_kept b env None
       p t l) λ n u m. walk_ends m
     where
-      named : Word → TyId → ℕ → Entry
+      named : Word → TyId → ℕ → NamedEntry
       named name ty k = record { name = name; ty = ty; meaning = Capture 0 k }
   capture_kept env k (syn at _) earlier s h = record { so = tt }
 
-  captured_kept : (env : Env) (k : ℕ) (captures : Syns) (earlier : List Entry) → Keeps b (bodies.captured env k captures earlier)
+  captured_kept : (env : Env) (k : ℕ) (captures : Syns) (earlier : List NamedEntry) → Keeps b (bodies.captured env k captures earlier)
   captured_kept env k no_syn earlier s h = walk_ends h
   captured_kept env k (a_syn first rest) earlier s h =
       walk (capture_kept env k first earlier s h) λ c t l. walk (captured_kept env (suc k) rest c.1 t l) λ cs u m. walk_ends m
@@ -293,19 +293,19 @@ module _ (b : Bounds) where
       more _ e = tt
 
   -- a body in a walk of its own
-  pub body_kept : (check : Check BodyTree) (s : State) → Walked (λ _ t. Inside b t.items) (check (record s {
+  pub body_kept : (check : Check BodyTree) (s : TypingState) → Walked (λ _ t. Inside b t.items) (check (record s {
     bodies = [];
     next_node = 0;
     breaks = [];
   })) → Walked (λ _ t. Inside b t.items) (with_body (λ n. n) (in_new_body check) s)
   body_kept check s h = by (check (record s { bodies = []; next_node = 0; breaks = [] })) h
     where
-      by : (r : Result (BodyTree × State) Broken) → Walked (λ _ t. Inside b t.items) r → Walked (λ _ t. Inside b t.items)
+      by : (r : Result (BodyTree × TypingState) Broken) → Walked (λ _ t. Inside b t.items) r → Walked (λ _ t. Inside b t.items)
           (put_before s.bodies (λ n. n) (within_body (record s { bodies = [] }) r))
       by (Ok a) h = walk_ends h.so
       by (Err e) h = record { so = tt }
 
-  inner_kept : (env : Env) → IsNamed b env → (at : Pos) (n : ℕ) (ty : TyId) (captures : List Entry) (params : Syns) (answer :
+  inner_kept : (env : Env) → IsNamed b env → (at : Pos) (n : ℕ) (ty : TyId) (captures : List NamedEntry) (params : Syns) (answer :
       MaybeSyn) (block : Env → Typer) → ((inner : Env) → IsNamed b inner → KeepsTyper b (block inner)) → Keeps b (in_closure
       env at n ty captures params answer block)
   inner_kept env named at n ty captures params answer block good s h =
@@ -314,7 +314,7 @@ module _ (b : Bounds) where
       (bodies.inside_closure env captures) a ps.1) named (Some a) u l) λ m v q. walk_obeyed Rule.T19 at (nat_le (length
       (numbers_of (bodies.body_of n (self_param s ∷ ps.0) a m))) 2048) _ λ _. walk_ends q
     where
-      self_param : State → ParamTree
+      self_param : TypingState → ParamTree
       self_param s =
           record { pattern = used (rows.taking s.items ty) (a_node_of s.next_node at ty (tree.Binding [])); ty = ty }
 
@@ -331,16 +331,16 @@ module _ (b : Bounds) where
         breaks = [];
       }) l)) λ m v q. fitted_kept b want _ _ q
     where
-      def : List Entry → ClosureDef
+      def : List NamedEntry → ClosureDef
       def captures = record { captures = bodies.types_of captures; body = s.next_body }
 
-      with_ : List Entry → State → State
+      with_ : List NamedEntry → TypingState → TypingState
       with_ captures t = record t { items = with_closure t.items (def captures) }
 
   -- ---- the recursion
 
   -- one of two checks
-  either : {A : Type 0} {R : A → State → Type 0} (c : Bool) (p q : Check A) (s : State) → Walked R (p s) → Walked R (q s) →
+  either : {A : Type 0} {R : A → TypingState → Type 0} (c : Bool) (p q : Check A) (s : TypingState) → Walked R (p s) → Walked R (q s) →
       Walked R ((if c then p else q) s)
   either true p q s h k = h
   either false p q s h k = k
@@ -461,13 +461,13 @@ module _ (b : Bounds) where
     maybe_kept env named nothing want s h = walk_ends h
     maybe_kept env named (just e) want s h = walk (typed_kept env named e want s h) λ n t k. walk_ends k
 
-    all_kept : (env : Env) → IsNamed b env → (es : Syns) (s : State) → Inside b s.items → Walked (λ done t. Inside b t.items ×
+    all_kept : (env : Env) → IsNamed b env → (es : Syns) (s : TypingState) → Inside b s.items → Walked (λ done t. Inside b t.items ×
         IsNamed b done.2) (typing.typed_all env es s)
     all_kept env named no_syn s h = walk_ends (h, named)
     all_kept env named (a_syn first rest) s h =
         walk (statement_kept env named first s h) λ n t k. walk (all_kept n.2 k.1 rest t k.0) λ ns u l. walk_ends l
 
-    statement_kept : (env : Env) → IsNamed b env → (e : Syn) (s : State) → Inside b s.items → Walked (λ done t. Inside b
+    statement_kept : (env : Env) → IsNamed b env → (e : Syn) (s : TypingState) → Inside b s.items → Walked (λ done t. Inside b
         t.items × IsNamed b done.2) (typing.statement env e s)
     statement_kept env named (syn at form) s h =
         either (typing.is_expression form) (typing.a_statement <$> rows.evaluate at env false (λ want. if typing.is_place env
@@ -477,7 +477,7 @@ module _ (b : Bounds) where
         λ p u l. on.taken_kept b env want p u l) (value_kept env named at form want t k)) s h) λ n t k. walk_ends k) (other_kept env
         named at form s h)
 
-    other_kept : (env : Env) → IsNamed b env → (at : Pos) (form : Shape) (s : State) → Inside b s.items → Walked (λ done t.
+    other_kept : (env : Env) → IsNamed b env → (at : Pos) (form : Shape) (s : TypingState) → Inside b s.items → Walked (λ done t.
         Inside b t.items × IsNamed b done.2) (typing.other_statement env at form s)
     other_kept env named at (LetOf p ty initialiser) s h =
         walk (on.let_kept b (IsNamed b) at env (typing.is_one_name s.items p) (typing.declared env ty) (typing.initialised env
@@ -539,7 +539,7 @@ module _ (b : Bounds) where
     init_kept env named at name nothing want s h = path_kept env named at (Some name) None want s h
     init_kept env named at name (just e) want s h = typed_kept env named e want s h
 
-    parts_kept : (env : Env) → IsNamed b env → (wants : List (Option TyId)) (parts : Syns) (s : State) → Inside b s.items →
+    parts_kept : (env : Env) → IsNamed b env → (wants : List (Option TyId)) (parts : Syns) (s : TypingState) → Inside b s.items →
         Walked (λ ps t. Inside b t.items × (length ps.1 ≡ count_of parts)) (typing.typed_parts env wants parts s)
     parts_kept env named wants no_syn s h = walk_ends (h, refl)
     parts_kept env named wants (a_syn e es) s h =

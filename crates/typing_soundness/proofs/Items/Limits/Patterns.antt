@@ -14,10 +14,10 @@ use Rattle.typed_tree.specs.Tree.{Fields}
 use Rattle.well_typed.specs.Types.{is_same, is_bool, is_dyn, is_enum, is_reference, kind_of, array_of, variant_at}
 use Rattle.typing_rules.specs.Bodies as bodies
 use Rattle.typing_rules.specs.Bodies.{param_expected, is_name_or_wildcard}
-use Rattle.typing_rules.specs.Check.{Check, State, breaks, pure, ◌>>=◌}
+use Rattle.typing_rules.specs.Check.{Check, TypingState, breaks, pure, ◌>>=◌}
 use Rattle.typing_rules.specs.Patterns as rules
 use Rattle.typing_rules.specs.Rows.{Expected, is_signed_kind, most, all_given, are_known}
-use Rattle.typing_rules.specs.Scope.{Env, Entry, adt_named, adt_at_head, kind_at, variable, variant_named, field_named}
+use Rattle.typing_rules.specs.Scope.{Env, NamedEntry, adt_named, adt_at_head, kind_at, variable, variant_named, field_named}
 use Rattle.typing_rules.specs.Written as types
 use Rattle.src_ast.specs.Syntax.{Word, Receiver, ByValue, ByShared, ByUnique, Syn, syn, Shape, AnyPattern, BindPattern, LiteralPattern, TruthPattern, PathPattern, PartsPattern, FieldsPattern, FieldPattern, ParensPattern, TuplePattern, ArrayPattern, Alternatives, ParamOf, SelfParam, Syns, no_syn, a_syn, MaybeSyn, nothing, just}
 use Rattle.typing_rules.proofs.Sound.Gives.{numbered}
@@ -40,7 +40,7 @@ module _ (b : Bounds) where
   truth_kept at e ty value s h =
       walk_obeyed Rule.T03 at (is_bool s.items ty) _ λ _. walk_obeyed Rule.T18 at (not e.takes_all) _ λ _. walk_ends h
 
-  bind_kept : (at : Pos) (e : Expected) (ty : TyId) (name : Word) (earlier : List Entry) → Keeps b (rules.bind at e ty name
+  bind_kept : (at : Pos) (e : Expected) (ty : TyId) (name : Word) (earlier : List NamedEntry) → Keeps b (rules.bind at e ty name
       earlier)
   bind_kept at e ty name earlier s h =
       walk_obeyed Rule.T02 at (not (is_some (variable earlier name))) _ λ _. walk_obeyed Rule.T07 at (is_copy s.items ty ||
@@ -50,13 +50,13 @@ module _ (b : Bounds) where
 
   -- what a path names is there
   pub target_below : (items : ItemTable) → Inside b items → (env : Env) → IsNamed b env → (first second : Option Word) (t :
-      rules.Target) → rules.target_of items env first second ≡ Some t → t.adt < b.adts
+      rules.PatternTarget) → rules.target_of items env first second ≡ Some t → t.adt < b.adts
   target_below items h env named first None t is = by (adt_at_head items env first) refl is
     where
-      if_enum : (n : ℕ) → n < b.adts → (c : Bool) → ◌≡◌ {A = Option rules.Target} (if c then None else Some (rules.target n
+      if_enum : (n : ℕ) → n < b.adts → (c : Bool) → ◌≡◌ {A = Option rules.PatternTarget} (if c then None else Some (rules.target n
           0)) (Some t) → t.adt < b.adts
       if_enum n below true is = absurd (none-some t is)
-      if_enum n below false is = subst (λ (x : rules.Target). x.adt < b.adts) (same_Some (rules.target n 0) t is) below
+      if_enum n below false is = subst (λ (x : rules.PatternTarget). x.adt < b.adts) (same_Some (rules.target n 0) t is) below
 
       by : (o : Option ℕ) → adt_at_head items env first ≡ o → option_and_then (λ n. if is_enum items n then None else Some
           (rules.target n 0)) o ≡ Some t → t.adt < b.adts
@@ -66,9 +66,9 @@ module _ (b : Bounds) where
     where
       found : (n : ℕ) → n < b.adts → (o : Option ℕ) → option_map (rules.target n) o ≡ Some t → t.adt < b.adts
       found n below None is = absurd (none-some t is)
-      found n below (Some k) is = subst (λ (x : rules.Target). x.adt < b.adts) (same_Some (rules.target n k) t is) below
+      found n below (Some k) is = subst (λ (x : rules.PatternTarget). x.adt < b.adts) (same_Some (rules.target n k) t is) below
 
-      if_enum : (n : ℕ) → n < b.adts → (c : Bool) → ◌≡◌ {A = Option rules.Target} (if c then option_map (rules.target n)
+      if_enum : (n : ℕ) → n < b.adts → (c : Bool) → ◌≡◌ {A = Option rules.PatternTarget} (if c then option_map (rules.target n)
           (variant_named items n second) else None) (Some t) → t.adt < b.adts
       if_enum n below true is = found n below (variant_named items n second) is
       if_enum n below false is = absurd (none-some t is)
@@ -78,21 +78,21 @@ module _ (b : Bounds) where
       by None e is = absurd (none-some t is)
       by (Some n) e is = if_enum n (head_below b items h env named first n e) (is_enum items n) is
 
-  abbrev KeepsParts : (Expected → List TyId → Check (Fields × List Entry × Bool × Bool)) → Type 0
+  abbrev KeepsParts : (Expected → List TyId → Check (Fields × List NamedEntry × Bool × Bool)) → Type 0
   KeepsParts parts = (e : Expected) (tys : List TyId) → Keeps b (parts e tys)
 
-  target_kept : (at : Pos) (e : Expected) (ty : TyId) (t : rules.Target) (parts : Expected → List TyId → Check (Fields × List
-      Entry × Bool × Bool)) → t.adt < b.adts → KeepsParts parts → Keeps b (rules.of_target at e ty t parts)
+  target_kept : (at : Pos) (e : Expected) (ty : TyId) (t : rules.PatternTarget) (parts : Expected → List TyId → Check (Fields × List
+      NamedEntry × Bool × Bool)) → t.adt < b.adts → KeepsParts parts → Keeps b (rules.of_target at e ty t parts)
   target_kept at e ty t parts below good s h =
       walk (intern_kept b (Ty.Adt t.adt) (numbered s) h below) λ self u k. walk_obeyed Rule.T03 at (is_same ty self) _ λ _. walk
       (good (rules.inside_of u.items ty e) (rules.fields_of u.items t) u k) λ ps v l. walk_obeyed Rule.T04 at ps.2 _ λ _.
       walk_obeyed Rule.T12 at ps.3 _ λ _. walk_obeyed Rule.T18 at (not (e.takes_all && rules.is_test v.items t)) _ λ _.
       walk_ends l
 
-  none_kept : (earlier : List Entry) (is_whole : Bool) → KeepsParts (rules.no_parts earlier is_whole)
+  none_kept : (earlier : List NamedEntry) (is_whole : Bool) → KeepsParts (rules.no_parts earlier is_whole)
   none_kept earlier is_whole e tys s h = walk_ends h
 
-  lone_kept : (env : Env) (at : Pos) (e : Expected) (ty : TyId) (adt : ℕ) (earlier : List Entry) → adt < b.adts → Keeps b
+  lone_kept : (env : Env) (at : Pos) (e : Expected) (ty : TyId) (adt : ℕ) (earlier : List NamedEntry) → adt < b.adts → Keeps b
       (rules.lone_struct env at e ty adt earlier)
   lone_kept env at e ty adt earlier below s h = by (rules.is_unit_kind (kind_at env.kinds adt 0))
     where
@@ -101,7 +101,7 @@ module _ (b : Bounds) where
       by true = target_kept at e ty (rules.target adt 0) (rules.no_parts earlier true) below (none_kept earlier true) s h
       by false = record { so = tt }
 
-  lone_name_kept : (env : Env) (at : Pos) (e : Expected) (ty : TyId) (name : Word) (earlier : List Entry) → Keeps b
+  lone_name_kept : (env : Env) (at : Pos) (e : Expected) (ty : TyId) (name : Word) (earlier : List NamedEntry) → Keeps b
       (rules.lone_name env at e ty name earlier)
   lone_name_kept env at e ty name earlier s h = by (adt_named s.items name) refl
     where
@@ -116,7 +116,7 @@ module _ (b : Bounds) where
       by (Some adt) is = if_enum adt (named_below b s.items h name adt is) (is_enum s.items adt)
 
   path_kept : (env : Env) → IsNamed b env → (at : Pos) (e : Expected) (ty : TyId) (first second : Option Word) (earlier : List
-      Entry) → Keeps b (rules.path_alone env at e ty first second earlier)
+      NamedEntry) → Keeps b (rules.path_alone env at e ty first second earlier)
   path_kept env named at e ty first None earlier s h =
       walk_found Rule.T01 at env.self_adt _ λ adt is. walk_obeyed Rule.T01 at (not (is_enum s.items adt)) _ λ _. lone_kept env
       at e ty adt earlier (named.self adt is) s h
@@ -125,7 +125,7 @@ module _ (b : Bounds) where
       s.items h env named first (Some second) t is) (none_kept earlier (rules.is_unit_kind (kind_at env.kinds t.adt t.variant)))
       s h
 
-  field_by_kept : (v : Variant) (name : Word) (earlier : List Entry) (typed : TyId → Check rules.Bound) → ((ty : TyId) → Keeps b
+  field_by_kept : (v : Variant) (name : Word) (earlier : List NamedEntry) (typed : TyId → Check rules.BoundPattern) → ((ty : TyId) → Keeps b
       (typed ty)) → Keeps b (rules.field_by v name earlier typed)
   field_by_kept v name earlier typed good s h = by (rules.field_ty v.fields (field_named v name))
     where
@@ -135,10 +135,10 @@ module _ (b : Bounds) where
 
   module _ (env : Env) (named : IsNamed b env) where
     mutual
-      pub pattern_kept : (e : Expected) (ty : TyId) (p : Syn) (earlier : List Entry) → Keeps b (rules.pattern env e ty p earlier)
+      pub pattern_kept : (e : Expected) (ty : TyId) (p : Syn) (earlier : List NamedEntry) → Keeps b (rules.pattern env e ty p earlier)
       pattern_kept e ty (syn at form) earlier s h = form_kept e ty at form earlier s h
 
-      form_kept : (e : Expected) (ty : TyId) (at : Pos) (form : Shape) (earlier : List Entry) → Keeps b (rules.pattern_form env
+      form_kept : (e : Expected) (ty : TyId) (at : Pos) (form : Shape) (earlier : List NamedEntry) → Keeps b (rules.pattern_form env
           e ty at form earlier)
       form_kept e ty at AnyPattern earlier s h = walk_ends h
       form_kept e ty at (BindPattern name) earlier s h = lone_name_kept env at e ty name earlier s h
@@ -179,26 +179,26 @@ module _ (b : Bounds) where
           h) λ ps t k. walk_obeyed Rule.T18 at (not (rules.has_names earlier ps.1)) _ λ _. walk_ends k
       form_kept e ty at _ earlier s h = record { so = tt }
 
-      parts_kept : (e : Expected) (tys : List TyId) (parts : Syns) (earlier : List Entry) → Keeps b (rules.part_patterns env e
+      parts_kept : (e : Expected) (tys : List TyId) (parts : Syns) (earlier : List NamedEntry) → Keeps b (rules.part_patterns env e
           tys parts earlier)
       parts_kept e tys no_syn earlier s h = walk_ends h
       parts_kept e [] (a_syn first rest) earlier s h = walk_ends h
       parts_kept e (ty ∷ tys) (a_syn first rest) earlier s h =
           walk (pattern_kept e ty first earlier s h) λ p t k. walk (parts_kept e tys rest p.1 t k) λ ps u l. walk_ends l
 
-      each_kept : (e : Expected) (ty : TyId) (patterns : Syns) (earlier : List Entry) → Keeps b (rules.each_pattern env e ty
+      each_kept : (e : Expected) (ty : TyId) (patterns : Syns) (earlier : List NamedEntry) → Keeps b (rules.each_pattern env e ty
           patterns earlier)
       each_kept e ty no_syn earlier s h = walk_ends h
       each_kept e ty (a_syn first rest) earlier s h =
           walk (pattern_kept e ty first earlier s h) λ p t k. walk (each_kept e ty rest p.1 t k) λ ps u l. walk_ends l
 
-      fields_kept : (e : Expected) (v : Variant) (fields : Syns) (earlier : List Entry) → Keeps b (rules.field_patterns env e v
+      fields_kept : (e : Expected) (v : Variant) (fields : Syns) (earlier : List NamedEntry) → Keeps b (rules.field_patterns env e v
           fields earlier)
       fields_kept e v no_syn earlier s h = walk_ends h
       fields_kept e v (a_syn first rest) earlier s h =
           walk (field_kept e v first earlier s h) λ p t k. walk (fields_kept e v rest p.1 t k) λ ps u l. walk_ends l
 
-      field_kept : (e : Expected) (v : Variant) (field : Syn) (earlier : List Entry) → Keeps b (rules.field_pattern env e v field
+      field_kept : (e : Expected) (v : Variant) (field : Syn) (earlier : List NamedEntry) → Keeps b (rules.field_pattern env e v field
           earlier)
       field_kept e v (syn at (FieldPattern name nothing)) earlier s h =
           field_by_kept v name earlier (λ ty. rules.bind at e ty name earlier) (λ ty. bind_kept at e ty name earlier) s h
@@ -227,21 +227,21 @@ module _ (b : Bounds) where
         walk_found Rule.T01 at env.self_adt _ λ n is. walk (intern_kept b (Ty.Adt n) s h (named.self n is)) λ own t k. by
         receiver own t k
       where
-        by : (r : Receiver) (own : TyId) (t : State) → Inside b t.items → Walked (λ _ u. Inside b u.items) (bodies.self_ty r
+        by : (r : Receiver) (own : TyId) (t : TypingState) → Inside b t.items → Walked (λ _ u. Inside b u.items) (bodies.self_ty r
             own t)
         by ByValue own t k = walk_ends k
         by ByShared own t k = intern_kept b (Ty.Shared own) t k tt
         by ByUnique own t k = intern_kept b (Ty.Unique own) t k tt
 
     module _ (ty_of_param : Syn → Check TyId) (good : (ty : Syn) → Keeps b (ty_of_param ty)) where
-      param_kept : (p : Syn) (earlier : List Entry) → Keeps b (bodies.param env ty_of_param p earlier)
+      param_kept : (p : Syn) (earlier : List NamedEntry) → Keeps b (bodies.param env ty_of_param p earlier)
       param_kept (syn at (ParamOf p ty)) earlier s h =
           walk (good ty s h) λ t u k. walk_obeyed Rule.T08 at (is_name_or_wildcard p || not (is_reference u.items t)) _ λ _.
           walk (pattern_kept param_expected t p earlier u k) λ n v l. walk_ends l
       param_kept (syn at (SelfParam receiver)) earlier s h = walk (receiver_kept at receiver s h) λ ty t k. walk_ends k
       param_kept (syn at _) earlier s h = record { so = tt }
 
-      pub params_kept : (params : Syns) (earlier : List Entry) → Keeps b (bodies.params_of env ty_of_param params earlier)
+      pub params_kept : (params : Syns) (earlier : List NamedEntry) → Keeps b (bodies.params_of env ty_of_param params earlier)
       params_kept no_syn earlier s h = walk_ends h
       params_kept (a_syn first rest) earlier s h =
           walk (param_kept first earlier s h) λ p t k. walk (params_kept rest p.1 t k) λ ps u l. walk_ends l

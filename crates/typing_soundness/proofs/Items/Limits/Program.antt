@@ -17,7 +17,7 @@ use Rattle.typed_tree.specs.Nodes.{numbers_of}
 use Rattle.typed_tree.specs.Tree.{ProgramTree}
 use Rattle.well_typed.specs.Names.{is_among}
 use Rattle.typing_rules.specs.Bodies as bodies
-use Rattle.typing_rules.specs.Check.{Check, State, Broken, obeys, in_new_body, within_body}
+use Rattle.typing_rules.specs.Check.{Check, TypingState, Broken, obeys, in_new_body, within_body}
 use Rattle.typing_rules.specs.Collected as collected
 use Rattle.typing_rules.specs.Items.{items_of, item_syns, adt_names, trait_names}
 use Rattle.typing_rules.specs.Program as rules
@@ -45,13 +45,13 @@ use Rattle.typing_soundness.proofs.Items.Limits.Types.{Bounds, IsIn, AreIn}
 use Rattle.typing_soundness.proofs.Walking.Steps.{walk, walk_obeyed, walk_ends}
 
 module _ (b : Bounds) where
-  new_kept : {A : Type 0} (check : Check A) (s : State) → Walked (λ _ t. Inside b t.items) (check (record s {
+  new_kept : {A : Type 0} (check : Check A) (s : TypingState) → Walked (λ _ t. Inside b t.items) (check (record s {
     next_node = 0;
     breaks = [];
   })) → Walked (λ _ t. Inside b t.items) (in_new_body check s)
   new_kept {A} check s h = by (check (record s { next_node = 0; breaks = [] })) h
     where
-      by : (r : Result (A × State) Broken) → Walked (λ _ t. Inside b t.items) r → Walked (λ _ t. Inside b t.items)
+      by : (r : Result (A × TypingState) Broken) → Walked (λ _ t. Inside b t.items) r → Walked (λ _ t. Inside b t.items)
           (within_body s r)
       by (Ok a) h = walk_ends h.so
       by (Err e) h = record { so = tt }
@@ -123,7 +123,7 @@ module _ (b : Bounds) where
         walk (body_kept b (in_function env at s.next_body params answer (rules.block_of block at)) s' (function_kept at
         s.next_body params answer block (record s' { bodies = []; next_node = 0; breaks = [] }) h)) λ _ t k. walk_ends k
       where
-        s' : State
+        s' : TypingState
         s' = record s { next_body = suc s.next_body }
     fn_kept (syn at _) s h = record { so = tt }
 
@@ -131,7 +131,7 @@ module _ (b : Bounds) where
     all_fn_kept [] s h = walk_ends h
     all_fn_kept (f ∷ fs) s h = walk (fn_kept f s h) λ _ t k. all_fn_kept fs t k
 
-  main_kept : (at : Pos) (name : Word) (params : Syns) (o : Option Sig) (s : State) → Inside b s.items → Walked (λ _ t. Inside b
+  main_kept : (at : Pos) (name : Word) (params : Syns) (o : Option Sig) (s : TypingState) → Inside b s.items → Walked (λ _ t. Inside b
       t.items) (rules.main_rule at name params s.items o s)
   main_kept at name params None s h = walk_ends h
   main_kept at name params (Some sig) s h = obeyed_kept Rule.T03 at (rules.is_main_head name params sig s.items) s h
@@ -221,7 +221,7 @@ module _ (parts : Parts Pos) (items : ItemTable) (p : ProgramTree) (h : IsAccept
       by _ (collecting_kept (items_of parts) h.end (items_kept parts h.end items p h.collected h.checked h.text.listed))
       h.collected
     where
-      by : (r : Result (Unit {0} × State) Broken) → Walked (λ _ t. IsWithin t.items) r → collected.items_in r ≡ Ok items →
+      by : (r : Result (Unit {0} × TypingState) Broken) → Walked (λ _ t. IsWithin t.items) r → collected.items_in r ≡ Ok items →
           IsWithin items
       by (Ok a) w e = subst IsWithin (ok_same a.1.items items e) w.so
       by (Err x) w e = absurd (no_items_ok x e)
@@ -252,7 +252,7 @@ module _ (parts : Parts Pos) (items : ItemTable) (p : ProgramTree) (h : IsAccept
       by _ (all_kept b (rules.outermost all) named (record { methods = []; impls = [] }) all (collected.starting_with items)
       (record { adts = let e = as_many_adts in omega (arith, e); types = first.1.types })) h.checked
     where
-      by : (r : Result (Unit {0} × State) Broken) → Walked (λ _ t. Inside b t.items) r → rules.program_in r ≡ Ok p → AreIn b
+      by : (r : Result (Unit {0} × TypingState) Broken) → Walked (λ _ t. Inside b t.items) r → rules.program_in r ≡ Ok p → AreIn b
           p.items
       by (Ok a) w e = subst (λ (q : ProgramTree). AreIn b q.items) (same_ok _ p e) w.so.types
       by (Err x) w e = absurd (no_ok x p e)

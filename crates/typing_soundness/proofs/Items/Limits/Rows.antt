@@ -17,11 +17,11 @@ use Rattle.typed_tree.specs.Tree as tree
 use Rattle.typed_tree.specs.Tree.{Node, Form, Nodes, no_node, a_node, Fields, MaybeNode, absent, present, Deref}
 use Rattle.well_typed.specs.Places.{ty_of, form_of, is_place}
 use Rattle.well_typed.specs.Types.{inside_of, reference_of, is_reference, is_dyn, is_unit, is_never, is_same, fits, array_of, kind_of}
-use Rattle.typing_rules.specs.Check.{Check, State, ◌>>=◌, ◌>>◌, breaks, types_for, interned}
+use Rattle.typing_rules.specs.Check.{Check, TypingState, ◌>>=◌, ◌>>◌, breaks, types_for, interned}
 use Rattle.typing_rules.specs.Places.{place_in_text, used, a_node_of, unit, bool, never, int, Fit, Fits, Coerced, Differs, fit, variable_place, Member, through_at, through_in, through, is_fixed, in_own_guard, is_behind_shared, wanted, agrees}
 use Rattle.typing_rules.specs.Rows as rows
 use Rattle.typing_rules.specs.Rows.{Typer, Referrer, Method, Matcher, Expected, Given, borrow_by}
-use Rattle.typing_rules.specs.Scope.{Env, Entry, Around, adt_named, adt_at_head}
+use Rattle.typing_rules.specs.Scope.{Env, NamedEntry, LabelledLoop, adt_named, adt_at_head}
 use Rattle.src_ast.specs.Syntax.{Word}
 use Rattle.typing_rules.proofs.Sound.Gives.{numbered}
 use Rattle.typing_rules.specs.Bodies.{all_rules}
@@ -39,7 +39,7 @@ pub record Inside (b : Bounds) (items : ItemTable) : Type 0 where
 
 -- a check that stays within them
 abbrev pub Keeps : Bounds → {A : Type 0} → Check A → Type 0
-Keeps b {A} check = (s : State) → Inside b s.items → Walked (λ (_ : A) t. Inside b t.items) (check s)
+Keeps b {A} check = (s : TypingState) → Inside b s.items → Walked (λ (_ : A) t. Inside b t.items) (check s)
 
 abbrev pub KeepsTyper : Bounds → Typer → Type 0
 KeepsTyper b check = (want : Option TyId) → Keeps b (check want)
@@ -58,7 +58,7 @@ no_adt : Adt
 no_adt = record { name = []; is_enum = false; variants = []; copy = false; drop_body = None }
 
 -- where only types come, which are within their limits
-pub still_kept : (b : Bounds) {s t : State} → Inside b s.items → AreIn b t.items → SameWalk s t → Inside b t.items
+pub still_kept : (b : Bounds) {s t : TypingState} → Inside b s.items → AreIn b t.items → SameWalk s t → Inside b t.items
 still_kept b h types e = record { adts = subst (λ as_. length as_ ≤ b.adts) (sym e.stays.adts) h.adts; types = types }
 
 module _ (b : Bounds) where
@@ -74,13 +74,13 @@ module _ (b : Bounds) where
   head_below items h env named None n is = named.self n is
   head_below items h env named (Some name) n is = named_below items h name n is
 
-  pub intern_when : {C : Type 0} (ty : Ty) (s : State) → Inside b s.items → (C → IsIn b (length s.items.closures) ty) → Walked (λ
+  pub intern_when : {C : Type 0} (ty : Ty) (s : TypingState) → Inside b s.items → (C → IsIn b (length s.items.closures) ty) → Walked (λ
       id t. C → Inside b t.items) (interned ty s)
   intern_when {C} ty s h is =
       walk_map (both_walk (interned ty s) (interned_when b {C = C} ty s (λ _. h.types) is) (interned_still ty s (still s))) λ
       id t k c. still_kept b h (k.0 c) k.1
 
-  pub intern_kept : (ty : Ty) (s : State) → Inside b s.items → IsIn b (length s.items.closures) ty → Walked (λ id t. Inside b
+  pub intern_kept : (ty : Ty) (s : TypingState) → Inside b s.items → IsIn b (length s.items.closures) ty → Walked (λ id t. Inside b
       t.items) (interned ty s)
   intern_kept ty s h is = walk_map (intern_when {C = Unit {0}} ty s h (λ _. is)) λ id t k. k tt
 
@@ -91,7 +91,7 @@ module _ (b : Bounds) where
   -- ---- the end of a row
 
   -- what only numbers a node
-  fitted_as : (P : ItemTable → Type 0) (want : Option TyId) (n : Node) (s : State) → P s.items → Walked (λ _ t. P t.items)
+  fitted_as : (P : ItemTable → Type 0) (want : Option TyId) (n : Node) (s : TypingState) → P s.items → Walked (λ _ t. P t.items)
       (rows.fitted want n s)
   fitted_as P None n s h = walk_ends h
   fitted_as P (Some want) n s h = by (fit s.items want (ty_of n))
@@ -101,11 +101,11 @@ module _ (b : Bounds) where
       by (Coerced trait_no) = walk_ends h
       by Differs = record { so = tt }
 
-  pub fitted_kept : (want : Option TyId) (n : Node) (s : State) → Inside b s.items → Walked (λ _ t. Inside b t.items)
+  pub fitted_kept : (want : Option TyId) (n : Node) (s : TypingState) → Inside b s.items → Walked (λ _ t. Inside b t.items)
       (rows.fitted want n s)
   fitted_kept want n s h = fitted_as (Inside b) want n s h
 
-  settled_kept : (id : ℕ) (at : Pos) (want : Option TyId) (ty : TyId) (form : Form) (s : State) → Inside b s.items → Walked (λ _ t.
+  settled_kept : (id : ℕ) (at : Pos) (want : Option TyId) (ty : TyId) (form : Form) (s : TypingState) → Inside b s.items → Walked (λ _ t.
       Inside b t.items) (rows.settled want (a_node_of id at ty form) s)
   settled_kept id at want ty form s h = walk_obeyed Rule.T03 at (agrees s.items want ty) _ λ _. walk_ends h
 
@@ -123,10 +123,10 @@ module _ (b : Bounds) where
 
   -- ---- places
 
-  pub variable_kept : (at : Pos) (x : Entry) → Keeps b (variable_place at x)
+  pub variable_kept : (at : Pos) (x : NamedEntry) → Keeps b (variable_place at x)
   variable_kept at x s h = walk_ends h
 
-  pub taken_kept : (env : Env) (want : Option TyId) (n : Node) (s : State) → Inside b s.items → Walked (λ _ t. Inside b t.items)
+  pub taken_kept : (env : Env) (want : Option TyId) (n : Node) (s : TypingState) → Inside b s.items → Walked (λ _ t. Inside b t.items)
       (rows.taken env want n s)
   taken_kept env want n s h =
       walk (fitted_kept want (used (rows.taking s.items (ty_of n)) n) s h) λ m t k. walk_obeyed Rule.T07 (place_in_text n)
@@ -140,7 +140,7 @@ module _ (b : Bounds) where
       k
 
   module _ {A : Type 0} (member : Member A) (at : Pos) where
-    through_in_kept : (n : ℕ) (items : ItemTable) (base : Node) (s : State) → Inside b s.items → Walked (λ _ t. Inside b t.items)
+    through_in_kept : (n : ℕ) (items : ItemTable) (base : Node) (s : TypingState) → Inside b s.items → Walked (λ _ t. Inside b t.items)
         (through_in member at n items base s)
     through_in_kept zero items base s h = walk_ends h
     through_in_kept (suc n) items base s h =
@@ -154,7 +154,7 @@ module _ (b : Bounds) where
         by on None None = walk_ends h
         by on None (Some ty) = on ty
 
-    pub through_kept : (base : Node) (s : State) → Inside b s.items → Walked (λ _ t. Inside b t.items) (through member at
+    pub through_kept : (base : Node) (s : TypingState) → Inside b s.items → Walked (λ _ t. Inside b t.items) (through member at
         base s)
     through_kept base s h = through_in_kept (suc (length s.items.types)) s.items base s h
 
@@ -225,7 +225,7 @@ module _ (b : Bounds) where
 
   -- ---- references
 
-  borrow_of_kept : (id : ℕ) (at : Pos) (unique : Bool) (base : Node) (s : State) → Inside b s.items → Walked (λ _ t. Inside b
+  borrow_of_kept : (id : ℕ) (at : Pos) (unique : Bool) (base : Node) (s : TypingState) → Inside b s.items → Walked (λ _ t. Inside b
       t.items) (rows.borrow_of id at unique base s)
   borrow_of_kept id at unique base s h =
       walk (intern_kept (rows.reference_ty unique (ty_of base)) s h (borrowed_in (length s.items.closures) unique (ty_of base)))
@@ -237,7 +237,7 @@ module _ (b : Bounds) where
       is_unique) _ λ _. walk_obeyed Rule.T08 (place_in_text n) (not (unique && is_behind_shared t.items n)) _ λ _.
       borrow_of_kept s.next_node at unique n t k
 
-  pub passed_on_kept : (at : Pos) (x : Entry) → KeepsReferrer b (rows.passed_on at x)
+  pub passed_on_kept : (at : Pos) (x : NamedEntry) → KeepsReferrer b (rows.passed_on at x)
   passed_on_kept at x want unique to s h =
       walk_obeyed Rule.T03 at (rows.passes unique to (reference_of s.items x.ty)) _ λ _. walk {f = λ v. rows.borrow_of
       s.next_node at unique (a_node_of (suc s.next_node) at to (Deref v))} (variable_kept at x (numbered (numbered s)) h) λ v t
@@ -265,7 +265,7 @@ module _ (b : Bounds) where
   pub no_call_kept : (at : Pos) (rule : Rule) (args : List TyId → Check Nodes) → KeepsTyper b (rows.no_call at rule args)
   no_call_kept at rule args want s h = walk_nothing rule at (args [] s)
 
-  received_kept : (env : Env) (at : Pos) (base : Node) (self : TyId) (s : State) → Inside b s.items → Walked (λ _ t. Inside b
+  received_kept : (env : Env) (at : Pos) (base : Node) (self : TyId) (s : TypingState) → Inside b s.items → Walked (λ _ t. Inside b
       t.items) (rows.received env at base self s)
   received_kept env at base self s h = by (reference_of s.items self)
     where
@@ -284,7 +284,7 @@ module _ (b : Bounds) where
   method_kept env at named count receiver args good_r good want s h =
       walk (good_r (numbered s) h) λ n t k. walk (through_kept named at n t k) λ r u l. by r.0 r.1 u l
     where
-      with_self : (base : Node) (m : Method) (params : List TyId) (u : State) → Inside b u.items → Walked (λ _ t. Inside b
+      with_self : (base : Node) (m : Method) (params : List TyId) (u : TypingState) → Inside b u.items → Walked (λ _ t. Inside b
           t.items) (rows.with_self env at s.next_node base m count args want params u)
       with_self base m [] u l = walk_nothing Rule.T12 at (args [] u)
       with_self base m (self ∷ params) u l =
@@ -293,13 +293,13 @@ module _ (b : Bounds) where
           Rule.T04 at (count == length params) _ λ _. walk_obeyed Rule.T08 at (not (rows.is_unique_borrow (form_of receiver)
           && is_behind_shared y.items base)) _ λ _. walk_obeyed Rule.T13 at (not (rows.is_drop_method m)) _ λ _. walk_ends w
 
-      if_takes : (base : Node) (m : Method) (u : State) → Inside b u.items → (c : Bool) → Walked (λ _ t. Inside b t.items) ((if
+      if_takes : (base : Node) (m : Method) (u : TypingState) → Inside b u.items → (c : Bool) → Walked (λ _ t. Inside b t.items) ((if
           c then rows.with_self env at s.next_node base m count args want (rows.head_of m).params else (args [] >> breaks
           Rule.T12 at)) u)
       if_takes base m u l true = with_self base m (rows.head_of m).params u l
       if_takes base m u l false = walk_nothing Rule.T12 at (args [] u)
 
-      by : (base : Node) (o : Option Method) (u : State) → Inside b u.items → Walked (λ _ t. Inside b t.items)
+      by : (base : Node) (o : Option Method) (u : TypingState) → Inside b u.items → Walked (λ _ t. Inside b t.items)
           (rows.with_method env at s.next_node base o count args want u)
       by base None u l = walk_nothing Rule.T12 at (args [] u)
       by base (Some m) u l = if_takes base m u l (rows.takes_self u.items (ty_of base) (rows.head_of m).params)
@@ -309,7 +309,7 @@ module _ (b : Bounds) where
   closure_call_kept at count callee args good_c good want s h =
       walk (good_c (numbered s) h) λ c t k. by c t k _ _
     where
-      by : (c : Node) (t : State) → Inside b t.items → (body : ℕ) (o : Option Sig) → Walked (λ _ u. Inside b u.items)
+      by : (c : Node) (t : TypingState) → Inside b t.items → (body : ℕ) (o : Option Sig) → Walked (λ _ u. Inside b u.items)
           (rows.with_closure at s.next_node c count args want body o t)
       by c t k body None = walk_nothing Rule.T13 at (args [] t)
       by c t k body (Some head) =
@@ -329,7 +329,7 @@ module _ (b : Bounds) where
   new_box_kept at count args good want s h =
       walk (good _ (numbered s) h) λ ns t k. by (wanted rows.box_wanted s.items want) (rows.first_node ns) t k
     where
-      by : (content : Option TyId) (o : Option Node) (t : State) → Inside b t.items → Walked (λ _ u. Inside b u.items)
+      by : (content : Option TyId) (o : Option Node) (t : TypingState) → Inside b t.items → Walked (λ _ u. Inside b u.items)
           (rows.box_by at s.next_node count want content o t)
       by content None t k = record { so = tt }
       by content (Some c) t k =
@@ -347,7 +347,7 @@ module _ (b : Bounds) where
 
   -- a tuple has its type before its parts are counted
   pub tuple_kept : (at : Pos) (count : ℕ) (parts : List (Option TyId) → Check (Nodes × List TyId)) → IsTrue (nat_lt 0 count) →
-      ((wants : List (Option TyId)) (s : State) → Inside b s.items → Walked (λ ps t. Inside b t.items × (length ps.1 ≡
+      ((wants : List (Option TyId)) (s : TypingState) → Inside b s.items → Walked (λ ps t. Inside b t.items × (length ps.1 ≡
       count)) (parts wants s)) → KeepsTyper b (rows.tuple_row at count parts)
   tuple_kept at count parts some good want s h =
       walk (good _ (numbered s) h) λ ps t k. walk (intern_when {C = IsTrue (nat_le count 12)} (Ty.Tuple ps.1) t k.0 λ few.
@@ -367,7 +367,7 @@ module _ (b : Bounds) where
   -- ---- blocks and branches
 
   pub block_kept : (P : Env → Type 0) (at : Pos) (check : Check (Nodes × Bool × Env)) (tail : Env → Option TyId → Check
-      MaybeNode) → ((s : State) → Inside b s.items → Walked (λ done t. Inside b t.items × P done.2) (check s)) → ((inner :
+      MaybeNode) → ((s : TypingState) → Inside b s.items → Walked (λ done t. Inside b t.items × P done.2) (check s)) → ((inner :
       Env) → P inner → (want : Option TyId) → Keeps b (tail inner want)) → KeepsTyper b (rows.block at check tail)
   block_kept P at check tail good good_t want s h =
       walk (good (numbered s) h) λ done t k. walk (good_t done.2 k.1 want t k.0) λ v u l. settled_kept s.next_node at want (rows.block_ty v done.1) (tree.Block done.0 v) u l
@@ -385,23 +385,23 @@ module _ (b : Bounds) where
   scrutinised_kept : {check : Check Node} → Keeps b check → Keeps b (rows.scrutinised check)
   scrutinised_kept good s h = walk (plain_kept good s h) λ n t k. walk_ends k
 
-  pub if_let_alone_kept : (env : Env) (at : Pos) (scrutinee : Check Node) (matcher : Matcher) (body : List Entry → Typer) →
-      Keeps b scrutinee → KeepsMatcher b matcher → ((xs : List Entry) → KeepsTyper b (body xs)) → KeepsTyper b
+  pub if_let_alone_kept : (env : Env) (at : Pos) (scrutinee : Check Node) (matcher : Matcher) (body : List NamedEntry → Typer) →
+      Keeps b scrutinee → KeepsMatcher b matcher → ((xs : List NamedEntry) → KeepsTyper b (body xs)) → KeepsTyper b
       (rows.if_let_alone env at scrutinee matcher body)
   if_let_alone_kept env at scrutinee matcher body good good_m good_b want s h =
       walk (scrutinised_kept good (numbered s) h) λ n t k. walk (good_m _ (ty_of n) t k) λ p u l. walk (good_b p.1 (Some unit) u
       l) λ m v q. settled_kept s.next_node at want unit (tree.IfLet p.0 n m absent) v q
 
-  pub if_let_else_kept : (env : Env) (at : Pos) (scrutinee : Check Node) (matcher : Matcher) (body : List Entry → Typer)
-      (otherwise : Typer) → Keeps b scrutinee → KeepsMatcher b matcher → ((xs : List Entry) → KeepsTyper b (body xs)) →
+  pub if_let_else_kept : (env : Env) (at : Pos) (scrutinee : Check Node) (matcher : Matcher) (body : List NamedEntry → Typer)
+      (otherwise : Typer) → Keeps b scrutinee → KeepsMatcher b matcher → ((xs : List NamedEntry) → KeepsTyper b (body xs)) →
       KeepsTyper b otherwise → KeepsTyper b (rows.if_let_else env at scrutinee matcher body otherwise)
   if_let_else_kept env at scrutinee matcher body otherwise good good_m good_b good_o want s h =
       walk (scrutinised_kept good (numbered s) h) λ n t k. walk (good_m _ (ty_of n) t k) λ p u l. walk (good_b p.1 want u l) λ m
       v q. walk (good_o want v q) λ o z w. walk_found Rule.T03 at (rows.one_of_two z.items (ty_of m) (ty_of o)) _ λ ty is.
       settled_kept s.next_node at want ty (tree.IfLet p.0 n m (present o)) z w
 
-  pub arm_kept : (check : Check (Node × List Entry)) (guard : List Entry → Check MaybeNode) (body : List Entry → Typer) → Keeps
-      b check → ((xs : List Entry) → Keeps b (guard xs)) → ((xs : List Entry) → KeepsTyper b (body xs)) → KeepsTyper b
+  pub arm_kept : (check : Check (Node × List NamedEntry)) (guard : List NamedEntry → Check MaybeNode) (body : List NamedEntry → Typer) → Keeps
+      b check → ((xs : List NamedEntry) → Keeps b (guard xs)) → ((xs : List NamedEntry) → KeepsTyper b (body xs)) → KeepsTyper b
       (rows.arm check guard body)
   arm_kept check guard body good good_g good_b want s h =
       walk (good (numbered s) h) λ p t k. walk (good_g p.1 t k) λ g u l. walk (good_b p.1 want u l) λ m v q. walk_ends q
@@ -415,31 +415,31 @@ module _ (b : Bounds) where
 
   -- ---- loops and jumps
 
-  pub loop_kept : (at : Pos) (label : Option Word) (body : Around → Typer) → ((a : Around) → KeepsTyper b (body a)) → KeepsTyper
+  pub loop_kept : (at : Pos) (label : Option Word) (body : LabelledLoop → Typer) → ((a : LabelledLoop) → KeepsTyper b (body a)) → KeepsTyper
       b (rows.loop_row at label body)
   loop_kept at label body good want s h =
       walk (good _ (Some unit) (numbered s) h) λ n t k. walk_found Rule.T03 at (rows.one_type t.items (types_for s.next_node
       t.breaks)) _ λ ty is. settled_kept s.next_node at want ty (tree.Loop n) t k
 
-  pub while_kept : (at : Pos) (label : Option Word) (c body : Around → Typer) → ((a : Around) → KeepsTyper b (c a)) → ((a :
-      Around) → KeepsTyper b (body a)) → KeepsTyper b (rows.while_row at label c body)
+  pub while_kept : (at : Pos) (label : Option Word) (c body : LabelledLoop → Typer) → ((a : LabelledLoop) → KeepsTyper b (c a)) → ((a :
+      LabelledLoop) → KeepsTyper b (body a)) → KeepsTyper b (rows.while_row at label c body)
   while_kept at label c body good_c good_b want s h =
       walk (good_c _ (Some bool) (numbered s) h) λ n t k. walk (good_b _ (Some unit) t k) λ m u l. settled_kept s.next_node at want unit (tree.While n m) u l
 
-  pub while_let_kept : (env : Env) (at : Pos) (label : Option Word) (scrutinee : Around → Check Node) (matcher : Matcher) (body :
-      Around → List Entry → Typer) → ((a : Around) → Keeps b (scrutinee a)) → KeepsMatcher b matcher → ((a : Around) (xs :
-      List Entry) → KeepsTyper b (body a xs)) → KeepsTyper b (rows.while_let_row env at label scrutinee matcher body)
+  pub while_let_kept : (env : Env) (at : Pos) (label : Option Word) (scrutinee : LabelledLoop → Check Node) (matcher : Matcher) (body :
+      LabelledLoop → List NamedEntry → Typer) → ((a : LabelledLoop) → Keeps b (scrutinee a)) → KeepsMatcher b matcher → ((a : LabelledLoop) (xs :
+      List NamedEntry) → KeepsTyper b (body a xs)) → KeepsTyper b (rows.while_let_row env at label scrutinee matcher body)
   while_let_kept env at label scrutinee matcher body good good_m good_b want s h =
       walk (scrutinised_kept (good _) (numbered s) h) λ n t k. walk (good_m _ (ty_of n) t k) λ p u l. walk (good_b _ p.1 (Some
       unit) u l) λ m v q. settled_kept s.next_node at want unit (tree.WhileLet p.0 n m) v q
 
-  pub break_kept : (at : Pos) (to : Option Around) (value : Option TyId → Check MaybeNode) → ((want : Option TyId) → Keeps b
+  pub break_kept : (at : Pos) (to : Option LabelledLoop) (value : Option TyId → Check MaybeNode) → ((want : Option TyId) → Keeps b
       (value want)) → KeepsTyper b (rows.break_row at to value)
   break_kept at to value good want s h =
       walk (good _ (numbered s) h) λ v t k. walk_found Rule.T06 at to _ λ a is. walk_obeyed Rule.T06 at (rows.may_carry v a) _
       λ _. settled_kept s.next_node at want never (tree.Break a.loop v) (record t { breaks = t.breaks ++ (a.loop, rows.ty_carried v) ∷ [] }) k
 
-  pub continue_kept : (at : Pos) (to : Option Around) → KeepsTyper b (rows.continue_row at to)
+  pub continue_kept : (at : Pos) (to : Option LabelledLoop) → KeepsTyper b (rows.continue_row at to)
   continue_kept at to want s h = walk_found Rule.T06 at to _ λ a is. settled_kept s.next_node at want never (tree.Continue a.loop) (numbered s) h
 
   pub return_kept : (at : Pos) (answer : TyId) (value : Option TyId → Check MaybeNode) → ((want : Option TyId) → Keeps b (value
@@ -450,7 +450,7 @@ module _ (b : Bounds) where
 
   -- ---- statements
 
-  pub in_parts_kept : (env : Env) (want : Option TyId) (n : Node) (s : State) → Inside b s.items → Walked (λ _ t. Inside b
+  pub in_parts_kept : (env : Env) (want : Option TyId) (n : Node) (s : TypingState) → Inside b s.items → Walked (λ _ t. Inside b
       t.items) (rows.place_for_parts env want n s)
   in_parts_kept env None n s h =
       walk_obeyed Rule.T08 (place_in_text n) (not (is_reference s.items (ty_of n))) _ λ _. walk_ends h
@@ -464,15 +464,15 @@ module _ (b : Bounds) where
       by Differs = taken_kept env (Some want) n s h
 
   pub let_kept : (P : Env → Type 0) (at : Pos) (env : Env) (one : Bool) (written : Check (Option TyId)) (value : Option TyId →
-      Check MaybeNode) (matcher : Matcher) (behind : List Entry → Env) → ((xs : List Entry) → P (behind xs)) → Keeps b written →
-      ((want : Option TyId) → Keeps b (value want)) → KeepsMatcher b matcher → (s : State) → Inside b s.items → Walked (λ done
+      Check MaybeNode) (matcher : Matcher) (behind : List NamedEntry → Env) → ((xs : List NamedEntry) → P (behind xs)) → Keeps b written →
+      ((want : Option TyId) → Keeps b (value want)) → KeepsMatcher b matcher → (s : TypingState) → Inside b s.items → Walked (λ done
       t. Inside b t.items × P done.2) (rows.let_row at env one written value matcher behind s)
   let_kept P at env one written value matcher behind stays good_w good_v good_m s h =
       walk (good_w (numbered s) h) λ ty t k. walk (good_v ty t k) λ v u l. walk_found Rule.T16 at (rows.let_ty ty v) _ λ x is.
       walk (good_m _ _ u l) λ p w m. walk_ends (m, stays p.1)
 
   pub evaluate_kept : (P : Env → Type 0) (at : Pos) (env : Env) (has_semicolon : Bool) (e : Typer) → P env → KeepsTyper b e →
-      (s : State) → Inside b s.items → Walked (λ done t. Inside b t.items × P done.2) (rows.evaluate at env has_semicolon e s)
+      (s : TypingState) → Inside b s.items → Walked (λ done t. Inside b t.items × P done.2) (rows.evaluate at env has_semicolon e s)
   evaluate_kept P at env has_semicolon e stays good s h =
       walk (good None (numbered s) h) λ n t k. walk_obeyed Rule.T03 (place_in_text n) (has_semicolon || (is_unit t.items
       (ty_of n) || is_never t.items (ty_of n))) _ λ _. walk_ends (k, stays)

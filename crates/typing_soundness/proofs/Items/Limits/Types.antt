@@ -12,7 +12,7 @@ use Rattle.mir_ty.specs.declared.ty.TyId.{TyId}
 use Rattle.mir_ty.specs.ItemTable.{ItemTable, with_type}
 use Rattle.mir_ty.proofs.ListLemmas.{slice_get-push_cases}
 use Rattle.well_typed.specs.Items.{is_equal}
-use Rattle.typing_rules.specs.Check.{State, interned, interned_at}
+use Rattle.typing_rules.specs.Check.{TypingState, interned, interned_at}
 use Rattle.typing_rules.specs.Written as types
 use Rattle.src_ast.specs.Syntax.{Syn, syn, Shape, NamedType, GenericType, DynType, SelfType, ParensType, TupleType, ArrayType, NeverType, RefType, Syns, no_syn, a_syn}
 use Rattle.typing_soundness.specs.Walks.{Walked}
@@ -43,7 +43,7 @@ pub position_below : {A : Type 0} (p : A → Bool) (xs : List A) (other : A) (n 
 position_below p xs other n is = (position-Some p xs n other is).0
 
 -- names that stand for no more structs, enums and traits than there are
-pub record AreNamed (b : Bounds) (around : types.Around) : Type 0 where
+pub record AreNamed (b : Bounds) (around : types.WrittenScope) : Type 0 where
   pub adts : length around.adts ≤ b.adts
   pub traits : length around.traits ≤ b.traits
   pub self : (n : ℕ) → around.self_adt ≡ Some n → n < b.adts
@@ -58,7 +58,7 @@ module _ (b : Bounds) where
       by (inr new_) = subst (IsIn b (length items.closures)) new_.1 is
 
   -- a type gets a number, where something is so that puts it within its limits
-  pub interned_when : {C : Type 0} (ty : Ty) (s : State) → (C → AreIn b s.items) → (C → IsIn b (length s.items.closures) ty) →
+  pub interned_when : {C : Type 0} (ty : Ty) (s : TypingState) → (C → AreIn b s.items) → (C → IsIn b (length s.items.closures) ty) →
       Walked (λ id t. C → AreIn b t.items) (interned ty s)
   interned_when {C} ty s h is = by (position_of (is_equal ty) s.items.types)
     where
@@ -66,7 +66,7 @@ module _ (b : Bounds) where
       by (Some n) = walk_ends h
       by None = walk_ends (λ c. with_type_in s.items ty (is c) (h c))
 
-  pub interned_in : (ty : Ty) (s : State) → AreIn b s.items → IsIn b (length s.items.closures) ty → Walked (λ id t. AreIn b
+  pub interned_in : (ty : Ty) (s : TypingState) → AreIn b s.items → IsIn b (length s.items.closures) ty → Walked (λ id t. AreIn b
       t.items) (interned ty s)
   interned_in ty s h is =
       walk_map (interned_when {C = Unit {0}} ty s (λ _. h) (λ _. is)) λ id t k. k tt
@@ -77,12 +77,12 @@ module _ (b : Bounds) where
 
   -- ---- types as they are written, by all rules
 
-  named_in : (at : Pos) (adt : Option ℕ) (scalar : Option TyId) (s : State) → ((n : ℕ) → adt ≡ Some n → n < b.adts) → AreIn b
+  named_in : (at : Pos) (adt : Option ℕ) (scalar : Option TyId) (s : TypingState) → ((n : ℕ) → adt ≡ Some n → n < b.adts) → AreIn b
       s.items → Walked (λ ty t. AreIn b t.items) (types.named_by at adt scalar s)
   named_in at adt (Some ty) s below h = walk_ends h
   named_in at adt None s below h = walk_found Rule.T01 at adt _ λ n is. interned_in (Ty.Adt n) s h (below n is)
 
-  tuple_when : (tys : List TyId) (s : State) → AreIn b s.items → Walked (λ ty t. IsTrue (nat_le (length tys) 12) → AreIn b
+  tuple_when : (tys : List TyId) (s : TypingState) → AreIn b s.items → Walked (λ ty t. IsTrue (nat_le (length tys) 12) → AreIn b
       t.items) (types.tuple_by tys s)
   tuple_when [] s h = walk_ends (λ few. h)
   tuple_when (ty ∷ tys) s h =
@@ -93,15 +93,15 @@ module _ (b : Bounds) where
   few_shown count few =
       subst (λ n. IsTrue (nat_le n 32)) (sym (min-eq_left (let e = leb-true count 32 few in omega (arith, e)))) few
 
-  module _ (around : types.Around) (named : AreNamed b around) where
-    abbrev full : types.Around
+  module _ (around : types.WrittenScope) (named : AreNamed b around) where
+    abbrev full : types.WrittenScope
     full = record around { has_limits = true }
 
     mutual
-      pub written_in : (e : Syn) (s : State) → AreIn b s.items → Walked (λ ty t. AreIn b t.items) (types.written full e s)
+      pub written_in : (e : Syn) (s : TypingState) → AreIn b s.items → Walked (λ ty t. AreIn b t.items) (types.written full e s)
       written_in (syn at form) s h = form_in at form s h
 
-      form_in : (at : Pos) (form : Shape) (s : State) → AreIn b s.items → Walked (λ ty t. AreIn b t.items)
+      form_in : (at : Pos) (form : Shape) (s : TypingState) → AreIn b s.items → Walked (λ ty t. AreIn b t.items)
           (types.written_form full at form s)
       form_in at (NamedType name) s h =
           named_in at (types.number_of around.adts name) (types.scalar_named name) s (λ n is. let e = position_below _
@@ -127,17 +127,17 @@ module _ (b : Bounds) where
       form_in at (RefType unique to) s h = walk (written_in to s h) λ ty t k. record { so = tt }
       form_in at _ s h = record { so = tt }
 
-      all_in : (xs : Syns) (s : State) → AreIn b s.items → Walked (λ tys t. AreIn b t.items) (types.all_written full xs s)
+      all_in : (xs : Syns) (s : TypingState) → AreIn b s.items → Walked (λ tys t. AreIn b t.items) (types.all_written full xs s)
       all_in no_syn s h = walk_ends h
       all_in (a_syn first rest) s h =
           walk (written_in first s h) λ ty t k. walk (all_in rest t k) λ tys u l. walk_ends l
 
     mutual
-      pub written_param_in : (e : Syn) (s : State) → AreIn b s.items → Walked (λ ty t. AreIn b t.items) (types.written_param
+      pub written_param_in : (e : Syn) (s : TypingState) → AreIn b s.items → Walked (λ ty t. AreIn b t.items) (types.written_param
           full e s)
       written_param_in (syn at form) s h = param_form_in at form s h
 
-      param_form_in : (at : Pos) (form : Shape) (s : State) → AreIn b s.items → Walked (λ ty t. AreIn b t.items)
+      param_form_in : (at : Pos) (form : Shape) (s : TypingState) → AreIn b s.items → Walked (λ ty t. AreIn b t.items)
           (types.written_param_form full at form s)
       param_form_in at (ParensType inside) s h = written_param_in inside s h
       param_form_in at (RefType unique to) s h =

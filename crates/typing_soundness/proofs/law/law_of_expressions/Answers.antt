@@ -1,5 +1,5 @@
 use Rattle.typing_rules.specs.Named.{PathValue, Makes, IsBroken, path_value, Callee, Function, Constructor, callee_of}
-use Rattle.typing_rules.specs.Check.{State}
+use Rattle.typing_rules.specs.Check.{TypingState}
 use Rattle.typing_rules.specs.Promises.{KnowsItems}
 use Rattle.typing_rules.specs.Scope.{Env}
 use Rattle.typing_soundness.specs.Expressions.{NamesUnit, NamesCallee}
@@ -9,12 +9,12 @@ use Rattle.typing_soundness.proofs.Sound.Loops.{loop_sound}
 use Rattle.typing_soundness.proofs.Sound.Names.{IsUnit, IsCallee, path_is, callee_is}
 use Rattle.typing_soundness.proofs.law.law_of_expressions.Goals as goal
 
-unit_named : (s : State) (env : Env) (k : KnowsItems env.kinds env.self_adt s.items) (v : PathValue) → IsUnit s.items env
+unit_named : (s : TypingState) (env : Env) (k : KnowsItems env.kinds env.self_adt s.items) (v : PathValue) → IsUnit s.items env
     k v → NamesUnit s v
 unit_named s env k (Makes adt variant) h = h
 unit_named s env k (IsBroken rule) h = tt
 
-callee_named : (s : State) (env : Env) (k : KnowsItems env.kinds env.self_adt s.items) (c : Callee) → IsCallee s env k c
+callee_named : (s : TypingState) (env : Env) (k : KnowsItems env.kinds env.self_adt s.items) (c : Callee) → IsCallee s env k c
     → NamesCallee s c
 callee_named s env k (Function body is_drop head) h = h
 callee_named s env k (Constructor adt variant tys) h = h

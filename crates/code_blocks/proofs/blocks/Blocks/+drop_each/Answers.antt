@@ -1,7 +1,7 @@
 use Rattle.std.proofs.Common.{◌≡◌, ◌∙◌, ◌∷◌, ◌++◌, List, sym, ap}
 use Rattle.std.proofs.lemmas.Result.{on_ok_weaker}
 use Rattle.cfg_build.specs.Build as build
-use Rattle.cfg_build.specs.Build.{Frame}
+use Rattle.cfg_build.specs.Build.{LoweringFrame}
 use Rattle.code_passes.specs.Framed.{frame_of}
 use Rattle.code_passes.specs.Scoped.{entries_of, held}
 use Rattle.scope_code.specs.View.{entry_of}
@@ -12,7 +12,7 @@ use Rattle.code_blocks.proofs.blocks.Blocks.+drop_each.Goals as goal
 
 pub returns-in_ok-drop_each-in-Youngest : goal.returns-in_ok-drop_each-in-Youngest
 returns-in_ok-drop_each-in-Youngest t c =
-    let f : Frame = frame_of c.args.frame in
+    let f : LoweringFrame = frame_of c.args.frame in
     let e : Entry = entry_of c.in-Youngest.entry in
     let older : List Entry = held c.in-Youngest.older.now in
     let was : held c.args.entries.now ≡ e ∷ older = ap held c.in-Youngest.is in

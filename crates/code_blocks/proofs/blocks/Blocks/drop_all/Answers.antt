@@ -1,5 +1,5 @@
 use Rattle.std.proofs.Common.{◌∙◌, List, refl, sym, ap}
-use Rattle.cfg_build.specs.Build.{Frame, drop_all}
+use Rattle.cfg_build.specs.Build.{LoweringFrame, drop_all}
 use Rattle.code_blocks.specs.Building.{rest_of, building_of}
 use Rattle.code_passes.specs.Framed.{frame_of}
 use Rattle.code_passes.specs.Scoped.{held, scopes_of}
@@ -13,7 +13,7 @@ returns-then-drops_none c =
 
 pub returns : goal.returns
 returns c =
-    let f : Frame = frame_of c.args.frame in
+    let f : LoweringFrame = frame_of c.args.frame in
     let S : Scopes = scopes_of c.args.around.now in
     let es : List Entry = needing_drop c.args.frame.items.now (held c.args.entries.now) in
     (λ i. (c.keep_room.ensures.rest i, c.keep_room.ensures.building i))

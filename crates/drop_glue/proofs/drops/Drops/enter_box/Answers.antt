@@ -4,7 +4,7 @@ use Rattle.std.specs.Option.{is_none}
 use Rattle.drop_glue.specs.declared.drops.Drops.{Drops}
 use Rattle.drop_glue.specs.declared.drops.Turn.{Turn}
 use Rattle.drop_glue.specs.declared.level.Level.{Level}
-use Rattle.drop_glue.specs.declared.reading.Kind.{Kind}
+use Rattle.drop_glue.specs.declared.reading.DropKind.{DropKind}
 use Rattle.drop_glue.specs.Turns.{Begins}
 use Rattle.drop_glue.proofs.TurnsLeft.{with_level, with_step, begins_untyped, begins_box}
 use Rattle.mir_store.specs.declared.types.Dynamic.{Dynamic}
@@ -13,12 +13,12 @@ use Rattle.store_model.specs.declared.address.At.TheVariants.{Inside}
 use Rattle.drop_glue.proofs.drops.Drops.enter_box.Goals as goal
 
 untyped : (items : ItemTable) (ticks : ℕ) (has_run : Bool) (old : Drops) (dynamic : Dynamic) (serial : ℕ) (content : Option Dynamic) → is_none content ≡ true →
-    Begins items ticks has_run (record { dynamic = dynamic; kind = Kind.Boxed serial content }) old old Turn.Stuck
+    Begins items ticks has_run (record { dynamic = dynamic; kind = DropKind.Boxed serial content }) old old Turn.Stuck
 untyped items ticks has_run old dynamic serial None e = begins_untyped items ticks has_run old dynamic serial
 untyped items ticks has_run old dynamic serial (Some child) e = absurd (true≢false (sym e))
 
 entered : (items : ItemTable) (ticks : ℕ) (has_run : Bool) (old : Drops) (dynamic : Dynamic) (serial : ℕ) (content : Option Dynamic) → is_none content ≡ false →
-    Begins items ticks has_run (record { dynamic = dynamic; kind = Kind.Boxed serial content }) old (with_step (with_level old (Level.Content dynamic)) Inside) (Turn.Visits false None)
+    Begins items ticks has_run (record { dynamic = dynamic; kind = DropKind.Boxed serial content }) old (with_step (with_level old (Level.Content dynamic)) Inside) (Turn.Visits false None)
 entered items ticks has_run old dynamic serial None e = absurd (true≢false e)
 entered items ticks has_run old dynamic serial (Some child) e = begins_box items ticks has_run old dynamic child serial
 
@@ -27,5 +27,5 @@ returns-then-is_none c = λ items ticks has_run serial. untyped items ticks has_
 
 pub returns : goal.returns
 returns c = λ items ticks has_run serial.
-    subst (λ new. Begins items ticks has_run (record { dynamic = c.args.dynamic; kind = Kind.Boxed serial c.args.content }) c.args.self.now new (Turn.Visits false None)) (sym c.in_ok-enter_content.ensures)
+    subst (λ new. Begins items ticks has_run (record { dynamic = c.args.dynamic; kind = DropKind.Boxed serial c.args.content }) c.args.self.now new (Turn.Visits false None)) (sym c.in_ok-enter_content.ensures)
     (entered items ticks has_run c.args.self.now c.args.dynamic serial c.args.content (ap not c.if-is_none.ensures))

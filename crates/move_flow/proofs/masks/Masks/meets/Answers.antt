@@ -1,6 +1,6 @@
 use Rattle.std.proofs.Common.{◌≡◌, ◌<◌, List, Option, Some, None, length, ap, sym, ◌∙◌, arith}
 use Rattle.bit_rows.specs.Words.{any_both}
-use Rattle.init_flow.specs.Carried.{Row}
+use Rattle.init_flow.specs.Carried.{Bits}
 use Rattle.move_flow.proofs.Masking.{length-masks, mask-is}
 use Rattle.move_flow.proofs.masks.Masks.meets.Goals as goal
 
@@ -21,14 +21,14 @@ meets-requires c =
 pub returns-in-Some : goal.returns-in-Some
 returns-in-Some c =
     c.meets.ensures
-    ∙ ap (λ (z : Row). any_both z c.args.row.now) (sym (mask-is c.self.inside.bits c.args.path c.self.inside.rows c.as_slice.result.now c.args.self.now c.self.view_is c.as_slice.ensures
+    ∙ ap (λ (z : Bits). any_both z c.args.row.now) (sym (mask-is c.self.inside.bits c.args.path c.self.inside.rows c.as_slice.result.now c.args.self.now c.self.view_is c.as_slice.ensures
     (let count = length-masks c.self.inside.bits 0 c.self.inside.rows in let long = ap length c.self.view_is in let within = c.requires.path in omega (count, long, within, arith))
     (Some c.in-Some.mask) c.index-as_slice-path.result (sym c.in-Some.is ∙ c.index-as_slice-path.is)))
 
 pub returns-in-None : goal.returns-in-None
 returns-in-None c =
     c.is_on.ensures
-    ∙ ap (λ (z : Row). any_both z c.args.row.now) (sym (mask-is c.self.inside.bits c.args.path c.self.inside.rows c.as_slice.result.now c.args.self.now c.self.view_is c.as_slice.ensures
+    ∙ ap (λ (z : Bits). any_both z c.args.row.now) (sym (mask-is c.self.inside.bits c.args.path c.self.inside.rows c.as_slice.result.now c.args.self.now c.self.view_is c.as_slice.ensures
     (let count = length-masks c.self.inside.bits 0 c.self.inside.rows in let long = ap length c.self.view_is in let within = c.requires.path in omega (count, long, within, arith))
     None c.index-as_slice-path.result (sym c.in-None.is ∙ c.index-as_slice-path.is)))
 

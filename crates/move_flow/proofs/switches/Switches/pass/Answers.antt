@@ -1,6 +1,6 @@
 use Rattle.std.proofs.Common.{◌≡◌, List, slice_get, Option, Some, None, ap, sym, ◌∙◌}
 use Rattle.std.specs.Option.{option_copied}
-use Rattle.init_flow.specs.Carried.{Row}
+use Rattle.init_flow.specs.Carried.{Bits}
 use Rattle.move_flow.specs.declared.switches.BlockSwitches.{BlockSwitches}
 use Rattle.move_flow.specs.declared.switches.Switch.{Switch}
 use Rattle.move_flow.specs.Switches.{all_switched, at_most_one, result_switch, switch_by, way_switches}
@@ -14,8 +14,8 @@ returns-in_default c =
 
 pub returns-in-Some-result : goal.returns-in-Some-result
 returns-in-Some-result c =
-    let below : List Row = c.args.self.now.below in
-    let row : Row = c.args.row.now in
+    let below : List Bits = c.args.self.now.below in
+    let row : Bits = c.args.row.now in
     let found : BlockSwitches = c.in-Some.found.now in
     let some : slice_get c.args.self.now.blocks c.args.block ≡ Some found = sym c.get.ensures ∙ ap option_copied c.in-Some.is in
     c.switch.ensures
@@ -26,8 +26,8 @@ returns-in-Some-result c =
 
 pub returns-in_default-result : goal.returns-in_default-result
 returns-in_default-result c =
-    let below : List Row = c.args.self.now.below in
-    let row : Row = c.args.row.now in
+    let below : List Bits = c.args.self.now.below in
+    let row : Bits = c.args.row.now in
     let found : BlockSwitches = c.in-Some.found.now in
     let some : slice_get c.args.self.now.blocks c.args.block ≡ Some found = sym c.get.ensures ∙ ap option_copied c.in-Some.is in
     c.all.ensures ∙ ap (λ (z : List Switch). all_switched below z row) c.as_slice.ensures

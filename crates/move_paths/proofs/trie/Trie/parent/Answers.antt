@@ -3,7 +3,7 @@ use Rattle.std.specs.Option.{option_copied}
 use Rattle.cfg_graph.specs.declared.place.Step.{Step}
 use Rattle.move_paths.specs.Trie.{places}
 use Rattle.std.proofs.lemmas.Option.{none-some, slice_get-get_or}
-use Rattle.move_paths.specs.declared.parts.Part.{Part}
+use Rattle.move_paths.specs.declared.parts.PathPart.{PathPart}
 use Rattle.move_paths.proofs.Growth.{length-all, root-at, parent-is}
 use Rattle.move_paths.proofs.trie.Trie.parent.Goals as goal
 
@@ -21,5 +21,5 @@ returns-in_err-part c =
     let long = length-all c.self.inside.locals c.self.inside.parts c.self.invariant in
     let within : c.args.path < length (places c.self.inside.locals c.self.inside.parts) = rw c.self.view_is c.requires in
     let late = c.if-path-self.false in
-    let fresh : Part = record { of = 0; step = Step.Inside } in
+    let fresh : PathPart = record { of = 0; step = Step.Inside } in
     absurd (none-some (get_or c.self.inside.parts (c.args.path - c.self.inside.locals) fresh) (sym none ∙ slice_get-get_or c.self.inside.parts (c.args.path - c.self.inside.locals) fresh (omega (long, within, late, arith))))

@@ -1,13 +1,13 @@
 use Rattle.std.proofs.Common.{◌+◌, ◌<◌, ◌^◌, length, sym, arith, subst}
 use Rattle.std.proofs.lemmas.Option.{slice_get_within}
-use Rattle.move_paths.specs.declared.parts.Part.{Part}
+use Rattle.move_paths.specs.declared.parts.PathPart.{PathPart}
 use Rattle.move_paths.specs.Trie.{IsTrie, Adds, places}
 use Rattle.move_paths.proofs.Growth.{trie-adds, grows-adds, added-here}
 use Rattle.move_paths.proofs.trie.Trie.step_from.Goals as goal
 use Rattle.move_paths.proofs.trie.Trie.step_from.Goals.{In_ok-n}
 
 -- the part that is added
-abbrev new : In_ok-n → Part
+abbrev new : In_ok-n → PathPart
 new c = record { of = c.args.of; step = c.args.step }
 
 inside : (c : In_ok-n) → c.args.of < length (places c.self.inside.locals c.self.inside.parts)
