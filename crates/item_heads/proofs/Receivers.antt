@@ -1,19 +1,24 @@
 -- Receivers and the heads of a trait's methods, by the forms that are borrowed from their nodes.
-use Rattle.std.proofs.Common.{◌≡◌, ◌≤◌, if◌then◌else◌, List, [], ◌∷◌, ◌++◌, length, All, refl, ap, sym, subst, ◌∙◌, arith}
+use Rattle.std.proofs.Common.{◌≡◌, ◌≤◌, if◌then◌else◌, List, [], ◌∷◌, ◌++◌, length, All, Result, refl, ap, sym, subst, ◌∙◌, arith}
 use Rattle.std.proofs.lemmas.List.Elements.{All-push}
 use Rattle.mir_base.specs.declared.place_in_text.Pos.{Pos}
+use Rattle.mir_base.specs.declared.rule.RuleError.{RuleError}
+use Rattle.mir_ty.specs.ItemTable.{ItemTable}
 use Rattle.mir_ty.specs.declared.def.Sig.{Sig}
 use Rattle.mir_ty.specs.declared.ty.Ty.{Ty}
 use Rattle.mir_ty.specs.declared.ty.TyId.{TyId}
 use Rattle.mir_ty.specs.AreItems.{IsSig}
 use Rattle.src_tree.specs.declared.node.SyntaxNode.{SyntaxNode}
+use Rattle.src_ast.specs.ItemForms.{item_of}
 use Rattle.src_ast.specs.Seen.{syn_of}
+use Rattle.src_ast.specs.declared.item.ItemForm.{ItemForm}
 use Rattle.src_ast.specs.Sorts.{param_part, item_part}
 use Rattle.src_ast.specs.Syntax.{ByValue, ByShared, ByUnique, Syn, syn, Syns, a_syn, Shape, at_of, shape_of, Ident, LabelOf, Literal, TruthLiteral, Path, Minus, Bang, Star, Ampersand, Calculate, Compare, Both, Either, Store, CallOf, MethodOf, FieldOf, PartOf, ElementOf, StructOf, FieldInit, Parens, TupleOf, ArrayOf, Braces, IfElse, IfLetElse, MatchOn, ArmOf, LoopOf, WhileOf, WhileLetOf, BreakOf, ContinueOf, ReturnOf, MoveOf, PanicOf, LetOf, Empty, Semi, AnyPattern, BindPattern, LiteralPattern, TruthPattern, PathPattern, PartsPattern, FieldsPattern, FieldPattern, ParensPattern, TuplePattern, ArrayPattern, Alternatives, NamedType, GenericType, DynType, SelfType, ParensType, TupleType, ArrayType, NeverType, RefType, StructItem, EnumItem, FieldDecl, VariantDecl, TraitItem, ImplItem, FnItem, ParamOf, SelfParam, Odd}
 use Rattle.src_ast.proofs.Named.{seen_as}
 use Rattle.typing_rules.specs.Check.{TypingState}
 use Rattle.typing_rules.specs.Collected.{is_by_reference, behind_self, trait_head}
 use Rattle.typing_rules.specs.Written.{WrittenScope}
+use Rattle.item_heads.specs.Answers.{Answers}
 use Rattle.item_heads.specs.Forms.{is_self_by, reference_by, trait_head_by}
 use Rattle.item_heads.proofs.Types.{ids_later}
 
@@ -263,6 +268,15 @@ pub trait_head_seen : (w : WrittenScope) (own : TyId) (n : SyntaxNode) (s : Typi
 trait_head_seen w own n s =
     trait_as w own (syn_of n) s
     ∙ ap (λ (x : Syn). trait_head_by w own (at_of x) (item_part (shape_of (syn_of n))) s) (seen_as n)
+
+-- what is answered of a form is answered of its node
+pub trait_head_answers : (w : WrittenScope) (own : TyId) (n : SyntaxNode) (s : TypingState) (r : Result Sig RuleError) (after : ItemTable) (seen form : ItemForm) →
+    seen ≡ form → item_of seen ≡ item_part (shape_of (syn_of n)) → Answers (trait_head_by w own n.at (item_of form) s) r after →
+    Answers (trait_head w own (syn_of n) s) r after
+trait_head_answers w own n s r after seen form is is_seen h =
+    let equal : trait_head_by w own n.at (item_of form) s ≡ trait_head w own (syn_of n) s =
+    ap (λ f. trait_head_by w own n.at (item_of f) s) (sym is) ∙ ap (λ f. trait_head_by w own n.at f s) is_seen ∙ sym (trait_head_seen w own n s) in
+    subst (λ o. Answers o r after) equal h
 
 sig_later : (types later : List Ty) (sig : Sig) → length types ≤ length later → IsSig types sig → IsSig later sig
 sig_later types later sig grows h =

@@ -1,11 +1,13 @@
 -- Nodes by the forms that are borrowed from them: what a definition says of a node is what it says of its form.
-use Rattle.std.proofs.Common.{◌≡◌, suc, ◌<◌, Bool, true, false, refl, ap, ◌∙◌, arith}
+use Rattle.std.proofs.Common.{◌≡◌, ℕ, suc, ◌+◌, ◌*◌, ◌<◌, ◌≤◌, Bool, true, false, refl, ap, sym, ◌∙◌, arith}
 use Rattle.std.specs.Prelude.{◌==◌}
 use Rattle.mir_base.specs.declared.place_in_text.Pos.{Pos}
 use Rattle.src_tree.specs.declared.node.SyntaxNode.{SyntaxNode}
 use Rattle.src_ast.specs.Seen.{syn_of}
 use Rattle.src_ast.specs.Sorts.{sort_of, some_if, type_part, param_part}
 use Rattle.src_ast.specs.Syntax.{Syn, syn, Shape, at_of, shape_of, Ident, LabelOf, Literal, TruthLiteral, Path, Minus, Bang, Star, Ampersand, Calculate, Compare, Both, Either, Store, CallOf, MethodOf, FieldOf, PartOf, ElementOf, StructOf, FieldInit, Parens, TupleOf, ArrayOf, Braces, IfElse, IfLetElse, MatchOn, ArmOf, LoopOf, WhileOf, WhileLetOf, BreakOf, ContinueOf, ReturnOf, MoveOf, PanicOf, LetOf, Empty, Semi, AnyPattern, BindPattern, LiteralPattern, TruthPattern, PathPattern, PartsPattern, FieldsPattern, FieldPattern, ParensPattern, TuplePattern, ArrayPattern, Alternatives, NamedType, GenericType, DynType, SelfType, ParensType, TupleType, ArrayType, NeverType, RefType, StructItem, EnumItem, FieldDecl, VariantDecl, TraitItem, ImplItem, FnItem, ParamOf, SelfParam, Odd}
+use Rattle.src_ast.specs.Types.{type_of}
+use Rattle.src_ast.specs.declared.ty.TypeForm.{TypeForm}
 use Rattle.src_ast.proofs.Named.{seen_as}
 use Rattle.typing_rules.specs.Check.{Check, TypingState}
 use Rattle.mir_ty.specs.declared.ty.TyId.{TyId}
@@ -107,6 +109,15 @@ syn_size (syn at form) = part_size (sort_of form == 4) form
 
 pub type_size : (n : SyntaxNode) → seen_size (type_part (shape_of (syn_of n))) < size (syn_of n)
 type_size n = syn_size (syn_of n)
+
+-- the measure falls at a part of a type
+pub part_falls : (n : SyntaxNode) (seen form : TypeForm) (t k : ℕ) → 4 * size (syn_of n) ≡ t → seen ≡ form →
+    type_of seen ≡ type_part (shape_of (syn_of n)) → k ≤ 4 * seen_size (type_of form) + 3 → k < t
+part_falls n seen form t k is_t is is_seen within =
+    let same : seen_size (type_of form) ≡ seen_size (type_part (shape_of (syn_of n))) =
+    ap (λ f. seen_size (type_of f)) (sym is) ∙ ap seen_size is_seen in
+    let less = type_size n in
+    omega arith
 
 param_form_seen : (a : WrittenScope) (at : Pos) (form : Shape) (s : TypingState) →
     written_param_form a at form s ≡ param_as a at (type_part form) s

@@ -67,6 +67,14 @@ pub refused_answers : (w : WrittenScope) (n : SyntaxNode) (s : TypingState) (e :
 refused_answers w n s e after seen is is_seen is_e =
     written_answers w n s (Err e) after seen TypeForm.Other is is_seen (rw is_e refl)
 
+pub param_answers : (w : WrittenScope) (n : SyntaxNode) (s : TypingState) (r : Result TyId RuleError) (after : ItemTable) (seen form : TypeForm) →
+    seen ≡ form → type_of seen ≡ type_part (shape_of (syn_of n)) → Answers (param_as w n.at (type_of form) s) r after →
+    Answers (written_param w (syn_of n) s) r after
+param_answers w n s r after seen form is is_seen h =
+    let equal : param_as w n.at (type_of form) s ≡ written_param w (syn_of n) s =
+    ap (λ f. param_as w n.at (type_of f) s) (sym is) ∙ ap (λ f. param_as w n.at f s) is_seen ∙ sym (param_seen w n s) in
+    subst (λ o. Answers o r after) equal h
+
 pub plain_answers : (w : WrittenScope) (n : SyntaxNode) (s : TypingState) (r : Result TyId RuleError) (after : ItemTable) (form : Option Shape) →
     form ≡ type_part (shape_of (syn_of n)) → param_as w n.at form s ≡ written_as w n.at form s →
     Answers (written w (syn_of n) s) r after → Answers (written_param w (syn_of n) s) r after

@@ -16,7 +16,8 @@ use Rattle.typing_rules.specs.Collected.{body_sig, body_sigs}
 use Rattle.typing_rules.specs.Items.{bodies_in, bodies_among, is_body_row, with_body}
 use Rattle.item_heads.specs.Forms.{own_sig, bodies_in_piece}
 use Rattle.mir_base.specs.declared.rule.RuleError.{RuleError}
-use Rattle.item_heads.specs.Answers.{Refuses}
+use Rattle.mir_ty.specs.ItemTable.{ItemTable}
+use Rattle.item_heads.specs.Answers.{Answers, Refuses}
 use Rattle.item_heads.proofs.Sequences.{stopped}
 
 module _ (k : walk.Known) (owner : Option Word) where
@@ -47,6 +48,16 @@ module _ (k : walk.Known) (owner : Option Word) where
       ap (λ z. body_sigs k owner c (bodies_in z) s) (node_laid n)
       ∙ own_first (is_body_row n.row) c (view (node n.at n.row (parts_in n.parts))) (bodies_among (parts_in n.parts)) s
       ∙ ap (λ (x : Syn). and_then (own_sig k owner c n.row x s) (λ d. body_sigs k owner d (bodies_among (parts_in n.parts)))) (sym (ap view (node_laid n)))
+
+  -- what is answered of the bodies in a node, behind its own head
+  pub in_node : (c d : walk.Count) (n : SyntaxNode) (parts : List NodePiece) (s u : TypingState) (r : Result walk.Count RuleError) (after : ItemTable) →
+      own_sig k owner c n.row (syn_of n) s ≡ Ok (d, u) → parts ≡ n.parts →
+      Answers (body_sigs k owner d (bodies_among (parts_in parts)) u) r after → Answers (body_sigs k owner c (bodies_in (layout_of n)) s) r after
+  in_node c d n parts s u r after own is h =
+      let equal : body_sigs k owner d (bodies_among (parts_in parts)) u ≡ body_sigs k owner c (bodies_in (layout_of n)) s =
+      ap (λ z. body_sigs k owner d (bodies_among (parts_in z)) u) is
+      ∙ ap (λ o. and_then o (λ e. body_sigs k owner e (bodies_among (parts_in n.parts)))) (sym own) ∙ sym (node_bodies c n s) in
+      subst (λ o. Answers o r after) equal h
 
 pub at_token : (t : Token) → bodies_in_piece (piece_of (NodePiece.Token t)) ≡ []
 at_token t = ap bodies_in_piece (token_seen t)

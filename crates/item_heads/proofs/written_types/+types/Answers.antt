@@ -1,6 +1,8 @@
-use Rattle.std.proofs.Common.{arith, rules}
+use Rattle.std.proofs.Common.{Ok, arith, refl, rules}
 use Rattle.typing_rules.specs.Collected.{starting_with}
+use Rattle.typing_rules.specs.Places.{never}
 use Rattle.item_heads.specs.Forms.{around_of}
+use Rattle.item_heads.proofs.Shapes.{part_falls}
 use Rattle.item_heads.proofs.Types.{all_behind, ids_behind, written_answers, refused_answers}
 use Rattle.item_heads.proofs.written_types.+types.Goals as goal
 
@@ -57,3 +59,25 @@ pub written-returns-in-Other-clause-answers : goal.written-returns-in-Other-clau
 written-returns-in-Other-clause-answers t c =
     refused_answers (around_of c.args.scope.now) c.args.node.now (starting_with c.args.items.now) _ c.args.items.now _
     c.in-Other.is c.type_form.ensures c.broken.ensures
+
+pub written-returns-in-Never-clause-answers : goal.written-returns-in-Never-clause-answers
+written-returns-in-Never-clause-answers t c =
+    written_answers (around_of c.args.scope.now) c.args.node.now (starting_with c.args.items.now) (Ok never) c.args.items.now _ _
+    c.in-Never.is c.type_form.ensures refl
+
+-- ---- a part is smaller than the whole
+
+pub written-generic-requires : goal.written-generic-requires
+written-generic-requires t c = (part_falls c.args.node.now _ _ t _ c.decreases c.in-Generic.is c.type_form.ensures (omega arith), c.requires)
+
+pub written-written-requires : goal.written-written-requires
+written-written-requires t c = (part_falls c.args.node.now _ _ t _ c.decreases c.in-Parens.is c.type_form.ensures (omega arith), c.requires)
+
+pub written-tuple-requires : goal.written-tuple-requires
+written-tuple-requires t c = (part_falls c.args.node.now _ _ t _ c.decreases c.in-Tuple.is c.type_form.ensures (omega arith), c.requires)
+
+pub written-array-requires : goal.written-array-requires
+written-array-requires t c = (part_falls c.args.node.now _ _ t _ c.decreases c.in-Array.is c.type_form.ensures (omega arith), c.requires)
+
+pub written-reference-requires : goal.written-reference-requires
+written-reference-requires t c = (part_falls c.args.node.now _ _ t _ c.decreases c.in-Reference.is c.type_form.ensures (omega arith), c.requires)
