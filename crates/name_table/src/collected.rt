@@ -122,7 +122,9 @@ fn collected(
     ensures { Answers (walk.collecting (items_of (parts_in pieces.now)) end (starting_with items.old)) result items.new }
 {
     let known = known(alloc, pieces)?;
-    in_stages(items, &known, pieces, end)
+    let done = in_stages(items, &known, pieces, end);
+    drop(known);
+    done
 }
 
 fn tree_collected(items: &mut Items, alloc: Global, tree: &Tree) -> Result<(), RuleError>
@@ -143,6 +145,11 @@ pub fn collect(alloc: Global, tree: &Tree) -> Result<Items, RuleError>
     ensures { Collects (walk.collected (view.items_of tree.now) tree.now.end) result }
 {
     let mut items = no_items(alloc)?;
-    tree_collected(&mut items, alloc, tree)?;
-    Ok(items)
+    match tree_collected(&mut items, alloc, tree) {
+        Ok(()) => Ok(items),
+        Err(error) => {
+            drop(items);
+            Err(error)
+        }
+    }
 }

@@ -1,5 +1,6 @@
 //! What structs and enums derive.
-ghost use Rattle.std.specs.Prelude.{◌≡◌, Some, slice_get};
+ghost use Rattle.std.specs.Prelude.{◌≡◌, ◌+◌, Some, slice_get, IfErr, IfOk};
+ghost use Rattle.mir_base.specs.declared.rule.RuleError.{RuleError};
 ghost use Rattle.std.specs.List.{filter_map, list_all};
 ghost use Rattle.mir_ty.specs.Facts.{is_copy};
 ghost use Rattle.item_heads.specs.Answers.{Answers};
@@ -94,26 +95,28 @@ fn adt_may_derive(items: &Items, names: Nodes, number: u32) -> bool
     }
 }
 
-/// A struct or an enum with this number derives what it may; the number of the next one.
-fn adt_derives(items: &Items, number: u32, adt: AdtForm) -> Result<u32, RuleError>
-    ensures { Answers (derives_by number (adt_seen (Some adt.entry)) (starting_with items.now)) result items.now }
+/// The number of the next struct or enum.
+pub fn next_number(number: u32) -> Result<u32, RuleError>
+    ensures next { IfOk result (λ next. next ≡ number + 1) }
+    ensures short { IfErr result (λ e. e ≡ RuleError.Memory) }
 {
-    if !adt_may_derive(items, adt.derives, number) {
-        return Err(broken(Rule::T10, adt.at));
-    }
     match number.checked_add(1) {
         Some(next) => Ok(next),
         None => Err(RuleError::Memory),
     }
 }
 
+/// A struct or an enum with this number derives what it may; the number of the next one.
 fn derives_at(items: &Items, number: u32, adt: Option<AdtForm>) -> Result<u32, RuleError>
     ensures { Answers (derives_by number (adt_seen adt.entry) (starting_with items.now)) result items.now }
 {
-    match adt {
-        Some(adt) => adt_derives(items, number, adt),
-        None => Ok(number),
+    let Some(adt) = adt else {
+        return Ok(number);
+    };
+    if !adt_may_derive(items, adt.derives, number) {
+        return Err(broken(Rule::T10, adt.at));
     }
+    next_number(number)
 }
 
 /// All structs and enums derive what they may.

@@ -12,7 +12,7 @@ ghost use Rattle.typing_rules.specs.Collected as walk;
 ghost use Rattle.typing_rules.specs.Collected.{adt_item, starting_with};
 ghost use Rattle.typing_rules.specs.Items.{item_syns, items_of};
 
-use crate::derived::{AdtForm, adt_at};
+use crate::derived::{AdtForm, adt_at, next_number};
 use crate::holding::holds_itself;
 use crate::order::order_of;
 use item_heads::{interned, obeys};
@@ -37,23 +37,6 @@ fn is_finite(
     obeys(Rule::T09, at, !holds)
 }
 
-fn adt_is_finite(
-    items: &mut Items,
-    alloc: Global,
-    order: &[u32],
-    number: u32,
-    adt: AdtForm,
-) -> Result<u32, RuleError>
-    requires { IsOrderWith items.old order.now (Ty.Adt number) }
-    ensures { Answers (finite_by number (adt_seen (Some adt.entry)) (starting_with items.old)) result items.new }
-{
-    is_finite(items, alloc, order, number, adt.at)?;
-    match number.checked_add(1) {
-        Some(next) => Ok(next),
-        None => Err(RuleError::Memory),
-    }
-}
-
 fn finite_at(
     items: &mut Items,
     alloc: Global,
@@ -65,7 +48,10 @@ fn finite_at(
     ensures { Answers (finite_by number (adt_seen adt.entry) (starting_with items.old)) result items.new }
 {
     match adt {
-        Some(adt) => adt_is_finite(items, alloc, order, number, adt),
+        Some(adt) => {
+            is_finite(items, alloc, order, number, adt.at)?;
+            next_number(number)
+        }
         None => Ok(number),
     }
 }
@@ -87,21 +73,14 @@ fn one_by_one(
     Ok(())
 }
 
-fn adt_numbered(items: &mut Items, number: u32, adt: AdtForm) -> Result<u32, RuleError>
-    ensures { Answers (numbered_by number (adt_seen (Some adt.entry)) (starting_with items.old)) result items.new }
-{
-    interned(items, Ty::Adt(number))?;
-    match number.checked_add(1) {
-        Some(next) => Ok(next),
-        None => Err(RuleError::Memory),
-    }
-}
-
 fn numbered_at(items: &mut Items, number: u32, adt: Option<AdtForm>) -> Result<u32, RuleError>
     ensures { Answers (numbered_by number (adt_seen adt.entry) (starting_with items.old)) result items.new }
 {
     match adt {
-        Some(adt) => adt_numbered(items, number, adt),
+        Some(_) => {
+            interned(items, Ty::Adt(number))?;
+            next_number(number)
+        }
         None => Ok(number),
     }
 }

@@ -5,12 +5,12 @@ use Rattle.name_table.specs.Collects.{Collects}
 use Rattle.name_table.proofs.Stages.{collects_none, collects_items}
 use Rattle.name_table.proofs.collected.collect.Goals as goal
 
-pub returns-in_err-tree_collected : goal.returns-in_err-tree_collected
-returns-in_err-tree_collected c =
-    let refused : Collects (collected (items_of c.args.tree.now) c.args.tree.now.end) (Err c.in_err-tree_collected.field-0.0) =
-    collects_none (items_of c.args.tree.now) c.args.tree.now.end c.in_ok-items.items c.in_err-tree_collected.field-0.0 c.in_ok-items.ensures.items c.in_err-tree_collected.ensures in
+pub returns-in-Err : goal.returns-in-Err
+returns-in-Err c =
+    let refused : Collects (collected (items_of c.args.tree.now) c.args.tree.now.end) (Err c.in-Err.error) =
+    collects_none (items_of c.args.tree.now) c.args.tree.now.end c.in_ok-items.items c.in-Err.error c.in_ok-items.ensures.items c.in-Err.ensures in
     grind (arith, refused)
 
-pub returns : goal.returns
-returns c =
-    collects_items (items_of c.args.tree.now) c.args.tree.now.end c.in_ok-items.items c.tree_collected.new.items _ c.in_ok-items.ensures.items c.in_ok-tree_collected.ensures
+pub returns-in-Ok : goal.returns-in-Ok
+returns-in-Ok c =
+    collects_items (items_of c.args.tree.now) c.args.tree.now.end c.in_ok-items.items c.tree_collected.new.items _ c.in_ok-items.ensures.items c.in-Ok.ensures

@@ -8,4 +8,4 @@ use Rattle.name_table.proofs.collected.collected.Goals as goal
 pub returns : goal.returns
 returns c =
     stages_answer (items_of (parts_in c.args.pieces.now)) c.args.end (known_of c.in_ok-known.known) (starting_with c.args.items.now)
-    c.in_stages.result c.in_stages.new.items c.in_ok-known.ensures.known c.in_stages.ensures
+    c.in_stages-done.result c.in_stages-done.new.items c.in_ok-known.ensures.known c.in_stages-done.ensures
