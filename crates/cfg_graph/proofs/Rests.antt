@@ -1,5 +1,5 @@
 -- What is asked of all members of a list is what is asked of the rest, when it is asked of one after the other.
-use Rattle.std.proofs.Common.{◌≡◌, ℕ, zero, suc, ◌+◌, ◌<◌, Bool, true, false, not, cond, ◌⊎◌, inl, inr, ◌||◌, List, [], ◌∷◌, ◌++◌, map, length, drop, take, slice_get, Some, None, refl, ap, sym, ◌∙◌, arith}
+use Rattle.std.proofs.Common.{◌≡◌, ℕ, zero, suc, ◌+◌, ◌<◌, Bool, true, false, not, cond, ◌⊎◌, inl, inr, ◌||◌, List, [], ◌∷◌, ◌++◌, map, length, drop, take, slice_get, Option, Some, None, refl, ap, sym, ◌∙◌, arith}
 use Rattle.std.specs.List.{list_any}
 use Rattle.std.specs.Option.{option_map_or, is_some, option_or}
 use Rattle.std.specs.Prelude.{option_map, position, nat_lt, zip}
@@ -135,6 +135,13 @@ first_of_both (x ∷ xs) ys = refl
 -- the first fault of a line
 pub first_at_line : (body block line : ℕ) (numbers : List ℕ) → first_of (at_line body block line numbers) ≡ option_map (λ number. record { number = number; body = body; block = block; line = line }) (first_of numbers)
 first_at_line body block line numbers = first_of-map (λ number. record { number = number; body = body; block = block; line = line }) numbers
+
+pub at_its_line : (body block at line : ℕ) (number : Option ℕ) (numbers : List ℕ) (fault : Option GraphFault) → at ≡ line
+    → fault ≡ option_map (λ number. record { number = number; body = body; block = block; line = at }) number → number ≡ first_of numbers
+    → fault ≡ first_of (at_line body block line numbers)
+at_its_line body block at line number numbers fault same is first =
+    is ∙ ap (option_map (λ (number : ℕ). record { number = number; body = body; block = block; line = at })) first
+    ∙ sym (first_at_line body block at numbers) ∙ ap (λ (l : ℕ). first_of (at_line body block l numbers)) same
 
 -- a loop that asks one thing after the other for its first fault
 module _ {X : Type 0} (faults : ℕ → X → List GraphFault) (xs : List X) (n : ℕ) (all : first_of (of_each faults 0 xs) ≡ first_of (of_each faults n (drop n xs))) where

@@ -12,28 +12,14 @@ use crate::type_faults::TypeTests;
 use crate::{Block, Body, Graph, GraphFault, Stmt};
 use mir_ty::TyId;
 
-#[tactic(auto, using(crate::proofs::Rests::first_at_line))]
-fn stmt_line(
-    graph: &Graph,
-    number: u32,
-    body: &Body,
-    n: u32,
-    line: u32,
-    stmt: &Stmt,
-) -> Option<GraphFault>
-    ensures { result ≡ first_of (at_line number n line (stmt_faults graph.now.items (length graph.now.bodies) body.now stmt.now)) }
-{
-    let fault = stmt_fault(&graph.items, graph.bodies.len(), body, stmt);
-    at(fault, number, n, line)
-}
-
 fn stmts_fault(graph: &Graph, number: u32, body: &Body, n: u32, block: &Block) -> Option<GraphFault>
     requires { length block.now.stmts < 2 ^ 32 - 1 }
     ensures { result ≡ first_of (stmts_faults graph.now number body.now n block.now) }
 {
     let mut line: u32 = 0;
     while let Some(stmt) = block.stmts.get(line as usize) {
-        if let Some(fault) = stmt_line(graph, number, body, n, line, stmt) {
+        let fault = stmt_fault(&graph.items, graph.bodies.len(), body, stmt);
+        if let Some(fault) = at(fault, number, n, line) {
             return Some(fault);
         }
         line += 1;
@@ -76,15 +62,6 @@ fn blocks_fault(graph: &Graph, number: u32, body: &Body) -> Option<GraphFault>
     None
 }
 
-#[tactic(auto, using(crate::proofs::Rests::first_at_line))]
-fn local_line(graph: &Graph, tests: &TypeTests, number: u32, n: u32, id: TyId) -> Option<GraphFault>
-    requires { AreTests graph.now.items tests.now }
-    ensures { result ≡ first_of (at_line number nowhere n (local_faults graph.now.items (length graph.now.bodies) id)) }
-{
-    let fault = local_fault(&graph.items, tests, graph.bodies.len(), id);
-    at(fault, number, NOWHERE, n)
-}
-
 fn locals_fault(graph: &Graph, tests: &TypeTests, number: u32, body: &Body) -> Option<GraphFault>
     requires tests { AreTests graph.now.items tests.now }
     requires counted { IsCountedBody body.now }
@@ -92,7 +69,8 @@ fn locals_fault(graph: &Graph, tests: &TypeTests, number: u32, body: &Body) -> O
 {
     let mut n: u32 = 0;
     while let Some(id) = body.locals.get(n as usize) {
-        if let Some(fault) = local_line(graph, tests, number, n, *id) {
+        let fault = local_fault(&graph.items, tests, graph.bodies.len(), *id);
+        if let Some(fault) = at(fault, number, NOWHERE, n) {
             return Some(fault);
         }
         n += 1;
@@ -109,23 +87,6 @@ fn own_fault(graph: &Graph, number: u32, fresh: bool, body: &Body) -> Option<Gra
     at(fault, number, NOWHERE, NOWHERE)
 }
 
-#[tactic(auto, using(crate::proofs::Rests::first_of_both))]
-fn locals_or_blocks(
-    graph: &Graph,
-    tests: &TypeTests,
-    number: u32,
-    body: &Body,
-) -> Option<GraphFault>
-    requires tests { AreTests graph.now.items tests.now }
-    requires counted { IsCountedBody body.now }
-    ensures { result ≡ first_of (locals_faults graph.now number body.now ++ of_each (block_faults graph.now number body.now) 0 body.now.blocks) }
-{
-    match locals_fault(graph, tests, number, body) {
-        Some(fault) => Some(fault),
-        None => blocks_fault(graph, number, body),
-    }
-}
-
 /// The first fault of the body with this number, whose name, if it is fresh, repeats none before it.
 #[tactic(auto, using(crate::proofs::Rests::first_of_both))]
 pub fn fault_of_body(
@@ -140,8 +101,11 @@ pub fn fault_of_body(
     requires fresh { IsTrue fresh → RepeatsNone graph.now.items.bodies number }
     ensures { result ≡ first_of (faults_of_body graph.now number body.now) }
 {
-    match own_fault(graph, number, fresh, body) {
+    if let Some(fault) = own_fault(graph, number, fresh, body) {
+        return Some(fault);
+    }
+    match locals_fault(graph, tests, number, body) {
         Some(fault) => Some(fault),
-        None => locals_or_blocks(graph, tests, number, body),
+        None => blocks_fault(graph, number, body),
     }
 }

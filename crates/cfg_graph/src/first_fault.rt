@@ -85,27 +85,18 @@ fn end_fault(graph: &Graph) -> Option<GraphFault>
 }
 
 #[tactic(auto, using(crate::proofs::Rests::first_of_both))]
-fn bodies_or_end(graph: &Graph, tests: &TypeTests) -> Option<GraphFault>
-    requires tests { AreTests graph.now.items tests.now }
-    requires counted { IsCounted graph.now }
-    ensures { result ≡ first_of (of_each (faults_of_body graph.now) 0 graph.now.bodies ++ end_faults graph.now) }
-{
-    match bodies_fault(graph, tests) {
-        Some(fault) => Some(fault),
-        None => end_fault(graph),
-    }
-}
-
-#[tactic(auto, using(crate::proofs::Rests::first_of_both))]
 fn first_fault(graph: &Graph, tests: &TypeTests, types: usize) -> Option<GraphFault>
     requires tests { AreTests graph.now.items tests.now }
     requires types { types ≡ length graph.now.items.types }
     requires counted { IsCounted graph.now }
     ensures { result ≡ first_of_faults graph.now }
 {
-    match item_fault(graph, tests, types) {
+    if let Some(fault) = item_fault(graph, tests, types) {
+        return Some(fault);
+    }
+    match bodies_fault(graph, tests) {
         Some(fault) => Some(fault),
-        None => bodies_or_end(graph, tests),
+        None => end_fault(graph),
     }
 }
 

@@ -64,65 +64,23 @@ fn impl_count(items: &Items) -> u32
     n
 }
 
-#[tactic(auto, using(crate::proofs::Rests::first_at_line))]
-fn adt_line(
-    graph: &Graph,
-    tests: &TypeTests,
-    types: usize,
-    n: u32,
-    fresh: bool,
-    adt: &Adt,
-) -> Option<GraphFault>
-    requires tests { AreTests graph.now.items tests.now }
-    requires types { types ≡ length graph.now.items.types }
-    requires fresh { IsTrue fresh → list_any (λ other. same_name adt.now.name other.name) (take n graph.now.items.adts) ≡ false }
-    ensures { result ≡ first_of (at_line nowhere nowhere (0 + n) (adt_faults graph.now.items (length graph.now.bodies) n adt.now)) }
-{
-    let number = adt_fault(
-        &graph.items,
-        tests,
-        graph.bodies.len(),
-        types,
-        n,
-        fresh,
-        adt,
-    );
-    at(number, NOWHERE, NOWHERE, n)
-}
-
 fn adts_fault(graph: &Graph, tests: &TypeTests, types: usize) -> Option<GraphFault>
     requires tests { AreTests graph.now.items tests.now }
     requires types { types ≡ length graph.now.items.types }
     ensures { result ≡ first_of (adts_faults graph.now) }
 {
+    let bodies = graph.bodies.len();
     let mut buckets = [0u8; BUCKETS];
     let mut n: u32 = 0;
     while let Some(adt) = graph.items.adt(n) {
         let fresh = meet(&mut buckets, &adt.name);
-        if let Some(fault) = adt_line(graph, tests, types, n, fresh, adt) {
+        let number = adt_fault(&graph.items, tests, bodies, types, n, fresh, adt);
+        if let Some(fault) = at(number, NOWHERE, NOWHERE, n) {
             return Some(fault);
         }
         n += 1;
     }
     None
-}
-
-#[tactic(auto, using(crate::proofs::Rests::first_at_line))]
-fn trait_line(
-    graph: &Graph,
-    tests: &TypeTests,
-    before: u32,
-    n: u32,
-    fresh: bool,
-    def: &TraitDef,
-) -> Option<GraphFault>
-    requires tests { AreTests graph.now.items tests.now }
-    requires few { before + n < 2 ^ 32 }
-    requires fresh { IsTrue fresh → list_any (λ other. same_name def.now.name other.name) (take n graph.now.items.traits) ≡ false }
-    ensures { result ≡ first_of (at_line nowhere nowhere (before + n) (trait_faults graph.now.items (length graph.now.bodies) n def.now)) }
-{
-    let number = trait_fault(&graph.items, tests, graph.bodies.len(), n, fresh, def);
-    at(number, NOWHERE, NOWHERE, before + n)
 }
 
 fn traits_fault(graph: &Graph, tests: &TypeTests, before: u32) -> Option<GraphFault>
@@ -130,60 +88,36 @@ fn traits_fault(graph: &Graph, tests: &TypeTests, before: u32) -> Option<GraphFa
     requires before { before ≡ length graph.now.items.adts }
     ensures { result ≡ first_of (traits_faults graph.now) }
 {
+    let bodies = graph.bodies.len();
     let mut buckets = [0u8; BUCKETS];
     let mut n: u32 = 0;
     while let Some(def) = graph.items.trait_def(n) {
         let fresh = meet(&mut buckets, &def.name);
-        if let Some(fault) = trait_line(graph, tests, before, n, fresh, def) {
+        let number = trait_fault(&graph.items, tests, bodies, n, fresh, def);
+        if let Some(fault) = at(number, NOWHERE, NOWHERE, before + n) {
             return Some(fault);
         }
         n += 1;
     }
     None
-}
-
-#[tactic(auto, using(crate::proofs::Rests::first_at_line))]
-fn impl_line(graph: &Graph, before: u32, n: u32, fresh: bool, def: &ImplDef) -> Option<GraphFault>
-    requires few { before + n < 2 ^ 32 }
-    requires fresh { IsTrue fresh → is_repeated_impl graph.now.items.impls n def.now ≡ false }
-    ensures { result ≡ first_of (at_line nowhere nowhere (before + n) (impl_faults graph.now.items (length graph.now.bodies) n def.now)) }
-{
-    let number = impl_fault(&graph.items, graph.bodies.len(), n, fresh, def);
-    at(number, NOWHERE, NOWHERE, before + n)
 }
 
 fn impls_fault(graph: &Graph, before: u32) -> Option<GraphFault>
     requires { before ≡ length graph.now.items.adts + length graph.now.items.traits }
     ensures { result ≡ first_of (impls_faults graph.now) }
 {
+    let bodies = graph.bodies.len();
     let mut buckets = [0u8; BUCKETS];
     let mut n: u32 = 0;
     while let Some(def) = graph.items.impl_def(n) {
         let fresh = meet_impl(&mut buckets, def);
-        if let Some(fault) = impl_line(graph, before, n, fresh, def) {
+        let number = impl_fault(&graph.items, bodies, n, fresh, def);
+        if let Some(fault) = at(number, NOWHERE, NOWHERE, before + n) {
             return Some(fault);
         }
         n += 1;
     }
     None
-}
-
-#[tactic(auto, using(crate::proofs::Rests::first_at_line))]
-fn closure_line(
-    graph: &Graph,
-    tests: &TypeTests,
-    types: usize,
-    before: u32,
-    n: u32,
-    def: &ClosureDef,
-) -> Option<GraphFault>
-    requires tests { AreTests graph.now.items tests.now }
-    requires types { types ≡ length graph.now.items.types }
-    requires few { before + n < 2 ^ 32 }
-    ensures { result ≡ first_of (at_line nowhere nowhere (before + n) (closure_faults graph.now.items (length graph.now.bodies) n def.now)) }
-{
-    let number = closure_fault(&graph.items, tests, graph.bodies.len(), types, n, def);
-    at(number, NOWHERE, NOWHERE, before + n)
 }
 
 fn closures_fault(graph: &Graph, tests: &TypeTests, types: usize, before: u32) -> Option<GraphFault>
@@ -192,51 +126,16 @@ fn closures_fault(graph: &Graph, tests: &TypeTests, types: usize, before: u32) -
     requires before { before ≡ length graph.now.items.adts + length graph.now.items.traits + length graph.now.items.impls }
     ensures { result ≡ first_of (closures_faults graph.now) }
 {
+    let bodies = graph.bodies.len();
     let mut n: u32 = 0;
     while let Some(def) = graph.items.closure_def(n) {
-        if let Some(fault) = closure_line(graph, tests, types, before, n, def) {
+        let number = closure_fault(&graph.items, tests, bodies, types, n, def);
+        if let Some(fault) = at(number, NOWHERE, NOWHERE, before + n) {
             return Some(fault);
         }
         n += 1;
     }
     None
-}
-
-/// What comes first of two.
-#[tactic(auto, using(crate::proofs::Rests::first_of_both))]
-fn impls_or_closures(
-    graph: &Graph,
-    tests: &TypeTests,
-    types: usize,
-    before: u32,
-) -> Option<GraphFault>
-    requires tests { AreTests graph.now.items tests.now }
-    requires types { types ≡ length graph.now.items.types }
-    requires before { before ≡ length graph.now.items.adts + length graph.now.items.traits }
-    ensures { result ≡ first_of (impls_faults graph.now ++ closures_faults graph.now) }
-{
-    match impls_fault(graph, before) {
-        Some(fault) => Some(fault),
-        None => closures_fault(graph, tests, types, before + impl_count(&graph.items)),
-    }
-}
-
-#[tactic(auto, using(crate::proofs::Rests::first_of_both))]
-fn traits_or_later(
-    graph: &Graph,
-    tests: &TypeTests,
-    types: usize,
-    before: u32,
-) -> Option<GraphFault>
-    requires tests { AreTests graph.now.items tests.now }
-    requires types { types ≡ length graph.now.items.types }
-    requires before { before ≡ length graph.now.items.adts }
-    ensures { result ≡ first_of (traits_faults graph.now ++ (impls_faults graph.now ++ closures_faults graph.now)) }
-{
-    match traits_fault(graph, tests, before) {
-        Some(fault) => Some(fault),
-        None => impls_or_closures(graph, tests, types, before + trait_count(&graph.items)),
-    }
 }
 
 /// The first fault of an item.
@@ -246,8 +145,16 @@ pub fn item_fault(graph: &Graph, tests: &TypeTests, types: usize) -> Option<Grap
     requires types { types ≡ length graph.now.items.types }
     ensures { result ≡ first_of (item_faults graph.now) }
 {
-    match adts_fault(graph, tests, types) {
-        Some(fault) => Some(fault),
-        None => traits_or_later(graph, tests, types, adt_count(&graph.items)),
+    if let Some(fault) = adts_fault(graph, tests, types) {
+        return Some(fault);
     }
+    let before = adt_count(&graph.items);
+    if let Some(fault) = traits_fault(graph, tests, before) {
+        return Some(fault);
+    }
+    let before = before + trait_count(&graph.items);
+    if let Some(fault) = impls_fault(graph, before) {
+        return Some(fault);
+    }
+    closures_fault(graph, tests, types, before + impl_count(&graph.items))
 }

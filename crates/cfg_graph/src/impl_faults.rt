@@ -10,8 +10,9 @@ ghost use Rattle.cfg_graph.specs.WellFormed.Questions.{AreTests};
 ghost use Rattle.cfg_graph.specs.WellFormed.TypeFaults.{closure_holds_itself};
 ghost use Rattle.cfg_graph.specs.WellFormed.ItemFaults.{exist, impl_exists as impl_named, are_selves as selves_are, params_implement as params_fit, body_implements as body_fits, methods_of, impl_faults, has_closure_sig as closure_sig, closure_has_types as closure_types_fit, closure_faults};
 
-use crate::item_faults::{all_exist, any_misplaces, is_adt_of};
+use crate::item_faults::{all_exist, any_misplaces};
 use crate::line_faults::unless;
+use crate::place_types::{is_adt_of, is_closure_of};
 use crate::same_types::same_ids;
 use crate::type_faults::{TypeTests, closure_is_held};
 use crate::typing::is_drop_body;
@@ -115,24 +116,20 @@ fn impl_is_same(items: &Items, n: u32, def: &ImplDef) -> bool
     }
 }
 
-/// Whether one of the first `n` impls is of the same trait for the same type.
-fn impl_is_taken(items: &Items, n: u32, def: &ImplDef) -> bool
+/// Whether one of the first `n` impls is of the same trait for the same type, which, if it is fresh, none is.
+fn impl_repeats(items: &Items, n: u32, fresh: bool, def: &ImplDef) -> bool
+    requires { IsTrue fresh → is_repeated_impl items.now.impls n def.now ≡ false }
     ensures { result ≡ is_repeated_impl items.now.impls n def.now }
 {
+    if fresh {
+        return false;
+    }
     for i in 0..n {
         if impl_is_same(items, i, def) {
             return true;
         }
     }
     false
-}
-
-/// The same, where an impl that is fresh repeats none.
-fn impl_repeats(items: &Items, n: u32, fresh: bool, def: &ImplDef) -> bool
-    requires { IsTrue fresh → is_repeated_impl items.now.impls n def.now ≡ false }
-    ensures { result ≡ is_repeated_impl items.now.impls n def.now }
-{
-    !fresh && impl_is_taken(items, n, def)
 }
 
 /// The first fault of the line of the impl with this number, which, if it is fresh, repeats none before it.
@@ -143,15 +140,6 @@ pub fn impl_fault(items: &Items, bodies: usize, n: u32, fresh: bool, def: &ImplD
     let named = unless(!impl_repeats(items, n, fresh, def), 7, None);
     let typed = unless(impl_is_typed(items, bodies, def), 3, named);
     unless(impl_exists(items, bodies, def), 1, typed)
-}
-
-fn is_closure_of(n: u32, ty: Option<&Ty>) -> bool
-    ensures { result ≡ is_closure n (option_copied ty.entry) }
-{
-    match ty {
-        Some(Ty::Closure(found)) => n == *found,
-        _ => false,
-    }
 }
 
 fn has_closure_sig(items: &Items, bodies: usize, n: u32, body: u32) -> bool

@@ -12,6 +12,7 @@ ghost use Rattle.cfg_graph.specs.WellFormed.ItemFaults.{exist, place_dyn, field_
 
 use crate::line_faults::unless;
 use crate::name_faults::{is_adt_name, is_name};
+use crate::place_types::is_adt_of;
 use crate::same_types::same_ids;
 use crate::type_faults::{TypeTests, adt_is_held, closure_is_held, misplaces_dyn, ty_exists};
 use crate::typing::is_drop_body;
@@ -68,24 +69,6 @@ fn any_field_misplaces(items: &Items, tests: &TypeTests, variants: &[Variant]) -
     false
 }
 
-fn is_unique_adt(items: &Items, bodies: usize, n: u32, ty: Option<&Ty>) -> bool
-    ensures { result ≡ unique_adt items.now bodies n (option_copied ty.entry) }
-{
-    match ty {
-        Some(Ty::Unique(to)) => is_adt_of(n, items.ty(*to)),
-        _ => false,
-    }
-}
-
-pub fn is_adt_of(n: u32, ty: Option<&Ty>) -> bool
-    ensures { result ≡ is_adt n (option_copied ty.entry) }
-{
-    match ty {
-        Some(Ty::Adt(found)) => n == *found,
-        _ => false,
-    }
-}
-
 /// Whether a signature is that of the `Drop` body of a struct or an enum.
 fn is_drop_sig(items: &Items, bodies: usize, n: u32, sig: &Sig) -> bool
     ensures { result ≡ drop_sig items.now bodies n sig.now }
@@ -98,7 +81,10 @@ fn are_dropped(items: &Items, bodies: usize, n: u32, params: &[TyId]) -> bool
     ensures { result ≡ dropped_are items.now bodies n params.now }
 {
     match params {
-        [only] => is_unique_adt(items, bodies, n, items.ty(*only)),
+        [only] => match items.ty(*only) {
+            Some(Ty::Unique(to)) => is_adt_of(n, items.ty(*to)),
+            _ => false,
+        },
         _ => false,
     }
 }
@@ -133,10 +119,14 @@ fn adt_is_named(items: &Items, n: u32, name: &Name) -> bool
     }
 }
 
-/// Whether one of the first `n` structs and enums has this name.
-fn adt_name_is_taken(items: &Items, n: u32, name: &Name) -> bool
+/// Whether one of the first `n` structs and enums has this name, which, if it is fresh, none has.
+fn adt_name_repeats(items: &Items, n: u32, fresh: bool, name: &Name) -> bool
+    requires { IsTrue fresh → list_any (λ other. same_name name.now other.name) (take n items.now.adts) ≡ false }
     ensures { result ≡ list_any (λ other. same_name name.now other.name) (take n items.now.adts) }
 {
+    if fresh {
+        return false;
+    }
     for i in 0..n {
         if adt_is_named(items, i, name) {
             return true;
@@ -149,14 +139,6 @@ fn variants_are_named(variants: &[Variant]) -> bool
     ensures { result ≡ list_all (λ variant. name_stands variant.name) variants.now }
 {
     variants.iter().all(|variant| is_name(&variant.name))
-}
-
-/// The same, where a name that is fresh repeats none.
-fn adt_name_repeats(items: &Items, n: u32, fresh: bool, name: &Name) -> bool
-    requires { IsTrue fresh → list_any (λ other. same_name name.now other.name) (take n items.now.adts) ≡ false }
-    ensures { result ≡ list_any (λ other. same_name name.now other.name) (take n items.now.adts) }
-{
-    !fresh && adt_name_is_taken(items, n, name)
 }
 
 #[tactic(auto, using(crate::proofs::Rests::few_mapped))]
@@ -281,10 +263,14 @@ fn trait_is_named(items: &Items, n: u32, name: &Name) -> bool
     }
 }
 
-/// Whether one of the first `n` traits has this name.
-fn trait_name_is_taken(items: &Items, n: u32, name: &Name) -> bool
+/// Whether one of the first `n` traits has this name, which, if it is fresh, none has.
+fn trait_name_repeats(items: &Items, n: u32, fresh: bool, name: &Name) -> bool
+    requires { IsTrue fresh → list_any (λ other. same_name name.now other.name) (take n items.now.traits) ≡ false }
     ensures { result ≡ list_any (λ other. same_name name.now other.name) (take n items.now.traits) }
 {
+    if fresh {
+        return false;
+    }
     for i in 0..n {
         if trait_is_named(items, i, name) {
             return true;
@@ -297,14 +283,6 @@ fn methods_are_named(methods: &[Sig]) -> bool
     ensures { result ≡ list_all (λ method. name_stands method.name) methods.now }
 {
     methods.iter().all(|method| is_name(&method.name))
-}
-
-/// The same, where a name that is fresh repeats none.
-fn trait_name_repeats(items: &Items, n: u32, fresh: bool, name: &Name) -> bool
-    requires { IsTrue fresh → list_any (λ other. same_name name.now other.name) (take n items.now.traits) ≡ false }
-    ensures { result ≡ list_any (λ other. same_name name.now other.name) (take n items.now.traits) }
-{
-    !fresh && trait_name_is_taken(items, n, name)
 }
 
 #[tactic(auto, using(crate::proofs::Rests::few_mapped))]

@@ -68,30 +68,18 @@ fn has_impl(items: &Items, trait_no: u32, adt: u32) -> bool
     false
 }
 
-fn has_row(items: &Items, bodies: usize, trait_no: u32, content: Option<TyId>) -> bool
-    ensures { result ≡ row_exists items.now bodies trait_no content }
-{
-    match content {
-        Some(id) => match items.ty(id) {
-            Some(Ty::Adt(adt)) => has_impl(items, trait_no, *adt),
-            _ => false,
-        },
-        None => true,
-    }
-}
-
+/// Whether the type whose box a statement makes one of `dyn` has an impl of the trait.
 fn stmt_has_row(items: &Items, bodies: usize, locals: &[TyId], stmt: &Stmt) -> bool
     ensures { result ≡ stmt_row items.now bodies locals.now stmt.now }
 {
     match stmt {
-        Stmt::Unsize { trait_no, from, .. } => {
-            has_row(
-                items,
-                bodies,
-                *trait_no,
-                operand_content(items, locals, from),
-            )
-        }
+        Stmt::Unsize { trait_no, from, .. } => match operand_content(items, locals, from) {
+            Some(id) => match items.ty(id) {
+                Some(Ty::Adt(adt)) => has_impl(items, *trait_no, *adt),
+                _ => false,
+            },
+            None => true,
+        },
         _ => true,
     }
 }
@@ -170,24 +158,20 @@ fn body_is_named(items: &Items, n: u32, name: &Name) -> bool
     }
 }
 
-/// Whether one of the first `n` bodies has this name.
-fn body_name_is_taken(items: &Items, n: u32, name: &Name) -> bool
+/// Whether one of the first `n` bodies has this name, which, if it is fresh, none has.
+fn body_name_repeats(items: &Items, n: u32, fresh: bool, name: &Name) -> bool
+    requires { IsTrue fresh → list_any (λ other. same_name name.now other.name) (take n items.now.bodies) ≡ false }
     ensures { result ≡ list_any (λ other. same_name name.now other.name) (take n items.now.bodies) }
 {
+    if fresh {
+        return false;
+    }
     for i in 0..n {
         if body_is_named(items, i, name) {
             return true;
         }
     }
     false
-}
-
-/// The same, where a name that is fresh repeats none.
-fn body_name_repeats(items: &Items, n: u32, fresh: bool, name: &Name) -> bool
-    requires { IsTrue fresh → list_any (λ other. same_name name.now other.name) (take n items.now.bodies) ≡ false }
-    ensures { result ≡ list_any (λ other. same_name name.now other.name) (take n items.now.bodies) }
-{
-    !fresh && body_name_is_taken(items, n, name)
 }
 
 #[tactic(auto, using(crate::proofs::Rests::few_mapped))]
@@ -201,19 +185,6 @@ fn has_own_name(items: &Items, bodies: usize, n: u32, fresh: bool) -> bool
     }
 }
 
-fn has_blocks(body: &Body) -> bool
-    ensures { result ≡ nat_lt 0 (length body.now.blocks) }
-{
-    body.blocks.len() > 0
-}
-
-/// Whether a body has locals for its result and its parameters.
-fn has_locals(body: &Body) -> bool
-    ensures { result ≡ nat_lt body.now.params (length body.now.locals) }
-{
-    (body.params as usize) < body.locals.len()
-}
-
 /// The first fault of the line of the body with this number, whose name, if it is fresh, repeats none before it.
 pub fn body_fault(items: &Items, bodies: usize, n: u32, fresh: bool, body: &Body) -> Option<u8>
     requires { IsTrue fresh → RepeatsNone items.now.bodies n }
@@ -221,6 +192,6 @@ pub fn body_fault(items: &Items, bodies: usize, n: u32, fresh: bool, body: &Body
 {
     let named = unless(has_own_name(items, bodies, n, fresh), 7, None);
     let typed = unless(has_sig(items, bodies, n, body), 3, named);
-    let placed = unless(has_locals(body), 2, typed);
-    unless(has_blocks(body), 1, placed)
+    let placed = unless((body.params as usize) < body.locals.len(), 2, typed);
+    unless(body.blocks.len() > 0, 1, placed)
 }

@@ -9,7 +9,7 @@ ghost use Rattle.cfg_graph.specs.Places.{index_locals};
 ghost use Rattle.cfg_graph.specs.Uses.{operands_of_stmt, operands_of_term, stored_by_stmt, stored_by_term, other_uses, other_term_uses, place_used, places_of_stmt, places_of_term};
 ghost use Rattle.cfg_graph.specs.WellFormed.Questions.{listed, passes, operand_passes};
 
-use crate::place_types::{kind_of, same_kind, ty_of_place};
+use crate::place_types::{is_kind, ty_of_place};
 use crate::{Operand, Place, Step, Stmt, Term};
 use mir_base::IntKind;
 use mir_ty::{Items, TyId};
@@ -116,10 +116,7 @@ fn is_index(items: &Items, locals: &[TyId], local: u32) -> bool
     ensures { result ≡ is_int Usize (option_and_then (type_at items.now) (slice_get locals.now local)) }
 {
     match locals.get(local as usize) {
-        Some(id) => match kind_of(items.ty(*id)) {
-            Some(kind) => same_kind(IntKind::Usize, kind),
-            None => false,
-        },
+        Some(id) => is_kind(IntKind::Usize, items.ty(*id)),
         None => false,
     }
 }

@@ -3,7 +3,7 @@ ghost use Rattle.std.specs.Prelude.{◌≡◌, option_and_then, map, slice_get};
 ghost use Rattle.std.specs.Option.{option_copied};
 ghost use Rattle.mir_ty.specs.ItemTable.{type_at};
 ghost use Rattle.store_model.specs.Places.Place.{step_ty as step_type, ty_along as type_along, is_enum as enum_type, content_of, element_of};
-ghost use Rattle.store_model.specs.Places.TypeForms.{is_bool as bool_type, is_dyn as dyn_type, is_int, is_unit as unit_type, int_kind, box_content, referent, adt_of};
+ghost use Rattle.store_model.specs.Places.TypeForms.{is_bool as bool_type, is_dyn as dyn_type, is_adt, is_closure, is_int, int_kind, box_content, referent, adt_of};
 ghost use Rattle.mir_ty.specs.declared.ty.Ty.TheVariants.{Int};
 ghost use Rattle.std.specs.Prelude.{Some};
 ghost use Rattle.cfg_graph.specs.Places.{place_id, named_step, ty_of_place as type_of_place, ty_of_operand};
@@ -138,7 +138,35 @@ pub fn number_of_adt(ty: Option<&Ty>) -> Option<u32>
     }
 }
 
-pub fn same_kind(a: IntKind, b: IntKind) -> bool
+pub fn is_adt_of(n: u32, ty: Option<&Ty>) -> bool
+    ensures { result ≡ is_adt n (option_copied ty.entry) }
+{
+    match ty {
+        Some(Ty::Adt(found)) => n == *found,
+        _ => false,
+    }
+}
+
+pub fn is_closure_of(n: u32, ty: Option<&Ty>) -> bool
+    ensures { result ≡ is_closure n (option_copied ty.entry) }
+{
+    match ty {
+        Some(Ty::Closure(found)) => n == *found,
+        _ => false,
+    }
+}
+
+/// Whether a type is the integer type.
+pub fn is_kind(kind: IntKind, ty: Option<&Ty>) -> bool
+    ensures { result ≡ is_int kind (option_copied ty.entry) }
+{
+    match ty {
+        Some(Ty::Int(found)) => same_kind(kind, *found),
+        _ => false,
+    }
+}
+
+fn same_kind(a: IntKind, b: IntKind) -> bool
     ensures { result ≡ is_int a (Some (Int b)) }
 {
     match a {

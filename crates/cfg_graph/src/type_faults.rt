@@ -12,6 +12,7 @@ ghost use Rattle.store_model.specs.Places.TypeForms.{is_dyn as dyn_type, is_adt 
 ghost use Rattle.cfg_graph.specs.WellFormed.TypeFaults.{ty_exists as type_exists, misplaces_dyn as dyn_misplaced, adt_holds_itself, closure_holds_itself, own_number_exists as own_exists, misplacing, unless_dyn as if_no_dyn};
 ghost use Rattle.cfg_graph.specs.WellFormed.Questions.{finite, rule_for, shown_from, Tells, AreTests};
 
+use crate::place_types::{is_adt_of, is_closure_of, is_dyn};
 use mir_ty::{Items, Ty, TyId, Variant};
 
 /// What can be true of a type by what is true of the types in it.
@@ -39,12 +40,6 @@ fn is_known(known: &[bool], id: TyId) -> bool
     }
 }
 
-pub fn is_dyn(items: &Items, id: TyId) -> bool
-    ensures { result ≡ dyn_type (type_at items.now id) }
-{
-    matches!(items.ty(id), Some(Ty::Dyn(_)))
-}
-
 fn own_number_exists(items: &Items, ty: &Ty) -> bool
     ensures { result ≡ own_exists items.now ty.now }
 {
@@ -53,24 +48,6 @@ fn own_number_exists(items: &Items, ty: &Ty) -> bool
         Ty::Dyn(n) => items.trait_def(*n).is_some(),
         Ty::Closure(n) => items.closure_def(*n).is_some(),
         _ => true,
-    }
-}
-
-fn is_the_adt(n: u32, ty: &Ty) -> bool
-    ensures { result ≡ adt_type n (Some ty.now) }
-{
-    match ty {
-        Ty::Adt(m) => n == *m,
-        _ => false,
-    }
-}
-
-fn is_the_closure(n: u32, ty: &Ty) -> bool
-    ensures { result ≡ closure_type n (Some ty.now) }
-{
-    match ty {
-        Ty::Closure(m) => n == *m,
-        _ => false,
     }
 }
 
@@ -99,9 +76,10 @@ fn follows(items: &Items, question: Question, known: &[bool], rounds: usize, ty:
         }
         Question::MisplacesDyn => misplaces(items, question, known, rounds, ty),
         Question::IsFinite => all_held(items, question, known, rounds, ty),
-        Question::HoldsAdt(n) => is_the_adt(n, ty) || any_held(items, question, known, rounds, ty),
+        Question::HoldsAdt(n) => is_adt_of(n, Some(ty))
+            || any_held(items, question, known, rounds, ty),
         Question::HoldsClosure(n) => {
-            is_the_closure(n, ty) || any_held(items, question, known, rounds, ty)
+            is_closure_of(n, Some(ty)) || any_held(items, question, known, rounds, ty)
         }
     }
 }
@@ -151,7 +129,7 @@ fn misplaces(items: &Items, question: Question, known: &[bool], rounds: usize, t
     match ty {
         Ty::Dyn(_) => true,
         Ty::Boxed(inner) | Ty::Shared(inner) | Ty::Unique(inner) => {
-            !is_dyn(items, *inner) && is_shown(items, question, known, rounds, *inner)
+            !is_dyn(items.ty(*inner)) && is_shown(items, question, known, rounds, *inner)
         }
         Ty::Tuple(parts) => any_of(items, question, known, rounds, parts.as_slice()),
         Ty::Array(element, _) => is_shown(items, question, known, rounds, *element),

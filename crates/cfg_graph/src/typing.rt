@@ -16,8 +16,9 @@ use crate::line_places::{
     PlaceTest, operands_of, operands_of_end, stmt_passes, stored_of, stored_of_end, term_passes,
 };
 use crate::place_types::{
-    are_one_kind, content_of_box, is_bool, is_dyn, kind_of, number_of_adt, operand_content,
-    operand_is_bool, operand_is_dyn, operand_kind, place_ty, referent_of, same_kind, ty_of_place,
+    are_one_kind, content_of_box, is_adt_of, is_bool, is_closure_of, is_dyn, is_kind, kind_of,
+    number_of_adt, operand_content, operand_is_bool, operand_is_dyn, operand_kind, place_ty,
+    referent_of, ty_of_place,
 };
 use crate::{Operand, Place, Stmt, Term};
 use mir_base::{IntKind, Why, greatest, least};
@@ -52,16 +53,6 @@ fn has_id(items: &Items, locals: &[TyId], place: &Place, id: TyId) -> bool
     match place_ty(items, locals, place) {
         Some(found) => id.0 == found.0,
         None => false,
-    }
-}
-
-/// Whether a type is the integer type.
-fn is_kind(kind: IntKind, ty: Option<&Ty>) -> bool
-    ensures { result ≡ is_int kind (option_copied ty.entry) }
-{
-    match ty {
-        Some(Ty::Int(found)) => same_kind(kind, *found),
-        _ => false,
     }
 }
 
@@ -157,24 +148,6 @@ fn has_fields(items: &Items, locals: &[TyId], adt: u32, variant: u32, parts: &[O
     }
 }
 
-fn is_adt_place(items: &Items, locals: &[TyId], to: &Place, adt: u32) -> bool
-    ensures { result ≡ is_adt adt (type_of_place items.now locals.now to.now) }
-{
-    match ty_of_place(items, locals, to) {
-        Some(Ty::Adt(found)) => adt == *found,
-        _ => false,
-    }
-}
-
-fn is_closure_place(items: &Items, locals: &[TyId], to: &Place, closure: u32) -> bool
-    ensures { result ≡ is_closure closure (type_of_place items.now locals.now to.now) }
-{
-    match ty_of_place(items, locals, to) {
-        Some(Ty::Closure(found)) => closure == *found,
-        _ => false,
-    }
-}
-
 fn has_captures(items: &Items, locals: &[TyId], closure: u32, parts: &[Operand]) -> bool
     ensures { result ≡ operands_have items.now locals.now (captures_of (slice_get items.now.closures closure)) parts.now }
 {
@@ -244,11 +217,11 @@ fn stmt_has_types(items: &Items, locals: &[TyId], stmt: &Stmt) -> bool
             variant,
             parts,
         } => {
-            is_adt_place(items, locals, to, *adt)
+            is_adt_of(*adt, ty_of_place(items, locals, to))
                 && has_fields(items, locals, *adt, *variant, parts.as_slice())
         }
         Stmt::Close { to, closure, parts } => {
-            is_closure_place(items, locals, to, *closure)
+            is_closure_of(*closure, ty_of_place(items, locals, to))
                 && has_captures(items, locals, *closure, parts.as_slice())
         }
         Stmt::NewBox(to, operand) => makes_box(items, locals, to, operand),
@@ -298,12 +271,6 @@ fn is_signed(items: &Items, locals: &[TyId], operand: &Operand) -> bool
 {
     operand_is_kind(items, locals, IntKind::I32, operand)
         || operand_is_kind(items, locals, IntKind::I64, operand)
-}
-
-fn is_i32_place(items: &Items, locals: &[TyId], to: &Place) -> bool
-    ensures { result ≡ is_int I32 (type_of_place items.now locals.now to.now) }
-{
-    is_kind(IntKind::I32, ty_of_place(items, locals, to))
 }
 
 fn drops_by(adt: &Adt, body: u32) -> bool
@@ -385,7 +352,7 @@ fn term_has_types(items: &Items, locals: &[TyId], term: &Term) -> bool
             args,
             ..
         } => calls_method(items, locals, to, *trait_no, *method, args.as_slice()),
-        Term::Ask { to, .. } => is_i32_place(items, locals, to),
+        Term::Ask { to, .. } => is_kind(IntKind::I32, ty_of_place(items, locals, to)),
         Term::Panic { why, .. } => is_started(*why),
         Term::Goto(_) | Term::DropAt { .. } | Term::Return | Term::Resume => true,
     }
@@ -440,24 +407,12 @@ fn term_operands_stand(items: &Items, locals: &[TyId], term: &Term) -> bool
     all_stand(items, locals, first) && all_stand(items, locals, more)
 }
 
-fn stmt_stores_sized(items: &Items, locals: &[TyId], stmt: &Stmt) -> bool
-    ensures { result ≡ list_all (is_sized items.now locals.now) (stored_by_stmt stmt.now) }
-{
-    stores_sized(items, locals, stored_of(stmt))
-}
-
-fn term_stores_sized(items: &Items, locals: &[TyId], term: &Term) -> bool
-    ensures { result ≡ list_all (is_sized items.now locals.now) (stored_by_term term.now) }
-{
-    stores_sized(items, locals, stored_of_end(term))
-}
-
 /// Whether a statement has its types.
 pub fn is_typed_stmt(items: &Items, locals: &[TyId], stmt: &Stmt) -> bool
     ensures { result ≡ stmt_typed items.now locals.now stmt.now }
 {
     stmt_passes(PlaceTest::IsTyped, items, locals, stmt)
-        && stmt_stores_sized(items, locals, stmt)
+        && stores_sized(items, locals, stored_of(stmt))
         && stmt_operands_stand(items, locals, stmt)
         && stmt_has_types(items, locals, stmt)
 }
@@ -467,7 +422,7 @@ pub fn is_typed_term(items: &Items, locals: &[TyId], term: &Term) -> bool
     ensures { result ≡ term_typed items.now locals.now term.now }
 {
     term_passes(PlaceTest::IsTyped, items, locals, term)
-        && term_stores_sized(items, locals, term)
+        && stores_sized(items, locals, stored_of_end(term))
         && term_operands_stand(items, locals, term)
         && term_has_types(items, locals, term)
 }

@@ -2,7 +2,7 @@ use Rattle.std.proofs.Common.{◌≡◌, false, take}
 use Rattle.std.specs.List.{list_any}
 use Rattle.mir_ty.specs.declared.def.Sig.{Sig}
 use Rattle.cfg_graph.specs.WellFormed.NameFaults.{same_name}
-use Rattle.cfg_graph.proofs.line_faults.body_name_is_taken.Given as goal
+use Rattle.cfg_graph.proofs.line_faults.body_name_repeats.Given as goal
 
 abbrev pub invariant-loop-i : goal.invariant-loop-i
 invariant-loop-i l = list_any (λ (other : Sig). same_name l.name other.name) (take l.i l.items.bodies) ≡ false

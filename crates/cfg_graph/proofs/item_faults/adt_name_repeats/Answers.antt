@@ -2,7 +2,7 @@ use Rattle.std.proofs.Common.{sym, ◌∙◌, arith}
 use Rattle.mir_ty.specs.declared.adt.Adt.{Adt}
 use Rattle.cfg_graph.specs.WellFormed.NameFaults.{same_name}
 use Rattle.cfg_graph.proofs.Rests.{few_goes_on, few_kept}
-use Rattle.cfg_graph.proofs.item_faults.adt_name_is_taken.Goals as goal
+use Rattle.cfg_graph.proofs.item_faults.adt_name_repeats.Goals as goal
 
 pub loop-i-preserved : goal.loop-i-preserved
 loop-i-preserved c = few_goes_on (λ (other : Adt). same_name c.args.name.now other.name) c.args.items.now.adts c.loop-i.i c.loop-i.invariant (sym c.adt_is_named.ensures ∙ c.if-adt_is_named.false)

@@ -2,7 +2,7 @@ use Rattle.std.proofs.Common.{sym, ◌∙◌, arith}
 use Rattle.mir_ty.specs.declared.def.Sig.{Sig}
 use Rattle.cfg_graph.specs.WellFormed.NameFaults.{same_name}
 use Rattle.cfg_graph.proofs.Rests.{few_goes_on, few_kept}
-use Rattle.cfg_graph.proofs.line_faults.body_name_is_taken.Goals as goal
+use Rattle.cfg_graph.proofs.line_faults.body_name_repeats.Goals as goal
 
 pub loop-i-preserved : goal.loop-i-preserved
 loop-i-preserved c =
