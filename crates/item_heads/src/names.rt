@@ -11,10 +11,18 @@ use std::marker::Model;
 
 /// Names in an order, each with the number of its first place, counted from 0. A look-up costs about the same for
 /// all names.
-#[derive(Drop)]
 pub struct NameTable {
     names: List<Name>,
     numbers: HashMap<String, u32>,
+}
+
+/// As a derived one; but written here, it is proved here, and not again in each crate in which such a table ends.
+impl Drop for NameTable {
+    fn drop(self) {
+        let NameTable { names, numbers } = self;
+        drop(names);
+        drop(numbers);
+    }
 }
 
 impl Model for NameTable {
