@@ -7,7 +7,6 @@ use type_env::{LoopAround, Variables};
 
 /// Where an expression stands: the struct or enum that `Self` is, the variables and loops around it, and the type of
 /// the body's result.
-#[derive(Drop)]
 pub struct Surroundings {
     pub self_adt: Option<u32>,
     pub variables: Variables,
@@ -17,4 +16,20 @@ pub struct Surroundings {
     pub guards: List<Key>,
     pub answer: TyId,
     ghost guarded: { HasGuards variables guards },
+}
+
+/// As a derived one; but written here, it is proved here, and not again in each crate in which such a value ends.
+impl Drop for Surroundings {
+    fn drop(self) {
+        let Surroundings {
+            self_adt: _,
+            variables,
+            loops,
+            guards,
+            answer: _,
+        } = self;
+        drop(variables);
+        drop(loops);
+        drop(guards);
+    }
 }

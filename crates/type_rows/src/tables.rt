@@ -6,7 +6,6 @@ use std::collections::HashSet;
 use type_env::{AdtNames, ImplPair};
 
 /// What the rules of typing look up by names, each by one look-up.
-#[derive(Drop)]
 pub struct Tables {
     /// The names of structs and enums, and of traits, as the text has them.
     pub adts: NameTable,
@@ -25,4 +24,32 @@ pub struct Tables {
     pub pairs: HashSet<ImplPair>,
     /// The bodies of `Drop` impls.
     pub drop_bodies: HashSet<u32>,
+}
+
+/// As a derived one; but written here, it is proved here, and not again in each crate in which such a value ends.
+impl Drop for Tables {
+    fn drop(self) {
+        let Tables {
+            adts,
+            traits,
+            kinds,
+            adt_names,
+            trait_names,
+            body_names,
+            members,
+            methods,
+            pairs,
+            drop_bodies,
+        } = self;
+        drop(adts);
+        drop(traits);
+        drop(kinds);
+        drop(adt_names);
+        drop(trait_names);
+        drop(body_names);
+        drop(members);
+        drop(methods);
+        drop(pairs);
+        drop(drop_bodies);
+    }
 }
