@@ -1,4 +1,5 @@
 pub mod Alike
 pub mod Arms
+pub mod Forms
 pub mod Joined
 pub mod Keys

@@ -1,5 +1,5 @@
 //! The parts that the bindings of a pattern take (The Rust Reference, "Patterns", "Binding modes").
-ghost use Rattle.std.specs.Prelude.{◌≡◌, ◌++◌, OnOk, map};
+ghost use Rattle.std.specs.Prelude.{◌≡◌, ◌++◌, OnOk, map, option_map};
 ghost use Rattle.typed_tree.specs.View.{tree_of, form_of, field_of, nodes_from, fields_from};
 ghost use Rattle.typing_rules.specs.Accesses as rules;
 ghost use Rattle.place_accesses.specs.View.{access_in, bound_in, bound_name, place_if_any};
@@ -70,6 +70,22 @@ pub fn add_bound(
     }
 }
 
+/// The parts that a pattern takes out of a numbered part of a place.
+#[cycle(bindings)]
+fn add_part(
+    alloc: Global,
+    place: &Option<AccessPlace>,
+    number: u32,
+    pattern: &Node,
+    bounds: &mut List<BoundPart>,
+) -> Result<(), NoMemory>
+    ensures { OnOk result (map bound_in bounds.new ≡ map bound_in bounds.old ++
+        rules.bound (option_map (rules.with_step (rules.ToPart number)) (place_if_any place.now)) (tree_of pattern.now)) }
+{
+    let part = with_step(copied(alloc, place)?, AccessStep::Part(number))?;
+    add_bound(alloc, &part, pattern, bounds)
+}
+
 #[cycle(bindings)]
 fn add_fields(
     alloc: Global,
@@ -81,8 +97,7 @@ fn add_fields(
         map bound_in bounds.old ++ rules.bound_fields (place_if_any place.now) (fields_from (map field_of fields.now))) }
 {
     for field in fields {
-        let part = with_step(copied(alloc, place)?, AccessStep::Part(field.number))?;
-        add_bound(alloc, &part, &field.value, bounds)?;
+        add_part(alloc, place, field.number, &field.value, bounds)?;
     }
     Ok(())
 }
@@ -99,8 +114,7 @@ fn add_parts(
 {
     let mut number: u32 = 0;
     for pattern in parts {
-        let part = with_step(copied(alloc, place)?, AccessStep::Part(number))?;
-        add_bound(alloc, &part, pattern, bounds)?;
+        add_part(alloc, place, number, pattern, bounds)?;
         let Some(next) = number.checked_add(1) else {
             return Err(NoMemory);
         };

@@ -1,5 +1,5 @@
 //! What is told of expressions, form by form.
-ghost use Rattle.std.specs.Prelude.{◌≡◌, ◌++◌, ◌∷◌, [], OnOk, map};
+ghost use Rattle.std.specs.Prelude.{◌≡◌, ◌++◌, ◌∷◌, [], OnOk, map, option_map};
 ghost use Rattle.typed_tree.specs.View.{tree_of, form_of, field_of, maybe_of, nodes_from, fields_from};
 ghost use Rattle.typing_rules.specs.Accesses as rules;
 ghost use Rattle.typing_rules.specs.Accesses.{◌⊕◌};
@@ -16,6 +16,37 @@ use mir_base::{List, NoMemory, Pos};
 use std::alloc::Global;
 use typed_tree::{Form, Node, NumberedField};
 
+/// An access to the place that a node is, if it is one.
+fn tell_place(
+    alloc: Global,
+    aliases: &[Alias],
+    access: Access,
+    node: &Node,
+    at: Pos,
+    out: &mut ToldAccesses,
+) -> Result<(), NoMemory>
+    ensures { OnOk result (told_in out.new ≡ told_in out.old ⊕
+        rules.one (access_in access) (rules.place_of (aliases_in aliases.now) (tree_of node.now)) (rules.root_of (tree_of node.now)) at) }
+{
+    let place = place_of(alloc, aliases, node)?;
+    out.push(access, place, root_of(node), at)
+}
+
+/// An index borrows the whole array.
+fn tell_array(
+    alloc: Global,
+    aliases: &[Alias],
+    array: &Node,
+    at: Pos,
+    out: &mut ToldAccesses,
+) -> Result<(), NoMemory>
+    ensures { OnOk result (told_in out.new ≡ told_in out.old ⊕
+        rules.one rules.Borrows (option_map rules.with_end (rules.place_of (aliases_in aliases.now) (tree_of array.now))) (rules.root_of (tree_of array.now)) at) }
+{
+    let place = with_end(place_of(alloc, aliases, array)?);
+    out.push(Access::Borrows, place, root_of(array), at)
+}
+
 /// The use of a place by itself.
 fn own_access(
     alloc: Global,
@@ -27,10 +58,7 @@ fn own_access(
         rules.own_access (rules.access_by node.now.by) (rules.place_of (aliases_in aliases.now) (tree_of node.now)) (rules.root_of (tree_of node.now)) node.now.at) }
 {
     match access_by(node.by) {
-        Some(access) => {
-            let place = place_of(alloc, aliases, node)?;
-            out.push(access, place, root_of(node), node.at)
-        }
+        Some(access) => tell_place(alloc, aliases, access, node, node.at, out),
         None => Ok(()),
     }
 }
@@ -193,21 +221,18 @@ fn tell_reaching(
             let base: &Node = base;
             tell_inside(alloc, aliases, base, out)?;
             tell(alloc, aliases, index, out)?;
-            let place = with_end(place_of(alloc, aliases, base)?);
-            out.push(Access::Borrows, place, root_of(base), at)
+            tell_array(alloc, aliases, base, at, out)
         }
         Form::Assign { place, value } => {
             let place: &Node = place;
             tell(alloc, aliases, value, out)?;
             tell_inside(alloc, aliases, place, out)?;
-            let to = place_of(alloc, aliases, place)?;
-            out.push(Access::Stores, to, root_of(place), at)
+            tell_place(alloc, aliases, Access::Stores, place, at, out)
         }
         Form::Borrow { unique, base } => {
             let base: &Node = base;
             tell_inside(alloc, aliases, base, out)?;
-            let place = place_of(alloc, aliases, base)?;
-            out.push(borrowing(*unique), place, root_of(base), at)
+            tell_place(alloc, aliases, borrowing(*unique), base, at, out)
         }
         _ => Ok(()),
     }

@@ -1,6 +1,6 @@
 //! Guards: none changes a place that overlaps its scrutinee, nor stores into a binding of its arm or borrows one by
 //! `&mut`.
-ghost use Rattle.std.specs.Prelude.{◌≡◌, ◌==◌, ◌&&◌, ◌||◌, IfOk, OnOk, map};
+ghost use Rattle.std.specs.Prelude.{◌≡◌, ◌==◌, ◌&&◌, ◌||◌, ◌++◌, ◌∷◌, [], IfOk, OnOk, map};
 ghost use Rattle.std.specs.List.{filter_map, list_any};
 ghost use Rattle.typing_rules.specs.Accesses as rules;
 ghost use Rattle.typing_rules.specs.Accesses.{◌⊕◌};
@@ -75,6 +75,19 @@ pub fn of_guard(
     out.append_conflicts(conflicts)
 }
 
+/// An alias more, of a place that may be a temporary.
+fn add_alias(
+    alloc: Global,
+    key: Key,
+    place: &Option<AccessPlace>,
+    all: &mut List<Alias>,
+) -> Result<(), NoMemory>
+    ensures { OnOk result (aliases_in all.new ≡ aliases_in all.old ++ (key.0, place_if_any place.now) ∷ []) }
+{
+    let place = copied(alloc, place)?;
+    all.push(Alias { key, place })
+}
+
 /// The aliases inside a guard: the bindings of its arm, before those around it.
 pub fn aliases_with(
     alloc: Global,
@@ -85,18 +98,10 @@ pub fn aliases_with(
 {
     let mut all = List::new(alloc);
     for bound in bounds {
-        let place = copied(alloc, &bound.taken.place)?;
-        all.push(Alias {
-            key: bound.key,
-            place,
-        })?;
+        add_alias(alloc, bound.key, &bound.taken.place, &mut all)?;
     }
     for alias in aliases {
-        let place = copied(alloc, &alias.place)?;
-        all.push(Alias {
-            key: alias.key,
-            place,
-        })?;
+        add_alias(alloc, alias.key, &alias.place, &mut all)?;
     }
     Ok(all)
 }
