@@ -3,6 +3,7 @@ mod Grouped
 mod Nodes
 mod OfOperands
 mod Params
+mod PlainForms
 mod Statements
 mod Wanting
 mod Ways

@@ -1,15 +1,10 @@
 -- The code of blocks, of `let`, and of matches.
-use Rattle.std.proofs.Common.{rules, map, Box, ◌≡◌, ◌∙◌, ◌∷◌, ◌||◌, not, ℕ, Bool, true, false, List, ap, sym}
+use Rattle.std.proofs.Common.{◌≡◌, ◌∙◌, ◌∷◌, ◌||◌, not, ℕ, Bool, true, false, List, ap, sym}
 use Rattle.mir_ty.specs.ItemTable.{ItemTable}
 use Rattle.src_meaning.specs.Forms.{Around, Destination, entry_of}
 use Rattle.src_meaning.specs.Shape.{NodeHead, BoundName, shape}
 use Rattle.store_model.specs.Places.Place.{Place, whole_local}
-use Rattle.std.specs.declared.alloc.Global.{Global}
 use Rattle.typed_tree.specs.Tree as tree
-use Rattle.typed_tree.specs.View.{tree_of, form_of, nodes_from}
-use Rattle.typed_tree.specs.declared.node.Form
-use Rattle.typed_tree.specs.declared.node.Form.{the_lemmas}
-use Rattle.typed_tree.specs.declared.node.Node.{Node}
 use Rattle.scope_code.specs.Code as plain
 use Rattle.scope_code.specs.Code.{Code, Innermost, AroundInnermost}
 use Rattle.scope_code.specs.Forms.{NodeWords, no_code, a_code, code, statements, bind, declared, let_value, letting, arms, matching, scrutinised, touched}
@@ -68,7 +63,3 @@ module _ (items : ItemTable) (h : NodeHead) (around : Around) (own : Bool) (to :
       ∙ ap (words place) reaches
       ∙ ap (λ (p : Place). words p (onto ((code items scrutinee).reaches around) before)) stands)
       ∙ sym (in_own h.id own inner before)
-
--- the plain form of a match
-pub match_of : (scrutinee : Box Node Global) (of_arms : List Node) → form_of (Form.Match scrutinee of_arms) ≡ tree.Match (tree_of scrutinee.value) (nodes_from (map tree_of of_arms))
-match_of scrutinee of_arms = search (rules, the_lemmas)

@@ -1,7 +1,8 @@
 use Rattle.body_code.proofs.Elements.{of_element}
+use Rattle.body_code.proofs.PlainForms.{array_form, block_form, call_form, closure_form, index_form, make_form, match_form, tuple_form, virtual_call_form}
 use Rattle.body_code.proofs.Grouped.{does_nothing, not_in}
 use Rattle.body_code.proofs.OfOperands.{on_all, each, of_nodes, of_first_and_nodes, of_fields}
-use Rattle.body_code.proofs.Statements.{of_match, match_of, of_block, of_declared, of_parts, parted}
+use Rattle.body_code.proofs.Statements.{of_match, of_block, of_declared, of_parts, parted}
 use Rattle.body_code.proofs.Whole.{of_words}
 use Rattle.body_code.specs.Scoped.{may_be_scope}
 use Rattle.cfg_code.specs.Code.{field_keys, moved_fields}
@@ -43,7 +44,7 @@ call_code-returns-in_ok-called-in-Call t c =
     let action : EffectSite → List Operand → Action = λ site. effects.Call site c.in-Call.body in
     let before : List Op = ops_of c.args.code.now in
     let is : on_all c.args.at (each items nodes) action ≡ form_code items (form_of c.args.form.now) c.args.at =
-    search (rules, the_lemmas) in
+    ap (λ (form : Form). form_code items form c.args.at) (sym (call_form _ _ _ c.as_slice-args.ensures _ c.in-Call.is)) in
     of_nodes items c.args.at nodes (keys_seen c.in_ok-keys-in-Call.keys) action before (ops_of c.nodes_code.new.code) (ops_of c.called.new.code)
     c.in_ok-called-in-Call.ensures c.in_ok-nodes_code-in-Call.ensures c.in_ok-keys-in-Call.ensures
     ∙ ap (λ (made : Code). onto made before) is
@@ -55,7 +56,7 @@ make_code-returns-in_ok-built_of_keys-in-Tuple t c =
     let action : EffectSite → List Operand → Action = λ site. effects.Build site effects.OfTuple in
     let before : List Op = ops_of c.args.code.now in
     let is : on_all c.args.at (each items nodes) action ≡ form_code items (form_of c.args.form.now) c.args.at =
-    search (rules, the_lemmas) in
+    ap (λ (form : Form). form_code items form c.args.at) (sym (tuple_form _ _ _ c.as_slice-parts.ensures c.in-Tuple.is)) in
     of_nodes items c.args.at nodes (keys_seen c.in_ok-keys-in-Tuple.keys) action before (ops_of c.nodes_code.new.code) (ops_of c.built_of_keys.new.code)
     c.in_ok-built_of_keys-in-Tuple.ensures c.in_ok-nodes_code-in-Tuple.ensures c.in_ok-keys-in-Tuple.ensures
     ∙ ap (λ (made : Code). onto made before) is
@@ -67,7 +68,7 @@ make_code-returns-in_ok-built_of_keys-in-Array t c =
     let action : EffectSite → List Operand → Action = λ site. effects.Build site effects.OfArray in
     let before : List Op = ops_of c.args.code.now in
     let is : on_all c.args.at (each items nodes) action ≡ form_code items (form_of c.args.form.now) c.args.at =
-    search (rules, the_lemmas) in
+    ap (λ (form : Form). form_code items form c.args.at) (sym (array_form _ _ _ c.as_slice-elements.ensures c.in-Array.is)) in
     of_nodes items c.args.at nodes (keys_seen c.in_ok-keys-in-Array.keys) action before (ops_of c.nodes_code-in-Array.new.code) (ops_of c.built_of_keys-in-Array.new.code)
     c.in_ok-built_of_keys-in-Array.ensures c.in_ok-nodes_code-in-Array.ensures c.in_ok-keys-in-Array.ensures
     ∙ ap (λ (made : Code). onto made before) is
@@ -79,7 +80,7 @@ make_code-returns-in_ok-built_of_keys-in-Closure t c =
     let action : EffectSite → List Operand → Action = λ site. effects.Build site (effects.OfClosure c.in-Closure.closure) in
     let before : List Op = ops_of c.args.code.now in
     let is : on_all c.args.at (each items nodes) action ≡ form_code items (form_of c.args.form.now) c.args.at =
-    search (rules, the_lemmas) in
+    ap (λ (form : Form). form_code items form c.args.at) (sym (closure_form _ _ _ c.as_slice-captures.ensures _ c.in-Closure.is)) in
     of_nodes items c.args.at nodes (keys_seen c.in_ok-keys-in-Closure.keys) action before (ops_of c.nodes_code-in-Closure.new.code) (ops_of c.built_of_keys-in-Closure.new.code)
     c.in_ok-built_of_keys-in-Closure.ensures c.in_ok-nodes_code-in-Closure.ensures c.in_ok-keys-in-Closure.ensures
     ∙ ap (λ (made : Code). onto made before) is
@@ -107,7 +108,7 @@ call_code-returns-in_ok-called_virtual-in-VirtualCall t c =
     let action : EffectSite → List Operand → Action = λ site. effects.CallVirtual site c.in-VirtualCall.trait_no c.in-VirtualCall.method in
     let before : List Op = ops_of c.args.code.now in
     let is : on_all c.args.at (code items (tree_of first) ∷ each items nodes) action ≡ form_code items (form_of c.args.form.now) c.args.at =
-    search (rules, the_lemmas) in
+    ap (λ (form : Form). form_code items form c.args.at) (sym (virtual_call_form _ _ _ c.as_slice-args-in-VirtualCall.ensures _ _ c.deref-receiver.ensures _ _ c.in-VirtualCall.is)) in
     let keys : keys_seen c.in_ok-keys-in-VirtualCall.keys ≡ first.id.0 ∷ map (λ n. n.id.0) nodes = c.in_ok-keys-in-VirtualCall.ensures in
     of_first_and_nodes items c.args.at nodes (keys_seen c.in_ok-keys-in-VirtualCall.keys) action before first
     (ops_of c.node_code.new.code) (ops_of c.nodes_code-in-VirtualCall.new.code) (ops_of c.push.new.self) (ops_of c.called_virtual.new.code)
@@ -122,7 +123,7 @@ make_code-returns-in_ok-made-in-Make t c =
     let action : EffectSite → Action =
     λ site. effects.Build site (effects.OfVariant c.in-Make.adt c.in-Make.variant) (moved_fields id (in_number_order (field_keys fields))) in
     let is : acting id (around_of c.args.at.around) c.args.at.own (codes_of_fields items fields) (deliver id action (destination_of c.args.at.to)) ≡ form_code items (form_of c.args.form.now) c.args.at =
-    search (rules, the_lemmas) in
+    ap (λ (form : Form). form_code items form c.args.at) (sym (make_form _ _ _ c.as_slice-fields.ensures _ _ c.in-Make.is)) in
     of_fields items c.args.at fields action (ops_of c.args.code.now) (ops_of c.fields_code.new.code) (ops_of c.made.new.code)
     c.in_ok-made-in-Make.ensures c.in_ok-fields_code-in-Make.ensures
     ∙ ap (λ (made : Code). onto made (ops_of c.args.code.now)) is
@@ -134,7 +135,7 @@ part_code-returns-in_ok-element-in-Index t c =
     let index : tree.Node = tree_of c.deref-index.result.now in
     let number : (code items index).head.id ≡ c.deref-index.result.now.id.0 = search (rules, the_lemmas) in
     let is : reach_element (head_of c.args.at.head) (shape_of items (tree.Index base index c.in-Index.length) (head_of c.args.at.head)) (code items base) (code items index) c.in-Index.length (around_of c.args.at.around) ≡ form_code items (form_of c.args.form.now) c.args.at =
-    search (rules, the_lemmas) in
+    ap (λ (form : Form). form_code items form c.args.at) (sym (index_form _ _ _ _ _ c.deref-base.ensures c.deref-index.ensures _ c.in-Index.is)) in
     of_element items (head_of c.args.at.head) (around_of c.args.at.around) base index c.in-Index.length
     (named c.in_ok-array-in-Index.array) (ops_of c.args.code.now) (ops_of c.node_code.new.code) (ops_of c.node_code-in-Index.new.code) (ops_of c.element.new.code)
     (c.in_ok-element-in-Index.ensures
@@ -151,8 +152,7 @@ pattern_code-returns-in_ok-push-in-Match-3 t c =
     let place : Place = named c.in_ok-place-in-Match.place in
     let number : (code items scrutinee).head.id ≡ c.deref-scrutinee.result.now.id.0 = search (rules, the_lemmas) in
     let form : form_of c.args.form.now ≡ tree.Match scrutinee (nodes_from (map tree_of c.as_slice.result.now)) =
-    ap form_of c.in-Match.is ∙ match_of c.in-Match.scrutinee c.in-Match.arms
-    ∙ (λ i. tree.Match (tree_of (sym c.deref-scrutinee.ensures i)) (nodes_from (map tree_of (sym c.as_slice.ensures i)))) in
+    match_form _ _ _ c.as_slice.ensures _ _ c.deref-scrutinee.ensures c.in-Match.is in
     let is : matching (head_of c.args.at.head) (code items scrutinee) ms (around_of c.args.at.around) c.args.at.own (destination_of c.args.at.to) ≡ form_code items (form_of c.args.form.now) c.args.at =
     ap (λ (form : Form). form_code items form c.args.at) (sym form) in
     of_match items (head_of c.args.at.head) (around_of c.args.at.around) c.args.at.own (destination_of c.args.at.to) ms place (ops_of c.args.code.now) scrutinee
@@ -171,7 +171,7 @@ statement_code-returns-in_ok-push-in-Block-2 t c =
     tail_of items (head_of c.args.at.head) (code_if_any items (maybe_of c.in-Block.tail)) (around_of c.args.at.around)
     (destination_of c.args.at.to) in
     let is : plain.InScope c.args.at.head.id.0 c.args.at.own (plain.Then (statements (around_of c.args.at.around) ms) tail) ≡ form_code items (form_of c.args.form.now) c.args.at =
-    search (rules, the_lemmas) in
+    ap (λ (form : Form). form_code items form c.args.at) (sym (block_form _ _ _ c.as_slice.ensures _ c.in-Block.is)) in
     let scoped : ops_of c.push-in-Block.new.self ≡ InScope c.args.at.head.id.0 c.args.at.own ∷ Then ∷ ops_of c.tail_code.new.code =
     c.in_ok-push-in-Block-2.ensures
     ∙ ap (λ (rest : List Op). InScope c.args.at.head.id.0 c.args.at.own ∷ rest) c.in_ok-push-in-Block.ensures in
