@@ -1,5 +1,5 @@
 -- How patterns with parts end, once their parts are checked.
-use Rattle.std.proofs.Common.{◌≡◌, ℕ, zero, suc, Bool, true, false, ◌&&◌, ◌||◌, List, [], ◌∷◌, length, reverse, take, Option, Some, None, Result, Ok, Err, refl, ap, sym, subst, ◌∙◌}
+use Rattle.std.proofs.Common.{◌≡◌, ℕ, zero, suc, Bool, true, false, ◌&&◌, ◌||◌, List, [], ◌∷◌, length, nat_lt, replicate, reverse, take, Option, Some, None, Result, Ok, Err, refl, ap, sym, subst, ◌∙◌}
 use Rattle.std.proofs.lemmas.List.{reverse-append}
 use Rattle.call_rows.specs.Lists.{below_all, last_nodes, nodes_on}
 use Rattle.item_heads.specs.Answers.{Refuses}
@@ -15,7 +15,7 @@ use Rattle.pattern_rows.specs.Parts.{AreFirst, AreFirstIf}
 use Rattle.pattern_rows.specs.declared.parts.PartTypes.{PartTypes}
 use Rattle.pattern_rows.proofs.Alone.{numbered}
 use Rattle.pattern_rows.proofs.Units.{begins, beside, ends_beside, target_bound}
-use Rattle.src_ast.specs.Syntax.{Syns, no_syn, a_syn, TuplePattern}
+use Rattle.src_ast.specs.Syntax.{Syns, no_syn, a_syn, Alternatives, ArrayPattern, TuplePattern}
 use Rattle.type_rows.specs.Stand.{Gives, below, top}
 use Rattle.type_rows.specs.declared.checker.Checker.{Checker}
 use Rattle.typed_tree.specs.Tree as tree
@@ -25,8 +25,9 @@ use Rattle.typing_rules.specs.Patterns.{BoundPattern, PatternTarget, are_given_o
 use Rattle.typing_rules.specs.Places.{a_node_of}
 use Rattle.typing_rules.specs.Rows.{Expected, Given, all_given, are_known}
 use Rattle.typing_rules.specs.Scope.{Env, NamedEntry}
+use Rattle.well_typed.specs.Types.{array_of}
 use Rattle.pattern_check.specs.Numbers.{numbers_below}
-use Rattle.pattern_check.specs.Rests.{counted_rest, is_tuple_count, order_rest, parts_by_name, parts_in_order}
+use Rattle.pattern_check.specs.Rests.{alternatives_rest, counted_rest, is_tuple_count, order_rest, parts_by_name, parts_in_order}
 
 -- ---- structs and variants
 
@@ -151,3 +152,18 @@ pub tuple_is : (w : Env) (at : Pos) (e : Expected) (ty : TyId) (parts : Syns) (d
 tuple_is w at e ty parts dots xs s t id tys here is =
     numbered (λ id. the_items >>= (λ items. known Rule.T03 at (tuple_types items ty) >>= (λ tys. order_rest w id at e ty tys (length tys) tree.TuplePattern parts dots xs))) s t id here
     ∙ ap (λ o. and_then {B = BoundPattern} (known {A = List TyId} Rule.T03 at o t) (λ tys. order_rest w id at e ty tys (length tys) tree.TuplePattern parts dots xs)) is
+
+pub array_is : (w : Env) (at : Pos) (e : Expected) (ty : TyId) (parts : Syns) (dots : Bool) (xs : List NamedEntry) (s t : TypingState) (id : ℕ) (element : TyId) (count : ℕ) →
+    number s ≡ Ok (id, t) → array_of t.items ty ≡ Some (element, count) →
+    pattern_form w e ty at (ArrayPattern parts dots) xs s ≡ order_rest w id at e ty (replicate count element) count tree.ArrayPattern parts dots xs t
+array_is w at e ty parts dots xs s t id element count here is =
+    numbered (λ id. the_items >>= (λ items. known Rule.T03 at (array_of items ty) >>= (λ a. order_rest w id at e ty (replicate a.1 a.0) a.1 tree.ArrayPattern parts dots xs))) s t id here
+    ∙ ap (λ o. and_then {B = BoundPattern} (known {A = TyId × ℕ} Rule.T03 at o t) (λ a. order_rest w id at e ty (replicate a.1 a.0) a.1 tree.ArrayPattern parts dots xs)) is
+
+-- alternatives, where there are two or more
+pub or_is : (w : Env) (at : Pos) (e : Expected) (ty : TyId) (ps : Syns) (xs : List NamedEntry) (s t : TypingState) (id : ℕ) →
+    number s ≡ Ok (id, t) → nat_lt 1 (count_of ps) ≡ true →
+    pattern_form w e ty at (Alternatives ps) xs s ≡ alternatives_rest w id at e ty ps xs t
+or_is w at e ty ps xs s t id here several =
+    numbered (λ id. obeys Rule.T20 at (nat_lt 1 (count_of ps)) >> alternatives_rest w id at e ty ps xs) s t id here
+    ∙ ap (λ (b : Bool). (obeys Rule.T20 at b >> alternatives_rest w id at e ty ps xs) t) several

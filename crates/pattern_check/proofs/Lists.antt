@@ -27,6 +27,10 @@ abbrev pub behind : ℕ → List Node → Listed → Listed
 behind k ns (Ok p) = Ok ((nodes_on k ns p.0.0, p.0.1), p.1)
 behind k ns (Err e) = Err e
 
+pub nothing_before : (ns : List Node) (o : Listed) → o ≡ behind 0 ns o
+nothing_before ns (Ok p) = refl
+nothing_before ns (Err e) = refl
+
 one_node : (k m : ℕ) (ns more : List Node) (o : Listed) → below more ≡ ns → m ≡ k + 1 →
     behind k ns (and_then o (λ ps. pure (a_node (top more) ps.0, ps.1))) ≡ behind m more o
 one_node k m ns more (Ok p) under next =
@@ -103,6 +107,10 @@ ListedFields = Result ((Fields × List NamedEntry × Given) × TypingState) Brok
 abbrev pub fields_behind : Given → List Node → ListedFields → ListedFields
 fields_behind given ns (Ok p) = Ok ((fields_on (reverse given) ns p.0.0, p.0.1, given ++ p.0.2), p.1)
 fields_behind given ns (Err e) = Err e
+
+pub none_before : (ns : List Node) (o : ListedFields) → o ≡ fields_behind [] ns o
+none_before ns (Ok p) = refl
+none_before ns (Err e) = refl
 
 field_before : (g : Option ℕ) (ns : List Node) (fs : Fields) → with_field (field_if g ns) fs ≡ with_last g ns fs
 field_before None ns fs = refl

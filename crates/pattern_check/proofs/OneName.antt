@@ -1,13 +1,16 @@
 -- One name as a pattern, by the form of its node; initialisers that are no use of a place.
-use Rattle.std.proofs.Common.{◌≡◌, ℕ, Bool, true, false, ◌&&◌, Option, Some, None, refl, ap}
+use Rattle.std.proofs.Common.{◌≡◌, ℕ, Bool, true, false, ◌&&◌, Option, Some, None, refl, ap, sym, ◌∙◌}
 use Rattle.std.specs.Prelude.{is_none}
 use Rattle.mir_base.specs.declared.place_in_text.Pos.{Pos}
 use Rattle.mir_ty.specs.ItemTable.{ItemTable}
 use Rattle.mir_ty.specs.declared.ty.TyId.{TyId}
 use Rattle.src_tree.specs.declared.node.SyntaxNode.{SyntaxNode}
+use Rattle.std.specs.Borrow.{Bor}
+use Rattle.src_ast.specs.Patterns.{pattern_of}
 use Rattle.src_ast.specs.Seen.{syn_of}
+use Rattle.src_ast.specs.declared.pattern.PatternForm.{PatternForm}
 use Rattle.src_ast.specs.Sorts.{pattern_part}
-use Rattle.src_ast.specs.Syntax.{Syn, syn, Shape, shape_of, Ident, LabelOf, Literal, TruthLiteral, Path, Minus, Bang, Star, Ampersand, Calculate, Compare, Both, Either, Store, CallOf, MethodOf, FieldOf, PartOf, ElementOf, StructOf, FieldInit, Parens, TupleOf, ArrayOf, Braces, IfElse, IfLetElse, MatchOn, ArmOf, LoopOf, WhileOf, WhileLetOf, BreakOf, ContinueOf, ReturnOf, MoveOf, PanicOf, LetOf, Empty, Semi, AnyPattern, BindPattern, LiteralPattern, TruthPattern, PathPattern, PartsPattern, FieldsPattern, FieldPattern, ParensPattern, TuplePattern, ArrayPattern, Alternatives, NamedType, GenericType, DynType, SelfType, ParensType, TupleType, ArrayType, NeverType, RefType, StructItem, EnumItem, FieldDecl, VariantDecl, TraitItem, ImplItem, FnItem, ParamOf, SelfParam, Odd}
+use Rattle.src_ast.specs.Syntax.{Word, Syn, syn, Shape, shape_of, Ident, LabelOf, Literal, TruthLiteral, Path, Minus, Bang, Star, Ampersand, Calculate, Compare, Both, Either, Store, CallOf, MethodOf, FieldOf, PartOf, ElementOf, StructOf, FieldInit, Parens, TupleOf, ArrayOf, Braces, IfElse, IfLetElse, MatchOn, ArmOf, LoopOf, WhileOf, WhileLetOf, BreakOf, ContinueOf, ReturnOf, MoveOf, PanicOf, LetOf, Empty, Semi, AnyPattern, BindPattern, LiteralPattern, TruthPattern, PathPattern, PartsPattern, FieldsPattern, FieldPattern, ParensPattern, TuplePattern, ArrayPattern, Alternatives, NamedType, GenericType, DynType, SelfType, ParensType, TupleType, ArrayType, NeverType, RefType, StructItem, EnumItem, FieldDecl, VariantDecl, TraitItem, ImplItem, FnItem, ParamOf, SelfParam, Odd}
 use Rattle.type_rows.proofs.Nodes.{shape}
 use Rattle.typed_tree.specs.Tree.{absent}
 use Rattle.typed_tree.specs.View as view
@@ -98,6 +101,34 @@ as_form items (syn at form) = form_seen items form
 
 pub name_seen : (items : ItemTable) (n : SyntaxNode) → is_one_name items (syn_of n) ≡ one_name_as items (pattern_part (shape_of (syn_of n)))
 name_seen items n = as_form items (syn_of n)
+
+-- what is told of a form is told of its node
+pub told_of : (items : ItemTable) (n : SyntaxNode) (b : Bool) (seen form : PatternForm) → seen ≡ form →
+    pattern_of seen ≡ pattern_part (shape_of (syn_of n)) → b ≡ one_name_as items (pattern_of form) → b ≡ is_one_name items (syn_of n)
+told_of items n b seen form is is_seen told =
+    told ∙ ap (λ f. one_name_as items (pattern_of f)) (sym is) ∙ ap (one_name_as items) is_seen ∙ sym (name_seen items n)
+
+-- other forms than a name and parentheses are none
+pub no_name : (items : ItemTable) (n : SyntaxNode) (seen : PatternForm) → pattern_of seen ≡ pattern_part (shape_of (syn_of n)) →
+    ((name : Bor Word) → seen ≡ PatternForm.Bind name → ⊥) → ((inside : Bor SyntaxNode) → seen ≡ PatternForm.Parens inside → ⊥) →
+    false ≡ is_one_name items (syn_of n)
+no_name items n seen is_seen no_bind no_parens =
+    other seen no_bind no_parens ∙ ap (one_name_as items) is_seen ∙ sym (name_seen items n)
+  where
+    other : (f : PatternForm) → ((name : Bor Word) → f ≡ PatternForm.Bind name → ⊥) → ((inside : Bor SyntaxNode) → f ≡ PatternForm.Parens inside → ⊥) →
+        false ≡ one_name_as items (pattern_of f)
+    other PatternForm.Wild h k = refl
+    other (PatternForm.Bind name) h k = absurd (h name refl)
+    other (PatternForm.Literal a b c) h k = refl
+    other (PatternForm.Truth a) h k = refl
+    other (PatternForm.Path a) h k = refl
+    other (PatternForm.Parts a b c) h k = refl
+    other (PatternForm.Fields a b c) h k = refl
+    other (PatternForm.Parens inside) h k = absurd (k inside refl)
+    other (PatternForm.Tuple a b) h k = refl
+    other (PatternForm.Array a b) h k = refl
+    other (PatternForm.Or a) h k = refl
+    other PatternForm.Other h k = refl
 
 pub unused_same : (n : made.Node) → is_unused_place (view.tree_of n) ≡ (is_place (view.form_of n.form) && is_none n.by)
 unused_same n = ap is_unused_place (shape n)

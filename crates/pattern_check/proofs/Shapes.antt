@@ -1,5 +1,5 @@
 -- Nodes by the forms that are borrowed from them: what a definition says of a node is what it says of its form.
-use Rattle.std.proofs.Common.{◌≡◌, ℕ, suc, ◌<◌, Bool, true, false, List, Option, Some, None, Err, refl, ap, sym, ◌∙◌, arith}
+use Rattle.std.proofs.Common.{◌≡◌, ℕ, suc, ◌+◌, ◌*◌, ◌<◌, ◌≤◌, Bool, true, false, List, Option, Some, None, Err, refl, ap, sym, ◌∙◌, arith}
 use Rattle.std.specs.Prelude.{◌==◌}
 use Rattle.std.specs.Option.{option_map}
 use Rattle.mir_base.specs.declared.place_in_text.Pos.{Pos}
@@ -117,6 +117,15 @@ syn_size (syn at form) = part_size (sort_of form == 12) form
 
 pub pattern_size : (n : SyntaxNode) → seen_size (pattern_part (shape_of (syn_of n))) < size (syn_of n)
 pattern_size n = syn_size (syn_of n)
+
+-- the measure falls at a part of a pattern
+pub pattern_falls : (n : SyntaxNode) (seen form : PatternForm) (t k : ℕ) → 8 * size (syn_of n) ≡ t → seen ≡ form →
+    pattern_of seen ≡ pattern_part (shape_of (syn_of n)) → k ≤ 8 * seen_size (pattern_of form) + 7 → k < t
+pattern_falls n seen form t k is_t is is_seen within =
+    let same : seen_size (pattern_of form) ≡ seen_size (pattern_part (shape_of (syn_of n))) =
+    ap (λ f. seen_size (pattern_of f)) (sym is) ∙ ap seen_size is_seen in
+    let less = pattern_size n in
+    omega arith
 
 -- ---- patterns of fields
 

@@ -1,4 +1,4 @@
-use Rattle.std.proofs.Common.{ℕ, ◌+◌, ap, drop, get_or, length, map, replicate, reverse, sym, subst, take, ◌∙◌, rules}
+use Rattle.std.proofs.Common.{ℕ, List, ◌+◌, ap, arith, drop, refl, get_or, length, map, replicate, reverse, sym, subst, take, ◌∙◌, rules}
 use Rattle.std.specs.Option.{option_map}
 use Rattle.std.proofs.lemmas.List.{length-replicate}
 use Rattle.call_rows.specs.Lists.{last_nodes, many_form}
@@ -6,6 +6,7 @@ use Rattle.item_heads.specs.Answers.{Refuses}
 use Rattle.mir_base.specs.declared.rule.RuleError.{RuleError}
 use Rattle.mir_ty.specs.declared.ty.TyId.{TyId}
 use Rattle.pattern_rows.specs.Expected.{GivesBound, expected_of}
+use Rattle.pattern_rows.specs.Fields.{below_given}
 use Rattle.pattern_rows.specs.Members.{part_of, variant_of}
 use Rattle.pattern_rows.specs.Rests.{target_tail, wildcard_rest}
 use Rattle.pattern_rows.specs.Targets.{target_of}
@@ -14,11 +15,12 @@ use Rattle.src_ast.specs.Seen.{nodes_of, syn_of}
 use Rattle.type_rows.specs.Stand.{env, stack, state}
 use Rattle.typed_tree.specs.Tree as tree
 use Rattle.typing_rules.specs.Patterns as patterns
+use Rattle.typing_rules.specs.Rows.{Given}
 use Rattle.pattern_check.specs.Answers.{GivesField, GivesNodes}
-use Rattle.pattern_check.specs.Rests.{is_tuple_count, order_rest, parts_by_name, parts_in_order}
-use Rattle.pattern_check.proofs.Closings.{fields_close, first_if, first_parts, order_close, parts_close, target_begun, tuple_is}
-use Rattle.pattern_check.proofs.Lists.{drop_next, each_step, one_under, part_step}
-use Rattle.pattern_check.proofs.Shapes.{field_none, field_some, seen_by}
+use Rattle.pattern_check.specs.Rests.{alternatives_rest, is_tuple_count, order_rest, parts_by_name, parts_in_order}
+use Rattle.pattern_check.proofs.Closings.{array_is, fields_close, first_if, first_parts, or_is, order_close, parts_close, target_begun, tuple_is}
+use Rattle.pattern_check.proofs.Lists.{drop_next, each_step, fields_behind, none_before, nothing_before, one_under, part_step, part_stop}
+use Rattle.pattern_check.proofs.Shapes.{field_none, field_some, pattern_falls, seen_by}
 use Rattle.pattern_check.proofs.patterns.+patterns.Goals as goal
 
 pub pattern-returns-in-Wild-clause-gives : goal.pattern-returns-in-Wild-clause-gives
@@ -224,3 +226,99 @@ tuple_pattern-returns-in-Some-clause-gives t c =
     (subst (λ w. GivesBound (order_rest w c.in_ok-id.id.0 c.args.at (expected_of c.args.e) c.args.ty found.0 (length found.0) tree.TuplePattern (nodes_of c.args.parts) c.args.dots xs (state later)) c.in_order.result c.in_order.new.bound c.in_order.new.checker)
     c.in_ok-id.ensures.same.1.0
     (c.in_order.ensures.gives found.0 found.2))
+
+pub array_pattern-returns-in-Some-clause-gives : goal.array_pattern-returns-in-Some-clause-gives
+array_pattern-returns-in-Some-clause-gives t c =
+    let before = c.args.checker.now in
+    let later = c.number.new.self in
+    let xs = reverse c.args.bound.now in
+    let element = c.in-Some.element in
+    let count = c.in-Some.count in
+    subst (λ o. GivesBound o c.elements_pattern.result c.elements_pattern.new.bound c.elements_pattern.new.checker)
+    (sym (array_is (env before) c.args.at (expected_of c.args.e) c.args.ty (nodes_of c.args.elements) c.args.dots xs (state before) (state later) c.in_ok-id.id.0 element count c.in_ok-id.ensures.number (sym c.array_of.ensures ∙ c.in-Some.is)))
+    (subst (λ w. GivesBound (order_rest w c.in_ok-id.id.0 c.args.at (expected_of c.args.e) c.args.ty (replicate count element) count tree.ArrayPattern (nodes_of c.args.elements) c.args.dots xs (state later)) c.elements_pattern.result c.elements_pattern.new.bound c.elements_pattern.new.checker)
+    c.in_ok-id.ensures.same.1.0
+    c.elements_pattern.ensures.gives)
+
+pub or_pattern-returns-clause-gives : goal.or_pattern-returns-clause-gives
+or_pattern-returns-clause-gives t c =
+    let before = c.args.checker.now in
+    let later = c.number.new.self in
+    let xs = reverse c.args.bound.now in
+    subst (λ o. GivesBound o c.alternatives.result c.alternatives.new.bound c.alternatives.new.checker)
+    (sym (or_is (env before) c.args.at (expected_of c.args.e) c.args.ty (nodes_of c.args.patterns) xs (state before) (state later) c.in_ok-id.id.0 c.in_ok-id.ensures.number (sym c.are_several.ensures ∙ c.in_ok-obeys.ensures.holds)))
+    (subst (λ w. GivesBound (alternatives_rest w c.in_ok-id.id.0 c.args.at (expected_of c.args.e) c.args.ty (nodes_of c.args.patterns) xs (state later)) c.alternatives.result c.alternatives.new.bound c.alternatives.new.checker)
+    c.in_ok-id.ensures.same.1.0
+    c.alternatives.ensures.gives)
+
+pub field_patterns-loop-part-init : goal.field_patterns-loop-part-init
+field_patterns-loop-part-init t c =
+    let before = c.args.checker.now in
+    let xs = reverse c.args.bound.now in
+    record {
+      gives =
+          λ v h.
+          let all = patterns.field_patterns (env before) (expected_of c.args.e) v (nodes_of c.args.fields) xs (state before) in
+          (none_before (stack before) all ∙ ap (λ (l : Given). fields_behind l (stack before) all) (sym c.new-given.ensures), h);
+      under = ap (λ (l : Given). below_given l (stack before)) c.new-given.ensures;
+      place = (refl, refl);
+      smaller = omega arith;
+    }
+
+pub each_pattern-loop-split-init : goal.each_pattern-loop-split-init
+each_pattern-loop-split-init t c =
+    let before = c.args.checker.now in
+    record {
+      gives = nothing_before (stack before) (patterns.each_pattern (env before) (expected_of c.args.e) c.args.ty (nodes_of c.args.patterns) (reverse c.args.bound.now) (state before));
+      under = refl;
+      place = (refl, refl);
+      smaller = omega arith;
+    }
+
+pub part_patterns-loop-ty-init : goal.part_patterns-loop-ty-init
+part_patterns-loop-ty-init t c =
+    let before = c.args.checker.now in
+    record {
+      gives = nothing_before (stack before) (patterns.part_patterns (env before) (expected_of c.args.e) c.args.types.now (nodes_of c.args.parts) (reverse c.args.bound.now) (state before));
+      under = refl;
+      place = (refl, refl);
+      smaller = omega arith;
+    }
+
+pub part_patterns-returns-in_err-pattern-clause-gives : goal.part_patterns-returns-in_err-pattern-clause-gives
+part_patterns-returns-in_err-pattern-clause-gives t c =
+    let before = c.loop-ty.invariant in
+    let nothing : TyId = record { 0 = 0 } in
+    let types = c.args.types.now in
+    let ty = get_or types c.loop-ty.ty-index nothing in
+    let w = env c.args.checker.now in
+    let e = expected_of c.args.e in
+    let err = c.in_err-pattern.field-0.0 in
+    let first = syn_of c.in-Some.split.first.now in
+    let here : Refuses (patterns.pattern w e ty first (reverse c.loop-ty.bound) (state c.loop-ty.checker)) err =
+    subst (λ v. Refuses (patterns.pattern v e ty first (reverse c.loop-ty.bound) (state c.loop-ty.checker)) err) before.place.0 c.in_err-pattern.ensures.gives in
+    let refused : Refuses (patterns.part_patterns w e types (nodes_of c.args.parts) (reverse c.args.bound.now) (state c.args.checker.now)) err =
+    part_stop w e _ c.loop-ty.count (stack c.loop-ty.checker) (drop c.loop-ty.ty-index types) (drop (c.loop-ty.ty-index + 1) types) ty (nodes_of c.loop-ty.rest)
+    first (nodes_of c.in-Some.split.rest) (reverse c.loop-ty.bound) (state c.loop-ty.checker) err
+    before.gives (drop_next types c.loop-ty.ty-index nothing c.loop-ty-test.true) c.in-Some.ensures here in
+    grind (arith, refused)
+
+-- ---- a part is smaller than the whole
+
+pub pattern-parts_pattern-requires : goal.pattern-parts_pattern-requires
+pattern-parts_pattern-requires t c = (pattern_falls c.args.node.now _ _ t _ c.decreases c.in-Parts.is c.pattern_form.ensures (omega arith), tt)
+
+pub pattern-fields_pattern-requires : goal.pattern-fields_pattern-requires
+pattern-fields_pattern-requires t c = (pattern_falls c.args.node.now _ _ t _ c.decreases c.in-Fields.is c.pattern_form.ensures (omega arith), tt)
+
+pub pattern-pattern-requires : goal.pattern-pattern-requires
+pattern-pattern-requires t c = (pattern_falls c.args.node.now _ _ t _ c.decreases c.in-Parens.is c.pattern_form.ensures (omega arith), tt)
+
+pub pattern-tuple_pattern-requires : goal.pattern-tuple_pattern-requires
+pattern-tuple_pattern-requires t c = (pattern_falls c.args.node.now _ _ t _ c.decreases c.in-Tuple.is c.pattern_form.ensures (omega arith), tt)
+
+pub pattern-array_pattern-requires : goal.pattern-array_pattern-requires
+pattern-array_pattern-requires t c = (pattern_falls c.args.node.now _ _ t _ c.decreases c.in-Array.is c.pattern_form.ensures (omega arith), tt)
+
+pub pattern-or_pattern-requires : goal.pattern-or_pattern-requires
+pattern-or_pattern-requires t c = (pattern_falls c.args.node.now _ _ t _ c.decreases c.in-Or.is c.pattern_form.ensures (omega arith), tt)
