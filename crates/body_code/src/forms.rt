@@ -524,6 +524,7 @@ fn pattern_code(
             scrutinised(alloc, items, scrutinee, &place, code)?;
             code.push(Op::BeforeArms)?;
             arms_code(alloc, items, arms.as_slice(), &place, around, at.to, code)?;
+            drop(place);
             code.push(Op::Matches(at.head.id))?;
             code.push(Op::Then)?;
         }
@@ -583,6 +584,7 @@ fn loop_code(
                 WantedCode::AloneUnderOwnKey,
                 code,
             )?;
+            drop(loops);
             ends_loop(alloc, id, at.to, code)?;
             conditional(condition.id, code)?;
             code.push(Op::Loops(id))?;
@@ -947,6 +949,7 @@ fn arm_code(
                 None => None,
             };
             bind(alloc, ScopeAt::Innermost, names.as_slice(), code)?;
+            drop(names);
             node_code(alloc, items, body, around, WantedCode::Alone(to), code)?;
             taken_arm(alloc, items, head.id, pattern, matched, key, code)
         }
