@@ -1,4 +1,4 @@
-ghost use Rattle.std.specs.Prelude.{◌≡◌, ◌∷◌, IfOk, map};
+ghost use Rattle.std.specs.Prelude.{◌≡◌, ◌++◌, ◌∷◌, [], IfOk, OnOk, map};
 ghost use Rattle.cfg_graph.specs.Places.{named};
 ghost use Rattle.store_model.specs.Places.Place as places;
 ghost use Rattle.src_meaning.specs.Forms.{loop_destination, aliases_with};
@@ -97,6 +97,19 @@ pub fn in_loop(
     Ok(inner)
 }
 
+/// A key more that stands for a place.
+fn add_alias(
+    alloc: Global,
+    key: Key,
+    place: &Place,
+    inner: &mut List<Alias>,
+) -> Result<(), NoMemory>
+    ensures { OnOk result (aliases_of inner.new ≡ aliases_of inner.old ++ (key.0, named place.now) ∷ []) }
+{
+    let place = copied(alloc, place)?;
+    inner.push(Alias { key, place })
+}
+
 /// The names of an arm stand for their parts in its guard, besides those that stand for parts around it.
 pub fn in_guard(
     alloc: Global,
@@ -108,16 +121,10 @@ pub fn in_guard(
 {
     let mut inner = List::new(alloc);
     for binding in bindings {
-        inner.push(Alias {
-            key: binding.key,
-            place: copied(alloc, &binding.from)?,
-        })?;
+        add_alias(alloc, binding.key, &binding.from, &mut inner)?;
     }
     for alias in aliases {
-        inner.push(Alias {
-            key: alias.key,
-            place: copied(alloc, &alias.place)?,
-        })?;
+        add_alias(alloc, alias.key, &alias.place, &mut inner)?;
     }
     Ok(inner)
 }

@@ -1,5 +1,5 @@
 //! Conditions, and the patterns of branches, around the code of their parts.
-ghost use Rattle.std.specs.Prelude.{◌≡◌, ◌∷◌, true, false, OnOk};
+ghost use Rattle.std.specs.Prelude.{◌≡◌, ◌∷◌, true, false, IfOk, OnOk};
 ghost use Rattle.cfg_graph.specs.Places.{named};
 ghost use Rattle.src_meaning.specs.Shape.{shape};
 ghost use Rattle.typed_tree.specs.View.{tree_of};
@@ -7,7 +7,7 @@ ghost use Rattle.scope_code.specs.Code as plain;
 ghost use Rattle.scope_code.specs.Forms as forms;
 ghost use Rattle.scope_code.specs.Ops as ops;
 ghost use Rattle.scope_code.specs.Ops.{onto};
-ghost use Rattle.scope_code.specs.View.{ops_of, destination_of, head_of, maybe_key, place_seen};
+ghost use Rattle.scope_code.specs.View.{condition_of, ops_of, destination_of, head_of, maybe_key, place_seen};
 
 use crate::around::copied;
 use crate::context::{Context, result_place};
@@ -94,6 +94,21 @@ pub fn otherwise_leaves(code: &mut Code) -> Result<(), NoMemory>
     code.push(Op::Leaves)
 }
 
+/// That the value of a scrutinee, which has been reached, passes the tests of a pattern.
+fn passing(
+    alloc: Global,
+    items: &Items,
+    pattern: &Node,
+    scrutinee: &Node,
+    around: Around,
+) -> Result<Condition, NoMemory>
+    ensures { IfOk result (λ on. condition_of on ≡ plain.Passes
+        ((shape items.now (tree_of pattern.now)).tests (place_seen items.now scrutinee.now around.entry))) }
+{
+    let place = place_of(alloc, items, scrutinee, around.aliases)?;
+    Ok(Condition::Passes(tests(alloc, items, pattern, &place)?))
+}
+
 /// A branch by a pattern, behind the code of the two ways on.
 pub fn taken_if(
     alloc: Global,
@@ -110,8 +125,7 @@ pub fn taken_if(
         ∷ ops.Then ∷ ops_of code.old) }
 {
     code.push(Op::Then)?;
-    let place = place_of(alloc, items, scrutinee, around.aliases)?;
-    let on = Condition::Passes(tests(alloc, items, pattern, &place)?);
+    let on = passing(alloc, items, pattern, scrutinee, around)?;
     code.push(Op::Branches { node: id, on })?;
     code.push(Op::Then)?;
     code.push(Op::From(Change::NewScope {
