@@ -161,9 +161,11 @@ impl World<'_> {
             return Ok(Outcome::Stuck);
         };
         let Addr { depth, key, path } = s.address;
-        let _freed = self
+        let freed = self
             .store
             .take(alloc, depth as usize, key.0, path.as_slice())?;
+        drop(freed);
+        drop(path);
         self.tell(ToldEvents::Event(Event::Freed(serial)))?;
         Ok(Outcome::Goes)
     }
