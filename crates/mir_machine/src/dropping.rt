@@ -1,5 +1,5 @@
 //! Drops of places, and their turns.
-ghost use Rattle.std.specs.Prelude.{◌≡◌, List as Listed, IfOk, true, false};
+ghost use Rattle.std.specs.Prelude.{◌≡◌, ◌∷◌, [], List as Listed, All, IfOk, map, true, false};
 ghost use Rattle.cfg_graph.specs.declared.graph.Graph.{Graph as a_graph};
 ghost use Rattle.cfg_graph.specs.declared.terminator.Term.{Term as a_term};
 ghost use Rattle.cfg_graph.specs.declared.terminator.Unwind.{Unwind as an_unwind};
@@ -10,6 +10,8 @@ ghost use Rattle.mir_base.specs.declared.trace.Event.{Event as an_event};
 ghost use Rattle.mir_machine.specs.Tasks.{AtTerm, AtTurn, DropsThat, Keeps, Next, drop_outcome};
 ghost use Rattle.std.specs.Prelude.{ℕ as Number};
 ghost use Rattle.mir_machine.specs.declared.tasks.Task.{Task as a_task};
+ghost use Rattle.store_model.specs.Values.Datum.{Address, datum_of};
+ghost use Rattle.store_model.specs.Values.Wholeness.{IsWhole};
 
 use crate::entering::enter;
 use crate::going::{go_on, stuck};
@@ -109,6 +111,17 @@ fn ended(drops: &Drops) -> Outcome
     }
 }
 
+/// What a `Drop` body is called with: the address of what is dropped.
+fn drop_args(alloc: Global, address: &Addr) -> Result<List<Value>, NoMemory>
+    ensures data { IfOk result (λ args. map datum_of args ≡ Address address.now ∷ []) }
+    ensures whole { IfOk result (λ args. All (λ arg. IsWhole (datum_of arg)) args) }
+{
+    let address = address.copy(alloc)?;
+    let mut args = List::new(alloc);
+    args.push(Value::Address(address))?;
+    Ok(args)
+}
+
 /// The `Drop` body of what a drop found so is entered, and the drop waits for it.
 fn enter_drop(
     alloc: Global,
@@ -125,14 +138,20 @@ fn enter_drop(
         Keeps graph.now world.old world.new (AtTurn graph.now tasks.old post drops (a_turn.Enters adt serial body dynamic))
         (Next graph.now tasks.new doing)) }
 {
-    let mut args = List::new(alloc);
-    args.push(Value::Address(drops.address.copy(alloc)?))?;
-    tasks.push(Task::Drop {
-        post,
-        drops,
-        dynamic,
-    })?;
-    enter(alloc, graph, world, tasks, event, body, args)
+    match drop_args(alloc, &drops.address) {
+        Ok(args) => {
+            tasks.push(Task::Drop {
+                post,
+                drops,
+                dynamic,
+            })?;
+            enter(alloc, graph, world, tasks, event, body, args)
+        }
+        Err(error) => {
+            drop(drops);
+            Err(error)
+        }
+    }
 }
 
 /// A drop makes a turn.
@@ -165,8 +184,15 @@ pub fn drop_turn(
             Event::Dropped { adt, serial },
             body,
         ),
-        Turn::Ends => go_on(world, post, ended(&drops)),
-        Turn::Stuck => Ok(stuck(post.number, post.block)),
+        Turn::Ends => {
+            let outcome = ended(&drops);
+            drop(drops);
+            go_on(world, post, outcome)
+        }
+        Turn::Stuck => {
+            drop(drops);
+            Ok(stuck(post.number, post.block))
+        }
         _ => {
             let next = steps(alloc, world, &mut drops, turn)?;
             Ok(Doing::Drops {

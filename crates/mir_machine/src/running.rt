@@ -134,9 +134,11 @@ fn turns<K: Sink>(
     let mut flow = TextFlow::new(alloc);
     for _turn in 0..u64::MAX {
         if let Err(error) = hand_on(alloc, graph, world, &mut flow, out) {
+            drop(doing);
             return Err(error);
         }
         if let Some(end) = end_of(&doing) {
+            drop(doing);
             return finish(alloc, &mut flow, end, out);
         }
         match turn(alloc, graph, world, &mut tasks, doing) {
@@ -144,6 +146,7 @@ fn turns<K: Sink>(
             Err(NoMemory) => return Err(RunError::Memory),
         }
     }
+    drop(doing);
     Err(RunError::Memory)
 }
 

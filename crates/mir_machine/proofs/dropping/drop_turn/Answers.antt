@@ -19,7 +19,7 @@ returns-in-Ends c =
     IfOk-weaker c.go_on.result _ _
     (λ doing k. subst (λ turn. Keeps graph c.args.world.now c.go_on.new.world (AtTurn graph tasks c.args.post c.args.drops turn) (Next graph tasks doing)) (sym c.in-Ends.is)
     (ended_goes_on graph tasks c.args.world.now c.go_on.new.world c.args.post c.args.drops doing
-    (subst (λ outcome. Keeps graph c.args.world.now c.go_on.new.world (AtOutcome graph tasks c.args.post outcome) (Next graph tasks doing)) c.ended.ensures (k graph tasks))))
+    (subst (λ outcome. Keeps graph c.args.world.now c.go_on.new.world (AtOutcome graph tasks c.args.post outcome) (Next graph tasks doing)) c.ended-outcome.ensures (k graph tasks))))
     c.go_on.ensures
 
 pub returns-in-Stuck : goal.returns-in-Stuck
