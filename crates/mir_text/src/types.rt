@@ -1,4 +1,5 @@
-ghost use Rattle.std.specs.Prelude.{◌≡◌, ◌++◌, OnOk, map};
+ghost use Rattle.std.specs.Prelude.{◌≡◌, ◌++◌, OnOk, codes, map};
+ghost use Rattle.std.specs.Fmt.{decimal};
 ghost use Rattle.std.specs.String.{string_bytes};
 ghost use Rattle.mir_text.specs.Lists.{behind_commas, joined};
 ghost use Rattle.mir_text.specs.Types.{type_within, type_text, form_text, tuple_text, deepest};
@@ -11,6 +12,15 @@ use std::alloc::AllocError;
 
 /// No type has so many types in one another.
 const DEEPEST: u32 = 4294967295;
+
+/// The length of an array, and the end of its type.
+fn put_length(out: &mut String, length: u32) -> Result<(), AllocError>
+    ensures { OnOk result (string_bytes out.new ≡ string_bytes out.old ++ (codes "; " ++ decimal length ++ codes "]")) }
+{
+    put(out, "; ")?;
+    put_number(out, length)?;
+    put(out, "]")
+}
 
 /// A type, with no more than `depth` types in one another.
 #[cycle(types)]
@@ -26,6 +36,21 @@ fn put_within(out: &mut String, items: &Items, id: TyId, depth: u32) -> Result<(
     }
 }
 
+/// A type behind a word.
+#[cycle(types)]
+fn put_behind(
+    out: &mut String,
+    items: &Items,
+    word: &str,
+    id: TyId,
+    depth: u32,
+) -> Result<(), AllocError>
+    ensures { OnOk result (string_bytes out.new ≡ string_bytes out.old ++ (word.now ++ type_within items.now depth id)) }
+{
+    put(out, word)?;
+    put_within(out, items, id, depth)
+}
+
 #[cycle(types)]
 fn put_form(out: &mut String, items: &Items, ty: &Ty, depth: u32) -> Result<(), AllocError>
     ensures { OnOk result (string_bytes out.new ≡ string_bytes out.old ++ form_text items.now (type_within items.now depth) ty.now) }
@@ -38,29 +63,19 @@ fn put_form(out: &mut String, items: &Items, ty: &Ty, depth: u32) -> Result<(), 
         Ty::Adt(n) => put_adt_name(out, items, *n),
         Ty::Tuple(parts) => put_tuple(out, items, parts.as_slice(), depth),
         Ty::Array(element, length) => {
-            put(out, "[")?;
-            put_within(out, items, *element, depth)?;
-            put(out, "; ")?;
-            put_number(out, *length)?;
-            put(out, "]")
+            put_behind(out, items, "[", *element, depth)?;
+            put_length(out, *length)
         }
         Ty::Boxed(inside) => {
-            put(out, "Box<")?;
-            put_within(out, items, *inside, depth)?;
+            put_behind(out, items, "Box<", *inside, depth)?;
             put(out, ">")
         }
         Ty::Dyn(n) => {
             put(out, "dyn ")?;
             put_trait_name(out, items, *n)
         }
-        Ty::Shared(to) => {
-            put(out, "&")?;
-            put_within(out, items, *to, depth)
-        }
-        Ty::Unique(to) => {
-            put(out, "&mut ")?;
-            put_within(out, items, *to, depth)
-        }
+        Ty::Shared(to) => put_behind(out, items, "&", *to, depth),
+        Ty::Unique(to) => put_behind(out, items, "&mut ", *to, depth),
         Ty::Closure(n) => {
             put(out, "closure#")?;
             put_number(out, *n)
@@ -75,13 +90,11 @@ fn put_tuple(out: &mut String, items: &Items, parts: &[TyId], depth: u32) -> Res
     match parts {
         [] => put(out, "()"),
         [only] => {
-            put(out, "(")?;
-            put_within(out, items, *only, depth)?;
+            put_behind(out, items, "(", *only, depth)?;
             put(out, ",)")
         }
         [first, others @ ..] => {
-            put(out, "(")?;
-            put_within(out, items, *first, depth)?;
+            put_behind(out, items, "(", *first, depth)?;
             put_more_types(out, items, others, depth)?;
             put(out, ")")
         }
@@ -98,8 +111,7 @@ fn put_more_types(
     ensures { OnOk result (string_bytes out.new ≡ string_bytes out.old ++ behind_commas (map (type_within items.now depth) ids.now)) }
 {
     for id in ids {
-        put(out, ", ")?;
-        put_within(out, items, *id, depth)?;
+        put_behind(out, items, ", ", *id, depth)?;
     }
     Ok(())
 }

@@ -9,13 +9,16 @@ invariant-put_more_types-loop-id l = string_bytes l.out ≡ string_bytes l.initi
 
 -- a type spends one of its depth, and its parts come one by one
 abbrev pub decreases-put_within : goal.decreases-put_within
-decreases-put_within l = 4 * l.depth
+decreases-put_within l = 5 * l.depth
 
 abbrev pub decreases-put_form : goal.decreases-put_form
-decreases-put_form l = 4 * l.depth + 3
+decreases-put_form l = 5 * l.depth + 4
 
 abbrev pub decreases-put_tuple : goal.decreases-put_tuple
-decreases-put_tuple l = 4 * l.depth + 2
+decreases-put_tuple l = 5 * l.depth + 3
 
 abbrev pub decreases-put_more_types : goal.decreases-put_more_types
-decreases-put_more_types l = 4 * l.depth + 1
+decreases-put_more_types l = 5 * l.depth + 2
+
+abbrev pub decreases-put_behind : goal.decreases-put_behind
+decreases-put_behind l = 5 * l.depth + 1
