@@ -3,10 +3,10 @@
 //! Runs wait in the order of their lists of choices, shorter ones first, and of one length in order. The first of them
 //! is visited where its row has a path gone that no run before it brought to its point, or none was there; else what it
 //! could meet is met along a lesser list.
-ghost use Rattle.std.specs.Prelude.{◌≡◌, ◌≢◌, ◌⊎◌, ◌↔◌, ◌<◌, ◌≤◌, ◌+◌, ◌*◌, ◌∷◌, ◌++◌, [], IsTrue, IsFalse, IfOk, OnOk, IfSome, None, Some, length, replicate, slice_index_or, slice_set, true, false};
+ghost use Rattle.std.specs.Prelude.{◌≡◌, ◌≢◌, ◌⊎◌, ◌↔◌, ◌<◌, ◌≤◌, ◌+◌, ◌*◌, ◌∷◌, ◌++◌, [], IsTrue, IsFalse, IfOk, OnOk, IfSome, None, Some, option_map, length, replicate, slice_index_or, slice_set, true, false};
 ghost use Rattle.bit_rows.specs.Words.{union};
-ghost use Rattle.move_errors.specs.Rows.{IsWatched, state};
-ghost use Rattle.move_errors.specs.Runs.{problem};
+ghost use Rattle.move_errors.specs.Rows.{IsWatched, after, first_by, state};
+ghost use Rattle.move_errors.specs.Runs.{action_of, acts_at, problem};
 ghost use Rattle.move_errors.specs.Stands.{Stands, IsFound, MeetsNoBad, remaining, pushed_items, chosen_items};
 
 use crate::{Act, Acts, Onward, Point, Stage, Watch, first_bad, goes_on};
@@ -212,6 +212,25 @@ impl Search {
     }
 }
 
+/// The first of what is done at a point that is bad. Where there is none, the row becomes the one behind all of it.
+fn bad_at<'a>(
+    alloc: Global,
+    watch: &Watch<'a>,
+    at: Point,
+    row: &mut BitRow,
+) -> Result<Option<Act<'a>>, NoMemory>
+    requires watched { IsWatched watch.now.items.now watch.now.body.now watch.now.forest watch.now.below }
+    requires row { length row.old ≡ length watch.now.forest.paths }
+    ensures first { IfOk result (λ bad. option_map (action_of at.block) bad ≡ first_by watch.now.items.now watch.now.body.now
+        watch.now.forest.paths (acts_at watch.now.items.now watch.now.body.now at.block at.stage) row.old) }
+    ensures after { IfOk result (λ bad. bad ≡ None → row.new ≡ after watch.now.items.now watch.now.body.now
+        watch.now.forest.paths (acts_at watch.now.items.now watch.now.body.now at.block at.stage) row.old) }
+{
+    let mut done = Acts::new(alloc);
+    done.fill(watch.items, watch.body, at)?;
+    Ok(first_bad(watch, done.acts.as_slice(), row))
+}
+
 /// Takes up a run that waited.
 fn turn<'a>(
     alloc: Global,
@@ -229,10 +248,8 @@ fn turn<'a>(
         return Ok(None);
     }
     let number = search.visit(item.visit)?;
-    let mut done = Acts::new(alloc);
-    done.fill(watch.items, watch.body, item.visit.at)?;
     let mut row = item.row;
-    if let Some(act) = first_bad(watch, done.acts.as_slice(), &mut row) {
+    if let Some(act) = bad_at(alloc, watch, item.visit.at, &mut row)? {
         return Ok(Some(FoundUse { visit: number, act }));
     }
     let onward = goes_on(watch.items, watch.body, item.visit.at);

@@ -6,9 +6,8 @@ use Rattle.bit_rows.specs.Words.{union}
 use Rattle.cfg_graph.specs.Moves.Gone.{PathAction}
 use Rattle.init_flow.specs.Carried.{Bits}
 use Rattle.init_flow.specs.WorkList.{off, is_off}
-use Rattle.move_flow.specs.Concerns.{AreOfBody}
 use Rattle.move_errors.specs.Rows.{after, first_by}
-use Rattle.move_errors.specs.Runs.{Problem, Trip, problem, index_of, acts_at, action_of, actions_of}
+use Rattle.move_errors.specs.Runs.{Problem, Trip, problem, index_of, acts_at, action_of}
 use Rattle.move_errors.specs.Searching.{Own}
 use Rattle.move_errors.specs.Stands.{trip_of, waiting_of, Logged, remaining, pushed_items}
 use Rattle.move_errors.specs.declared.act.Act.{Act}
@@ -19,7 +18,6 @@ use Rattle.move_errors.specs.declared.search.Waiting.{Waiting}
 use Rattle.move_errors.proofs.Owning.{owns, leads-inside}
 use Rattle.move_errors.proofs.Sorted.{here}
 use Rattle.move_errors.proofs.Turning.{brings-nothing, goes-on, less-left, two-more, logged-more}
-use Rattle.move_errors.proofs.Using.{acts-used, used-anywhere}
 use Rattle.move_errors.proofs.Visiting.{first-least}
 use Rattle.move_errors.proofs.search.turn.Goals as goal
 
@@ -57,15 +55,8 @@ returns-then-not-bring-clause-stands c = λ none.
     (subst (λ (z : ℕ). union item.row (slice_index_or old.seen z []) ≡ slice_index_or old.seen z []) c.index.ensures nothing.0)
     (subst (λ (z : ℕ). slice_index_or old.reached z false ≡ true) c.index.ensures nothing.1)
 
-pub first_bad-requires-clause-used : goal.first_bad-requires-clause-used
-first_bad-requires-clause-used c =
-    let w = c.args.watch.now in
-    let at : Point = c.args.item.visit.at in
-    used-anywhere w.body.now at.block c.as_slice.result.now
-    (subst (AreOfBody w.body.now) (sym (ap (actions_of at.block) c.as_slice.ensures ∙ c.in_ok-fill.ensures)) (acts-used w.items.now w.body.now at.block at.stage))
-
-pub first_bad-requires-clause-row : goal.first_bad-requires-clause-row
-first_bad-requires-clause-row c = c.requires.stands.widths c.args.item (here c.args.item c.args.search.now.queue.items)
+pub bad_at-requires-clause-row : goal.bad_at-requires-clause-row
+bad_at-requires-clause-row c = c.requires.stands.widths c.args.item (here c.args.item c.args.search.now.queue.items)
 
 pub returns-in-Some-clause-found : goal.returns-in-Some-clause-found
 returns-in-Some-clause-found c =
@@ -79,15 +70,13 @@ returns-in-Some-clause-found c =
     let h = here item old.queue.items in
     let t : Trip = trip_of f s.done item.visit item.row in
     let visits : c.visit.new.self.visits ≡ old.visits ++ item.visit ∷ [] = c.in_ok-number.ensures.visits ∙ ap (λ (z : List Visit). z ++ item.visit ∷ []) c.bring.ensures.visits in
-    let acts : actions_of at.block c.as_slice.result.now ≡ acts_at w.items.now w.body.now at.block at.stage = ap (actions_of at.block) c.as_slice.ensures ∙ c.in_ok-fill.ensures in
     record {
       done = s.done ++ t ∷ [];
       logged = subst (λ (z : List Visit). Logged f z (s.done ++ t ∷ [])) (sym visits) (logged-more f law old.visits s.done item.visit item.row s.logged (s.from_done item h));
       trip = t;
       at = ap (slice_get (s.done ++ t ∷ [])) (c.in_ok-number.ensures.number ∙ ap length c.bring.ensures.visits ∙ s.logged.long) ∙ slice_get-last s.done t;
       run = s.visited.waiting_runs t (here t (waiting_of f s.done old.queue.items));
-      first = ap (λ (z : List PathAction). first_by w.items.now w.body.now w.forest.paths z item.row) (sym acts)
-          ∙ sym (c.first_bad.ensures.first at.block) ∙ ap (option_map (action_of at.block)) c.in-Some.is;
+      first = sym c.in_ok-act.ensures.first ∙ ap (option_map (action_of at.block)) c.in-Some.is;
       least = first-least f law s.done t (waiting_of f s.done old.queue.items) s.visited;
     }
 
@@ -118,17 +107,16 @@ returns-clause-stands c = λ none.
     let at : Point = item.visit.at in
     let n : ℕ = index_of at in
     let e = c.bring.ensures in
-    let acts : actions_of at.block c.as_slice.result.now ≡ acts_at w.items.now w.body.now at.block at.stage = ap (actions_of at.block) c.as_slice.ensures ∙ c.in_ok-fill.ensures in
-    goes-on f (owns w.items.now w.body.now w.forest.paths) old new item c.first_bad.new.row c.in_ok-number.number c.requires.stands
+    goes-on f (owns w.items.now w.body.now w.forest.paths) old new item c.bad_at.new.row c.in_ok-number.number c.requires.stands
     (λ choice to leads. leads-inside w.items.now w.body.now at.block at.stage choice to leads)
     (c.go_on.ensures.seen ∙ c.visit.ensures.seen ∙ set-at old.seen c.bring.new.self.seen item.row c.index.result n c.index.ensures e.seen)
     (c.go_on.ensures.reached ∙ c.visit.ensures.reached ∙ flag-at old.reached c.bring.new.self.reached c.index.result n c.index.ensures e.reached)
     (c.go_on.ensures.visits ∙ c.in_ok-number.ensures.visits ∙ ap (λ (z : List Visit). z ++ item.visit ∷ []) e.visits)
     (c.in_ok-number.ensures.number ∙ ap length e.visits)
-    (c.first_bad.ensures.after at.block c.in_default.is ∙ ap (λ (z : List PathAction). after w.items.now w.body.now w.forest.paths z item.row) acts)
-    (none-first (first_by w.items.now w.body.now w.forest.paths (acts_at w.items.now w.body.now at.block at.stage) item.row) c.first_bad.result (action_of at.block)
-    (c.first_bad.ensures.first at.block ∙ ap (λ (z : List PathAction). first_by w.items.now w.body.now w.forest.paths z item.row) acts) c.in_default.is)
-    (c.in_ok-go_on.ensures.queue ∙ (λ i. pushed_items (c.goes_on-onward.ensures i) c.in_ok-number.number c.first_bad.new.row (ap (λ q. q.items) (c.visit.ensures.queue ∙ e.queue) i)))
+    (c.in_ok-act.ensures.after c.in_default.is)
+    (none-first (first_by w.items.now w.body.now w.forest.paths (acts_at w.items.now w.body.now at.block at.stage) item.row) c.in_ok-act.field-0 (action_of at.block)
+    c.in_ok-act.ensures.first c.in_default.is)
+    (c.in_ok-go_on.ensures.queue ∙ (λ i. pushed_items (c.goes_on-onward.ensures i) c.in_ok-number.number c.bad_at.new.row (ap (λ q. q.items) (c.visit.ensures.queue ∙ e.queue) i)))
 
 pub returns-clause-less : goal.returns-clause-less
 returns-clause-less c =
@@ -144,7 +132,7 @@ returns-clause-less c =
     let news = subst (λ (z : ℕ). (union c.args.item.row (slice_index_or old.seen z []) ≢ slice_index_or old.seen z []) ⊎ (slice_index_or old.reached z false ≡ false)) c.index.ensures (e.fresh c.if-not-bring.false) in
     let less = less-left (problem c.args.watch.now.items.now c.args.watch.now.body.now c.args.watch.now.forest.paths) (owns c.args.watch.now.items.now c.args.watch.now.body.now c.args.watch.now.forest.paths)
     old new n c.args.item.row (s.widths c.args.item h ∙ sym (s.seen.widths n within)) (let k = s.seen.seen_are in omega (k, within, arith)) (let k = s.seen.reached_are in omega (k, within, arith)) seen reached news in
-    let queue : length new.queue.items ≡ length (pushed_items c.goes_on-onward.result c.in_ok-number.number c.first_bad.new.row c.visit.new.self.queue.items) = ap length c.in_ok-go_on.ensures.queue in
-    let more = two-more (problem c.args.watch.now.items.now c.args.watch.now.body.now c.args.watch.now.forest.paths) (owns c.args.watch.now.items.now c.args.watch.now.body.now c.args.watch.now.forest.paths) c.goes_on-onward.result c.in_ok-number.number c.first_bad.new.row c.visit.new.self.queue.items in
+    let queue : length new.queue.items ≡ length (pushed_items c.goes_on-onward.result c.in_ok-number.number c.bad_at.new.row c.visit.new.self.queue.items) = ap length c.in_ok-go_on.ensures.queue in
+    let more = two-more (problem c.args.watch.now.items.now c.args.watch.now.body.now c.args.watch.now.forest.paths) (owns c.args.watch.now.items.now c.args.watch.now.body.now c.args.watch.now.forest.paths) c.goes_on-onward.result c.in_ok-number.number c.bad_at.new.row c.visit.new.self.queue.items in
     let same : length c.visit.new.self.queue.items ≡ length old.queue.items = ap (λ q. length q.items) (c.visit.ensures.queue ∙ e.queue) in
     less-one old new (sum_by off new.seen + sum_by is_off new.reached) (sum_by off old.seen + sum_by is_off old.reached) (length old.queue.items) less refl refl refl (omega (queue, more, same, arith))
