@@ -2,3 +2,4 @@ mod Limited
 mod Zipped
 mod Lists
 mod Placed
+mod Renumbered
