@@ -3,13 +3,13 @@ ghost use Rattle.std.specs.Prelude.{◌≡◌, ◌++◌, ◌<◌, ◌^◌, ◌-�
 ghost use Rattle.cfg_graph.specs.WellFormed.Broken.{first_of};
 ghost use Rattle.cfg_graph.specs.WellFormed.Buckets.{RepeatsNone};
 ghost use Rattle.cfg_graph.specs.WellFormed.Questions.{AreTests};
-ghost use Rattle.cfg_graph.specs.WellFormed.LineFaults.{stmt_faults, local_faults, term_faults};
-ghost use Rattle.cfg_graph.specs.WellFormed.Faults.{IsCountedBody, nowhere, at_line, of_each, stmts_faults, block_faults, own_faults, locals_faults, faults_of_body};
+ghost use Rattle.cfg_graph.specs.WellFormed.LineFaults.{term_faults};
+ghost use Rattle.cfg_graph.specs.WellFormed.Faults.{IsCountedBody, at_line, of_each, stmts_faults, block_faults, own_faults, locals_faults, faults_of_body};
 
 use crate::first_item_fault::{NOWHERE, at};
 use crate::line_faults::{body_fault, local_fault, stmt_fault, term_fault};
 use crate::type_faults::TypeTests;
-use crate::{Block, Body, Graph, GraphFault, Stmt};
+use crate::{Block, Body, Graph, GraphFault};
 use mir_ty::TyId;
 
 fn stmts_fault(graph: &Graph, number: u32, body: &Body, n: u32, block: &Block) -> Option<GraphFault>

@@ -1,18 +1,15 @@
 //! The first fault of the items of a graph, in the order of its listing.
-ghost use Rattle.std.specs.Prelude.{◌≡◌, ◌++◌, ◌+◌, ◌<◌, ◌^◌, IsTrue, false, length, take, option_map};
-ghost use Rattle.std.specs.List.{list_any};
+ghost use Rattle.std.specs.Prelude.{◌≡◌, ◌++◌, ◌+◌, ◌<◌, ◌^◌, length, option_map};
 ghost use Rattle.cfg_graph.specs.WellFormed.Broken.{first_of};
-ghost use Rattle.cfg_graph.specs.WellFormed.NameFaults.{same_name, is_repeated_impl};
 ghost use Rattle.cfg_graph.specs.WellFormed.Questions.{AreTests};
-ghost use Rattle.cfg_graph.specs.WellFormed.ItemFaults.{adt_faults, trait_faults, impl_faults, closure_faults};
-ghost use Rattle.cfg_graph.specs.WellFormed.Faults.{nowhere, at_line, adts_faults, traits_faults, impls_faults, closures_faults, item_faults};
+ghost use Rattle.cfg_graph.specs.WellFormed.Faults.{adts_faults, traits_faults, impls_faults, closures_faults, item_faults};
 
 use crate::impl_faults::{closure_fault, impl_fault};
 use crate::item_faults::{adt_fault, trait_fault};
 use crate::name_buckets::{BUCKETS, meet, meet_impl};
 use crate::type_faults::TypeTests;
 use crate::{Graph, GraphFault};
-use mir_ty::{Adt, ClosureDef, ImplDef, Items, TraitDef};
+use mir_ty::Items;
 
 /// In the place of a body, a block or a line that a fault does not have.
 pub const NOWHERE: u32 = 4294967295;

@@ -3,7 +3,6 @@ ghost use Rattle.std.specs.Prelude.{◌≡◌, ◌&&◌, IsTrue, not, false, len
 ghost use Rattle.std.specs.Cmp.Lexicographic.{pointwise};
 ghost use Rattle.std.specs.List.{list_all};
 ghost use Rattle.std.specs.Option.{option_copied, option_map_or};
-ghost use Rattle.store_model.specs.Places.TypeForms.{is_closure};
 ghost use Rattle.cfg_graph.specs.WellFormed.Broken.{first_of};
 ghost use Rattle.cfg_graph.specs.WellFormed.NameFaults.{same_impl, is_repeated_impl};
 ghost use Rattle.cfg_graph.specs.WellFormed.Questions.{AreTests};

@@ -2,13 +2,13 @@
 ghost use Rattle.std.specs.Prelude.{◌≡◌, ◌&&◌, IsTrue, not, true, false, length, slice_get, take, nat_lt};
 ghost use Rattle.std.specs.Cmp.Lexicographic.{pointwise};
 ghost use Rattle.std.specs.List.{list_any, list_all};
-ghost use Rattle.std.specs.Option.{option_copied, option_map_or};
-ghost use Rattle.store_model.specs.Places.TypeForms.{is_adt, is_closure};
+ghost use Rattle.std.specs.Option.{option_map_or};
+ghost use Rattle.store_model.specs.Places.TypeForms.{is_closure};
 ghost use Rattle.cfg_graph.specs.WellFormed.Broken.{first_of};
 ghost use Rattle.cfg_graph.specs.WellFormed.NameFaults.{is_name as name_stands, same_name, same_impl, is_repeated_impl};
 ghost use Rattle.cfg_graph.specs.WellFormed.Questions.{AreTests};
 ghost use Rattle.cfg_graph.specs.WellFormed.TypeFaults.{misplaces_dyn as dyn_misplaced, adt_holds_itself, closure_holds_itself};
-ghost use Rattle.cfg_graph.specs.WellFormed.ItemFaults.{exist, place_dyn, field_types, types_of_sig, types_of_trait, is_unique_adt as unique_adt, are_dropped as dropped_are, is_drop_sig as drop_sig, has_drop_sig as drops_by_sig, adt_has_types as adt_types_fit, adt_has_names as adt_names_stand, adt_tests, adt_faults, trait_has_names as trait_names_stand, trait_faults, impl_exists as impl_named, are_selves as selves_are, params_implement as params_fit, body_implements as body_fits, methods_of, impl_faults, begins_with_closure as closure_first, has_closure_sig as closure_sig, closure_has_types as closure_types_fit, closure_faults};
+ghost use Rattle.cfg_graph.specs.WellFormed.ItemFaults.{exist, place_dyn, field_types, types_of_sig, types_of_trait, are_dropped as dropped_are, is_drop_sig as drop_sig, has_drop_sig as drops_by_sig, adt_has_types as adt_types_fit, adt_has_names as adt_names_stand, adt_tests, adt_faults, trait_has_names as trait_names_stand, trait_faults, impl_exists as impl_named, are_selves as selves_are, params_implement as params_fit, body_implements as body_fits, methods_of, impl_faults, begins_with_closure as closure_first, has_closure_sig as closure_sig, closure_has_types as closure_types_fit, closure_faults};
 
 use crate::line_faults::unless;
 use crate::name_faults::{is_adt_name, is_name};

@@ -1,5 +1,5 @@
 //! The first fault of the line of a statement, a terminator, a local or a body.
-ghost use Rattle.std.specs.Prelude.{◌≡◌, if◌then◌else◌, ◌==◌, ◌&&◌, IsTrue, true, false, slice_get, take, is_some, nat_lt, length};
+ghost use Rattle.std.specs.Prelude.{◌≡◌, if◌then◌else◌, ◌==◌, ◌&&◌, IsTrue, true, false, slice_get, take, is_some};
 ghost use Rattle.std.specs.List.{list_any};
 ghost use Rattle.std.specs.Option.{option_map_or};
 ghost use Rattle.store_model.specs.Concrete.Effects.{impl_of};
@@ -8,7 +8,7 @@ ghost use Rattle.cfg_graph.specs.WellFormed.Questions.{AreTests};
 ghost use Rattle.cfg_graph.specs.WellFormed.Broken.{first_of};
 ghost use Rattle.cfg_graph.specs.WellFormed.Buckets.{RepeatsNone};
 ghost use Rattle.cfg_graph.specs.WellFormed.NameFaults.{same_name};
-ghost use Rattle.cfg_graph.specs.WellFormed.LineFaults.{stmt_numbers_exist as stmt_names_exist, term_numbers_exist as term_names_exist, stmt_has_row as stmt_row, has_row as row_exists, stmt_faults, term_faults, local_faults, body_faults, is_sig_of as sig_is_of, has_sig as sig_fits, blocks_exist as targets_are, has_own_name as own_name};
+ghost use Rattle.cfg_graph.specs.WellFormed.LineFaults.{stmt_numbers_exist as stmt_names_exist, term_numbers_exist as term_names_exist, stmt_has_row as stmt_row, stmt_faults, term_faults, local_faults, body_faults, is_sig_of as sig_is_of, has_sig as sig_fits, blocks_exist as targets_are, has_own_name as own_name};
 
 use crate::edge_faults::{EdgeTest, edges_pass, keeps_to_cleanup};
 use crate::line_places::{PlaceTest, stmt_passes, term_passes};

@@ -4,11 +4,9 @@ ghost use Rattle.std.specs.Bool.{OnTrue, OnFalse};
 ghost use Rattle.std.specs.List.{list_any, list_all};
 ghost use Rattle.mir_ty.specs.AreItems.{types_in};
 ghost use Rattle.mir_ty.specs.Facts.{by_rule};
-ghost use Rattle.mir_ty.specs.ItemTable.{type_at};
 ghost use Rattle.mir_ty.specs.Known.{known_by, IsShown, IsSettledAt, IsNews};
 ghost use Rattle.mir_ty.specs.Parts.{held_by};
 ghost use Rattle.mir_ty.specs.declared.ty.TyId.{TyId};
-ghost use Rattle.store_model.specs.Places.TypeForms.{is_dyn as dyn_type, is_adt as adt_type, is_closure as closure_type};
 ghost use Rattle.cfg_graph.specs.WellFormed.TypeFaults.{ty_exists as type_exists, misplaces_dyn as dyn_misplaced, adt_holds_itself, closure_holds_itself, own_number_exists as own_exists, misplacing, unless_dyn as if_no_dyn};
 ghost use Rattle.cfg_graph.specs.WellFormed.Questions.{finite, rule_for, shown_from, Tells, AreTests};
 

@@ -7,7 +7,7 @@ use Rattle.typed_tree.specs.Tree.{node}
 use Rattle.typed_tree.specs.View.{tree_of, form_of, maybe_of, nodes_from}
 use Rattle.typed_tree.specs.declared.node.Form.{Form, Index, Assign, Borrow, Call, ClosureCall, Block, Let, If, IfLet, WhileLet, Match, Arm, the_lemmas}
 use Rattle.typed_tree.specs.declared.node.Node.{Node}
-use Rattle.typing_rules.specs.Accesses.{◌⊕◌, Aliases, Argument, Referring, ToldAccesses, access_by, argument, inside, own_access, place_of, refers_by, root_of, told}
+use Rattle.typing_rules.specs.Accesses.{◌⊕◌, Aliases, Referring, ToldAccesses, access_by, argument, inside, own_access, place_of, refers_by, root_of, told}
 use Rattle.place_accesses.specs.Forms.{argument_told}
 
 -- `x`, `y` and `z` are what boxes of the form hold, and `slice` is a list of it
