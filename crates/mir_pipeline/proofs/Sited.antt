@@ -22,7 +22,7 @@ use Rattle.lowered_paths.proofs.UseLaw.{lowered_uses_have_sites}
 use Rattle.move_errors.specs.Refusal.{named_use}
 use Rattle.move_errors.specs.declared.errors.BadUse.{BadUse}
 use Rattle.move_paths.specs.Uses.{use_of}
-use Rattle.move_paths.specs.declared.uses.PlaceUse.{PlaceUse}
+use Rattle.move_paths.specs.declared.uses.Use.{Use}
 use Rattle.typed_tree.specs.Tree.{BodyTree, ProgramTree}
 use Rattle.use_sites.specs.Listed.{program_sites}
 use Rattle.use_sites.specs.declared.site.Site.{Site}
@@ -58,16 +58,16 @@ behind_same (Term.Panic why unwind) own = refl
 behind_same Term.Return own = refl
 behind_same Term.Resume own = refl
 
-told_same : (by : PlaceUse) (block : Option Block) (own : LineOfUse) → line_of (told_by (is_drop by) block own) ≡ told.told_by (use_of by) block (line_of own)
-told_same PlaceUse.Copies block own = refl
-told_same PlaceUse.Moves block own = refl
-told_same PlaceUse.Borrows block own = refl
-told_same PlaceUse.Touches block own = refl
-told_same PlaceUse.Tests block own = refl
-told_same PlaceUse.Stores block own = refl
-told_same PlaceUse.Drops None own = refl
-told_same PlaceUse.Drops (Some block) own = behind_same block.term own
-told_same PlaceUse.Frees block own = refl
+told_same : (by : Use) (block : Option Block) (own : LineOfUse) → line_of (told_by (is_drop by) block own) ≡ told.told_by (use_of by) block (line_of own)
+told_same Use.Copies block own = refl
+told_same Use.Moves block own = refl
+told_same Use.Borrows block own = refl
+told_same Use.Touches block own = refl
+told_same Use.Tests block own = refl
+told_same Use.Stores block own = refl
+told_same Use.Drops None own = refl
+told_same Use.Drops (Some block) own = behind_same block.term own
+told_same Use.Frees block own = refl
 
 module _ (program : ProgramTree) (named : AllNameTheirLoops program) where
   abbrev graph : Graph

@@ -15,7 +15,7 @@ use Rattle.cfg_lower.specs.declared.programs.Lowered.{Lowered}
 use Rattle.lowered_paths.specs.Refused.{MeetsExactly}
 use Rattle.move_errors.specs.Refusal.{IsRefused}
 use Rattle.move_errors.specs.declared.errors.BadUse.{BadUse}
-use Rattle.move_paths.specs.declared.uses.PlaceUse.{PlaceUse}
+use Rattle.move_paths.specs.declared.uses.Use.{Use}
 use Rattle.src_meaning.specs.Programs.{IsAccepted, reached_by}
 use Rattle.typed_tree.specs.Tree.{BodyTree, ProgramTree}
 use Rattle.use_sites.specs.Listed.{program_sites}
@@ -32,8 +32,8 @@ abbrev pub behind_drop : Term → LineOfUse → LineOfUse
 behind_drop (Term.DropAt place next unwind) own = record { block = next; line = 0 }
 behind_drop term own = own
 
-abbrev pub is_drop : PlaceUse → Bool
-is_drop PlaceUse.Drops = true
+abbrev pub is_drop : Use → Bool
+is_drop Use.Drops = true
 is_drop by = false
 
 abbrev pub told_by : Bool → Option Block → LineOfUse → LineOfUse

@@ -13,7 +13,7 @@ use cfg_graph::{Block, Graph, Term};
 use cfg_lower::Lowered;
 use mir_base::NoMemory;
 use move_errors::{BadUse, UseError, check_uses};
-use move_paths::PlaceUse;
+use move_paths::Use;
 use std::alloc::Global;
 use use_sites::Site;
 
@@ -58,10 +58,10 @@ fn block_of(graph: &Graph, body: u32, block: u32) -> Option<&Block>
     graph.bodies.get(body as usize)?.blocks.get(block as usize)
 }
 
-fn is_drop(by: PlaceUse) -> bool
+fn is_drop(by: Use) -> bool
     ensures { result ≡ graphs.is_drop by }
 {
-    matches!(by, PlaceUse::Drops)
+    matches!(by, Use::Drops)
 }
 
 /// The line whose site a bad use is told by.

@@ -10,14 +10,14 @@ use cfg_graph::{Block, Body, Place, Stmt, Term};
 use init_flow::target;
 use mir_base::{List, NoMemory};
 use mir_ty::Items;
-use move_paths::{PlaceUse, Used, add_stmt_uses, add_term_uses};
+use move_paths::{Use, Used, add_stmt_uses, add_term_uses};
 use std::alloc::Global;
 
 /// A use of a place, at a line of its block.
 #[derive(Clone, Copy)]
 pub struct Act<'a> {
     pub line: u32,
-    pub how: PlaceUse,
+    pub how: Use,
     pub place: &'a Place,
 }
 
@@ -102,7 +102,7 @@ fn store_acts<'a>(acts: &mut List<Act<'a>>, block: &'a Block, next: u32) -> Resu
     match stored(&block.term, next) {
         Some(place) => acts.push(Act {
             line,
-            how: PlaceUse::Stores,
+            how: Use::Stores,
             place,
         }),
         None => Ok(()),

@@ -16,7 +16,7 @@ use bit_rows::BitRow;
 use cfg_graph::{Body, Place, Step};
 use mir_ty::Items;
 use move_flow::{Masks, switch_of};
-use move_paths::{Forest, Near, PlaceUse};
+use move_paths::{Forest, Near, Use};
 
 /// A body, its forest, and the masks of the paths of that.
 #[derive(Drop)]
@@ -105,7 +105,7 @@ struct Asked {
 }
 
 /// What is asked for a use of a place, by the last path along it.
-fn asked_for(forest: &Forest, how: PlaceUse, place: &Place, near: Near) -> Asked
+fn asked_for(forest: &Forest, how: Use, place: &Place, near: Near) -> Asked
     requires { near.path < length forest.now.paths }
     ensures asks { Asks forest.now.paths (named place.now) near (use_of how) result.above result.within }
     ensures path { (n : ℕ) → result.above ≡ Some n → n < length forest.now.paths }
@@ -113,19 +113,19 @@ fn asked_for(forest: &Forest, how: PlaceUse, place: &Place, near: Near) -> Asked
     let exact = near.depth == place.steps.as_slice().len();
     let array = ends_in_array(place, near.depth);
     match how {
-        PlaceUse::Copies | PlaceUse::Moves | PlaceUse::Borrows | PlaceUse::Touches => Asked {
+        Use::Copies | Use::Moves | Use::Borrows | Use::Touches => Asked {
             above: Some(near.path),
             within: exact | array,
         },
-        PlaceUse::Tests => Asked {
+        Use::Tests => Asked {
             above: Some(near.path),
             within: array,
         },
-        PlaceUse::Stores | PlaceUse::Drops => Asked {
+        Use::Stores | Use::Drops => Asked {
             above: above_of(forest, place, near),
             within: array,
         },
-        PlaceUse::Frees => Asked {
+        Use::Frees => Asked {
             above: None,
             within: false,
         },
@@ -133,7 +133,7 @@ fn asked_for(forest: &Forest, how: PlaceUse, place: &Place, near: Near) -> Asked
 }
 
 /// Whether a use of a place is bad.
-fn is_bad(watch: &Watch<'_>, row: &BitRow, how: PlaceUse, place: &Place) -> bool
+fn is_bad(watch: &Watch<'_>, row: &BitRow, how: Use, place: &Place) -> bool
     requires watched { IsWatched watch.now.items.now watch.now.body.now watch.now.forest watch.now.below }
     requires local { place.now.local < length watch.now.body.now.locals }
     requires row { length row.now ≡ length watch.now.forest.paths }
@@ -148,7 +148,7 @@ fn is_bad(watch: &Watch<'_>, row: &BitRow, how: PlaceUse, place: &Place) -> bool
 }
 
 /// Makes a row the one after a use of a place.
-fn apply(watch: &Watch<'_>, how: PlaceUse, place: &Place, row: &mut BitRow)
+fn apply(watch: &Watch<'_>, how: Use, place: &Place, row: &mut BitRow)
     requires watched { IsWatched watch.now.items.now watch.now.body.now watch.now.forest watch.now.below }
     requires used { IsUsed watch.now.body.now (use_of how) (named place.now) }
     requires row { length row.old ≡ length watch.now.forest.paths }

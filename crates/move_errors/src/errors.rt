@@ -20,7 +20,7 @@ use cfg_graph::{Graph, Place};
 use init_flow::{Solution, solve};
 use mir_base::{List, NoMemory};
 use move_flow::MaybeGone;
-use move_paths::{PlaceUse, paths};
+use move_paths::{Use, paths};
 use std::alloc::Global;
 
 /// A bad use of a body: what is used is gone there on a path.
@@ -35,7 +35,7 @@ pub struct BadUse {
     /// The place that is used.
     pub place: Place,
     /// How it is used.
-    pub by: PlaceUse,
+    pub by: Use,
     /// The choices by which the path comes to the use, each 0 or 1.
     pub answers: List<u8>,
     /// The blocks of the path, from block 0.
@@ -132,7 +132,7 @@ fn by_rule(bad: BadUse) -> UseError
     ensures { result ≡ refused_by (rule_of (use_of bad.by)) bad }
 {
     match bad.by {
-        PlaceUse::Stores | PlaceUse::Drops => UseError::U2(bad),
+        Use::Stores | Use::Drops => UseError::U2(bad),
         _ => UseError::U1(bad),
     }
 }

@@ -11,21 +11,21 @@ ghost use Rattle.move_flow.specs.Switches.{at_most_one};
 use crate::switches::{BlockSwitches, Switch};
 use cfg_graph::{Block, Place, Term, Unwind};
 use mir_base::{List, NoMemory};
-use move_paths::{Forest, PlaceUse, Used};
+use move_paths::{Forest, Use, Used};
 use std::alloc::Global;
 
-fn leaves(how: PlaceUse) -> Option<bool>
+fn leaves(how: Use) -> Option<bool>
     ensures { result ≡ leaves_gone (use_of how) }
 {
     match how {
-        PlaceUse::Moves | PlaceUse::Drops | PlaceUse::Frees => Some(true),
-        PlaceUse::Stores => Some(false),
+        Use::Moves | Use::Drops | Use::Frees => Some(true),
+        Use::Stores => Some(false),
         _ => None,
     }
 }
 
 /// What a use of a place switches, where bits say what is gone or what is not.
-pub fn switch_of(forest: &Forest, how: PlaceUse, place: &Place, gone: bool) -> Option<Switch>
+pub fn switch_of(forest: &Forest, how: Use, place: &Place, gone: bool) -> Option<Switch>
     ensures { IsSwitch forest.now.paths gone (use_of how, place.now) result }
 {
     let takes = leaves(how)?;
@@ -39,7 +39,7 @@ pub fn switch_of(forest: &Forest, how: PlaceUse, place: &Place, gone: bool) -> O
 fn add_use(
     switches: &mut List<Switch>,
     forest: &Forest,
-    how: PlaceUse,
+    how: Use,
     place: &Place,
     gone: bool,
 ) -> Result<(), NoMemory>
@@ -131,7 +131,7 @@ fn result_switch(forest: &Forest, term: &Term, way: u32, gone: bool) -> Option<S
     ensures { Fits forest.now.paths gone (at_most_one result) (map (λ place. (graph.Stores, place)) (way_result term.now way)) }
 {
     match result_on(term, way) {
-        Some(place) => switch_of(forest, PlaceUse::Stores, place, gone),
+        Some(place) => switch_of(forest, Use::Stores, place, gone),
         None => None,
     }
 }

@@ -7,18 +7,18 @@ use Rattle.cfg_graph.specs.declared.terminator.Term.{Term}
 use Rattle.cfg_graph.specs.declared.graph.Block.{Block}
 use Rattle.cfg_graph.specs.Uses as graph
 use Rattle.cfg_graph.specs.Uses.{Copies, Moves, Borrows, Touches, Tests, Stores, Drops, Frees, stmt_uses, term_uses, stored_by_term}
-use Rattle.move_paths.specs.declared.uses.PlaceUse.{PlaceUse}
+use Rattle.move_paths.specs.declared.uses.Use.{Use}
 use Rattle.move_paths.specs.declared.uses.Used.{Used}
 
-abbrev pub use_of : PlaceUse → graph.PlaceUse
-use_of PlaceUse.Copies = Copies
-use_of PlaceUse.Moves = Moves
-use_of PlaceUse.Borrows = Borrows
-use_of PlaceUse.Touches = Touches
-use_of PlaceUse.Tests = Tests
-use_of PlaceUse.Stores = Stores
-use_of PlaceUse.Drops = Drops
-use_of PlaceUse.Frees = Frees
+abbrev pub use_of : Use → graph.PlaceUse
+use_of Use.Copies = Copies
+use_of Use.Moves = Moves
+use_of Use.Borrows = Borrows
+use_of Use.Touches = Touches
+use_of Use.Tests = Tests
+use_of Use.Stores = Stores
+use_of Use.Drops = Drops
+use_of Use.Frees = Frees
 
 abbrev pub listed : List Used → List (graph.PlaceUse × Place)
 listed uses = map (λ used. (use_of used.how, used.place.now)) uses

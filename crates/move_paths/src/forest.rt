@@ -11,7 +11,7 @@ ghost use Rattle.move_paths.specs.Uses.{block_uses, listed, use_of};
 
 use crate::trie::{Near, Trie};
 use crate::types::{is_behind_reference, is_watched};
-use crate::uses::{PlaceUse, Used, add_inner_uses, result_place};
+use crate::uses::{Use, Used, add_inner_uses, result_place};
 use cfg_graph::{Body, Graph, Place, Term};
 use mir_base::{List, NoMemory};
 use mir_ty::{Items, TyId};
@@ -117,17 +117,14 @@ impl Forest {
 }
 
 /// Whether a use takes a place or stores into it.
-fn changes(how: PlaceUse) -> bool
+fn changes(how: Use) -> bool
     ensures { result ≡ is_some (leaves_gone (use_of how)) }
 {
-    matches!(
-        how,
-        PlaceUse::Moves | PlaceUse::Stores | PlaceUse::Drops | PlaceUse::Frees
-    )
+    matches!(how, Use::Moves | Use::Stores | Use::Drops | Use::Frees)
 }
 
 /// Whether a use makes paths: it changes a place of a local of the body that is watched.
-fn makes_paths(items: &Items, body: &Body, how: PlaceUse, place: &Place) -> bool
+fn makes_paths(items: &Items, body: &Body, how: Use, place: &Place) -> bool
     ensures { result ≡ names_any items.now body.now (use_of how, place.now) }
 {
     let locals = body.locals.as_slice();
@@ -138,7 +135,7 @@ fn add_use(
     trie: &mut Trie,
     items: &Items,
     body: &Body,
-    how: PlaceUse,
+    how: Use,
     place: &Place,
 ) -> Result<(), NoMemory>
     requires { HasLocals body.now trie.old }
@@ -166,7 +163,7 @@ fn add_result(trie: &mut Trie, items: &Items, body: &Body, term: &Term) -> Resul
     ensures { OnOk result (Names items.now body.now trie.old trie.new (map (λ place. (graph.Stores, place)) (graph.stored_by_term term.now))) }
 {
     match result_place(term) {
-        Some(place) => add_use(trie, items, body, PlaceUse::Stores, place),
+        Some(place) => add_use(trie, items, body, Use::Stores, place),
         None => Ok(()),
     }
 }

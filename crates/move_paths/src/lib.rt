@@ -11,6 +11,5 @@ mod uses;
 pub use forest::{Forest, Found, paths};
 pub use trie::Near;
 pub use uses::{
-    PlaceUse, Used, add_inner_uses, add_stmt_uses, add_term_uses, result_place, stmt_uses,
-    term_uses,
+    Use, Used, add_inner_uses, add_stmt_uses, add_term_uses, result_place, stmt_uses, term_uses,
 };

@@ -10,7 +10,7 @@ use std::alloc::Global;
 
 /// How a place is used.
 #[derive(Clone, Copy)]
-pub enum PlaceUse {
+pub enum Use {
     Copies,
     Moves,
     Borrows,
@@ -26,11 +26,11 @@ pub enum PlaceUse {
 /// A use of a place.
 #[derive(Clone, Copy)]
 pub struct Used<'a> {
-    pub how: PlaceUse,
+    pub how: Use,
     pub place: &'a Place,
 }
 
-fn add<'a>(uses: &mut List<Used<'a>>, how: PlaceUse, place: &'a Place) -> Result<(), NoMemory>
+fn add<'a>(uses: &mut List<Used<'a>>, how: Use, place: &'a Place) -> Result<(), NoMemory>
     ensures { OnOk result (listed uses.new ≡ listed uses.old ++ (use_of how, place.now) ∷ []) }
 {
     uses.push(Used { how, place })
@@ -40,8 +40,8 @@ fn add_operand<'a>(uses: &mut List<Used<'a>>, operand: &'a Operand) -> Result<()
     ensures { OnOk result (listed uses.new ≡ listed uses.old ++ operand_uses operand.now) }
 {
     match operand {
-        Operand::Copied(place) => add(uses, PlaceUse::Copies, place),
-        Operand::Moved(place) => add(uses, PlaceUse::Moves, place),
+        Operand::Copied(place) => add(uses, Use::Copies, place),
+        Operand::Moved(place) => add(uses, Use::Moves, place),
         _ => Ok(()),
     }
 }
@@ -91,9 +91,9 @@ fn add_other<'a>(uses: &mut List<Used<'a>>, stmt: &'a Stmt) -> Result<(), NoMemo
     ensures { OnOk result (listed uses.new ≡ listed uses.old ++ other_uses stmt.now) }
 {
     match stmt {
-        Stmt::Borrow { of, .. } => add(uses, PlaceUse::Borrows, of),
-        Stmt::Touch(place) => add(uses, PlaceUse::Touches, place),
-        Stmt::Free(place) => add(uses, PlaceUse::Frees, place),
+        Stmt::Borrow { of, .. } => add(uses, Use::Borrows, of),
+        Stmt::Touch(place) => add(uses, Use::Touches, place),
+        Stmt::Free(place) => add(uses, Use::Frees, place),
         _ => Ok(()),
     }
 }
@@ -111,7 +111,7 @@ fn add_store<'a>(uses: &mut List<Used<'a>>, stmt: &'a Stmt) -> Result<(), NoMemo
         | Stmt::Close { to, .. }
         | Stmt::NewBox(to, _)
         | Stmt::Unsize { to, .. }
-        | Stmt::Borrow { to, .. } => add(uses, PlaceUse::Stores, to),
+        | Stmt::Borrow { to, .. } => add(uses, Use::Stores, to),
         Stmt::Touch(_) | Stmt::Print(_) | Stmt::Forget(_) | Stmt::Free(_) => Ok(()),
     }
 }
@@ -151,8 +151,8 @@ fn add_other_of_term<'a>(uses: &mut List<Used<'a>>, term: &'a Term) -> Result<()
     ensures { OnOk result (listed uses.new ≡ listed uses.old ++ other_term_uses term.now) }
 {
     match term {
-        Term::Case { on, .. } => add(uses, PlaceUse::Tests, on),
-        Term::DropAt { place, .. } => add(uses, PlaceUse::Drops, place),
+        Term::Case { on, .. } => add(uses, Use::Tests, on),
+        Term::DropAt { place, .. } => add(uses, Use::Drops, place),
         _ => Ok(()),
     }
 }
