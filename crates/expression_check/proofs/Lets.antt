@@ -9,14 +9,14 @@ use Rattle.mir_ty.specs.declared.ty.TyId.{TyId}
 use Rattle.src_tree.specs.declared.node.SyntaxNode.{SyntaxNode}
 use Rattle.src_ast.specs.Seen.{syn_of}
 use Rattle.src_ast.specs.Sorts.{expression_part}
-use Rattle.src_ast.specs.Syntax.{Syn, syn, Shape, LetOf, MaybeSyn, shape_of}
+use Rattle.src_ast.specs.Syntax.{Syn, syn, LetOf, MaybeSyn, shape_of}
 use Rattle.typed_tree.specs.Tree as tree
 use Rattle.typed_tree.specs.Tree.{MaybeNode}
 use Rattle.pattern_check.specs.BindingRests.{let_rest, let_typed}
 use Rattle.typing_rules.specs.Check.{Check, TypingState, Broken, ◌>>=◌, and_then, known, number, pure, the_items}
 use Rattle.typing_rules.specs.Places.{a_node_of, unit}
 use Rattle.typing_rules.specs.Patterns.{BoundPattern, pattern}
-use Rattle.typing_rules.specs.Rows.{Expected, ends_by, let_ty, of_value, place_for_parts, taken}
+use Rattle.typing_rules.specs.Rows.{ends_by, let_ty, of_value, place_for_parts, taken}
 use Rattle.typing_rules.specs.Scope.{Env, NamedEntry, with_variables}
 use Rattle.typing_rules.specs.Typed.{a_statement, base_of, declared, for_parts, initialised, is_one_name, is_place, is_place_syn, other_statement, place, typed, value}
 use Rattle.expression_rows.specs.Forms.{value_as}

@@ -6,3 +6,4 @@ pub mod CallSteps
 pub mod Arms
 pub mod Lets
 pub mod Inits
+pub mod Begun

@@ -1,5 +1,5 @@
 -- Assignments and borrows, once their parts are checked.
-use Rattle.std.proofs.Common.{◌≡◌, ℕ, Bool, Option, Some, Result, Ok, ap, sym, ◌∙◌}
+use Rattle.std.proofs.Common.{◌≡◌, ℕ, Bool, Option, Some, Ok, ap, sym, ◌∙◌}
 use Rattle.mir_base.specs.declared.place_in_text.Pos.{Pos}
 use Rattle.mir_ty.specs.declared.ty.TyId.{TyId}
 use Rattle.expression_rows.specs.Rests.{borrow_rest, store_rest}

@@ -1,5 +1,5 @@
 -- A tuple without parts is `()`.
-use Rattle.std.proofs.Common.{◌≡◌, Bool, true, false, List, Option, refl}
+use Rattle.std.proofs.Common.{◌≡◌, true, false, List, Option, refl}
 use Rattle.mir_base.specs.declared.place_in_text.Pos.{Pos}
 use Rattle.mir_ty.specs.declared.ty.TyId.{TyId}
 use Rattle.src_ast.specs.Seen.{is_none}

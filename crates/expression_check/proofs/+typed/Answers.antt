@@ -27,6 +27,7 @@ use Rattle.typed_tree.specs.Tree.{Fields}
 use Rattle.typing_rules.specs.Rows as rows_of
 use Rattle.typing_rules.specs.Rows.{Given}
 use Rattle.type_rows.specs.declared.tables.Tables.{Tables}
+use Rattle.expression_check.proofs.Begun.{of_form, value_falls, no_nodes_yet}
 use Rattle.expression_check.proofs.Arms.{if_let_looked, if_let_refused, matched, none_yet, one_arm, refused_arm, while_let_looked}
 use Rattle.typing_rules.specs.Rows.{loop_around, scrutinised}
 use Rattle.expression_check.specs.Matches.{arm_of_syn}
@@ -761,3 +762,58 @@ closures::closure-returns-in_err-closure_body-clause-gives t c =
 pub closures::closure_body-returns-clause-same : goal.closures::closure_body-returns-clause-same
 closures::closure_body-returns-clause-same t c =
     returned_if c.in_ok-head.head c.args.checker.now c.closure_head.new.checker c.typed.new.checker c.body_end.new.checker c.body_end.result c.in_ok-head.ensures.kept c.in_ok-typed.ensures.kept.0 c.in_ok-typed.ensures.kept.1 c.body_end.ensures.kept
+
+pub expressions::value-returns-in-Match-clause-gives : goal.expressions::value-returns-in-Match-clause-gives
+expressions::value-returns-in-Match-clause-gives t c = of_form c.args.checker.now c.args.at c.args.want c.args.form _ _ _ c.in-Match.is c.match_on.ensures.gives
+
+pub expressions::value-returns-in-While-clause-gives : goal.expressions::value-returns-in-While-clause-gives
+expressions::value-returns-in-While-clause-gives t c = of_form c.args.checker.now c.args.at c.args.want c.args.form _ _ _ c.in-While.is c.while_of.ensures.gives
+
+pub expressions::value-returns-in-Closure-clause-gives : goal.expressions::value-returns-in-Closure-clause-gives
+expressions::value-returns-in-Closure-clause-gives t c = of_form c.args.checker.now c.args.at c.args.want c.args.form _ _ _ c.in-Closure.is c.closure.ensures.gives
+
+pub expressions::value-returns-in-Break-clause-gives : goal.expressions::value-returns-in-Break-clause-gives
+expressions::value-returns-in-Break-clause-gives t c = of_form c.args.checker.now c.args.at c.args.want c.args.form _ _ _ c.in-Break.is c.break_of.ensures.gives
+
+pub expressions::value-returns-in-Loop-clause-gives : goal.expressions::value-returns-in-Loop-clause-gives
+expressions::value-returns-in-Loop-clause-gives t c = of_form c.args.checker.now c.args.at c.args.want c.args.form _ _ _ c.in-Loop.is c.loop_of.ensures.gives
+
+pub expressions::value-returns-in-Assign-clause-gives : goal.expressions::value-returns-in-Assign-clause-gives
+expressions::value-returns-in-Assign-clause-gives t c = of_form c.args.checker.now c.args.at c.args.want c.args.form _ _ _ c.in-Assign.is c.store.ensures.gives
+
+pub expressions::value-returns-in-And-clause-gives : goal.expressions::value-returns-in-And-clause-gives
+expressions::value-returns-in-And-clause-gives t c = of_form c.args.checker.now c.args.at c.args.want c.args.form _ _ _ c.in-And.is c.logic.ensures.gives
+
+pub expressions::value-returns-in-Or-clause-gives : goal.expressions::value-returns-in-Or-clause-gives
+expressions::value-returns-in-Or-clause-gives t c = of_form c.args.checker.now c.args.at c.args.want c.args.form _ _ _ c.in-Or.is c.logic-in-Or.ensures.gives
+
+pub expressions::typed-value-requires : goal.expressions::typed-value-requires
+expressions::typed-value-requires t c = (value_falls c.args.node.now _ t c.decreases c.expression_form.ensures, tt)
+
+pub expressions::for_parts-value-requires : goal.expressions::for_parts-value-requires
+expressions::for_parts-value-requires t c = (value_falls c.args.node.now _ t c.decreases c.expression_form.ensures, tt)
+
+pub expressions::base_of-value-requires : goal.expressions::base_of-value-requires
+expressions::base_of-value-requires t c = (value_falls c.args.node.now _ t c.decreases c.expression_form.ensures, tt)
+
+pub arguments::typed_args-loop-split-init : goal.arguments::typed_args-loop-split-init
+arguments::typed_args-loop-split-init t c =
+    let before = c.args.checker.now in
+    record {
+      gives = no_nodes_yet (stack before) (rules_of.typed_args (env before) c.args.params.now (nodes_of c.args.args) (state before));
+      below = refl;
+      place = (refl, refl);
+      counted = omega arith;
+      smaller = omega arith;
+    }
+
+pub aggregates::typed_elements-loop-split-init : goal.aggregates::typed_elements-loop-split-init
+aggregates::typed_elements-loop-split-init t c =
+    let before = c.args.checker.now in
+    record {
+      gives = none_yet (stack before) (rules_of.typed_elements (env before) c.args.want (nodes_of c.args.elements) (state before));
+      below = refl;
+      place = (refl, refl);
+      counted = omega arith;
+      smaller = omega arith;
+    }
