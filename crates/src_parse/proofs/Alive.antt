@@ -117,6 +117,9 @@ and_moved P (arms o) t q1 h e =
 and_moved P arm_body t q1 h e = no_more _ q1 e
 and_moved P after_break t q1 h e = no_more _ q1 e
 
+and_parts_twice : (a b c : Bool) → (a && (b && c)) ≡ true → c ≡ true
+and_parts_twice a b c h = (and_parts b c (and_parts a (b && c) h).1).1
+
 behind_a_statement : (P : GrammarRest → Bool) (r : GrammarRow) → everywhere P (statements false) ≡ true → everywhere P (behind_statement r) ≡ true
 behind_a_statement P GrammarRow.Let h = h
 behind_a_statement P GrammarRow.Semi h = h
@@ -126,11 +129,18 @@ behind_a_statement P GrammarRow.If h = h
 behind_a_statement P GrammarRow.Match h = h
 behind_a_statement P GrammarRow.Loop h = h
 behind_a_statement P GrammarRow.While h = h
-behind_a_statement P _ h = (and_parts (P (statements true)) _ (and_parts (P (statements false)) _ h).1).1
+behind_a_statement P _ h = and_parts_twice (P (statements false)) (P (statements true)) _ h
 
 behind_an_arm : (P : GrammarRest → Bool) (r : GrammarRow) → everywhere P (arms true) ≡ true → everywhere P (behind_arm r) ≡ true
 behind_an_arm P GrammarRow.Arm h = h
-behind_an_arm P _ h = (and_parts (P (arms true)) _ (and_parts (P (arms false)) _ h).1).1
+behind_an_arm P _ h = and_parts_twice (P (arms false)) (P (arms true)) _ h
+
+behind_an_expr : (P : GrammarRest → Bool) → everywhere P arm_body ≡ true → everywhere P (either comma (ends GrammarRow.Arm) (ends GrammarRow.LastArm)) ≡ true
+behind_an_expr P h =
+    let a = and_parts (P arm_body) _ h in
+    let b = and_parts (P (either comma (ends GrammarRow.Arm) (ends GrammarRow.Arm))) _ a.1 in
+    let c = and_parts (P (either comma (ends GrammarRow.Arm) (ends GrammarRow.LastArm))) _ b.1 in
+    and_from _ _ c.0 (and_from _ _ c.1 refl)
 
 behind_a_body : (P : GrammarRest → Bool) (r : GrammarRow) → everywhere P arm_body ≡ true → everywhere P (behind_body r) ≡ true
 behind_a_body P GrammarRow.Block h =
@@ -138,15 +148,11 @@ behind_a_body P GrammarRow.Block h =
     let b = and_parts (P (either comma (ends GrammarRow.Arm) (ends GrammarRow.Arm))) _ a.1 in
     let c = and_parts (P (either comma (ends GrammarRow.Arm) (ends GrammarRow.LastArm))) _ b.1 in
     and_from _ _ b.0 (and_from _ _ c.1 refl)
-behind_a_body P _ h =
-    let a = and_parts (P arm_body) _ h in
-    let b = and_parts (P (either comma (ends GrammarRow.Arm) (ends GrammarRow.Arm))) _ a.1 in
-    let c = and_parts (P (either comma (ends GrammarRow.Arm) (ends GrammarRow.LastArm))) _ b.1 in
-    and_from _ _ c.0 (and_from _ _ c.1 refl)
+behind_a_body P _ h = behind_an_expr P h
 
 behind_a_break : (P : GrammarRest → Bool) (r : GrammarRow) → everywhere P after_break ≡ true → everywhere P (behind_break r) ≡ true
 behind_a_break P GrammarRow.LabelName h = (and_parts (P after_break) _ h).1
-behind_a_break P _ h = (and_parts (P (maybe GrammarPart.AfterReturn (ends GrammarRow.Break) GrammarRow.Break)) _ (and_parts (P after_break) _ h).1).1
+behind_a_break P _ h = and_parts_twice (P after_break) (P (maybe GrammarPart.AfterReturn (ends GrammarRow.Break) GrammarRow.Break)) _ h
 
 pub and_behind : (P : GrammarRest → Bool) (q : GrammarRest) (p : GrammarPart) (r : GrammarRow) → everywhere P q ≡ true → due q ≡ Some p → everywhere P (behind q r) ≡ true
 and_behind P (ends x) p r h d = h

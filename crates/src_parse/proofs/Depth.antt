@@ -215,25 +215,32 @@ total_move c (arms true) d t q1 e = picks (Falls c (arms true) d) (is (TokenKind
 total_move c arm_body d t q1 e = no_more _ q1 e
 total_move c after_break d t q1 e = no_more _ q1 e
 
+le_trans : (x y z : ℕ) → x ≤ y → y ≤ z → x ≤ z
+le_trans x y z h k = omega arith
+
 -- What ends here is no less deep.
+
+made_here : (c : GrammarPlace) (x r : GrammarRow) (d : ℕ) → Some x ≡ Some r → possible c r ≡ true → (possible c x ≡ true) × (settle c x (counts x + d) ≤ settle c r (counts r + d))
+made_here c x r d m p =
+    let e : x ≡ r = cc in (ap (possible c) e ∙ p, subst (λ z. settle c x (counts x + d) ≤ settle c z (counts z + d)) e (omega arith))
+
 pub total_made : (c : GrammarPlace) (q : GrammarRest) (d : ℕ) (r : GrammarRow) → made q ≡ Some r → possible c r ≡ true → (poss c q ≡ true) × (total c q d ≤ settle c r (counts r + d))
-total_made c (ends x) d r m p = let e : x ≡ r = cc in (ap (possible c) e ∙ p, subst (λ z. settle c x (counts x + d) ≤ settle c z (counts z + d)) e (omega arith))
-total_made c (token k after) d r m p = absurd (cc)
+total_made c (ends x) d r m p = made_here c x r d m p
+total_made c (token k after) d r m p = no_more _ r m
 total_made c (either k after other) d r m p =
     let h = total_made c other d r m p in
-    let n = pick_other (poss c after) (poss c other) (total c after d) (total c other d) h.0 in
-    let l = h.1 in (or_right (poss c after) (poss c other) h.0, omega arith)
-total_made c (part x after) d r m p = absurd (cc)
-total_made c (maybe x after y) d r m p = let e : y ≡ r = cc in (ap (possible c) e ∙ p, subst (λ z. settle c y (counts y + d) ≤ settle c z (counts z + d)) e (omega arith))
-total_made c (list x later dots close after) d r m p = absurd (cc)
-total_made c (more x dots close after) d r m p = absurd (cc)
-total_made c (many x close after) d r m p = absurd (cc)
-total_made c items d r m p = let e : GrammarRow.File ≡ r = cc in (refl, subst (λ z. settle c GrammarRow.File (0 + d) ≤ settle c z (counts z + d)) e (omega arith))
-total_made c alternatives d r m p = let e : GrammarRow.OrPattern ≡ r = cc in (ap (possible c) e ∙ p, subst (λ z. settle c GrammarRow.OrPattern (1 + d) ≤ settle c z (counts z + d)) e (omega arith))
-total_made c (statements o) d r m p = absurd (cc)
-total_made c (arms o) d r m p = absurd (cc)
-total_made c arm_body d r m p = absurd (cc)
-total_made c after_break d r m p = let e : GrammarRow.Break ≡ r = cc in (ap (possible c) e ∙ p, subst (λ z. settle c GrammarRow.Break (1 + d) ≤ settle c z (counts z + d)) e (omega arith))
+    let n = pick_other (poss c after) (poss c other) (total c after d) (total c other d) h.0 in (or_right (poss c after) (poss c other) h.0, le_trans _ _ _ n h.1)
+total_made c (part x after) d r m p = no_more _ r m
+total_made c (maybe x after y) d r m p = made_here c y r d m p
+total_made c (list x later dots close after) d r m p = no_more _ r m
+total_made c (more x dots close after) d r m p = no_more _ r m
+total_made c (many x close after) d r m p = no_more _ r m
+total_made c items d r m p = (refl, (made_here c GrammarRow.File r d m p).1)
+total_made c alternatives d r m p = made_here c GrammarRow.OrPattern r d m p
+total_made c (statements o) d r m p = no_more _ r m
+total_made c (arms o) d r m p = no_more _ r m
+total_made c arm_body d r m p = no_more _ r m
+total_made c after_break d r m p = made_here c GrammarRow.Break r d m p
 
 -- What a rest has to be for its parts to be counted rightly.
 abbrev pub fit : GrammarPlace → GrammarRest → Bool
@@ -329,11 +336,15 @@ pick_low true true x y e h = omega arith
 pick_low true false x y e h = refl
 pick_low false b x y e h = absurd (cc)
 
-behind_body_total : (c : GrammarPlace) (r : GrammarRow) (m : ℕ) → allowed c GrammarRow.Arm ≡ true → total c (behind_body r) m ≡ settle c GrammarRow.Arm (1 + m)
-behind_body_total c GrammarRow.Block m a = pick_same (possible c GrammarRow.Arm) (settle c GrammarRow.Arm (1 + m))
-behind_body_total c _ m a =
+behind_expr_total : (c : GrammarPlace) (m : ℕ) → allowed c GrammarRow.Arm ≡ true
+    → pick (possible c GrammarRow.Arm) (possible c GrammarRow.LastArm) (settle c GrammarRow.Arm (1 + m)) (settle c GrammarRow.LastArm (1 + m)) ≡ settle c GrammarRow.Arm (1 + m)
+behind_expr_total c m a =
     pick_low (possible c GrammarRow.Arm) (possible c GrammarRow.LastArm) (settle c GrammarRow.Arm (1 + m)) (settle c GrammarRow.LastArm (1 + m)) (or_left (allowed c GrammarRow.Arm) (joinable c GrammarRow.Arm (ender c.start)) a)
     (let s = settle_is c GrammarRow.Arm (1 + m) a in let u = settle_up c GrammarRow.LastArm (1 + m) in omega arith)
+
+behind_body_total : (c : GrammarPlace) (r : GrammarRow) (m : ℕ) → allowed c GrammarRow.Arm ≡ true → total c (behind_body r) m ≡ settle c GrammarRow.Arm (1 + m)
+behind_body_total c GrammarRow.Block m a = pick_same (possible c GrammarRow.Arm) (settle c GrammarRow.Arm (1 + m))
+behind_body_total c _ m a = behind_expr_total c m a
 
 pub behind_total : (c : GrammarPlace) (q : GrammarRest) (p : GrammarPart) (r : GrammarRow) (m : ℕ) → due q ≡ Some p → fit c q ≡ true → total c (behind q r) m ≡ total_behind c q m
 behind_total c (ends x) p r m e f = absurd (cc)

@@ -35,6 +35,12 @@ one_token ps t = ap parts_from (singles ps (NodePiece.Token t) ∙ ap (λ z. map
 pub one_node : (ps : List NodePiece.NodePiece) (g : SyntaxNode) → parts_in (ps ++ NodePiece.Node g ∷ []) ≡ with_sub (parts_in ps) (layout_of g)
 one_node ps g = ap parts_from (singles ps (NodePiece.Node g) ∙ ap (λ z. map piece_of ps ++ z ∷ []) (node_seen g)) ∙ node_behind (map piece_of ps) (layout_of g)
 
+pub lone_token : (t : Token) → parts_in (NodePiece.Token t ∷ []) ≡ tok t end
+lone_token t = one_token [] t
+
+pub node_then_token : (g : SyntaxNode) (t : Token) → parts_in (NodePiece.Node g ∷ NodePiece.Token t ∷ []) ≡ sub (layout_of g) (tok t end)
+node_then_token g t = one_token (NodePiece.Node g ∷ []) t ∙ ap (λ z. with_tok z t) (one_node [] g)
+
 pub items_there : rest_at 215 ≡ items
 items_there = items_is
 

@@ -1,6 +1,6 @@
 -- The parser of `Reading` with places, and with the numbers by which it knows how deep its trees are at least; nothing
 -- that a reader must believe rests on it.
-use Rattle.std.specs.Prelude.{ℕ, ◌+◌, max, min, nat_le, nat_lt, if◌then◌else◌, Bool, false, Option, None, option_map, List, [], ◌∷◌}
+use Rattle.std.specs.Prelude.{ℕ, ◌+◌, max, min, nat_le, nat_lt, if◌then◌else◌, Bool, false, Option, None, Some, option_map, List, [], ◌∷◌}
 use Rattle.mir_base.specs.declared.place_in_text.Pos.{Pos}
 use Rattle.src_token.specs.declared.token.Token.{Token}
 use Rattle.src_token.specs.declared.token.Spanned.{Spanned}
@@ -96,6 +96,11 @@ goes_on f S t at =
 
 abbrev pub is_joined : Counted → List Counted → Token → GrammarRow → Option (List Counted)
 is_joined f S t r = option_map (λ q. began f r q t ∷ S) (joins f.place r t)
+
+-- the innermost node, complete as this row, is a part of the one around it
+abbrev pub handed : List Counted → Counted → GrammarRow → Option (List Counted)
+handed [] f r = None
+handed (g ∷ S) f r = only_if (allowed f.place r) (Some (with_node g f r ∷ S))
 
 abbrev pub act : List Counted → Counted → Token → Pos → Option (List Counted)
 act [] f t at = or_else (goes_on f [] t at) (and_then (made f.rest) (λ r. is_joined f [] t r))

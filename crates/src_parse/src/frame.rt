@@ -1,5 +1,5 @@
 //! Nodes of which a part may still come.
-ghost use Rattle.std.specs.Prelude.{◌≡◌, IfOk, OnOk};
+ghost use Rattle.std.specs.Prelude.{◌≡◌, ◌∷◌, [], IfOk, OnOk};
 ghost use Rattle.src_tree.specs.Table.{rest_of, rest_at};
 ghost use Rattle.src_parse.specs.Counting.{reach_by, reach as reach_of, need_of, passes as passes_of, taken as taken_of, inside as inside_of, began as began_of, with_node as with_node_of, start as start_of};
 ghost use Rattle.src_tree.specs.Layout.{tok, sub, end};
@@ -95,16 +95,21 @@ pub(crate) fn take(
     Ok(())
 }
 
-/// The parts of a node that begins with a token. Most such nodes have no other part.
-fn one_part(alloc: Global, token: Token) -> Result<List<NodePiece>, NoMemory>
-    ensures { IfOk result (λ parts. parts_in parts ≡ tok token end) }
+/// The parts of a node so far, of which this is the first; there is room for this many.
+fn first_part(alloc: Global, room: usize, first: NodePiece) -> Result<List<NodePiece>, NoMemory>
+    ensures { IfOk result (λ parts. parts ≡ first ∷ []) }
 {
-    let mut parts = List::from_vec(Vec::with_capacity(alloc, 1)?);
-    parts.push(NodePiece::Token(token))?;
+    let Ok(elements) = Vec::with_capacity(alloc, room) else {
+        drop(first);
+        return Err(NoMemory);
+    };
+    let mut parts = List::from_vec(elements);
+    parts.push(first)?;
     Ok(parts)
 }
 
-/// A node that begins with a token, as a part of another.
+/// A node that begins with a token, as a part of another. Most such nodes have no other part.
+#[tactic(auto, using(crate::proofs::Parts::lone_token))]
 pub(crate) fn inside(
     alloc: Global,
     frame: &ParserFrame,
@@ -123,7 +128,7 @@ pub(crate) fn inside(
         place,
         point: GrammarPoint::At(point),
         at,
-        parts: one_part(alloc, token)?,
+        parts: first_part(alloc, 1, NodePiece::Token(token))?,
         deepest: 0,
         floor: around.floor,
         around: around.around,
@@ -131,6 +136,7 @@ pub(crate) fn inside(
 }
 
 /// The parts of a node that begins with another one and a token; one more is to come most often.
+#[tactic(auto, using(crate::proofs::Parts::node_then_token))]
 fn node_and_token(
     alloc: Global,
     node: SyntaxNode,
@@ -138,8 +144,10 @@ fn node_and_token(
 ) -> Result<List<NodePiece>, NoMemory>
     ensures { IfOk result (λ parts. parts_in parts ≡ sub (layout_of node) (tok token end)) }
 {
-    let mut parts = List::from_vec(Vec::with_capacity(alloc, 3)?);
-    parts.push(NodePiece::Node(node))?;
+    let Ok(mut parts) = first_part(alloc, 3, NodePiece::Node(node)) else {
+        drop(token);
+        return Err(NoMemory);
+    };
     parts.push(NodePiece::Token(token))?;
     Ok(parts)
 }

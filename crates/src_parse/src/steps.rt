@@ -2,7 +2,7 @@
 ghost use Rattle.std.specs.Prelude.{◌≡◌, ◌∷◌, IfOk, option_map, Some, None, length};
 ghost use Rattle.src_tree.specs.Table.{rest_of, rest_at};
 ghost use Rattle.src_tree.specs.Reading.{only_if, opens as opens_of, joins as joins_of};
-ghost use Rattle.src_parse.specs.Counting.{act, close as close_of};
+ghost use Rattle.src_parse.specs.Counting.{act, close as close_of, handed};
 ghost use Rattle.src_parse.specs.View.{frame_of, stack_of};
 
 use crate::frame::{ParserFrame, begin, hold, inside, take};
@@ -41,9 +41,31 @@ fn joins(place: GrammarPlace, row: GrammarRow, token: &Token) -> Option<u16>
     }
 }
 
+/// The innermost node, `top`, is complete as this row and becomes a part of the one around it, which is taken from the
+/// list; false where it may not stand there, or nothing is around it.
+#[tactic(auto, using(crate::proofs::Turns::handed_not, crate::proofs::Turns::handed_some))]
+fn hand_on(
+    below: &mut List<ParserFrame>,
+    top: &mut ParserFrame,
+    row: GrammarRow,
+) -> Result<bool, NoMemory>
+    ensures { IfOk result (λ went. handed (stack_of below.old) (frame_of top.old) row
+        ≡ only_if went (Some (frame_of top.new ∷ stack_of below.new))) }
+{
+    if !allowed(top.place, row) {
+        return Ok(false);
+    }
+    let Some(around) = below.pop() else {
+        return Ok(false);
+    };
+    let part = mem::replace(top, around);
+    hold(top, part, row)?;
+    Ok(true)
+}
+
 /// What a token does to the innermost node, `top`; false where it does nothing. Nodes that are complete become parts
 /// of those around them, which are taken from the list.
-#[tactic(auto, using(crate::proofs::Turns::act_moves, crate::proofs::Turns::act_opens, crate::proofs::Turns::act_ends, crate::proofs::Turns::act_joins, crate::proofs::Turns::act_refuses, crate::proofs::Turns::act_outermost, crate::proofs::Turns::act_hands))]
+#[tactic(auto, using(crate::proofs::Turns::act_ends))]
 pub(crate) fn step(
     alloc: Global,
     below: &mut List<ParserFrame>,
@@ -65,20 +87,24 @@ pub(crate) fn step(
             return Ok(true);
         }
         let Some(row) = made(top.point) else {
+            drop(token);
             return Ok(false);
         };
         if let Some(point) = joins(top.place, row, &token) {
             begin(alloc, top, row, point, token)?;
             return Ok(true);
         }
-        if !allowed(top.place, row) {
-            return Ok(false);
+        match hand_on(below, top, row) {
+            Ok(true) => {}
+            Ok(false) => {
+                drop(token);
+                return Ok(false);
+            }
+            Err(error) => {
+                drop(token);
+                return Err(error);
+            }
         }
-        let Some(around) = below.pop() else {
-            return Ok(false);
-        };
-        let part = mem::replace(top, around);
-        hold(top, part, row)?;
     }
 }
 
@@ -92,13 +118,11 @@ pub(crate) fn close(below: &mut List<ParserFrame>, top: &mut ParserFrame) -> Res
         let Some(row) = made(top.point) else {
             return Ok(false);
         };
-        let Some(around) = below.pop() else {
+        if below.is_empty() {
             return Ok(true);
-        };
-        if !allowed(top.place, row) {
+        }
+        if !hand_on(below, top, row)? {
             return Ok(false);
         }
-        let part = mem::replace(top, around);
-        hold(top, part, row)?;
     }
 }

@@ -7,4 +7,4 @@ abbrev pub invariant-loop-row : goal.invariant-loop-row
 invariant-loop-row l = close_of (stack_of l.below) (frame_of l.top) ≡ close_of (stack_of l.initial.below) (frame_of l.initial.top)
 
 abbrev pub decreases-loop-row : goal.decreases-loop-row
-decreases-loop-row l = length l.below
+decreases-loop-row l = length (stack_of l.below)
