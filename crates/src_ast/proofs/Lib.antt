@@ -5,3 +5,4 @@ pub mod Named
 pub mod FirstNames
 pub mod Rows
 pub mod Seconds
+pub mod Walked

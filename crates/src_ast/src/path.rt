@@ -6,7 +6,7 @@ ghost use Rattle.src_ast.specs.View.{tokens_in, views};
 ghost use Rattle.src_tree.specs.View.{parts_in};
 
 use crate::nodes::Nodes;
-use crate::tokens::{a_name, has};
+use crate::tokens::{a_name, has, split_token};
 use src_token::{Mark, Token};
 use src_tree::{GrammarRow, NodePiece, SyntaxNode, TokenKind};
 
@@ -21,15 +21,10 @@ pub struct PathForm<'a> {
 fn head(pieces: &[NodePiece]) -> Option<&str>
     ensures { word_of result ≡ seen.path_head (tokens_in (parts_in pieces.now)) }
 {
-    for piece in pieces {
-        if let NodePiece::Token(token) = piece {
-            return match token {
-                Token::Name(name) => Some(name.as_str()),
-                _ => None,
-            };
-        }
+    match split_token(pieces) {
+        Some((Token::Name(name), _)) => Some(name.as_str()),
+        _ => None,
     }
-    None
 }
 
 /// The name that a node is, if it is one.
