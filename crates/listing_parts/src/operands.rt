@@ -69,14 +69,18 @@ pub fn read_operand(alloc: Global, text: &[u8]) -> Result<(Operand, &[u8]), Read
         let (place, rest) = read_place(alloc, rest)?;
         return Ok((Operand::Moved(place), rest));
     }
-    let rest = strip(text, "const ").ok_or(ReadError::Unreadable)?;
+    let Some(rest) = strip(text, "const ") else {
+        return Err(ReadError::Unreadable);
+    };
     constant(rest).ok_or(ReadError::Unreadable)
 }
 
 fn operand_behind_comma(alloc: Global, text: &[u8]) -> Result<(Operand, &[u8]), ReadError>
     ensures { Finds result (comma reading.operand_read text.now) }
 {
-    let rest = strip(text, ", ").ok_or(ReadError::Unreadable)?;
+    let Some(rest) = strip(text, ", ") else {
+        return Err(ReadError::Unreadable);
+    };
     read_operand(alloc, rest)
 }
 
@@ -121,8 +125,12 @@ fn operand_row(alloc: Global, text: &[u8]) -> Result<(List<Operand>, &[u8]), NoM
 pub fn read_operands(alloc: Global, text: &[u8]) -> Result<(List<Operand>, &[u8]), ReadError>
     ensures { Finds result (reading.operands_read text.now) }
 {
-    let rest = strip(text, "(").ok_or(ReadError::Unreadable)?;
+    let Some(rest) = strip(text, "(") else {
+        return Err(ReadError::Unreadable);
+    };
     let (parts, rest) = operand_row(alloc, rest)?;
-    let rest = strip(rest, ")").ok_or(ReadError::Unreadable)?;
+    let Some(rest) = strip(rest, ")") else {
+        return Err(ReadError::Unreadable);
+    };
     Ok((parts, rest))
 }

@@ -75,7 +75,9 @@ fn steps(alloc: Global, text: &[u8]) -> Result<(Steps, &[u8]), NoMemory>
 pub fn place_behind(alloc: Global, text: &[u8]) -> Result<(Place, &[u8]), ReadError>
     ensures { Finds result (reading.place_from text.now) }
 {
-    let (local, rest) = number(text).ok_or(ReadError::Unreadable)?;
+    let Some((local, rest)) = number(text) else {
+        return Err(ReadError::Unreadable);
+    };
     let (steps, rest) = steps(alloc, rest)?;
     Ok((Place { local, steps }, rest))
 }
@@ -84,6 +86,8 @@ pub fn place_behind(alloc: Global, text: &[u8]) -> Result<(Place, &[u8]), ReadEr
 pub fn read_place(alloc: Global, text: &[u8]) -> Result<(Place, &[u8]), ReadError>
     ensures { Finds result (reading.place_read text.now) }
 {
-    let rest = strip(text, "_").ok_or(ReadError::Unreadable)?;
+    let Some(rest) = strip(text, "_") else {
+        return Err(ReadError::Unreadable);
+    };
     place_behind(alloc, rest)
 }

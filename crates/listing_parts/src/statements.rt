@@ -35,9 +35,17 @@ pub fn two_operands(alloc: Global, text: &[u8]) -> Result<((Operand, Operand), &
     ensures { Finds result (reading.two_operands text.now) }
 {
     let (left, rest) = read_operand(alloc, text)?;
-    let rest = strip(rest, " ").ok_or(ReadError::Unreadable)?;
-    let (right, rest) = read_operand(alloc, rest)?;
-    Ok(((left, right), rest))
+    let Some(rest) = strip(rest, " ") else {
+        drop(left);
+        return Err(ReadError::Unreadable);
+    };
+    match read_operand(alloc, rest) {
+        Ok((right, rest)) => Ok(((left, right), rest)),
+        Err(error) => {
+            drop(left);
+            Err(error)
+        }
+    }
 }
 
 /// A number, a blank and operands.
@@ -47,8 +55,12 @@ pub fn numbered_operands(
 ) -> Result<((u32, List<Operand>), &[u8]), ReadError>
     ensures { Finds result (reading.numbered_operands text.now) }
 {
-    let (n, rest) = number(text).ok_or(ReadError::Unreadable)?;
-    let rest = strip(rest, " ").ok_or(ReadError::Unreadable)?;
+    let Some((n, rest)) = number(text) else {
+        return Err(ReadError::Unreadable);
+    };
+    let Some(rest) = strip(rest, " ") else {
+        return Err(ReadError::Unreadable);
+    };
     let (parts, rest) = read_operands(alloc, rest)?;
     Ok(((n, parts), rest))
 }
@@ -62,7 +74,9 @@ fn make<'a>(
     ensures { Finds result (reading.make_read (adt_no heads.now) (trait_no heads.now) to text.now) }
 {
     let (name, rest) = name(text);
-    let rest = strip(rest, " ").ok_or(ReadError::Unreadable)?;
+    let Some(rest) = strip(rest, " ") else {
+        return Err(ReadError::Unreadable);
+    };
     let ((variant, parts), rest) = numbered_operands(alloc, rest)?;
     let adt = heads.adt_number(name);
     Ok((
@@ -85,7 +99,9 @@ fn unsize<'a>(
     ensures { Finds result (reading.unsize_read (adt_no heads.now) (trait_no heads.now) to text.now) }
 {
     let (name, rest) = name(text);
-    let rest = strip(rest, " ").ok_or(ReadError::Unreadable)?;
+    let Some(rest) = strip(rest, " ") else {
+        return Err(ReadError::Unreadable);
+    };
     let (from, rest) = read_operand(alloc, rest)?;
     let trait_no = heads.trait_number(name);
     Ok((Stmt::Unsize { to, trait_no, from }, rest))
@@ -205,7 +221,9 @@ fn without_place(alloc: Global, text: &[u8]) -> Result<(Stmt, &[u8]), ReadError>
         let (operand, rest) = read_operand(alloc, rest)?;
         return Ok((Stmt::Forget(operand), rest));
     }
-    let rest = strip(text, "free ").ok_or(ReadError::Unreadable)?;
+    let Some(rest) = strip(text, "free ") else {
+        return Err(ReadError::Unreadable);
+    };
     let (place, rest) = read_place(alloc, rest)?;
     Ok((Stmt::Free(place), rest))
 }
@@ -222,7 +240,9 @@ pub fn read_stmt<'a>(
     match strip(text, "_") {
         Some(rest) => {
             let (to, rest) = place_behind(alloc, rest)?;
-            let rest = strip(rest, " = ").ok_or(ReadError::Unreadable)?;
+            let Some(rest) = strip(rest, " = ") else {
+                return Err(ReadError::Unreadable);
+            };
             assigned(alloc, heads, to, rest)
         }
         None => without_place(alloc, text),

@@ -68,7 +68,11 @@ fn calculated(alloc: Global, to: Place, op: Math, text: &[u8]) -> Result<(Term, 
     ensures { Finds result (reading.calculated to op text.now) }
 {
     let ((left, right), rest) = two_operands(alloc, text)?;
-    let ((then, unwind), rest) = ways(rest).ok_or(ReadError::Unreadable)?;
+    let Some(((then, unwind), rest)) = ways(rest) else {
+        drop(left);
+        drop(right);
+        return Err(ReadError::Unreadable);
+    };
     Ok((
         Term::Math {
             to,
@@ -86,7 +90,10 @@ fn negated(alloc: Global, to: Place, text: &[u8]) -> Result<(Term, &[u8]), ReadE
     ensures { Finds result (reading.negated to text.now) }
 {
     let (of, rest) = read_operand(alloc, text)?;
-    let ((then, unwind), rest) = ways(rest).ok_or(ReadError::Unreadable)?;
+    let Some(((then, unwind), rest)) = ways(rest) else {
+        drop(of);
+        return Err(ReadError::Unreadable);
+    };
     Ok((
         Term::Negate {
             to,
@@ -102,7 +109,9 @@ fn call(alloc: Global, to: Place, text: &[u8]) -> Result<(Term, &[u8]), ReadErro
     ensures { Finds result (reading.call_read to text.now) }
 {
     let ((body, args), rest) = numbered_operands(alloc, text)?;
-    let ((then, unwind), rest) = ways(rest).ok_or(ReadError::Unreadable)?;
+    let Some(((then, unwind), rest)) = ways(rest) else {
+        return Err(ReadError::Unreadable);
+    };
     Ok((
         Term::Call {
             to,
@@ -124,9 +133,13 @@ fn virtual_call<'a>(
     ensures { Finds result (reading.virtual_read (adt_no heads.now) (trait_no heads.now) to text.now) }
 {
     let (name, rest) = name(text);
-    let rest = strip(rest, " ").ok_or(ReadError::Unreadable)?;
+    let Some(rest) = strip(rest, " ") else {
+        return Err(ReadError::Unreadable);
+    };
     let ((method, args), rest) = numbered_operands(alloc, rest)?;
-    let ((then, unwind), rest) = ways(rest).ok_or(ReadError::Unreadable)?;
+    let Some(((then, unwind), rest)) = ways(rest) else {
+        return Err(ReadError::Unreadable);
+    };
     let trait_no = heads.trait_number(name);
     Ok((
         Term::Virtual {
@@ -163,7 +176,9 @@ fn called<'a>(
     if let Some(rest) = strip(text, "virtual ") {
         return virtual_call(alloc, heads, to, rest);
     }
-    let rest = strip(text, "ask").ok_or(ReadError::Unreadable)?;
+    let Some(rest) = strip(text, "ask") else {
+        return Err(ReadError::Unreadable);
+    };
     ask(to, rest).ok_or(ReadError::Unreadable)
 }
 
@@ -189,7 +204,10 @@ fn if_read(alloc: Global, text: &[u8]) -> Result<(Term, &[u8]), ReadError>
     ensures { Finds result (reading.if_read text.now) }
 {
     let (on, rest) = read_operand(alloc, text)?;
-    let ((yes, no), rest) = two_numbers(rest).ok_or(ReadError::Unreadable)?;
+    let Some(((yes, no), rest)) = two_numbers(rest) else {
+        drop(on);
+        return Err(ReadError::Unreadable);
+    };
     Ok((Term::If { on, yes, no }, rest))
 }
 
@@ -197,8 +215,12 @@ fn case(alloc: Global, text: &[u8]) -> Result<(Term, &[u8]), ReadError>
     ensures { Finds result (reading.case_read text.now) }
 {
     let (on, rest) = read_place(alloc, text)?;
-    let (variant, rest) = blank_number(rest).ok_or(ReadError::Unreadable)?;
-    let ((yes, no), rest) = two_numbers(rest).ok_or(ReadError::Unreadable)?;
+    let Some((variant, rest)) = blank_number(rest) else {
+        return Err(ReadError::Unreadable);
+    };
+    let Some(((yes, no), rest)) = two_numbers(rest) else {
+        return Err(ReadError::Unreadable);
+    };
     Ok((
         Term::Case {
             on,
@@ -214,8 +236,14 @@ fn bounds(alloc: Global, text: &[u8]) -> Result<(Term, &[u8]), ReadError>
     ensures { Finds result (reading.bounds_read text.now) }
 {
     let (index, rest) = read_operand(alloc, text)?;
-    let (length, rest) = blank_number(rest).ok_or(ReadError::Unreadable)?;
-    let ((then, unwind), rest) = ways(rest).ok_or(ReadError::Unreadable)?;
+    let Some((length, rest)) = blank_number(rest) else {
+        drop(index);
+        return Err(ReadError::Unreadable);
+    };
+    let Some(((then, unwind), rest)) = ways(rest) else {
+        drop(index);
+        return Err(ReadError::Unreadable);
+    };
     Ok((
         Term::Bounds {
             index,
@@ -231,7 +259,9 @@ fn drop_at(alloc: Global, text: &[u8]) -> Result<(Term, &[u8]), ReadError>
     ensures { Finds result (reading.drop_read text.now) }
 {
     let (place, rest) = read_place(alloc, text)?;
-    let ((then, unwind), rest) = ways(rest).ok_or(ReadError::Unreadable)?;
+    let Some(((then, unwind), rest)) = ways(rest) else {
+        return Err(ReadError::Unreadable);
+    };
     Ok((
         Term::DropAt {
             place,
@@ -299,7 +329,9 @@ pub fn read_term<'a>(
     match strip(text, "_") {
         Some(rest) => {
             let (to, rest) = place_behind(alloc, rest)?;
-            let rest = strip(rest, " = ").ok_or(ReadError::Unreadable)?;
+            let Some(rest) = strip(rest, " = ") else {
+                return Err(ReadError::Unreadable);
+            };
             returned(alloc, heads, to, rest)
         }
         None => without_result(alloc, text),
