@@ -1,3 +1,4 @@
+pub mod FormNodes
 pub mod NumberLemmas
 pub mod SearchLemmas
 pub mod ViewLemmas

@@ -6,68 +6,40 @@ use Rattle.typed_tree.specs.declared.node.NumberedField.{NumberedField}
 use Rattle.typed_tree.specs.Nodes.{nodes_of, nodes_in, nodes_among, nodes_of_fields, nodes_if_any, first_with}
 use Rattle.typed_tree.specs.View.{tree_of, form_of, field_of, maybe_of, nodes_from, fields_from, tree_found}
 use Rattle.typed_tree.proofs.SearchLemmas.{found_either, first_with-front, first_with-back}
+use Rattle.typed_tree.proofs.FormNodes.{in_arm, in_block, in_if, in_if_let, in_let, in_operand_and_nodes, in_operands, in_while_let, operand_and_nodes, two_operands}
 use Rattle.typed_tree.proofs.search.+search.Goals as goal
 
 pub find_in_form-returns-in-Block : goal.find_in_form-returns-in-Block
 find_in_form-returns-in-Block t c =
-    let parts : nodes_in (form_of c.args.form.now) ≡ nodes_among (nodes_from (map tree_of c.in-Block.statements)) ++ nodes_if_any (maybe_of c.in-Block.tail) = search (rules, the_lemmas) in
-    let first : tree_found c.find_in_nodes.result ≡ first_with c.args.id.0 (nodes_among (nodes_from (map tree_of c.in-Block.statements))) = search rules in
-    let second : tree_found c.find_if_any.result ≡ first_with c.args.id.0 (nodes_if_any (maybe_of c.in-Block.tail)) = search rules in
-    found_either c.args.id.0 _ _ _ _ _ c.or.ensures first second ∙ ap (λ nodes. first_with c.args.id.0 nodes) (sym parts)
+    in_block c.args.id.0 _ _ _ _ _ _ _ c.in-Block.is c.as_slice.ensures c.find_in_nodes.ensures c.find_if_any.ensures c.or.ensures
 
 pub find_in_form-returns-in-Let : goal.find_in_form-returns-in-Let
 find_in_form-returns-in-Let t c =
-    let parts : nodes_in (form_of c.args.form.now) ≡ nodes_of (tree_of c.in-Let.pattern.value) ++ nodes_if_any (maybe_of c.in-Let.initialiser) = search (rules, the_lemmas) in
-    let first : tree_found c.find_in_node.result ≡ first_with c.args.id.0 (nodes_of (tree_of c.in-Let.pattern.value)) = search rules in
-    let second : tree_found c.find_if_any-in-Let.result ≡ first_with c.args.id.0 (nodes_if_any (maybe_of c.in-Let.initialiser)) = search rules in
-    found_either c.args.id.0 _ _ _ _ _ c.or-in-Let.ensures first second ∙ ap (λ nodes. first_with c.args.id.0 nodes) (sym parts)
+    in_let c.args.id.0 _ _ _ _ _ _ _ c.in-Let.is c.deref.ensures c.find_in_node.ensures c.find_if_any-in-Let.ensures c.or-in-Let.ensures
 
 pub find_in_form-returns-in-Index : goal.find_in_form-returns-in-Index
 find_in_form-returns-in-Index t c =
-    let parts : nodes_in (form_of c.args.form.now) ≡ nodes_of (tree_of c.in-Index.left.value) ++ nodes_of (tree_of c.in-Index.right.value) = search (rules, the_lemmas) in
-    let first : tree_found c.find_in_node-in-Index.result ≡ first_with c.args.id.0 (nodes_of (tree_of c.in-Index.left.value)) = search rules in
-    let second : tree_found c.find_in_node-in-Index-2.result ≡ first_with c.args.id.0 (nodes_of (tree_of c.in-Index.right.value)) = search rules in
-    found_either c.args.id.0 _ _ _ _ _ c.or-in-Index.ensures first second ∙ ap (λ nodes. first_with c.args.id.0 nodes) (sym parts)
+    in_operands c.args.id.0 _ _ _ _ c.in-Index.left c.in-Index.right _ _ (two_operands c.in-Index.left c.in-Index.right _ c.in-Index.is) c.deref-in-Index.ensures c.deref-in-Index-2.ensures c.find_in_node-in-Index.ensures c.find_in_node-in-Index-2.ensures c.or-in-Index.ensures
 
 pub find_in_form-returns-in-MethodCall : goal.find_in_form-returns-in-MethodCall
 find_in_form-returns-in-MethodCall t c =
-    let parts : nodes_in (form_of c.args.form.now) ≡ nodes_of (tree_of c.in-MethodCall.first.value) ++ nodes_among (nodes_from (map tree_of c.in-MethodCall.rest)) = search (rules, the_lemmas) in
-    let first : tree_found c.find_in_node-in-MethodCall.result ≡ first_with c.args.id.0 (nodes_of (tree_of c.in-MethodCall.first.value)) = search rules in
-    let second : tree_found c.find_in_nodes-in-MethodCall.result ≡ first_with c.args.id.0 (nodes_among (nodes_from (map tree_of c.in-MethodCall.rest))) = search rules in
-    found_either c.args.id.0 _ _ _ _ _ c.or-in-MethodCall.ensures first second ∙ ap (λ nodes. first_with c.args.id.0 nodes) (sym parts)
+    in_operand_and_nodes c.args.id.0 _ _ _ _ c.in-MethodCall.first _ _ _ (operand_and_nodes c.in-MethodCall.first _ _ c.in-MethodCall.is) c.deref-in-MethodCall.ensures c.as_slice-in-MethodCall.ensures c.find_in_node-in-MethodCall.ensures c.find_in_nodes-in-MethodCall.ensures c.or-in-MethodCall.ensures
 
 pub find_in_form-returns-in-If : goal.find_in_form-returns-in-If
 find_in_form-returns-in-If t c =
-    let parts : nodes_in (form_of c.args.form.now) ≡ nodes_of (tree_of c.in-If.condition.value) ++ nodes_of (tree_of c.in-If.then.value) ++ nodes_if_any (maybe_of c.in-If.otherwise) = search (rules, the_lemmas) in
-    let first : tree_found c.find_in_node-in-If.result ≡ first_with c.args.id.0 (nodes_of (tree_of c.in-If.condition.value)) = search rules in
-    let second : tree_found c.find_in_node-in-If-2.result ≡ first_with c.args.id.0 (nodes_of (tree_of c.in-If.then.value)) = search rules in
-    let third : tree_found c.find_if_any-in-If.result ≡ first_with c.args.id.0 (nodes_if_any (maybe_of c.in-If.otherwise)) = search rules in
-    found_either c.args.id.0 _ _ _ _ _ c.or-in-If-2.ensures (found_either c.args.id.0 _ _ _ _ _ c.or-in-If.ensures first second) third ∙ ap (λ nodes. first_with c.args.id.0 nodes) (sym parts)
+    in_if c.args.id.0 _ _ _ _ _ _ _ _ _ _ _ c.in-If.is c.deref-in-If.ensures c.deref-in-If-2.ensures c.find_in_node-in-If.ensures c.find_in_node-in-If-2.ensures c.find_if_any-in-If.ensures c.or-in-If.ensures c.or-in-If-2.ensures
 
 pub find_in_form-returns-in-IfLet : goal.find_in_form-returns-in-IfLet
 find_in_form-returns-in-IfLet t c =
-    let parts : nodes_in (form_of c.args.form.now) ≡ nodes_of (tree_of c.in-IfLet.pattern.value) ++ nodes_of (tree_of c.in-IfLet.scrutinee.value) ++ nodes_of (tree_of c.in-IfLet.then.value) ++ nodes_if_any (maybe_of c.in-IfLet.otherwise) = search (rules, the_lemmas) in
-    let first : tree_found c.find_in_node-in-IfLet.result ≡ first_with c.args.id.0 (nodes_of (tree_of c.in-IfLet.pattern.value)) = search rules in
-    let second : tree_found c.find_in_node-in-IfLet-2.result ≡ first_with c.args.id.0 (nodes_of (tree_of c.in-IfLet.scrutinee.value)) = search rules in
-    let third : tree_found c.find_in_node-in-IfLet-3.result ≡ first_with c.args.id.0 (nodes_of (tree_of c.in-IfLet.then.value)) = search rules in
-    let fourth : tree_found c.find_if_any-in-IfLet.result ≡ first_with c.args.id.0 (nodes_if_any (maybe_of c.in-IfLet.otherwise)) = search rules in
-    found_either c.args.id.0 _ _ _ _ _ c.or-in-IfLet-3.ensures (found_either c.args.id.0 _ _ _ _ _ c.or-in-IfLet-2.ensures (found_either c.args.id.0 _ _ _ _ _ c.or-in-IfLet.ensures first second) third) fourth ∙ ap (λ nodes. first_with c.args.id.0 nodes) (sym parts)
+    in_if_let c.args.id.0 _ _ _ _ _ _ _ _ _ _ _ _ _ _ _ c.in-IfLet.is c.deref-in-IfLet.ensures c.deref-in-IfLet-2.ensures c.deref-in-IfLet-3.ensures c.find_in_node-in-IfLet.ensures c.find_in_node-in-IfLet-2.ensures c.find_in_node-in-IfLet-3.ensures c.find_if_any-in-IfLet.ensures c.or-in-IfLet.ensures c.or-in-IfLet-2.ensures c.or-in-IfLet-3.ensures
 
 pub find_in_form-returns-in-Arm : goal.find_in_form-returns-in-Arm
 find_in_form-returns-in-Arm t c =
-    let parts : nodes_in (form_of c.args.form.now) ≡ nodes_of (tree_of c.in-Arm.pattern.value) ++ nodes_if_any (maybe_of c.in-Arm.guard) ++ nodes_of (tree_of c.in-Arm.body.value) = search (rules, the_lemmas) in
-    let first : tree_found c.find_in_node-in-Arm.result ≡ first_with c.args.id.0 (nodes_of (tree_of c.in-Arm.pattern.value)) = search rules in
-    let second : tree_found c.find_if_any-in-Arm.result ≡ first_with c.args.id.0 (nodes_if_any (maybe_of c.in-Arm.guard)) = search rules in
-    let third : tree_found c.find_in_node-in-Arm-2.result ≡ first_with c.args.id.0 (nodes_of (tree_of c.in-Arm.body.value)) = search rules in
-    found_either c.args.id.0 _ _ _ _ _ c.or-in-Arm-2.ensures (found_either c.args.id.0 _ _ _ _ _ c.or-in-Arm.ensures first second) third ∙ ap (λ nodes. first_with c.args.id.0 nodes) (sym parts)
+    in_arm c.args.id.0 _ _ _ _ _ _ _ _ _ _ _ c.in-Arm.is c.deref-in-Arm.ensures c.deref-in-Arm-2.ensures c.find_in_node-in-Arm.ensures c.find_if_any-in-Arm.ensures c.find_in_node-in-Arm-2.ensures c.or-in-Arm.ensures c.or-in-Arm-2.ensures
 
 pub find_in_form-returns-in-WhileLet : goal.find_in_form-returns-in-WhileLet
 find_in_form-returns-in-WhileLet t c =
-    let parts : nodes_in (form_of c.args.form.now) ≡ nodes_of (tree_of c.in-WhileLet.pattern.value) ++ nodes_of (tree_of c.in-WhileLet.scrutinee.value) ++ nodes_of (tree_of c.in-WhileLet.body.value) = search (rules, the_lemmas) in
-    let first : tree_found c.find_in_node-in-WhileLet.result ≡ first_with c.args.id.0 (nodes_of (tree_of c.in-WhileLet.pattern.value)) = search rules in
-    let second : tree_found c.find_in_node-in-WhileLet-2.result ≡ first_with c.args.id.0 (nodes_of (tree_of c.in-WhileLet.scrutinee.value)) = search rules in
-    let third : tree_found c.find_in_node-in-WhileLet-3.result ≡ first_with c.args.id.0 (nodes_of (tree_of c.in-WhileLet.body.value)) = search rules in
-    found_either c.args.id.0 _ _ _ _ _ c.or-in-WhileLet-2.ensures (found_either c.args.id.0 _ _ _ _ _ c.or-in-WhileLet.ensures first second) third ∙ ap (λ nodes. first_with c.args.id.0 nodes) (sym parts)
+    in_while_let c.args.id.0 _ _ _ _ _ _ _ _ _ _ _ _ c.in-WhileLet.is c.deref-in-WhileLet.ensures c.deref-in-WhileLet-2.ensures c.deref-in-WhileLet-3.ensures c.find_in_node-in-WhileLet.ensures c.find_in_node-in-WhileLet-2.ensures c.find_in_node-in-WhileLet-3.ensures c.or-in-WhileLet.ensures c.or-in-WhileLet-2.ensures
 
 pub find_in_nodes-loop-node-preserved : goal.find_in_nodes-loop-node-preserved
 find_in_nodes-loop-node-preserved t c =
