@@ -1,16 +1,11 @@
 -- The locals of a node are its own, and then those of its parts.
-use Rattle.std.proofs.Common.{◌≡◌, ◌++◌, ℕ, Bool, true, false, Option, refl, rules}
-use Rattle.std.specs.Prelude.{Box}
-use Rattle.std.specs.declared.alloc.Global.{Global}
+use Rattle.std.proofs.Common.{◌≡◌, ◌++◌, ℕ, Bool, true, false, Option, refl}
 use Rattle.mir_base.specs.declared.place_in_text.Pos.{Pos}
 use Rattle.mir_ty.specs.declared.ty.TyId.{TyId}
 use Rattle.mir_ty.specs.ItemTable.{ItemTable}
 use Rattle.src_meaning.specs.Forms.{is_never}
 use Rattle.src_meaning.specs.Locals.OfBody.{cells_in}
 use Rattle.typed_tree.specs.declared.node.Use.{Use}
-use Rattle.typed_tree.specs.declared.node.Form.{WhileLet, the_lemmas}
-use Rattle.typed_tree.specs.declared.node.Node.{Node}
-use Rattle.typed_tree.specs.View.{tree_of, form_of}
 use Rattle.typed_tree.specs.Tree.{node, Form, MaybeNode, absent, present}
 use Rattle.typed_tree.specs.Tree as tree
 use Rattle.src_meaning.specs.Locals.OfBody as of_body
@@ -45,6 +40,3 @@ initialiser items id at ty by (tree.Binding name) absent = refl
 initialiser items id at ty by form absent = refl
 initialiser items id at ty by (tree.Binding name) (present value) = refl
 initialiser items id at ty by form (present value) = refl
-
-pub form_of-WhileLet : (pattern scrutinee body : Box Node Global) → form_of (WhileLet pattern scrutinee body) ≡ tree.WhileLet (tree_of pattern.value) (tree_of scrutinee.value) (tree_of body.value)
-form_of-WhileLet pattern scrutinee body = search (rules, the_lemmas)
