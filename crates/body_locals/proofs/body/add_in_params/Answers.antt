@@ -1,11 +1,9 @@
-use Rattle.std.proofs.Common.{rules, ◌≡◌, ◌++◌, ◌∙◌, List, refl, sym, ap, map}
-use Rattle.src_meaning.specs.Locals.OfBody.{cells_in}
+use Rattle.std.proofs.Common.{◌≡◌, ◌++◌, ◌∙◌, List, refl, sym, ap, map}
 use Rattle.typed_tree.specs.declared.body.Param.{Param}
-use Rattle.typed_tree.specs.declared.node.Form.{the_lemmas}
-use Rattle.typed_tree.specs.Tree.{node}
-use Rattle.typed_tree.specs.View.{tree_of, form_of, param_tree}
+use Rattle.typed_tree.specs.View.{param_tree}
 use Rattle.body_locals.specs.View.{entry_of, inside, inside_params}
 use Rattle.body_locals.proofs.Following.{one_more}
+use Rattle.body_locals.proofs.PlainForms.{node_seen}
 use Rattle.body_locals.proofs.body.add_in_params.Goals as goal
 
 pub loop-param-preserved : goal.loop-param-preserved
@@ -14,8 +12,6 @@ loop-param-preserved c =
     let p = c.param-item.result.pattern in
     let F = λ (all : List Param). inside_params items (map param_tree all) in
     let part = λ (x : Param). inside items (param_tree x).pattern in
-    let tree : tree_of p ≡ node p.id.0 p.at p.ty p.by (form_of p.form) = search (rules, the_lemmas) in
-    let found : map entry_of c.add_parts.new.found ≡ map entry_of c.loop-param.found ++ cells_in items (form_of p.form) = search rules in
     let is_new : map entry_of c.add_parts.new.found ≡ map entry_of c.loop-param.found ++ part c.param-item.result =
-    found ∙ ap (λ n. map entry_of c.loop-param.found ++ inside items n) (sym tree) in
+    c.in_ok-add_parts.ensures ∙ ap (λ n. map entry_of c.loop-param.found ++ inside items n) (sym (node_seen p)) in
     one_more F part c.args.params.now c.loop-param.param-index c.param-item.result _ _ _ (λ x rest. refl) c.loop-param-test.true c.param-item.is is_new c.loop-param.invariant
