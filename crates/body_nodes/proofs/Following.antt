@@ -12,3 +12,8 @@ one_more F part xs i d before new all cons less is is_new so_far =
     ∙ append_assoc before (part d) (F (drop (i + 1) xs))
     ∙ ap (λ (l : List _). before ++ l) (sym first)
     ∙ so_far
+
+-- what is found in two calls, one behind the other
+pub two_behind : {Y : Type 0} (old first new a b all : List Y) → first ≡ old ++ a → all ≡ a ++ b → new ≡ first ++ b → new ≡ old ++ all
+two_behind old first new a b all is_first is_all is_new =
+    is_new ∙ ap (λ (l : List _). l ++ b) is_first ∙ append_assoc old a b ∙ ap (λ (l : List _). old ++ l) (sym is_all)
