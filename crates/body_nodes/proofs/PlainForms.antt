@@ -1,15 +1,16 @@
 -- The nodes of a form of several parts, whose nodes are seen through their boxes.
-use Rattle.std.proofs.Common.{◌≡◌, ◌++◌, ◌∙◌, ℕ, List, Option, ◌⊎◌, inl, inr, rules, refl, ap, sym, map}
+use Rattle.std.proofs.Common.{◌≡◌, ◌++◌, ◌∙◌, ℕ, List, Option, None, Some, ◌⊎◌, inl, inr, rules, refl, ap, sym, map}
 use Rattle.std.specs.Prelude.{Box}
 use Rattle.std.specs.declared.alloc.Global.{Global}
 use Rattle.mir_base.specs.declared.operator.Cmp.{Cmp}
 use Rattle.mir_base.specs.declared.operator.Math.{Math}
-use Rattle.typed_tree.specs.declared.node.Form.{Form, And, Arithmetic, Arm, Assign, Block, ClosureCall, Comparison, If, IfLet, Index, Let, Match, MethodCall, Or, VirtualCall, While, WhileLet, the_lemmas}
+use Rattle.typed_tree.specs.declared.node.Form.{Form, Form-F, fold-roll-Form, And, Arithmetic, Arm, Assign, Block, ClosureCall, Comparison, If, IfLet, Index, Let, Match, MethodCall, Or, VirtualCall, While, WhileLet, the_lemmas}
+use Rattle.typed_tree.specs.declared.node.Form.TheViews.{rolls-And, rolls-Arithmetic, rolls-Arm, rolls-Assign, rolls-Block, rolls-ClosureCall, rolls-Comparison, rolls-If, rolls-IfLet, rolls-Index, rolls-Let, rolls-Match, rolls-MethodCall, rolls-Or, rolls-VirtualCall, rolls-While, rolls-WhileLet}
 use Rattle.typed_tree.specs.declared.node.Node.{Node}
 use Rattle.typed_tree.specs.declared.node.NumberedField.{NumberedField}
 use Rattle.typed_tree.specs.Nodes.{nodes_of, nodes_in, nodes_among, nodes_if_any}
 use Rattle.typed_tree.specs.Tree as tree
-use Rattle.typed_tree.specs.View.{tree_of, form_of, field_of, maybe_of, nodes_from}
+use Rattle.typed_tree.specs.View.{tree_of, form_of, field_of, maybe_of, nodes_from, form_layer, node_layer, field_layer}
 use Rattle.body_nodes.specs.Branches.{nodes_in_branches}
 use Rattle.body_nodes.proofs.Following.{two_behind}
 
@@ -19,25 +20,25 @@ field_seen field = search (rules, the_lemmas)
 -- two operands of a form, whichever form it is
 module _ (a b : Box Node Global) where
   index_nodes : (n : ℕ) → nodes_in (form_of (Index a b n)) ≡ nodes_of (tree_of a.value) ++ nodes_of (tree_of b.value)
-  index_nodes n = search (rules, the_lemmas)
+  index_nodes n = ap (λ (f : Form). nodes_in (form_of f)) (sym (rolls-Index a b n)) ∙ ap nodes_in (fold-roll-Form tree.Form tree.Node (ℕ × tree.Node) form_layer node_layer field_layer (Form-F.Index a b n))
 
   arithmetic_nodes : (op : Math) → nodes_in (form_of (Arithmetic op a b)) ≡ nodes_of (tree_of a.value) ++ nodes_of (tree_of b.value)
-  arithmetic_nodes op = search (rules, the_lemmas)
+  arithmetic_nodes op = ap (λ (f : Form). nodes_in (form_of f)) (sym (rolls-Arithmetic op a b)) ∙ ap nodes_in (fold-roll-Form tree.Form tree.Node (ℕ × tree.Node) form_layer node_layer field_layer (Form-F.Arithmetic op a b))
 
   comparison_nodes : (op : Cmp) → nodes_in (form_of (Comparison op a b)) ≡ nodes_of (tree_of a.value) ++ nodes_of (tree_of b.value)
-  comparison_nodes op = search (rules, the_lemmas)
+  comparison_nodes op = ap (λ (f : Form). nodes_in (form_of f)) (sym (rolls-Comparison op a b)) ∙ ap nodes_in (fold-roll-Form tree.Form tree.Node (ℕ × tree.Node) form_layer node_layer field_layer (Form-F.Comparison op a b))
 
   and_nodes : nodes_in (form_of (And a b)) ≡ nodes_of (tree_of a.value) ++ nodes_of (tree_of b.value)
-  and_nodes = search (rules, the_lemmas)
+  and_nodes = ap (λ (f : Form). nodes_in (form_of f)) (sym (rolls-And a b)) ∙ ap nodes_in (fold-roll-Form tree.Form tree.Node (ℕ × tree.Node) form_layer node_layer field_layer (Form-F.And a b))
 
   or_nodes : nodes_in (form_of (Or a b)) ≡ nodes_of (tree_of a.value) ++ nodes_of (tree_of b.value)
-  or_nodes = search (rules, the_lemmas)
+  or_nodes = ap (λ (f : Form). nodes_in (form_of f)) (sym (rolls-Or a b)) ∙ ap nodes_in (fold-roll-Form tree.Form tree.Node (ℕ × tree.Node) form_layer node_layer field_layer (Form-F.Or a b))
 
   assign_nodes : nodes_in (form_of (Assign a b)) ≡ nodes_of (tree_of a.value) ++ nodes_of (tree_of b.value)
-  assign_nodes = search (rules, the_lemmas)
+  assign_nodes = ap (λ (f : Form). nodes_in (form_of f)) (sym (rolls-Assign a b)) ∙ ap nodes_in (fold-roll-Form tree.Form tree.Node (ℕ × tree.Node) form_layer node_layer field_layer (Form-F.Assign a b))
 
   while_nodes : nodes_in (form_of (While a b)) ≡ nodes_of (tree_of a.value) ++ nodes_of (tree_of b.value)
-  while_nodes = search (rules, the_lemmas)
+  while_nodes = ap (λ (f : Form). nodes_in (form_of f)) (sym (rolls-While a b)) ∙ ap nodes_in (fold-roll-Form tree.Form tree.Node (ℕ × tree.Node) form_layer node_layer field_layer (Form-F.While a b))
 
   pub two_operands : (form : Form) → ((n : ℕ) × form ≡ Index a b n) ⊎ (((op : Math) × form ≡ Arithmetic op a b) ⊎ (((op : Cmp) × form ≡ Comparison op a b) ⊎ ((form ≡ And a b) ⊎ ((form ≡ Or a b) ⊎ ((form ≡ Assign a b) ⊎ (form ≡ While a b)))))) →
       nodes_in (form_of form) ≡ nodes_of (tree_of a.value) ++ nodes_of (tree_of b.value)
@@ -52,16 +53,16 @@ module _ (a b : Box Node Global) where
 -- an operand of a form, and nodes
 module _ (a : Box Node Global) (l : List Node) where
   method_call_nodes : (n : ℕ) → nodes_in (form_of (MethodCall n a l)) ≡ nodes_of (tree_of a.value) ++ nodes_among (nodes_from (map tree_of l))
-  method_call_nodes n = search (rules, the_lemmas)
+  method_call_nodes n = ap (λ (f : Form). nodes_in (form_of f)) (sym (rolls-MethodCall n a l)) ∙ ap nodes_in (fold-roll-Form tree.Form tree.Node (ℕ × tree.Node) form_layer node_layer field_layer (Form-F.MethodCall n a l))
 
   virtual_call_nodes : (n : ℕ) (m : ℕ) → nodes_in (form_of (VirtualCall n m a l)) ≡ nodes_of (tree_of a.value) ++ nodes_among (nodes_from (map tree_of l))
-  virtual_call_nodes n m = search (rules, the_lemmas)
+  virtual_call_nodes n m = ap (λ (f : Form). nodes_in (form_of f)) (sym (rolls-VirtualCall n m a l)) ∙ ap nodes_in (fold-roll-Form tree.Form tree.Node (ℕ × tree.Node) form_layer node_layer field_layer (Form-F.VirtualCall n m a l))
 
   closure_call_nodes : (n : ℕ) → nodes_in (form_of (ClosureCall n a l)) ≡ nodes_of (tree_of a.value) ++ nodes_among (nodes_from (map tree_of l))
-  closure_call_nodes n = search (rules, the_lemmas)
+  closure_call_nodes n = ap (λ (f : Form). nodes_in (form_of f)) (sym (rolls-ClosureCall n a l)) ∙ ap nodes_in (fold-roll-Form tree.Form tree.Node (ℕ × tree.Node) form_layer node_layer field_layer (Form-F.ClosureCall n a l))
 
   match_nodes : nodes_in (form_of (Match a l)) ≡ nodes_of (tree_of a.value) ++ nodes_among (nodes_from (map tree_of l))
-  match_nodes = search (rules, the_lemmas)
+  match_nodes = ap (λ (f : Form). nodes_in (form_of f)) (sym (rolls-Match a l)) ∙ ap nodes_in (fold-roll-Form tree.Form tree.Node (ℕ × tree.Node) form_layer node_layer field_layer (Form-F.Match a l))
 
   pub operand_and_nodes : (form : Form) → ((n : ℕ) × form ≡ MethodCall n a l) ⊎ (((n : ℕ) × (m : ℕ) × form ≡ VirtualCall n m a l) ⊎ (((n : ℕ) × form ≡ ClosureCall n a l) ⊎ (form ≡ Match a l))) →
       nodes_in (form_of form) ≡ nodes_of (tree_of a.value) ++ nodes_among (nodes_from (map tree_of l))
@@ -72,22 +73,27 @@ module _ (a : Box Node Global) (l : List Node) where
 
 -- the plain forms of others
 arm_seen : (p : Box Node Global) (g : Option (Box Node Global)) (b : Box Node Global) → form_of (Arm p g b) ≡ tree.Arm (tree_of p.value) (maybe_of g) (tree_of b.value)
-arm_seen p g b = search (rules, the_lemmas)
+arm_seen p None b = ap form_of (sym (rolls-Arm p None b)) ∙ fold-roll-Form tree.Form tree.Node (ℕ × tree.Node) form_layer node_layer field_layer (Form-F.Arm p None b)
+arm_seen p (Some q) b = ap form_of (sym (rolls-Arm p (Some q) b)) ∙ fold-roll-Form tree.Form tree.Node (ℕ × tree.Node) form_layer node_layer field_layer (Form-F.Arm p (Some q) b)
 
 block_seen : (s : List Node) (t : Option (Box Node Global)) → form_of (Block s t) ≡ tree.Block (nodes_from (map tree_of s)) (maybe_of t)
-block_seen s t = search (rules, the_lemmas)
+block_seen s None = ap form_of (sym (rolls-Block s None)) ∙ fold-roll-Form tree.Form tree.Node (ℕ × tree.Node) form_layer node_layer field_layer (Form-F.Block s None)
+block_seen s (Some q) = ap form_of (sym (rolls-Block s (Some q))) ∙ fold-roll-Form tree.Form tree.Node (ℕ × tree.Node) form_layer node_layer field_layer (Form-F.Block s (Some q))
 
 if_seen : (c t : Box Node Global) (o : Option (Box Node Global)) → form_of (If c t o) ≡ tree.If (tree_of c.value) (tree_of t.value) (maybe_of o)
-if_seen c t o = search (rules, the_lemmas)
+if_seen c t None = ap form_of (sym (rolls-If c t None)) ∙ fold-roll-Form tree.Form tree.Node (ℕ × tree.Node) form_layer node_layer field_layer (Form-F.If c t None)
+if_seen c t (Some q) = ap form_of (sym (rolls-If c t (Some q))) ∙ fold-roll-Form tree.Form tree.Node (ℕ × tree.Node) form_layer node_layer field_layer (Form-F.If c t (Some q))
 
 if_let_seen : (p s t : Box Node Global) (o : Option (Box Node Global)) → form_of (IfLet p s t o) ≡ tree.IfLet (tree_of p.value) (tree_of s.value) (tree_of t.value) (maybe_of o)
-if_let_seen p s t o = search (rules, the_lemmas)
+if_let_seen p s t None = ap form_of (sym (rolls-IfLet p s t None)) ∙ fold-roll-Form tree.Form tree.Node (ℕ × tree.Node) form_layer node_layer field_layer (Form-F.IfLet p s t None)
+if_let_seen p s t (Some q) = ap form_of (sym (rolls-IfLet p s t (Some q))) ∙ fold-roll-Form tree.Form tree.Node (ℕ × tree.Node) form_layer node_layer field_layer (Form-F.IfLet p s t (Some q))
 
 let_seen : (p : Box Node Global) (i : Option (Box Node Global)) → form_of (Let p i) ≡ tree.Let (tree_of p.value) (maybe_of i)
-let_seen p i = search (rules, the_lemmas)
+let_seen p None = ap form_of (sym (rolls-Let p None)) ∙ fold-roll-Form tree.Form tree.Node (ℕ × tree.Node) form_layer node_layer field_layer (Form-F.Let p None)
+let_seen p (Some q) = ap form_of (sym (rolls-Let p (Some q))) ∙ fold-roll-Form tree.Form tree.Node (ℕ × tree.Node) form_layer node_layer field_layer (Form-F.Let p (Some q))
 
 while_let_seen : (p s b : Box Node Global) → form_of (WhileLet p s b) ≡ tree.WhileLet (tree_of p.value) (tree_of s.value) (tree_of b.value)
-while_let_seen p s b = search (rules, the_lemmas)
+while_let_seen p s b = ap form_of (sym (rolls-WhileLet p s b)) ∙ fold-roll-Form tree.Form tree.Node (ℕ × tree.Node) form_layer node_layer field_layer (Form-F.WhileLet p s b)
 
 module _ (form : Form) (old first : List tree.Node) where
   -- a form that is seen to be another
