@@ -4,10 +4,11 @@ use Rattle.std.specs.Prelude.{Box}
 use Rattle.std.specs.declared.alloc.Global.{Global}
 use Rattle.typed_tree.specs.Tree as tree
 use Rattle.typed_tree.specs.Tree.{node}
-use Rattle.typed_tree.specs.View.{tree_of, form_of, maybe_of, nodes_from, form_layer, node_layer, field_layer}
+use Rattle.typed_tree.specs.View.{tree_of, form_of, field_of, maybe_of, nodes_from, form_layer, node_layer, field_layer}
 use Rattle.typed_tree.specs.declared.node.Form.{Form, Form-F, fold-roll-Form, Index, Assign, Borrow, Call, ClosureCall, Block, Let, If, IfLet, WhileLet, Match, Arm, the_lemmas}
 use Rattle.typed_tree.specs.declared.node.Form.TheViews.{rolls-Arm, rolls-Assign, rolls-Block, rolls-Borrow, rolls-Call, rolls-ClosureCall, rolls-If, rolls-IfLet, rolls-Index, rolls-Let, rolls-Match, rolls-WhileLet}
 use Rattle.typed_tree.specs.declared.node.Node.{Node}
+use Rattle.typed_tree.specs.declared.node.NumberedField.{NumberedField}
 use Rattle.typing_rules.specs.Accesses.{◌⊕◌, Aliases, Referring, ToldAccesses, access_by, argument, inside, own_access, place_of, refers_by, root_of, told}
 use Rattle.place_accesses.specs.Forms.{argument_told}
 
@@ -100,8 +101,11 @@ module _ (form : Form) (nodes slice : List Node) (is_slice : slice ≡ nodes) wh
   pub block_form : (tail : Option (Box Node Global)) → form ≡ Block nodes tail → form_of form ≡ tree.Block (nodes_from (map tree_of slice)) (maybe_of tail)
   block_form tail is = ap form_of is ∙ block_seen tail ∙ ap (λ (l : List Node). tree.Block (nodes_from (map tree_of l)) (maybe_of tail)) (sym is_slice)
 
-node_seen : (n : Node) → tree_of n ≡ node n.id.0 n.at n.ty n.by (form_of n.form)
+pub node_seen : (n : Node) → tree_of n ≡ node n.id.0 n.at n.ty n.by (form_of n.form)
 node_seen n = search (rules, the_lemmas)
+
+pub field_seen : (field : NumberedField) → (field_of field).1 ≡ tree_of field.value
+field_seen field = search (rules, the_lemmas)
 
 module _ (aliases : Aliases) where
   -- what a node does is what is inside it, and its own use

@@ -14,7 +14,7 @@ use Rattle.place_accesses.specs.Forms.{argument_told, arm_told, borrow_access, b
 use Rattle.place_accesses.specs.View.{access_in, aliases_in, argument_in, bound_in, place_if_any, referring_if_any, told_in}
 use Rattle.place_accesses.specs.declared.arguments.Argument as rust
 use Rattle.place_accesses.proofs.Arms.{by_form}
-use Rattle.place_accesses.proofs.Forms.{arm_form, argument_by_form, assign_form, block_form, borrow_form, call_form, closure_call_form, if_form, if_let_form, index_form, let_form, match_form, plain_argument, told_by_form, while_let_form}
+use Rattle.place_accesses.proofs.Forms.{arm_form, argument_by_form, assign_form, block_form, borrow_form, call_form, closure_call_form, field_seen, if_form, if_let_form, index_form, let_form, match_form, node_seen, plain_argument, told_by_form, while_let_form}
 use Rattle.place_accesses.proofs.Joined.{one, two, three, four, one_more, one_more_listed}
 use Rattle.place_accesses.proofs.expressions.+told.Goals as goal
 
@@ -142,7 +142,7 @@ tell_arm-returns t c =
     let A = aliases_in c.args.aliases.now in
     let place = place_if_any c.args.place.now in
     let arm : Node = c.args.arm.now in
-    let shape : tree_of arm ≡ node arm.id.0 arm.at arm.ty arm.by (form_of arm.form) = search (rules, the_lemmas) in
+    let shape : tree_of arm ≡ node arm.id.0 arm.at arm.ty arm.by (form_of arm.form) = node_seen arm in
     let is : told_arm A place (tree_of arm) ≡ arm_told A place (form_of arm.form) =
     ap (told_arm A place) shape ∙ by_form A place arm.id.0 arm.at arm.ty arm.by (form_of arm.form) in
     on_ok_weaker c.tell_guarded.result
@@ -202,15 +202,15 @@ tell_all-loop-node-preserved t c =
     let A = aliases_in c.args.aliases.now in
     let F = λ (all : List Node). told_all A (nodes_from (map tree_of all)) in
     let part = λ (x : Node). told A (tree_of x) in
-    let is_new : told_in c.tell.new.out ≡ (told_in c.loop-node.out ⊕ part c.node-item.result) = search rules in
-    one_more F part c.args.nodes.now c.loop-node.node-index c.node-item.result _ _ _ (λ x rest. refl) c.loop-node-test.true c.node-item.is is_new c.loop-node.invariant
+    one_more F part c.args.nodes.now c.loop-node.node-index c.node-item.result _ _ _ (λ x rest. refl) c.loop-node-test.true c.node-item.is c.in_ok-tell.ensures c.loop-node.invariant
 
 pub tell_fields-loop-field-preserved : goal.tell_fields-loop-field-preserved
 tell_fields-loop-field-preserved t c =
     let A = aliases_in c.args.aliases.now in
     let F = λ (all : List NumberedField). told_fields A (fields_from (map field_of all)) in
     let part = λ (x : NumberedField). told A (field_of x).1 in
-    let is_new : told_in c.tell.new.out ≡ (told_in c.loop-field.out ⊕ part c.field-item.result) = search (rules, the_lemmas) in
+    let is_new : told_in c.tell.new.out ≡ (told_in c.loop-field.out ⊕ part c.field-item.result) =
+    c.in_ok-tell.ensures ∙ ap (λ (n : tree.Node). told_in c.loop-field.out ⊕ told A n) (sym (field_seen c.field-item.result)) in
     one_more F part c.args.fields.now c.loop-field.field-index c.field-item.result _ _ _ (λ x rest. refl) c.loop-field-test.true c.field-item.is is_new c.loop-field.invariant
 
 pub tell_arms-loop-arm-preserved : goal.tell_arms-loop-arm-preserved
@@ -219,15 +219,14 @@ tell_arms-loop-arm-preserved t c =
     let place = place_if_any c.args.place.now in
     let F = λ (all : List Node). told_arms A place (nodes_from (map tree_of all)) in
     let part = λ (x : Node). told_arm A place (tree_of x) in
-    let is_new : told_in c.tell_arm.new.out ≡ (told_in c.loop-arm.out ⊕ part c.arm-item.result) = search rules in
-    one_more F part c.args.arms.now c.loop-arm.arm-index c.arm-item.result _ _ _ (λ x rest. refl) c.loop-arm-test.true c.arm-item.is is_new c.loop-arm.invariant
+    one_more F part c.args.arms.now c.loop-arm.arm-index c.arm-item.result _ _ _ (λ x rest. refl) c.loop-arm-test.true c.arm-item.is c.in_ok-tell_arm.ensures c.loop-arm.invariant
 
 pub tell_arguments-loop-node-preserved : goal.tell_arguments-loop-node-preserved
 tell_arguments-loop-node-preserved t c =
     let A = aliases_in c.args.aliases.now in
     let F = λ (k : ℕ) (all : List Node). arguments A (nodes_from (map tree_of all)) in
     let part = λ (k : ℕ) (x : Node). argument A (tree_of x) ∷ [] in
-    let told : map argument_in c.tell_argument.new.args ≡ map argument_in c.loop-node.args ++ argument_told A false (tree_of c.node-item.result) ∷ [] = search rules in
+    let told : map argument_in c.tell_argument.new.args ≡ map argument_in c.loop-node.args ++ argument_told A false (tree_of c.node-item.result) ∷ [] = c.in_ok-tell_argument.ensures in
     let is_new : map argument_in c.tell_argument.new.args ≡ map argument_in c.loop-node.args ++ argument A (tree_of c.node-item.result) ∷ [] =
     told ∙ ap (λ (a : Argument). map argument_in c.loop-node.args ++ a ∷ []) (plain_argument A (tree_of c.node-item.result)) in
     one_more_listed F part c.args.nodes.now c.loop-node.node-index c.node-item.result _ _ _ (λ k x rest. refl) c.loop-node-test.true c.node-item.is is_new c.loop-node.invariant
