@@ -1,16 +1,19 @@
 -- The plain form of a form, whose nodes are seen through their boxes, and the plain tree of a node.
-use Rattle.std.proofs.Common.{◌≡◌, ◌∙◌, ℕ, Bool, false, List, Option, None, Some, rules, refl, ap, sym, map}
+use Rattle.std.proofs.Common.{◌≡◌, ◌∙◌, ◌∷◌, ◌⊎◌, inl, inr, ℕ, Bool, true, false, List, Option, None, Some, rules, refl, ap, sym, map}
 use Rattle.std.specs.Prelude.{Box}
 use Rattle.std.specs.declared.alloc.Global.{Global}
+use Rattle.mir_base.specs.declared.operator.Cmp.{Cmp}
+use Rattle.mir_base.specs.declared.operator.Math.{Math}
+use Rattle.mir_base.specs.declared.place_in_text.Pos.{Pos}
 use Rattle.typed_tree.specs.Tree as tree
 use Rattle.typed_tree.specs.Tree.{node}
 use Rattle.typed_tree.specs.View.{tree_of, form_of, field_of, maybe_of, nodes_from, form_layer, node_layer, field_layer}
-use Rattle.typed_tree.specs.declared.node.Form.{Form, Form-F, fold-roll-Form, Index, Assign, Borrow, Call, ClosureCall, Block, Let, If, IfLet, WhileLet, Match, Arm, the_lemmas}
-use Rattle.typed_tree.specs.declared.node.Form.TheViews.{rolls-Arm, rolls-Assign, rolls-Block, rolls-Borrow, rolls-Call, rolls-ClosureCall, rolls-If, rolls-IfLet, rolls-Index, rolls-Let, rolls-Match, rolls-WhileLet}
+use Rattle.typed_tree.specs.declared.node.Form.{Form, Form-F, fold-roll-Form, And, Arithmetic, Comparison, MethodCall, Or, VirtualCall, While, Index, Assign, Borrow, Call, ClosureCall, Block, Let, If, IfLet, WhileLet, Match, Arm, the_lemmas}
+use Rattle.typed_tree.specs.declared.node.Form.TheViews.{rolls-And, rolls-Arithmetic, rolls-Comparison, rolls-MethodCall, rolls-Or, rolls-VirtualCall, rolls-While, rolls-Arm, rolls-Assign, rolls-Block, rolls-Borrow, rolls-Call, rolls-ClosureCall, rolls-If, rolls-IfLet, rolls-Index, rolls-Let, rolls-Match, rolls-WhileLet}
 use Rattle.typed_tree.specs.declared.node.Node.{Node}
 use Rattle.typed_tree.specs.declared.node.NumberedField.{NumberedField}
-use Rattle.typing_rules.specs.Accesses.{◌⊕◌, Aliases, Referring, ToldAccesses, access_by, argument, inside, own_access, place_of, refers_by, root_of, told}
-use Rattle.place_accesses.specs.Forms.{argument_told}
+use Rattle.typing_rules.specs.Accesses.{◌⊕◌, Aliases, Referring, ToldAccesses, access_by, argument, arguments, inside, passed_together, own_access, place_of, refers_by, root_of, told}
+use Rattle.place_accesses.specs.Forms.{argument_told, call_told, parts_told}
 
 -- `x`, `y` and `z` are what boxes of the form hold, and `slice` is a list of it
 module _ (form : Form) (first : Box Node Global) (x : Node) (is_x : x ≡ first.value) where
@@ -100,6 +103,56 @@ module _ (form : Form) (nodes slice : List Node) (is_slice : slice ≡ nodes) wh
 
   pub block_form : (tail : Option (Box Node Global)) → form ≡ Block nodes tail → form_of form ≡ tree.Block (nodes_from (map tree_of slice)) (maybe_of tail)
   block_form tail is = ap form_of is ∙ block_seen tail ∙ ap (λ (l : List Node). tree.Block (nodes_from (map tree_of l)) (maybe_of tail)) (sym is_slice)
+
+arithmetic_seen : (op : Math) (a b : Box Node Global) → form_of (Arithmetic op a b) ≡ tree.Arithmetic op (tree_of a.value) (tree_of b.value)
+arithmetic_seen op a b = ap form_of (sym (rolls-Arithmetic op a b)) ∙ fold-roll-Form tree.Form tree.Node (ℕ × tree.Node) form_layer node_layer field_layer (Form-F.Arithmetic op a b)
+
+comparison_seen : (op : Cmp) (a b : Box Node Global) → form_of (Comparison op a b) ≡ tree.Comparison op (tree_of a.value) (tree_of b.value)
+comparison_seen op a b = ap form_of (sym (rolls-Comparison op a b)) ∙ fold-roll-Form tree.Form tree.Node (ℕ × tree.Node) form_layer node_layer field_layer (Form-F.Comparison op a b)
+
+and_seen : (a b : Box Node Global) → form_of (And a b) ≡ tree.And (tree_of a.value) (tree_of b.value)
+and_seen a b = ap form_of (sym (rolls-And a b)) ∙ fold-roll-Form tree.Form tree.Node (ℕ × tree.Node) form_layer node_layer field_layer (Form-F.And a b)
+
+or_seen : (a b : Box Node Global) → form_of (Or a b) ≡ tree.Or (tree_of a.value) (tree_of b.value)
+or_seen a b = ap form_of (sym (rolls-Or a b)) ∙ fold-roll-Form tree.Form tree.Node (ℕ × tree.Node) form_layer node_layer field_layer (Form-F.Or a b)
+
+while_seen : (a b : Box Node Global) → form_of (While a b) ≡ tree.While (tree_of a.value) (tree_of b.value)
+while_seen a b = ap form_of (sym (rolls-While a b)) ∙ fold-roll-Form tree.Form tree.Node (ℕ × tree.Node) form_layer node_layer field_layer (Form-F.While a b)
+
+method_call_seen : (n : ℕ) (a : Box Node Global) (l : List Node) → form_of (MethodCall n a l) ≡ tree.MethodCall n (tree_of a.value) (nodes_from (map tree_of l))
+method_call_seen n a l = ap form_of (sym (rolls-MethodCall n a l)) ∙ fold-roll-Form tree.Form tree.Node (ℕ × tree.Node) form_layer node_layer field_layer (Form-F.MethodCall n a l)
+
+virtual_call_seen : (n m : ℕ) (a : Box Node Global) (l : List Node) → form_of (VirtualCall n m a l) ≡ tree.VirtualCall n m (tree_of a.value) (nodes_from (map tree_of l))
+virtual_call_seen n m a l = ap form_of (sym (rolls-VirtualCall n m a l)) ∙ fold-roll-Form tree.Form tree.Node (ℕ × tree.Node) form_layer node_layer field_layer (Form-F.VirtualCall n m a l)
+
+-- two operands, of whichever form
+module _ (A : Aliases) (at : Pos) (form : Form) (a b : Box Node Global) (x y : Node) (is_x : x ≡ a.value) (is_y : y ≡ b.value) where
+  two_told : (f : Form) (plain : tree.Form) → form ≡ f → form_of f ≡ plain → parts_told A at plain ≡ (told A (tree_of a.value) ⊕ told A (tree_of b.value)) →
+      parts_told A at (form_of form) ≡ (told A (tree_of x) ⊕ told A (tree_of y))
+  two_told f plain is seen parts =
+      ap (λ (g : Form). parts_told A at (form_of g)) is ∙ ap (parts_told A at) seen ∙ parts ∙ (λ i. told A (tree_of (sym is_x i)) ⊕ told A (tree_of (sym is_y i)))
+
+  pub operands_told : ((op : Math) × form ≡ Arithmetic op a b) ⊎ (((op : Cmp) × form ≡ Comparison op a b) ⊎ ((form ≡ And a b) ⊎ ((form ≡ Or a b) ⊎ (form ≡ While a b)))) →
+      parts_told A at (form_of form) ≡ (told A (tree_of x) ⊕ told A (tree_of y))
+  operands_told (inl (op, is)) = two_told (Arithmetic op a b) _ is (arithmetic_seen op a b) refl
+  operands_told (inr (inl (op, is))) = two_told (Comparison op a b) _ is (comparison_seen op a b) refl
+  operands_told (inr (inr (inl is))) = two_told (And a b) _ is (and_seen a b) refl
+  operands_told (inr (inr (inr (inl is)))) = two_told (Or a b) _ is (or_seen a b) refl
+  operands_told (inr (inr (inr (inr is)))) = two_told (While a b) _ is (while_seen a b) refl
+
+-- a receiver, and then nodes, of whichever call
+module _ (A : Aliases) (form : Form) (a : Box Node Global) (l slice : List Node) (x : Node) (is_x : x ≡ a.value) (is_l : slice ≡ l) where
+  with_receiver : (f : Form) (plain : tree.Form) → form ≡ f → form_of f ≡ plain →
+      call_told A plain ≡ passed_together (argument_told A true (tree_of a.value) ∷ arguments A (nodes_from (map tree_of l))) →
+      call_told A (form_of form) ≡ passed_together (argument_told A true (tree_of x) ∷ arguments A (nodes_from (map tree_of slice)))
+  with_receiver f plain is seen parts =
+      ap (λ (g : Form). call_told A (form_of g)) is ∙ ap (call_told A) seen ∙ parts
+      ∙ (λ i. passed_together (argument_told A true (tree_of (sym is_x i)) ∷ arguments A (nodes_from (map tree_of (sym is_l i)))))
+
+  pub method_told : ((n : ℕ) × form ≡ MethodCall n a l) ⊎ ((n : ℕ) × (m : ℕ) × form ≡ VirtualCall n m a l) →
+      call_told A (form_of form) ≡ passed_together (argument_told A true (tree_of x) ∷ arguments A (nodes_from (map tree_of slice)))
+  method_told (inl (n, is)) = with_receiver (MethodCall n a l) _ is (method_call_seen n a l) refl
+  method_told (inr (n, m, is)) = with_receiver (VirtualCall n m a l) _ is (virtual_call_seen n m a l) refl
 
 pub node_seen : (n : Node) → tree_of n ≡ node n.id.0 n.at n.ty n.by (form_of n.form)
 node_seen n = search (rules, the_lemmas)

@@ -14,7 +14,7 @@ use Rattle.place_accesses.specs.Forms.{argument_told, arm_told, borrow_access, b
 use Rattle.place_accesses.specs.View.{access_in, aliases_in, argument_in, bound_in, place_if_any, referring_if_any, told_in}
 use Rattle.place_accesses.specs.declared.arguments.Argument as rust
 use Rattle.place_accesses.proofs.Arms.{by_form}
-use Rattle.place_accesses.proofs.Forms.{arm_form, argument_by_form, assign_form, block_form, borrow_form, call_form, closure_call_form, field_seen, if_form, if_let_form, index_form, let_form, match_form, node_seen, plain_argument, told_by_form, while_let_form}
+use Rattle.place_accesses.proofs.Forms.{arm_form, argument_by_form, assign_form, block_form, borrow_form, call_form, closure_call_form, field_seen, if_form, if_let_form, index_form, let_form, match_form, method_told, node_seen, operands_told, plain_argument, told_by_form, while_let_form}
 use Rattle.place_accesses.proofs.Joined.{one, two, three, four, one_more, one_more_listed}
 use Rattle.place_accesses.proofs.expressions.+told.Goals as goal
 
@@ -98,7 +98,8 @@ tell_call-returns-in_ok-tell_arguments-in-MethodCall t c =
     let first : map argument_in c.tell_argument.new.args ≡ argument_told A true receiver ∷ [] = search rules in
     let args : map argument_in c.tell_arguments-in-MethodCall.new.args ≡ argument_told A true receiver ∷ arguments A nodes =
     c.in_ok-tell_arguments-in-MethodCall.ensures ∙ ap (λ (l : List Argument). l ++ arguments A nodes) first in
-    let parts : call_told A (form_of c.args.form.now) ≡ passed_together (argument_told A true receiver ∷ arguments A nodes) = search (rules, the_lemmas) in
+    let parts : call_told A (form_of c.args.form.now) ≡ passed_together (argument_told A true receiver ∷ arguments A nodes) =
+    method_told A _ c.in-MethodCall.receiver c.in-MethodCall.nodes _ _ c.deref-receiver.ensures c.as_slice-nodes-in-MethodCall.ensures c.in-MethodCall.is in
     let is : call_told A (form_of c.args.form.now) ≡ passed_together (map argument_in c.tell_arguments-in-MethodCall.new.args) = parts ∙ ap passed_together (sym args) in
     on_ok_weaker c.passed_together-in-MethodCall.result
     (one (told_in c.args.out.now) (passed_together (map argument_in c.tell_arguments-in-MethodCall.new.args)) (call_told A (form_of c.args.form.now)) is (told_in c.passed_together-in-MethodCall.new.out))
@@ -154,7 +155,8 @@ tell_parts-returns-in_ok-tell-in-Arithmetic t c =
     let A = aliases_in c.args.aliases.now in
     let left : tree.Node = tree_of c.deref-left.result.now in
     let right : tree.Node = tree_of c.deref-right.result.now in
-    let is : parts_told A c.args.at (form_of c.args.form.now) ≡ (told A left ⊕ told A right) = search (rules, the_lemmas) in
+    let is : parts_told A c.args.at (form_of c.args.form.now) ≡ (told A left ⊕ told A right) =
+    operands_told A c.args.at _ c.in-Arithmetic.left c.in-Arithmetic.right _ _ c.deref-left.ensures c.deref-right.ensures c.in-Arithmetic.is in
     on_ok_weaker c.tell-in-Arithmetic-2.result
     (two (told_in c.args.out.now) (told_in c.tell-in-Arithmetic.new.out) (told A left) (told A right) _
     c.in_ok-tell-in-Arithmetic.ensures is (told_in c.tell-in-Arithmetic-2.new.out))
