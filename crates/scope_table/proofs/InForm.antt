@@ -1,5 +1,5 @@
 -- The rows in a form, by the forms with several parts: what each part gives, one behind the other.
-use Rattle.std.proofs.Common.{◌≡◌, ◌++◌, ◌∷◌, [], ℕ, Bool, List, Option, rules, refl, ap, sym, subst, map}
+use Rattle.std.proofs.Common.{◌≡◌, ◌⊎◌, inl, inr, ◌++◌, ◌∷◌, [], ℕ, Bool, List, Option, rules, refl, ap, sym, subst, map}
 use Rattle.std.specs.Prelude.{Box}
 use Rattle.std.specs.declared.alloc.Global.{Global}
 use Rattle.mir_base.specs.declared.operator.Cmp.{Cmp}
@@ -40,6 +40,13 @@ module _ (w : Within) (id : NodeId) (form : Form) (first second : Box Node Globa
   pub in_or : form ≡ Or first second → rows_in w id (form_of form) ≡ alone_rows (tree_of a) ++ alone_rows (tree_of b)
   in_or is = rw (is, is_a, is_b) (search (rules, the_lemmas))
 
+  -- of the forms that have the same parts
+  pub in_two_operands : ((x : Math) × form ≡ Arithmetic x first second) ⊎ ((x : Cmp) × form ≡ Comparison x first second)
+      → rows_in w id (form_of form) ≡ rows (inner id w) (entry_in id (tree_of a)) (tree_of a)
+      ++ rows (inner id w) (entry_in id (tree_of b)) (tree_of b)
+  in_two_operands (inl e) = in_arithmetic e.0 e.1
+  in_two_operands (inr e) = in_comparison e.0 e.1
+
   pub in_assign : (inside : Within) → inside ≡ inner id w → form ≡ Assign second first → rows_in w id (form_of form)
       ≡ rows (inner id w) (entry_in id (tree_of a)) (tree_of a)
       ++ rows inside (reached_in inside.temporary (tree_of b)) (tree_of b)
@@ -52,6 +59,12 @@ module _ (w : Within) (id : NodeId) (form : Form) (first second : Box Node Globa
   pub in_while : form ≡ While first second → rows_in w id (form_of form) ≡ alone_rows (tree_of a)
       ++ alone_rows (tree_of b)
   in_while is = rw (is, is_a, is_b) (search (rules, the_lemmas))
+
+  pub in_two_alone : (form ≡ And first second) ⊎ ((form ≡ Or first second) ⊎ (form ≡ While first second)) →
+      rows_in w id (form_of form) ≡ alone_rows (tree_of a) ++ alone_rows (tree_of b)
+  in_two_alone (inl e) = in_and e
+  in_two_alone (inr (inl e)) = in_or e
+  in_two_alone (inr (inr e)) = in_while e
 
   pub in_while_let : (body : Box Node Global) (d : Node) → d ≡ body.value → form ≡ WhileLet second first body →
       rows_in w id (form_of form) ≡ matched_rows id (tree_of a) (tree_of b) ++ alone_rows (tree_of d)
@@ -84,6 +97,14 @@ module _ (w : Within) (id : NodeId) (form : Form) (first : Box Node Global) (a :
       rows_in w id (form_of form) ≡ rows (inner id w) (entry_in id (tree_of a)) (tree_of a)
       ++ operand_rows inside id (nodes_from (map tree_of slice))
   in_closure_call inside body is_inside is = rw (is, is_a, is_slice, is_inside) (search (rules, the_lemmas))
+
+  pub in_called : (inside : Within) → inside ≡ inner id w → ((x : ℕ) × form ≡ MethodCall x first nodes)
+      ⊎ (((x : ℕ) × (y : ℕ) × form ≡ VirtualCall x y first nodes) ⊎ ((x : ℕ) × form ≡ ClosureCall x first nodes)) →
+      rows_in w id (form_of form) ≡ rows (inner id w) (entry_in id (tree_of a)) (tree_of a)
+      ++ operand_rows inside id (nodes_from (map tree_of slice))
+  in_called inside is_inside (inl e) = in_method_call inside e.0 is_inside e.1
+  in_called inside is_inside (inr (inl e)) = in_virtual_call inside e.0 e.1 is_inside e.2
+  in_called inside is_inside (inr (inr e)) = in_closure_call inside e.0 is_inside e.1
 
 pub in_block : (w inside : Within) (id : NodeId) (form : Form) (nodes slice : List Node)
     (tail : Option (Box Node Global)) → slice ≡ nodes → inside ≡ inner id w → form ≡ Block nodes tail →

@@ -128,19 +128,16 @@ fn add_in_form(
         | Form::Print(operand)
         | Form::DropValue(operand)
         | Form::Forget(operand) => add_operand(alloc, within, id, operand, rows),
-        Form::Arithmetic { left, right, .. } => {
+        Form::Arithmetic { left, right, .. } | Form::Comparison { left, right, .. } => {
             add_operand(alloc, within, id, left, rows)?;
             add_operand(alloc, within, id, right, rows)
         }
-        Form::Comparison { left, right, .. } => {
-            add_operand(alloc, within, id, left, rows)?;
-            add_operand(alloc, within, id, right, rows)
-        }
-        Form::And { left, right } => {
-            add_alone(alloc, left, rows)?;
-            add_alone(alloc, right, rows)
-        }
-        Form::Or { left, right } => {
+        Form::And { left, right }
+        | Form::Or { left, right }
+        | Form::While {
+            condition: left,
+            body: right,
+        } => {
             add_alone(alloc, left, rows)?;
             add_alone(alloc, right, rows)
         }
@@ -155,16 +152,14 @@ fn add_in_form(
             captures: nodes,
             ..
         } => add_operands(alloc, inner(id, within), id, nodes.as_slice(), rows),
-        Form::MethodCall { receiver, args, .. } => {
+        Form::MethodCall { receiver, args, .. }
+        | Form::VirtualCall { receiver, args, .. }
+        | Form::ClosureCall {
+            callee: receiver,
+            args,
+            ..
+        } => {
             add_operand(alloc, within, id, receiver, rows)?;
-            add_operands(alloc, inner(id, within), id, args.as_slice(), rows)
-        }
-        Form::VirtualCall { receiver, args, .. } => {
-            add_operand(alloc, within, id, receiver, rows)?;
-            add_operands(alloc, inner(id, within), id, args.as_slice(), rows)
-        }
-        Form::ClosureCall { callee, args, .. } => {
-            add_operand(alloc, within, id, callee, rows)?;
             add_operands(alloc, inner(id, within), id, args.as_slice(), rows)
         }
         Form::Make { fields, .. } => {
@@ -206,10 +201,6 @@ fn add_in_form(
             add_arms(alloc, within.temporary, arms.as_slice(), rows)
         }
         Form::Loop(body) => add_alone(alloc, body, rows),
-        Form::While { condition, body } => {
-            add_alone(alloc, condition, rows)?;
-            add_alone(alloc, body, rows)
-        }
         Form::WhileLet {
             pattern,
             scrutinee,

@@ -6,7 +6,7 @@ use Rattle.typed_tree.specs.declared.node.Node.{Node}
 use Rattle.typed_tree.specs.declared.node.NumberedField.{NumberedField}
 use Rattle.typed_tree.specs.View.{tree_of, field_of, nodes_from, fields_from}
 use Rattle.scope_table.proofs.Following.{one_more, two_behind, three_behind, four_behind}
-use Rattle.scope_table.proofs.InForm.{in_index, in_arithmetic, in_comparison, in_and, in_or, in_assign, in_if, in_while, in_while_let, in_if_let, in_match, in_method_call, in_virtual_call, in_closure_call, in_block, in_arm, of_value, of_matched, of_node, of_arm}
+use Rattle.scope_table.proofs.InForm.{in_index, in_two_operands, in_two_alone, in_assign, in_if, in_while_let, in_if_let, in_match, in_called, in_block, in_arm, of_value, of_matched, of_node, of_arm}
 use Rattle.scope_table.proofs.walking.+rows.Goals as goal
 
 pub add_arms-loop-arm-preserved : goal.add_arms-loop-arm-preserved
@@ -42,45 +42,10 @@ add_in_form-returns-in_ok-add_reached-in-Index t c =
     let all = in_index c.args.within c.args.id _ _ _ _ _ c.deref.ensures c.deref-in-Index.ensures _ _ c.nothing.ensures c.in-Index.is in
     on_ok_weaker _ (two_behind _ _ _ _ _ _ c.in_ok-add_reached-in-Index.ensures all) c.add_node.ensures
 
-pub add_in_form-returns-in_ok-add_operand-in-Arithmetic : goal.add_in_form-returns-in_ok-add_operand-in-Arithmetic
-add_in_form-returns-in_ok-add_operand-in-Arithmetic t c =
-    let all = in_arithmetic c.args.within c.args.id _ _ _ _ _ c.deref-in-Arithmetic.ensures c.deref-in-Arithmetic-2.ensures _ c.in-Arithmetic.is in
-    on_ok_weaker _ (two_behind _ _ _ _ _ _ c.in_ok-add_operand-in-Arithmetic.ensures all) c.add_operand-in-Arithmetic.ensures
-
-pub add_in_form-returns-in_ok-add_operand-in-Comparison : goal.add_in_form-returns-in_ok-add_operand-in-Comparison
-add_in_form-returns-in_ok-add_operand-in-Comparison t c =
-    let all = in_comparison c.args.within c.args.id _ _ _ _ _ c.deref-in-Comparison.ensures c.deref-in-Comparison-2.ensures _ c.in-Comparison.is in
-    on_ok_weaker _ (two_behind _ _ _ _ _ _ c.in_ok-add_operand-in-Comparison.ensures all) c.add_operand-in-Comparison-2.ensures
-
-pub add_in_form-returns-in_ok-add_alone-in-And : goal.add_in_form-returns-in_ok-add_alone-in-And
-add_in_form-returns-in_ok-add_alone-in-And t c =
-    let all = in_and c.args.within c.args.id _ _ _ _ _ c.deref-in-And.ensures c.deref-in-And-2.ensures c.in-And.is in
-    on_ok_weaker _ (two_behind _ _ _ _ _ _ c.in_ok-add_alone-in-And.ensures all) c.add_alone-in-And.ensures
-
-pub add_in_form-returns-in_ok-add_alone-in-Or : goal.add_in_form-returns-in_ok-add_alone-in-Or
-add_in_form-returns-in_ok-add_alone-in-Or t c =
-    let all = in_or c.args.within c.args.id _ _ _ _ _ c.deref-in-Or.ensures c.deref-in-Or-2.ensures c.in-Or.is in
-    on_ok_weaker _ (two_behind _ _ _ _ _ _ c.in_ok-add_alone-in-Or.ensures all) c.add_alone-in-Or-2.ensures
-
 pub add_in_form-returns-in_ok-add_operand-in-Assign : goal.add_in_form-returns-in_ok-add_operand-in-Assign
 add_in_form-returns-in_ok-add_operand-in-Assign t c =
     let all = in_assign c.args.within c.args.id _ _ _ _ _ c.deref-in-Assign.ensures c.deref-in-Assign-2.ensures _ c.inner.ensures c.in-Assign.is in
     on_ok_weaker _ (two_behind _ _ _ _ _ _ c.in_ok-add_operand-in-Assign.ensures all) c.add_reached-in-Assign.ensures
-
-pub add_in_form-returns-in_ok-add_operand-in-MethodCall : goal.add_in_form-returns-in_ok-add_operand-in-MethodCall
-add_in_form-returns-in_ok-add_operand-in-MethodCall t c =
-    let all = in_method_call c.args.within c.args.id _ _ _ _ _ c.deref-in-MethodCall.ensures c.as_slice.ensures _ _ c.inner-in-MethodCall.ensures c.in-MethodCall.is in
-    on_ok_weaker _ (two_behind _ _ _ _ _ _ c.in_ok-add_operand-in-MethodCall.ensures all) c.add_operands.ensures
-
-pub add_in_form-returns-in_ok-add_operand-in-VirtualCall : goal.add_in_form-returns-in_ok-add_operand-in-VirtualCall
-add_in_form-returns-in_ok-add_operand-in-VirtualCall t c =
-    let all = in_virtual_call c.args.within c.args.id _ _ _ _ _ c.deref-in-VirtualCall.ensures c.as_slice-in-VirtualCall.ensures _ _ _ c.inner-in-VirtualCall.ensures c.in-VirtualCall.is in
-    on_ok_weaker _ (two_behind _ _ _ _ _ _ c.in_ok-add_operand-in-VirtualCall.ensures all) c.add_operands-in-VirtualCall.ensures
-
-pub add_in_form-returns-in_ok-add_operand-in-ClosureCall : goal.add_in_form-returns-in_ok-add_operand-in-ClosureCall
-add_in_form-returns-in_ok-add_operand-in-ClosureCall t c =
-    let all = in_closure_call c.args.within c.args.id _ _ _ _ _ c.deref-in-ClosureCall.ensures c.as_slice-in-ClosureCall.ensures _ _ c.inner-in-ClosureCall.ensures c.in-ClosureCall.is in
-    on_ok_weaker _ (two_behind _ _ _ _ _ _ c.in_ok-add_operand-in-ClosureCall.ensures all) c.add_operands-in-ClosureCall.ensures
 
 pub add_in_form-returns-in_ok-add_statements-in-Block : goal.add_in_form-returns-in_ok-add_statements-in-Block
 add_in_form-returns-in_ok-add_statements-in-Block t c =
@@ -101,11 +66,6 @@ pub add_in_form-returns-in_ok-add_reached-in-Match : goal.add_in_form-returns-in
 add_in_form-returns-in_ok-add_reached-in-Match t c =
     let all = in_match c.args.within c.args.id _ _ _ _ _ c.deref-in-Match.ensures c.as_slice-in-Match.ensures c.in-Match.is in
     on_ok_weaker _ (two_behind _ _ _ _ _ _ c.in_ok-add_reached-in-Match.ensures all) c.add_arms.ensures
-
-pub add_in_form-returns-in_ok-add_alone-in-While : goal.add_in_form-returns-in_ok-add_alone-in-While
-add_in_form-returns-in_ok-add_alone-in-While t c =
-    let all = in_while c.args.within c.args.id _ _ _ _ _ c.deref-in-While.ensures c.deref-in-While-2.ensures c.in-While.is in
-    on_ok_weaker _ (two_behind _ _ _ _ _ _ c.in_ok-add_alone-in-While.ensures all) c.add_alone-in-While-2.ensures
 
 pub add_in_form-returns-in_ok-add_matched-in-WhileLet : goal.add_in_form-returns-in_ok-add_matched-in-WhileLet
 add_in_form-returns-in_ok-add_matched-in-WhileLet t c =
@@ -136,3 +96,18 @@ pub add_arm-returns : goal.add_arm-returns
 add_arm-returns t c =
     let all = of_arm c.args.temporary c.args.arm.now _ c.is_arm.ensures in
     on_ok_weaker _ (two_behind _ _ _ _ _ _ c.in_ok-add_arm_of.ensures all) c.add_other.ensures
+
+pub add_in_form-returns-in_ok-add_operand-in-Arithmetic : goal.add_in_form-returns-in_ok-add_operand-in-Arithmetic
+add_in_form-returns-in_ok-add_operand-in-Arithmetic t c =
+    let all = in_two_operands c.args.within c.args.id _ _ _ _ _ c.deref-in-Arithmetic.ensures c.deref-in-Arithmetic-2.ensures c.in-Arithmetic.is in
+    on_ok_weaker _ (two_behind _ _ _ _ _ _ c.in_ok-add_operand-in-Arithmetic.ensures all) c.add_operand-in-Arithmetic-2.ensures
+
+pub add_in_form-returns-in_ok-add_alone-in-And : goal.add_in_form-returns-in_ok-add_alone-in-And
+add_in_form-returns-in_ok-add_alone-in-And t c =
+    let all = in_two_alone c.args.within c.args.id _ _ _ _ _ c.deref-in-And.ensures c.deref-in-And-2.ensures c.in-And.is in
+    on_ok_weaker _ (two_behind _ _ _ _ _ _ c.in_ok-add_alone-in-And.ensures all) c.add_alone-in-And-2.ensures
+
+pub add_in_form-returns-in_ok-add_operand-in-MethodCall : goal.add_in_form-returns-in_ok-add_operand-in-MethodCall
+add_in_form-returns-in_ok-add_operand-in-MethodCall t c =
+    let all = in_called c.args.within c.args.id _ _ _ _ _ c.deref-in-MethodCall.ensures c.as_slice-in-MethodCall.ensures _ c.inner-in-MethodCall.ensures c.in-MethodCall.is in
+    on_ok_weaker _ (two_behind _ _ _ _ _ _ c.in_ok-add_operand-in-MethodCall.ensures all) c.add_operands.ensures
