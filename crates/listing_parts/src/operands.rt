@@ -44,7 +44,8 @@ fn other_constant(text: &[u8]) -> Option<(Operand, &[u8])>
     } else if let Some(rest) = strip(text, "false") {
         Some((Operand::Truth(false), rest))
     } else {
-        Some((Operand::Unit, strip(text, "()")?))
+        let rest = strip(text, "()")?;
+        Some((Operand::Unit, rest))
     }
 }
 
