@@ -138,8 +138,14 @@ impl MachineFrame {
         ensures added { OnOk result (self.new ≡ (self.old.0, self.old.1 ++ entry ∷ [])) }
     {
         let key = entry.key;
-        let number = number_of_place(self.entries.len())?;
-        widen(&mut self.index, key)?;
+        let Ok(number) = number_of_place(self.entries.len()) else {
+            drop(entry);
+            return Err(NoMemory);
+        };
+        let Ok(()) = widen(&mut self.index, key) else {
+            drop(entry);
+            return Err(NoMemory);
+        };
         self.entries.push(entry)?;
         self.index.set(key as usize, number);
         Ok(())

@@ -36,7 +36,11 @@ fn frame_with(alloc: Global, body: u32, args: List<Value>) -> Result<MachineFram
     let mut frame = MachineFrame::new(alloc, body);
     let mut key: u32 = 0;
     for arg in args.into_vec() {
-        key = key.checked_add(1).ok_or(NoMemory)?;
+        let Some(next) = key.checked_add(1) else {
+            drop(arg);
+            return Err(NoMemory);
+        };
+        key = next;
         frame.put(alloc, key, &[], arg)?;
     }
     Ok(frame)

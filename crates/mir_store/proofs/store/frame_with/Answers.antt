@@ -21,13 +21,13 @@ loop-arg-init c = record { body = grind (arith, common_steps); key = refl; cells
 
 pub loop-arg-preserved : goal.loop-arg-preserved
 loop-arg-preserved c =
-    let n : c.in_ok-key.key ≡ length c.loop-arg.yielded + 1 = grind (arith, common_steps) in
+    let n : c.in-Some-checked_add.next ≡ length c.loop-arg.yielded + 1 = grind (arith, common_steps) in
     record {
       body = c.in_ok-put.ensures.body ∙ c.loop-arg.invariant.body;
       key = n ∙ sym (length_push c.loop-arg.yielded c.in-Some.arg);
       cells =
           c.in_ok-put.ensures.cells
-          ∙ more_arguments (map datum_of c.loop-arg.yielded) (datum_of c.in-Some.arg) (cells_of c.loop-arg.frame.1) c.in_ok-key.key c.loop-arg.invariant.cells (n ∙ ap (λ k. k + 1) (sym (length-map c.loop-arg.yielded datum_of)))
+          ∙ more_arguments (map datum_of c.loop-arg.yielded) (datum_of c.in-Some.arg) (cells_of c.loop-arg.frame.1) c.in-Some-checked_add.next c.loop-arg.invariant.cells (n ∙ ap (λ k. k + 1) (sym (length-map c.loop-arg.yielded datum_of)))
           ∙ ap (arguments_from 1) (sym (map-append datum_of c.loop-arg.yielded (c.in-Some.arg ∷ [])));
     }
 
