@@ -19,3 +19,8 @@ returns c =
     let past : slice_get c.args.items.now.adts c.loop-adt.n ≡ None = search rules in
     λ body. c.loop-adt.invariant.bodies body
     ∙ ap (list_any (is_of body)) (all_taken c.args.items.now.adts c.loop-adt.n past c.loop-adt.invariant.within)
+
+pub loop-adt-smaller : goal.loop-adt-smaller
+loop-adt-smaller c =
+    let at : slice_get c.args.items.now.adts c.loop-adt.n ≡ Some c.in-Some.adt.now = search rules in
+    omega (arith, slice_get_within c.args.items.now.adts c.loop-adt.n c.in-Some.adt.now at)

@@ -21,3 +21,8 @@ pub returns : goal.returns
 returns c =
     let past : slice_get c.args.items.now.adts c.loop-adt.n ≡ None = search rules in
     c.loop-adt.invariant.names ∙ ap (map (λ (adt : Adt). adt.name)) (all_taken c.args.items.now.adts c.loop-adt.n past c.loop-adt.invariant.within)
+
+pub loop-adt-smaller : goal.loop-adt-smaller
+loop-adt-smaller c =
+    let at : slice_get c.args.items.now.adts c.loop-adt.n ≡ Some c.in-Some.adt.now = search rules in
+    omega (arith, slice_get_within c.args.items.now.adts c.loop-adt.n c.in-Some.adt.now at)

@@ -21,3 +21,8 @@ pub returns : goal.returns
 returns c =
     let past : slice_get c.args.items.now.bodies c.loop-sig.n ≡ None = search rules in
     c.loop-sig.invariant.names ∙ ap (map (λ (sig : Sig). sig.name)) (all_taken c.args.items.now.bodies c.loop-sig.n past c.loop-sig.invariant.within)
+
+pub loop-sig-smaller : goal.loop-sig-smaller
+loop-sig-smaller c =
+    let at : slice_get c.args.items.now.bodies c.loop-sig.n ≡ Some c.in-Some.sig.now = search rules in
+    omega (arith, slice_get_within c.args.items.now.bodies c.loop-sig.n c.in-Some.sig.now at)

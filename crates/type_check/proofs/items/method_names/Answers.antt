@@ -21,3 +21,8 @@ pub returns : goal.returns
 returns c =
     let past : slice_get c.args.items.now.traits c.loop-def.n ≡ None = search rules in
     c.loop-def.invariant.names ∙ ap (map method_words) (all_taken c.args.items.now.traits c.loop-def.n past c.loop-def.invariant.within)
+
+pub loop-def-smaller : goal.loop-def-smaller
+loop-def-smaller c =
+    let at : slice_get c.args.items.now.traits c.loop-def.n ≡ Some c.in-Some.def.now = search rules in
+    omega (arith, slice_get_within c.args.items.now.traits c.loop-def.n c.in-Some.def.now at)
