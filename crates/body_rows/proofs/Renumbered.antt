@@ -1,13 +1,14 @@
 -- A form whose parts were renumbered is the form renumbered.
-use Rattle.std.proofs.Common.{◌≡◌, ◌∙◌, ℕ, Bool, List, Option, rules, ap, sym, map}
+use Rattle.std.proofs.Common.{◌≡◌, ◌∙◌, ℕ, Bool, List, Option, None, Some, ap, sym, map}
 use Rattle.std.specs.Prelude.{Box}
 use Rattle.std.specs.declared.alloc.Global.{Global}
 use Rattle.mir_base.specs.declared.operator.Cmp.{Cmp}
 use Rattle.mir_base.specs.declared.operator.Math.{Math}
 use Rattle.typed_tree.specs.Tree as tree
-use Rattle.typed_tree.specs.View.{form_of, maybe_of, nodes_from, tree_of}
+use Rattle.typed_tree.specs.View.{form_of, form_layer, node_layer, field_layer, maybe_of, nodes_from, tree_of}
 use Rattle.typed_tree.specs.declared.node.Form as form
-use Rattle.typed_tree.specs.declared.node.Form.{Form, the_lemmas}
+use Rattle.typed_tree.specs.declared.node.Form.{Form, Form-F, fold-roll-Form}
+use Rattle.typed_tree.specs.declared.node.Form.TheViews.{rolls-And, rolls-Arithmetic, rolls-Arm, rolls-Array, rolls-ArrayPattern, rolls-Assign, rolls-Block, rolls-Borrow, rolls-Call, rolls-Closure, rolls-ClosureCall, rolls-Comparison, rolls-Deref, rolls-DropValue, rolls-Evaluate, rolls-Field, rolls-Forget, rolls-If, rolls-IfLet, rolls-Index, rolls-Let, rolls-Loop, rolls-Match, rolls-MethodCall, rolls-Negate, rolls-NewBox, rolls-Not, rolls-Or, rolls-OrPattern, rolls-Print, rolls-Return, rolls-Tuple, rolls-TuplePattern, rolls-Unsize, rolls-VirtualCall, rolls-While, rolls-WhileLet}
 use Rattle.typed_tree.specs.declared.node.Node.{Node}
 use Rattle.typing_rules.specs.Numbered.{form_renumbered, maybe_renumbered, nodes_renumbered, renumbered}
 
@@ -20,7 +21,7 @@ module _ (f : ℕ → ℕ) (whole : Form) where
 
   index_seen : (length : ℕ) (a : Box Node Global) (b : Box Node Global) →
       form_of (form.Index a b length) ≡ tree.Index (tree_of a.value) (tree_of b.value) length
-  index_seen length a b = search (rules, the_lemmas)
+  index_seen length a b = ap form_of (sym (rolls-Index a b length)) ∙ fold-roll-Form tree.Form tree.Node (ℕ × tree.Node) form_layer node_layer field_layer (Form-F.Index a b length)
 
   pub index_made : (length : ℕ) (a p : Box Node Global) (b q : Box Node Global) → whole ≡ form.Index a b length →
       tree_of p.value ≡ renumbered f (tree_of a.value) → tree_of q.value ≡ renumbered f (tree_of b.value) →
@@ -30,7 +31,7 @@ module _ (f : ℕ → ℕ) (whole : Form) where
 
   arithmetic_seen : (operator : Math) (a : Box Node Global) (b : Box Node Global) →
       form_of (form.Arithmetic operator a b) ≡ tree.Arithmetic operator (tree_of a.value) (tree_of b.value)
-  arithmetic_seen operator a b = search (rules, the_lemmas)
+  arithmetic_seen operator a b = ap form_of (sym (rolls-Arithmetic operator a b)) ∙ fold-roll-Form tree.Form tree.Node (ℕ × tree.Node) form_layer node_layer field_layer (Form-F.Arithmetic operator a b)
 
   pub arithmetic_made : (operator : Math) (a p : Box Node Global) (b q : Box Node Global) → whole ≡ form.Arithmetic operator a b →
       tree_of p.value ≡ renumbered f (tree_of a.value) → tree_of q.value ≡ renumbered f (tree_of b.value) →
@@ -40,7 +41,7 @@ module _ (f : ℕ → ℕ) (whole : Form) where
 
   comparison_seen : (operator : Cmp) (a : Box Node Global) (b : Box Node Global) →
       form_of (form.Comparison operator a b) ≡ tree.Comparison operator (tree_of a.value) (tree_of b.value)
-  comparison_seen operator a b = search (rules, the_lemmas)
+  comparison_seen operator a b = ap form_of (sym (rolls-Comparison operator a b)) ∙ fold-roll-Form tree.Form tree.Node (ℕ × tree.Node) form_layer node_layer field_layer (Form-F.Comparison operator a b)
 
   pub comparison_made : (operator : Cmp) (a p : Box Node Global) (b q : Box Node Global) → whole ≡ form.Comparison operator a b →
       tree_of p.value ≡ renumbered f (tree_of a.value) → tree_of q.value ≡ renumbered f (tree_of b.value) →
@@ -50,7 +51,7 @@ module _ (f : ℕ → ℕ) (whole : Form) where
 
   and_seen : (a : Box Node Global) (b : Box Node Global) →
       form_of (form.And a b) ≡ tree.And (tree_of a.value) (tree_of b.value)
-  and_seen a b = search (rules, the_lemmas)
+  and_seen a b = ap form_of (sym (rolls-And a b)) ∙ fold-roll-Form tree.Form tree.Node (ℕ × tree.Node) form_layer node_layer field_layer (Form-F.And a b)
 
   pub and_made : (a p : Box Node Global) (b q : Box Node Global) → whole ≡ form.And a b →
       tree_of p.value ≡ renumbered f (tree_of a.value) → tree_of q.value ≡ renumbered f (tree_of b.value) →
@@ -60,7 +61,7 @@ module _ (f : ℕ → ℕ) (whole : Form) where
 
   or_seen : (a : Box Node Global) (b : Box Node Global) →
       form_of (form.Or a b) ≡ tree.Or (tree_of a.value) (tree_of b.value)
-  or_seen a b = search (rules, the_lemmas)
+  or_seen a b = ap form_of (sym (rolls-Or a b)) ∙ fold-roll-Form tree.Form tree.Node (ℕ × tree.Node) form_layer node_layer field_layer (Form-F.Or a b)
 
   pub or_made : (a p : Box Node Global) (b q : Box Node Global) → whole ≡ form.Or a b →
       tree_of p.value ≡ renumbered f (tree_of a.value) → tree_of q.value ≡ renumbered f (tree_of b.value) →
@@ -70,7 +71,7 @@ module _ (f : ℕ → ℕ) (whole : Form) where
 
   assign_seen : (a : Box Node Global) (b : Box Node Global) →
       form_of (form.Assign a b) ≡ tree.Assign (tree_of a.value) (tree_of b.value)
-  assign_seen a b = search (rules, the_lemmas)
+  assign_seen a b = ap form_of (sym (rolls-Assign a b)) ∙ fold-roll-Form tree.Form tree.Node (ℕ × tree.Node) form_layer node_layer field_layer (Form-F.Assign a b)
 
   pub assign_made : (a p : Box Node Global) (b q : Box Node Global) → whole ≡ form.Assign a b →
       tree_of p.value ≡ renumbered f (tree_of a.value) → tree_of q.value ≡ renumbered f (tree_of b.value) →
@@ -80,7 +81,7 @@ module _ (f : ℕ → ℕ) (whole : Form) where
 
   method_call_seen : (body : ℕ) (a : Box Node Global) (b : List Node) →
       form_of (form.MethodCall body a b) ≡ tree.MethodCall body (tree_of a.value) (nodes_from (map tree_of b))
-  method_call_seen body a b = search (rules, the_lemmas)
+  method_call_seen body a b = ap form_of (sym (rolls-MethodCall body a b)) ∙ fold-roll-Form tree.Form tree.Node (ℕ × tree.Node) form_layer node_layer field_layer (Form-F.MethodCall body a b)
 
   pub method_call_made : (body : ℕ) (a p : Box Node Global) (b q : List Node) → whole ≡ form.MethodCall body a b →
       tree_of p.value ≡ renumbered f (tree_of a.value) → nodes_from (map tree_of q) ≡ nodes_renumbered f (nodes_from (map tree_of b)) →
@@ -90,7 +91,7 @@ module _ (f : ℕ → ℕ) (whole : Form) where
 
   virtual_call_seen : (trait_no : ℕ) (method : ℕ) (a : Box Node Global) (b : List Node) →
       form_of (form.VirtualCall trait_no method a b) ≡ tree.VirtualCall trait_no method (tree_of a.value) (nodes_from (map tree_of b))
-  virtual_call_seen trait_no method a b = search (rules, the_lemmas)
+  virtual_call_seen trait_no method a b = ap form_of (sym (rolls-VirtualCall trait_no method a b)) ∙ fold-roll-Form tree.Form tree.Node (ℕ × tree.Node) form_layer node_layer field_layer (Form-F.VirtualCall trait_no method a b)
 
   pub virtual_call_made : (trait_no : ℕ) (method : ℕ) (a p : Box Node Global) (b q : List Node) → whole ≡ form.VirtualCall trait_no method a b →
       tree_of p.value ≡ renumbered f (tree_of a.value) → nodes_from (map tree_of q) ≡ nodes_renumbered f (nodes_from (map tree_of b)) →
@@ -100,7 +101,7 @@ module _ (f : ℕ → ℕ) (whole : Form) where
 
   closure_call_seen : (body : ℕ) (a : Box Node Global) (b : List Node) →
       form_of (form.ClosureCall body a b) ≡ tree.ClosureCall body (tree_of a.value) (nodes_from (map tree_of b))
-  closure_call_seen body a b = search (rules, the_lemmas)
+  closure_call_seen body a b = ap form_of (sym (rolls-ClosureCall body a b)) ∙ fold-roll-Form tree.Form tree.Node (ℕ × tree.Node) form_layer node_layer field_layer (Form-F.ClosureCall body a b)
 
   pub closure_call_made : (body : ℕ) (a p : Box Node Global) (b q : List Node) → whole ≡ form.ClosureCall body a b →
       tree_of p.value ≡ renumbered f (tree_of a.value) → nodes_from (map tree_of q) ≡ nodes_renumbered f (nodes_from (map tree_of b)) →
@@ -110,7 +111,8 @@ module _ (f : ℕ → ℕ) (whole : Form) where
 
   block_seen : (a : List Node) (b : Option (Box Node Global)) →
       form_of (form.Block a b) ≡ tree.Block (nodes_from (map tree_of a)) (maybe_of b)
-  block_seen a b = search (rules, the_lemmas)
+  block_seen a None = ap form_of (sym (rolls-Block a None)) ∙ fold-roll-Form tree.Form tree.Node (ℕ × tree.Node) form_layer node_layer field_layer (Form-F.Block a None)
+  block_seen a (Some box) = ap form_of (sym (rolls-Block a (Some box))) ∙ fold-roll-Form tree.Form tree.Node (ℕ × tree.Node) form_layer node_layer field_layer (Form-F.Block a (Some box))
 
   pub block_made : (a p : List Node) (b q : Option (Box Node Global)) → whole ≡ form.Block a b →
       nodes_from (map tree_of p) ≡ nodes_renumbered f (nodes_from (map tree_of a)) → maybe_of q ≡ maybe_renumbered f (maybe_of b) →
@@ -120,7 +122,8 @@ module _ (f : ℕ → ℕ) (whole : Form) where
 
   let_seen : (a : Box Node Global) (b : Option (Box Node Global)) →
       form_of (form.Let a b) ≡ tree.Let (tree_of a.value) (maybe_of b)
-  let_seen a b = search (rules, the_lemmas)
+  let_seen a None = ap form_of (sym (rolls-Let a None)) ∙ fold-roll-Form tree.Form tree.Node (ℕ × tree.Node) form_layer node_layer field_layer (Form-F.Let a None)
+  let_seen a (Some box) = ap form_of (sym (rolls-Let a (Some box))) ∙ fold-roll-Form tree.Form tree.Node (ℕ × tree.Node) form_layer node_layer field_layer (Form-F.Let a (Some box))
 
   pub let_made : (a p : Box Node Global) (b q : Option (Box Node Global)) → whole ≡ form.Let a b →
       tree_of p.value ≡ renumbered f (tree_of a.value) → maybe_of q ≡ maybe_renumbered f (maybe_of b) →
@@ -130,7 +133,8 @@ module _ (f : ℕ → ℕ) (whole : Form) where
 
   if_seen : (a : Box Node Global) (b : Box Node Global) (c : Option (Box Node Global)) →
       form_of (form.If a b c) ≡ tree.If (tree_of a.value) (tree_of b.value) (maybe_of c)
-  if_seen a b c = search (rules, the_lemmas)
+  if_seen a b None = ap form_of (sym (rolls-If a b None)) ∙ fold-roll-Form tree.Form tree.Node (ℕ × tree.Node) form_layer node_layer field_layer (Form-F.If a b None)
+  if_seen a b (Some box) = ap form_of (sym (rolls-If a b (Some box))) ∙ fold-roll-Form tree.Form tree.Node (ℕ × tree.Node) form_layer node_layer field_layer (Form-F.If a b (Some box))
 
   pub if_made : (a p : Box Node Global) (b q : Box Node Global) (c r : Option (Box Node Global)) → whole ≡ form.If a b c →
       tree_of p.value ≡ renumbered f (tree_of a.value) → tree_of q.value ≡ renumbered f (tree_of b.value) → maybe_of r ≡ maybe_renumbered f (maybe_of c) →
@@ -140,7 +144,8 @@ module _ (f : ℕ → ℕ) (whole : Form) where
 
   if_let_seen : (a : Box Node Global) (b : Box Node Global) (c : Box Node Global) (d : Option (Box Node Global)) →
       form_of (form.IfLet a b c d) ≡ tree.IfLet (tree_of a.value) (tree_of b.value) (tree_of c.value) (maybe_of d)
-  if_let_seen a b c d = search (rules, the_lemmas)
+  if_let_seen a b c None = ap form_of (sym (rolls-IfLet a b c None)) ∙ fold-roll-Form tree.Form tree.Node (ℕ × tree.Node) form_layer node_layer field_layer (Form-F.IfLet a b c None)
+  if_let_seen a b c (Some box) = ap form_of (sym (rolls-IfLet a b c (Some box))) ∙ fold-roll-Form tree.Form tree.Node (ℕ × tree.Node) form_layer node_layer field_layer (Form-F.IfLet a b c (Some box))
 
   pub if_let_made : (a p : Box Node Global) (b q : Box Node Global) (c r : Box Node Global) (d s : Option (Box Node Global)) → whole ≡ form.IfLet a b c d →
       tree_of p.value ≡ renumbered f (tree_of a.value) → tree_of q.value ≡ renumbered f (tree_of b.value) → tree_of r.value ≡ renumbered f (tree_of c.value) → maybe_of s ≡ maybe_renumbered f (maybe_of d) →
@@ -150,7 +155,7 @@ module _ (f : ℕ → ℕ) (whole : Form) where
 
   match_seen : (a : Box Node Global) (b : List Node) →
       form_of (form.Match a b) ≡ tree.Match (tree_of a.value) (nodes_from (map tree_of b))
-  match_seen a b = search (rules, the_lemmas)
+  match_seen a b = ap form_of (sym (rolls-Match a b)) ∙ fold-roll-Form tree.Form tree.Node (ℕ × tree.Node) form_layer node_layer field_layer (Form-F.Match a b)
 
   pub match_made : (a p : Box Node Global) (b q : List Node) → whole ≡ form.Match a b →
       tree_of p.value ≡ renumbered f (tree_of a.value) → nodes_from (map tree_of q) ≡ nodes_renumbered f (nodes_from (map tree_of b)) →
@@ -160,7 +165,8 @@ module _ (f : ℕ → ℕ) (whole : Form) where
 
   arm_seen : (a : Box Node Global) (b : Option (Box Node Global)) (c : Box Node Global) →
       form_of (form.Arm a b c) ≡ tree.Arm (tree_of a.value) (maybe_of b) (tree_of c.value)
-  arm_seen a b c = search (rules, the_lemmas)
+  arm_seen a None c = ap form_of (sym (rolls-Arm a None c)) ∙ fold-roll-Form tree.Form tree.Node (ℕ × tree.Node) form_layer node_layer field_layer (Form-F.Arm a None c)
+  arm_seen a (Some box) c = ap form_of (sym (rolls-Arm a (Some box) c)) ∙ fold-roll-Form tree.Form tree.Node (ℕ × tree.Node) form_layer node_layer field_layer (Form-F.Arm a (Some box) c)
 
   pub arm_made : (a p : Box Node Global) (b q : Option (Box Node Global)) (c r : Box Node Global) → whole ≡ form.Arm a b c →
       tree_of p.value ≡ renumbered f (tree_of a.value) → maybe_of q ≡ maybe_renumbered f (maybe_of b) → tree_of r.value ≡ renumbered f (tree_of c.value) →
@@ -170,7 +176,7 @@ module _ (f : ℕ → ℕ) (whole : Form) where
 
   while_seen : (a : Box Node Global) (b : Box Node Global) →
       form_of (form.While a b) ≡ tree.While (tree_of a.value) (tree_of b.value)
-  while_seen a b = search (rules, the_lemmas)
+  while_seen a b = ap form_of (sym (rolls-While a b)) ∙ fold-roll-Form tree.Form tree.Node (ℕ × tree.Node) form_layer node_layer field_layer (Form-F.While a b)
 
   pub while_made : (a p : Box Node Global) (b q : Box Node Global) → whole ≡ form.While a b →
       tree_of p.value ≡ renumbered f (tree_of a.value) → tree_of q.value ≡ renumbered f (tree_of b.value) →
@@ -180,7 +186,7 @@ module _ (f : ℕ → ℕ) (whole : Form) where
 
   while_let_seen : (a : Box Node Global) (b : Box Node Global) (c : Box Node Global) →
       form_of (form.WhileLet a b c) ≡ tree.WhileLet (tree_of a.value) (tree_of b.value) (tree_of c.value)
-  while_let_seen a b c = search (rules, the_lemmas)
+  while_let_seen a b c = ap form_of (sym (rolls-WhileLet a b c)) ∙ fold-roll-Form tree.Form tree.Node (ℕ × tree.Node) form_layer node_layer field_layer (Form-F.WhileLet a b c)
 
   pub while_let_made : (a p : Box Node Global) (b q : Box Node Global) (c r : Box Node Global) → whole ≡ form.WhileLet a b c →
       tree_of p.value ≡ renumbered f (tree_of a.value) → tree_of q.value ≡ renumbered f (tree_of b.value) → tree_of r.value ≡ renumbered f (tree_of c.value) →
@@ -190,7 +196,7 @@ module _ (f : ℕ → ℕ) (whole : Form) where
 
   field_seen : (part : ℕ) (a : Box Node Global) →
       form_of (form.Field a part) ≡ tree.Field (tree_of a.value) part
-  field_seen part a = search (rules, the_lemmas)
+  field_seen part a = ap form_of (sym (rolls-Field a part)) ∙ fold-roll-Form tree.Form tree.Node (ℕ × tree.Node) form_layer node_layer field_layer (Form-F.Field a part)
 
   pub field_made : (part : ℕ) (a p : Box Node Global) → whole ≡ form.Field a part →
       tree_of p.value ≡ renumbered f (tree_of a.value) →
@@ -200,7 +206,7 @@ module _ (f : ℕ → ℕ) (whole : Form) where
 
   deref_seen : (a : Box Node Global) →
       form_of (form.Deref a) ≡ tree.Deref (tree_of a.value)
-  deref_seen a = search (rules, the_lemmas)
+  deref_seen a = ap form_of (sym (rolls-Deref a)) ∙ fold-roll-Form tree.Form tree.Node (ℕ × tree.Node) form_layer node_layer field_layer (Form-F.Deref a)
 
   pub deref_made : (a p : Box Node Global) → whole ≡ form.Deref a →
       tree_of p.value ≡ renumbered f (tree_of a.value) →
@@ -210,7 +216,7 @@ module _ (f : ℕ → ℕ) (whole : Form) where
 
   not_seen : (a : Box Node Global) →
       form_of (form.Not a) ≡ tree.Not (tree_of a.value)
-  not_seen a = search (rules, the_lemmas)
+  not_seen a = ap form_of (sym (rolls-Not a)) ∙ fold-roll-Form tree.Form tree.Node (ℕ × tree.Node) form_layer node_layer field_layer (Form-F.Not a)
 
   pub not_made : (a p : Box Node Global) → whole ≡ form.Not a →
       tree_of p.value ≡ renumbered f (tree_of a.value) →
@@ -220,7 +226,7 @@ module _ (f : ℕ → ℕ) (whole : Form) where
 
   negate_seen : (a : Box Node Global) →
       form_of (form.Negate a) ≡ tree.Negate (tree_of a.value)
-  negate_seen a = search (rules, the_lemmas)
+  negate_seen a = ap form_of (sym (rolls-Negate a)) ∙ fold-roll-Form tree.Form tree.Node (ℕ × tree.Node) form_layer node_layer field_layer (Form-F.Negate a)
 
   pub negate_made : (a p : Box Node Global) → whole ≡ form.Negate a →
       tree_of p.value ≡ renumbered f (tree_of a.value) →
@@ -230,7 +236,7 @@ module _ (f : ℕ → ℕ) (whole : Form) where
 
   new_box_seen : (a : Box Node Global) →
       form_of (form.NewBox a) ≡ tree.NewBox (tree_of a.value)
-  new_box_seen a = search (rules, the_lemmas)
+  new_box_seen a = ap form_of (sym (rolls-NewBox a)) ∙ fold-roll-Form tree.Form tree.Node (ℕ × tree.Node) form_layer node_layer field_layer (Form-F.NewBox a)
 
   pub new_box_made : (a p : Box Node Global) → whole ≡ form.NewBox a →
       tree_of p.value ≡ renumbered f (tree_of a.value) →
@@ -240,7 +246,7 @@ module _ (f : ℕ → ℕ) (whole : Form) where
 
   print_seen : (a : Box Node Global) →
       form_of (form.Print a) ≡ tree.Print (tree_of a.value)
-  print_seen a = search (rules, the_lemmas)
+  print_seen a = ap form_of (sym (rolls-Print a)) ∙ fold-roll-Form tree.Form tree.Node (ℕ × tree.Node) form_layer node_layer field_layer (Form-F.Print a)
 
   pub print_made : (a p : Box Node Global) → whole ≡ form.Print a →
       tree_of p.value ≡ renumbered f (tree_of a.value) →
@@ -250,7 +256,7 @@ module _ (f : ℕ → ℕ) (whole : Form) where
 
   drop_value_seen : (a : Box Node Global) →
       form_of (form.DropValue a) ≡ tree.DropValue (tree_of a.value)
-  drop_value_seen a = search (rules, the_lemmas)
+  drop_value_seen a = ap form_of (sym (rolls-DropValue a)) ∙ fold-roll-Form tree.Form tree.Node (ℕ × tree.Node) form_layer node_layer field_layer (Form-F.DropValue a)
 
   pub drop_value_made : (a p : Box Node Global) → whole ≡ form.DropValue a →
       tree_of p.value ≡ renumbered f (tree_of a.value) →
@@ -260,7 +266,7 @@ module _ (f : ℕ → ℕ) (whole : Form) where
 
   forget_seen : (a : Box Node Global) →
       form_of (form.Forget a) ≡ tree.Forget (tree_of a.value)
-  forget_seen a = search (rules, the_lemmas)
+  forget_seen a = ap form_of (sym (rolls-Forget a)) ∙ fold-roll-Form tree.Form tree.Node (ℕ × tree.Node) form_layer node_layer field_layer (Form-F.Forget a)
 
   pub forget_made : (a p : Box Node Global) → whole ≡ form.Forget a →
       tree_of p.value ≡ renumbered f (tree_of a.value) →
@@ -270,7 +276,7 @@ module _ (f : ℕ → ℕ) (whole : Form) where
 
   borrow_seen : (unique : Bool) (a : Box Node Global) →
       form_of (form.Borrow unique a) ≡ tree.Borrow unique (tree_of a.value)
-  borrow_seen unique a = search (rules, the_lemmas)
+  borrow_seen unique a = ap form_of (sym (rolls-Borrow unique a)) ∙ fold-roll-Form tree.Form tree.Node (ℕ × tree.Node) form_layer node_layer field_layer (Form-F.Borrow unique a)
 
   pub borrow_made : (unique : Bool) (a p : Box Node Global) → whole ≡ form.Borrow unique a →
       tree_of p.value ≡ renumbered f (tree_of a.value) →
@@ -280,7 +286,7 @@ module _ (f : ℕ → ℕ) (whole : Form) where
 
   unsize_seen : (trait_no : ℕ) (a : Box Node Global) →
       form_of (form.Unsize trait_no a) ≡ tree.Unsize trait_no (tree_of a.value)
-  unsize_seen trait_no a = search (rules, the_lemmas)
+  unsize_seen trait_no a = ap form_of (sym (rolls-Unsize trait_no a)) ∙ fold-roll-Form tree.Form tree.Node (ℕ × tree.Node) form_layer node_layer field_layer (Form-F.Unsize trait_no a)
 
   pub unsize_made : (trait_no : ℕ) (a p : Box Node Global) → whole ≡ form.Unsize trait_no a →
       tree_of p.value ≡ renumbered f (tree_of a.value) →
@@ -290,7 +296,7 @@ module _ (f : ℕ → ℕ) (whole : Form) where
 
   evaluate_seen : (a : Box Node Global) →
       form_of (form.Evaluate a) ≡ tree.Evaluate (tree_of a.value)
-  evaluate_seen a = search (rules, the_lemmas)
+  evaluate_seen a = ap form_of (sym (rolls-Evaluate a)) ∙ fold-roll-Form tree.Form tree.Node (ℕ × tree.Node) form_layer node_layer field_layer (Form-F.Evaluate a)
 
   pub evaluate_made : (a p : Box Node Global) → whole ≡ form.Evaluate a →
       tree_of p.value ≡ renumbered f (tree_of a.value) →
@@ -300,7 +306,7 @@ module _ (f : ℕ → ℕ) (whole : Form) where
 
   loop_seen : (a : Box Node Global) →
       form_of (form.Loop a) ≡ tree.Loop (tree_of a.value)
-  loop_seen a = search (rules, the_lemmas)
+  loop_seen a = ap form_of (sym (rolls-Loop a)) ∙ fold-roll-Form tree.Form tree.Node (ℕ × tree.Node) form_layer node_layer field_layer (Form-F.Loop a)
 
   pub loop_made : (a p : Box Node Global) → whole ≡ form.Loop a →
       tree_of p.value ≡ renumbered f (tree_of a.value) →
@@ -310,7 +316,8 @@ module _ (f : ℕ → ℕ) (whole : Form) where
 
   return_seen : (a : Option (Box Node Global)) →
       form_of (form.Return a) ≡ tree.Return (maybe_of a)
-  return_seen a = search (rules, the_lemmas)
+  return_seen None = ap form_of (sym (rolls-Return None)) ∙ fold-roll-Form tree.Form tree.Node (ℕ × tree.Node) form_layer node_layer field_layer (Form-F.Return None)
+  return_seen (Some box) = ap form_of (sym (rolls-Return (Some box))) ∙ fold-roll-Form tree.Form tree.Node (ℕ × tree.Node) form_layer node_layer field_layer (Form-F.Return (Some box))
 
   pub return_made : (a p : Option (Box Node Global)) → whole ≡ form.Return a →
       maybe_of p ≡ maybe_renumbered f (maybe_of a) →
@@ -320,7 +327,7 @@ module _ (f : ℕ → ℕ) (whole : Form) where
 
   call_seen : (body : ℕ) (a : List Node) →
       form_of (form.Call body a) ≡ tree.Call body (nodes_from (map tree_of a))
-  call_seen body a = search (rules, the_lemmas)
+  call_seen body a = ap form_of (sym (rolls-Call body a)) ∙ fold-roll-Form tree.Form tree.Node (ℕ × tree.Node) form_layer node_layer field_layer (Form-F.Call body a)
 
   pub call_made : (body : ℕ) (a p : List Node) → whole ≡ form.Call body a →
       nodes_from (map tree_of p) ≡ nodes_renumbered f (nodes_from (map tree_of a)) →
@@ -330,7 +337,7 @@ module _ (f : ℕ → ℕ) (whole : Form) where
 
   tuple_seen : (a : List Node) →
       form_of (form.Tuple a) ≡ tree.Tuple (nodes_from (map tree_of a))
-  tuple_seen a = search (rules, the_lemmas)
+  tuple_seen a = ap form_of (sym (rolls-Tuple a)) ∙ fold-roll-Form tree.Form tree.Node (ℕ × tree.Node) form_layer node_layer field_layer (Form-F.Tuple a)
 
   pub tuple_made : (a p : List Node) → whole ≡ form.Tuple a →
       nodes_from (map tree_of p) ≡ nodes_renumbered f (nodes_from (map tree_of a)) →
@@ -340,7 +347,7 @@ module _ (f : ℕ → ℕ) (whole : Form) where
 
   array_seen : (a : List Node) →
       form_of (form.Array a) ≡ tree.Array (nodes_from (map tree_of a))
-  array_seen a = search (rules, the_lemmas)
+  array_seen a = ap form_of (sym (rolls-Array a)) ∙ fold-roll-Form tree.Form tree.Node (ℕ × tree.Node) form_layer node_layer field_layer (Form-F.Array a)
 
   pub array_made : (a p : List Node) → whole ≡ form.Array a →
       nodes_from (map tree_of p) ≡ nodes_renumbered f (nodes_from (map tree_of a)) →
@@ -350,7 +357,7 @@ module _ (f : ℕ → ℕ) (whole : Form) where
 
   closure_seen : (closure : ℕ) (a : List Node) →
       form_of (form.Closure closure a) ≡ tree.Closure closure (nodes_from (map tree_of a))
-  closure_seen closure a = search (rules, the_lemmas)
+  closure_seen closure a = ap form_of (sym (rolls-Closure closure a)) ∙ fold-roll-Form tree.Form tree.Node (ℕ × tree.Node) form_layer node_layer field_layer (Form-F.Closure closure a)
 
   pub closure_made : (closure : ℕ) (a p : List Node) → whole ≡ form.Closure closure a →
       nodes_from (map tree_of p) ≡ nodes_renumbered f (nodes_from (map tree_of a)) →
@@ -360,7 +367,7 @@ module _ (f : ℕ → ℕ) (whole : Form) where
 
   tuple_pattern_seen : (a : List Node) →
       form_of (form.TuplePattern a) ≡ tree.TuplePattern (nodes_from (map tree_of a))
-  tuple_pattern_seen a = search (rules, the_lemmas)
+  tuple_pattern_seen a = ap form_of (sym (rolls-TuplePattern a)) ∙ fold-roll-Form tree.Form tree.Node (ℕ × tree.Node) form_layer node_layer field_layer (Form-F.TuplePattern a)
 
   pub tuple_pattern_made : (a p : List Node) → whole ≡ form.TuplePattern a →
       nodes_from (map tree_of p) ≡ nodes_renumbered f (nodes_from (map tree_of a)) →
@@ -370,7 +377,7 @@ module _ (f : ℕ → ℕ) (whole : Form) where
 
   array_pattern_seen : (a : List Node) →
       form_of (form.ArrayPattern a) ≡ tree.ArrayPattern (nodes_from (map tree_of a))
-  array_pattern_seen a = search (rules, the_lemmas)
+  array_pattern_seen a = ap form_of (sym (rolls-ArrayPattern a)) ∙ fold-roll-Form tree.Form tree.Node (ℕ × tree.Node) form_layer node_layer field_layer (Form-F.ArrayPattern a)
 
   pub array_pattern_made : (a p : List Node) → whole ≡ form.ArrayPattern a →
       nodes_from (map tree_of p) ≡ nodes_renumbered f (nodes_from (map tree_of a)) →
@@ -380,7 +387,7 @@ module _ (f : ℕ → ℕ) (whole : Form) where
 
   or_pattern_seen : (a : List Node) →
       form_of (form.OrPattern a) ≡ tree.OrPattern (nodes_from (map tree_of a))
-  or_pattern_seen a = search (rules, the_lemmas)
+  or_pattern_seen a = ap form_of (sym (rolls-OrPattern a)) ∙ fold-roll-Form tree.Form tree.Node (ℕ × tree.Node) form_layer node_layer field_layer (Form-F.OrPattern a)
 
   pub or_pattern_made : (a p : List Node) → whole ≡ form.OrPattern a →
       nodes_from (map tree_of p) ≡ nodes_renumbered f (nodes_from (map tree_of a)) →
