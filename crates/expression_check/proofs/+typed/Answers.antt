@@ -15,7 +15,7 @@ use Rattle.function_rows.specs.Closures.{start_of}
 use Rattle.function_rows.specs.Heads.{unvalued}
 use Rattle.src_ast.specs.View.{idents, syns_of}
 use Rattle.typing_rules.specs.Bodies as bodies_of
-use Rattle.typing_rules.specs.Places.{a_node_of}
+use Rattle.typing_rules.specs.Places.{a_node_of, wanted}
 use Rattle.struct_rows.proofs.InitForms.{init_seen}
 use Rattle.struct_rows.proofs.Turns.{below_more, field_refused, no_more, one_field}
 use Rattle.struct_rows.specs.Inits.{GivesInit, behind_inits, init_by, one_init, variant_by}
@@ -35,7 +35,7 @@ use Rattle.pattern_rows.specs.Expected.{expected_of}
 use Rattle.expression_check.proofs.CallSteps.{behind_args, closure_called, method_called, refused_args}
 use Rattle.typing_rules.specs.Named.{method_named}
 use Rattle.expression_check.proofs.Statements.{below_statement, block_left, grown_length, grows_on, one_statement, scope_left, scoped_grows}
-use Rattle.expression_check.proofs.Stores.{borrowed, stored}
+use Rattle.expression_check.proofs.Stores.{borrowed, calculated, compared, stored}
 use Rattle.expression_check.proofs.Jumps.{broken_out}
 use Rattle.expression_check.specs.Bases.{plain_base}
 use Rattle.expression_rows.specs.Jumps.{target_of, unlabelled}
@@ -48,6 +48,7 @@ use Rattle.expression_rows.specs.Forms.{value_as}
 use Rattle.expression_rows.specs.Sizes.{sizes}
 use Rattle.item_heads.specs.Answers.{Refuses}
 use Rattle.expression_rows.proofs.Lists.{below_next, below_part, one_argument, one_element, one_part, refused_argument, refused_part}
+use Rattle.expression_rows.specs.Pairs.{left_of, right_of}
 use Rattle.expression_rows.specs.Lists.{argument_at}
 use Rattle.src_ast.specs.Expressions.{expression_of, init_of}
 use Rattle.src_ast.specs.Seen.{maybe_of, nodes_of, syn_of, word_of}
@@ -817,3 +818,36 @@ aggregates::typed_elements-loop-split-init t c =
       counted = omega arith;
       smaller = omega arith;
     }
+
+pub operators::arithmetic-returns-clause-gives : goal.operators::arithmetic-returns-clause-gives
+operators::arithmetic-returns-clause-gives t c =
+    let before = c.args.checker.now in
+    let later = c.number.new.self in
+    let after = c.operands.new.checker in
+    let e = env before in
+    let literal = rules_of.is_plain (syn_of c.args.left.now) in
+    let both : rows_of.operands literal (wanted rows_of.if_int later.walk.items c.args.want) (rules_of.typed e (syn_of c.args.left.now)) (rules_of.typed e (syn_of c.args.right.now)) (state later)
+    ≡ Ok ((left_of c.in_ok-swapped.swapped (stack after), right_of c.in_ok-swapped.swapped (stack after)), state after) =
+    ap (λ (ty : Option TyId). rows_of.operands literal ty (rules_of.typed e (syn_of c.args.left.now)) (rules_of.typed e (syn_of c.args.right.now)) (state later)) (sym c.wanted_int-inner.ensures)
+    ∙ ap (λ (f : Env). rows_of.operands literal c.wanted_int-inner.result (rules_of.typed f (syn_of c.args.left.now)) (rules_of.typed f (syn_of c.args.right.now)) (state later)) (sym c.in_ok-id.ensures.same.1.0)
+    ∙ c.in_ok-swapped.ensures.gives in
+    subst (λ (o : Result (tree.Node × TypingState) Broken). Gives o c.arithmetic_of.result c.arithmetic_of.new.checker)
+    (sym (calculated c.args.at c.args.operator literal (rules_of.typed e (syn_of c.args.left.now)) (rules_of.typed e (syn_of c.args.right.now)) c.args.want c.in_ok-id.id.0
+    (left_of c.in_ok-swapped.swapped (stack after)) (right_of c.in_ok-swapped.swapped (stack after)) (state before) (state later) (state after) c.in_ok-id.ensures.number both))
+    c.arithmetic_of.ensures.gives
+
+pub operators::comparison-returns-clause-gives : goal.operators::comparison-returns-clause-gives
+operators::comparison-returns-clause-gives t c =
+    let before = c.args.checker.now in
+    let later = c.number.new.self in
+    let after = c.operands.new.checker in
+    let e = env before in
+    let literal = rules_of.is_plain (syn_of c.args.left.now) in
+    let both : rows_of.operands literal None (rules_of.typed e (syn_of c.args.left.now)) (rules_of.typed e (syn_of c.args.right.now)) (state later)
+    ≡ Ok ((left_of c.in_ok-swapped.swapped (stack after), right_of c.in_ok-swapped.swapped (stack after)), state after) =
+    ap (λ (f : Env). rows_of.operands literal None (rules_of.typed f (syn_of c.args.left.now)) (rules_of.typed f (syn_of c.args.right.now)) (state later)) (sym c.in_ok-id.ensures.same.1.0)
+    ∙ c.in_ok-swapped.ensures.gives in
+    subst (λ (o : Result (tree.Node × TypingState) Broken). Gives o c.comparison_of.result c.comparison_of.new.checker)
+    (sym (compared c.args.at c.args.operator literal (rules_of.typed e (syn_of c.args.left.now)) (rules_of.typed e (syn_of c.args.right.now)) c.args.want c.in_ok-id.id.0
+    (left_of c.in_ok-swapped.swapped (stack after)) (right_of c.in_ok-swapped.swapped (stack after)) (state before) (state later) (state after) c.in_ok-id.ensures.number both))
+    c.comparison_of.ensures.gives
