@@ -1,5 +1,6 @@
 -- `let`, once its parts are checked.
 use Rattle.std.proofs.Common.{◌≡◌, ℕ, Bool, true, false, if◌then◌else◌, List, [], Option, Some, None, Result, Ok, Err, refl, ap, sym, subst, ◌∙◌}
+use Rattle.std.proofs.lemmas.Bool.{false≢true}
 use Rattle.mir_base.specs.declared.place_in_text.Pos.{Pos}
 use Rattle.item_heads.proofs.Sequences.{stopped}
 use Rattle.item_heads.specs.Answers.{Refuses}
@@ -30,14 +31,14 @@ parts_of_place e (syn at form) want is = by (is_place e form) is
     by : (b : Bool) → b ≡ true →
         (if b then place e at form >>= place_for_parts e want else value e at form want) ≡ ((if b then place e at form else value e at form None) >>= place_for_parts e want)
     by true h = refl
-    by false h = cc
+    by false h = absurd (false≢true h)
 
 as_typed : (e : Env) (x : Syn) (want : Option TyId) → is_place_syn e x ≡ false → for_parts e want x ≡ typed e x want
 as_typed e (syn at form) want is = by (is_place e form) is
   where
     by : (b : Bool) → b ≡ false →
         (if b then place e at form >>= place_for_parts e want else value e at form want) ≡ (if b then place e at form >>= taken e want else value e at form want)
-    by true h = cc
+    by true h = absurd (false≢true (sym h))
     by false h = refl
 
 pub parts_of_value : (e : Env) (n : SyntaxNode) (want : Option TyId) → is_place_syn e (syn_of n) ≡ false →
