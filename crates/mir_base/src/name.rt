@@ -9,9 +9,16 @@ use std::alloc::Global;
 use std::marker::Model;
 
 /// A `String` that contracts see as the list of its bytes. It names an item, a field or a body.
-#[derive(Drop)]
 pub struct Name {
     text: String,
+}
+
+/// As a derived one; but written here, it is proved here, and not again in each crate in which a name ends.
+impl Drop for Name {
+    fn drop(self) {
+        let Name { text } = self;
+        drop(text);
+    }
 }
 
 impl Model for Name {

@@ -28,7 +28,6 @@ use std::marker::Model;
 ///
 /// Beside each type stands whether it is Copy and whether it needs dropping, so that asking costs the same for all
 /// types. See [`Items::intern`] and [`Items::add_adt`] for what keeping that costs.
-#[derive(Drop)]
 pub struct Items {
     types: TypeTable,
     copies: Vec<bool>,
@@ -38,6 +37,30 @@ pub struct Items {
     impls: List<ImplDef>,
     closures: List<ClosureDef>,
     bodies: List<Sig>,
+}
+
+/// As a derived one; but written here, it is proved here, and not again in each crate in which items end.
+impl Drop for Items {
+    fn drop(self) {
+        let Items {
+            types,
+            copies,
+            drops,
+            adts,
+            traits,
+            impls,
+            closures,
+            bodies,
+        } = self;
+        drop(types);
+        drop(copies);
+        drop(drops);
+        drop(adts);
+        drop(traits);
+        drop(impls);
+        drop(closures);
+        drop(bodies);
+    }
 }
 
 impl Model for Items {

@@ -7,9 +7,16 @@ use std::alloc::Global;
 use std::marker::Model;
 
 /// A path: the steps from a value, or from a local, to a part of it, outermost first. Up to one of them takes no memory: most places of a program are a local, or one step from it, and a graph holds many. Contracts see it as the list of its steps.
-#[derive(Drop)]
 pub struct Path<S: Drop> {
     steps: SmallVec<S, 1, Global>,
+}
+
+/// As a derived one; but written here, it is proved here, and not again in each crate in which a path ends.
+impl<S: Drop> Drop for Path<S> {
+    fn drop(self) {
+        let Path { steps } = self;
+        drop(steps);
+    }
 }
 
 impl<S: Drop> Model for Path<S> {
