@@ -5,15 +5,14 @@ ghost use Rattle.body_rows.specs.Renumbered.{renumbered_body};
 ghost use Rattle.typed_tree.specs.Nodes.{number_of, numbers_of};
 ghost use Rattle.typed_tree.specs.View.{body_of, param_tree, tree_of};
 ghost use Rattle.typing_rules.specs.Numbered.{in_text_order, param_renumbered};
-ghost use Rattle.body_nodes.specs.Listed.{trees};
+ghost use Rattle.typed_tree.specs.Listed.{trees};
 
 use crate::places::NumberPlaces;
 use crate::renumbering::renumber;
-use body_nodes::all_nodes;
 use mir_base::{List, NoMemory};
 use std::alloc::Global;
 use std::mem;
-use typed_tree::{Node, Param, TBody};
+use typed_tree::{Node, Param, TBody, all_nodes};
 
 fn numbers(alloc: Global, nodes: &[&Node]) -> Result<List<u32>, NoMemory>
     ensures { IfOk result (λ found. found ≡ map number_of (trees nodes.now)) }

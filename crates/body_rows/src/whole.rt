@@ -10,14 +10,13 @@ ghost use Rattle.typing_rules.specs.Numbered.{in_text_order};
 ghost use Rattle.body_rows.specs.Whole.{IsWithin, body_on, one_param, params_from, plain_body_on};
 
 use crate::number_in_text_order;
-use body_nodes::all_nodes;
 use call_rows::take_nodes;
 use item_heads::{broken, pushed};
 use mir_base::{List, Pos, Rule, RuleError};
 use mir_ty::TyId;
 use std::alloc::Global;
 use type_rows::Checker;
-use typed_tree::{Node, Param, TBody};
+use typed_tree::{Node, Param, TBody, all_nodes};
 
 /// A pattern as one more parameter, where it has a type.
 fn add_param(params: &mut List<Param>, pattern: Node, ty: Option<TyId>) -> Result<(), RuleError>

@@ -5,10 +5,9 @@ ghost use Rattle.typing_rules.specs.Replaced as rules;
 ghost use Rattle.borrow_rules.specs.View.{fact_in, facts_with, tree_in};
 
 use crate::passings::{Passing, passings, stores};
-use body_nodes::nodes_of;
 use mir_base::{Key, List, NoMemory};
 use std::alloc::Global;
-use typed_tree::{Node, Param, TBody};
+use typed_tree::{Node, Param, TBody, nodes_of};
 
 /// A parameter by its body and its number there.
 #[derive(Clone, Copy, PartialEq, Eq, Hash)]

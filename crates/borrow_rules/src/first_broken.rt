@@ -11,13 +11,12 @@ use crate::drop_bodies::{drop_bodies, is_drop_body};
 use crate::facts::ParamNo;
 use crate::passings::{Passing, passings, stores};
 use crate::replaceable::{is_replaced, replaceable};
-use body_nodes::nodes_of;
 use mir_base::{Key, NoMemory, Pos, Rule, RuleError};
 use mir_ty::Items;
 use place_accesses::{ToldAccesses, tell};
 use std::alloc::Global;
 use std::collections::HashSet;
-use typed_tree::{TBody, Typed};
+use typed_tree::{TBody, Typed, nodes_of};
 
 /// A rule that is broken, and where.
 #[derive(Clone, Copy)]

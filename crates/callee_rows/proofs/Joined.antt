@@ -4,7 +4,7 @@ use Rattle.mir_base.specs.declared.rule.RuleError.{RuleError}
 use Rattle.mir_ty.specs.declared.ty.TyId.{TyId}
 use Rattle.item_heads.specs.Answers.{Refuses}
 use Rattle.member_rows.specs.Calls.{Arguments, GivesCall}
-use Rattle.struct_rows.specs.Rests.{GivesFields}
+use Rattle.member_rows.specs.StructRests.{GivesFields}
 use Rattle.type_rows.specs.Stand.{Gives, stack, state, top}
 use Rattle.type_rows.specs.declared.checker.Checker.{Checker}
 use Rattle.typed_tree.specs.Tree.{Fields, Node, Nodes}

@@ -5,7 +5,7 @@ use Rattle.mir_ty.specs.declared.ty.TyId.{TyId}
 use Rattle.typed_tree.specs.Tree as tree
 use Rattle.typed_tree.specs.Tree.{Node, Nodes, no_node, a_node, Fields, a_field, Form}
 use Rattle.call_rows.specs.Lists.{below_all, last_nodes, nodes_on}
-use Rattle.struct_rows.specs.Fields.{numbered_by}
+use Rattle.member_rows.specs.StructFields.{numbered_by}
 use Rattle.type_rows.specs.Stand.{below, top}
 use Rattle.typing_rules.specs.Places.{a_node_of}
 use Rattle.typing_rules.specs.Rows.{Given, first_node, make, numbered_fields, with_one}

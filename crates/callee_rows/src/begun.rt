@@ -21,10 +21,10 @@ ghost use Rattle.well_typed.specs.Types as types;
 
 use crate::callees::Callee;
 use item_heads::{broken, pushed};
+use member_rows::{copied, variant_types};
 use mir_base::{List, NodeId, Pos, Rule, RuleError};
 use mir_ty::{Items, Ty, TyId};
 use std::alloc::Global;
-use struct_rows::{copied, variant_types};
 use type_env::{boxed_of, is_dyn};
 use type_rows::Checker;
 

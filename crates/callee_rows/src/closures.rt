@@ -12,9 +12,9 @@ ghost use Rattle.type_rows.specs.Stand.{Gives, Keeps, below, stack, state, top};
 
 use call_rows::{Behind, counted_end};
 use item_heads::broken;
+use member_rows::copied;
 use mir_base::{List, NodeId, Pos, Rule, RuleError};
 use mir_ty::{Items, TyId};
-use struct_rows::copied;
 use type_env::closure_of;
 use type_rows::Checker;
 

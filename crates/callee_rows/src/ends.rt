@@ -16,10 +16,10 @@ ghost use Rattle.typing_rules.specs.Rows as rows;
 use crate::begun::{BegunCall, CallEnding};
 use call_rows::{Many, box_end, call_end as body_end, let_go};
 use item_heads::{broken, obeys, pushed};
+use member_rows::wrap_make;
 use mir_base::{List, NodeId, Pos, Rule, RuleError};
 use mir_ty::TyId;
 use std::alloc::Global;
-use struct_rows::wrap_make;
 use type_rows::{Checker, Leaf, One};
 
 /// So many numbers from 0 on.

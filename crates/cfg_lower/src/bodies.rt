@@ -13,12 +13,11 @@ ghost use Rattle.cfg_lower.specs.Lowered.{unbuilt, begun, IsWhole};
 ghost use Rattle.use_sites.specs.Listed.{ids_of, nodes_of_body};
 
 use crate::parts::{add_parts, add_tys};
-use body_blocks::{Setting, build};
 use body_code::body_code;
 use body_locals::{Locals, locals};
 use bumpalo::Bump;
 use cfg_graph::{Body, Kind, Term};
-use code_blocks::{Blocks, MadeBlock, Ways};
+use code_blocks::{Blocks, MadeBlock, Setting, Ways, build};
 use code_passes::{LoweringFrame, Scopes, Spans, change, enter, marks_of, reaches_of};
 use mir_base::{Key, List, NoMemory, NodeId};
 use mir_ty::Items;

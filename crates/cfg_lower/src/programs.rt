@@ -12,12 +12,11 @@ ghost use Rattle.lowered_paths.specs.Refused.{MeetsExactly, MeetsItsRefusals};
 ghost use Rattle.cfg_lower.specs.Claims.{EachBody, HasOrderedEdges, IsPrepared, IsSmall, RunsAsItsSource, WalksAsItRunsFreely};
 
 use crate::bodies::{LoweredBody, lower_body};
-use body_nodes::all_nodes;
 use cfg_graph::{Body, Graph};
 use mir_base::{List, NoMemory};
 use mir_ty::Items;
 use std::alloc::Global;
-use typed_tree::{TBody, Typed};
+use typed_tree::{TBody, Typed, all_nodes};
 use use_sites::{PlaceNames, Site, body_sites, rise};
 
 /// A program that is lowered: its raw graph, and the sites of its uses in the order of bodies, blocks and lines.

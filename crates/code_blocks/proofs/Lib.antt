@@ -3,3 +3,6 @@ mod Doing
 mod Dropped
 mod Left
 mod Tested
+mod Ignoring
+mod Reading
+mod Steps

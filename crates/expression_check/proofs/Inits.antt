@@ -2,15 +2,15 @@
 use Rattle.std.proofs.Common.{◌≡◌, ℕ, List, [], Option, Result, Ok, Err, refl, ap, sym, subst, ◌∙◌}
 use Rattle.item_heads.proofs.Sequences.{stopped}
 use Rattle.item_heads.specs.Answers.{Refuses}
-use Rattle.struct_rows.proofs.Tabled.{variant_is}
-use Rattle.struct_rows.specs.Inits.{behind_inits, variant_by}
+use Rattle.member_rows.proofs.Tabled.{variant_is}
+use Rattle.member_rows.specs.Inits.{behind_inits, variant_by}
 use Rattle.mir_base.specs.declared.place_in_text.Pos.{Pos}
 use Rattle.mir_base.specs.declared.rule.RuleError.{RuleError}
 use Rattle.mir_ty.specs.ItemTable.{ItemTable}
 use Rattle.mir_ty.specs.declared.adt.Variant.{Variant}
 use Rattle.mir_ty.specs.declared.ty.TyId.{TyId}
 use Rattle.src_ast.specs.Syntax.{MaybeSyn, Syns, Word}
-use Rattle.struct_rows.specs.Fields.{variant_of}
+use Rattle.member_rows.specs.StructFields.{variant_of}
 use Rattle.type_rows.specs.Tables.{AreTablesOf}
 use Rattle.type_rows.specs.declared.tables.Tables.{Tables}
 use Rattle.typed_tree.specs.Tree.{Fields, Node}

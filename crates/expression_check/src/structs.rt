@@ -1,10 +1,10 @@
 //! Struct expressions (The Rust Reference, "Struct expressions").
 ghost use Rattle.std.specs.Prelude.{◌≡◌, Some};
-ghost use Rattle.struct_rows.specs.Inits.{GivesInit, GivesInits, KeepsBelowInits, init_by, one_init, variant_by};
+ghost use Rattle.member_rows.specs.Inits.{GivesInit, GivesInits, KeepsBelowInits, init_by, one_init, variant_by};
 ghost use Rattle.src_ast.specs.Expressions.{init_of};
 ghost use Rattle.src_ast.specs.Seen.{maybe_of, nodes_of, syn_of, word_of};
 ghost use Rattle.src_ast.specs.Syntax.{StructOf, Word};
-ghost use Rattle.struct_rows.specs.Fields.{variant_of};
+ghost use Rattle.member_rows.specs.StructFields.{variant_of};
 ghost use Rattle.typing_rules.specs.Rows as rows;
 ghost use Rattle.typing_rules.specs.Typed as rules;
 ghost use Rattle.type_rows.specs.Stand.{Gives, Keeps, env, stack, state};
@@ -12,12 +12,12 @@ ghost use Rattle.type_rows.specs.Stand.{Gives, Keeps, env, stack, state};
 use crate::expressions::typed;
 use callee_rows::path;
 use item_heads::{broken, pushed};
+use member_rows::{field_wanted, struct_begin, struct_end};
 use mir_base::{List, Pos, Rule, RuleError};
 use mir_ty::TyId;
 use pattern_rows::target_of;
 use src_ast::{InitForm, Nodes, PathForm, init_form};
 use src_tree::SyntaxNode;
-use struct_rows::{field_wanted, struct_begin, struct_end};
 use type_rows::Checker;
 
 /// The value of a field; without one it is the variable of that name.

@@ -25,8 +25,8 @@ use Rattle.mir_text.proofs.Reading.Parts.{number_of, IsPlaceEnd, place_reads, op
 use Rattle.listing_parts.specs.LinesFound.{behind_line}
 use Rattle.listing_parts.specs.Numbers.{adt_no, trait_no}
 use Rattle.listing_parts.proofs.LineByLine.{strip_append, strip_whole}
-use Rattle.listing_types.proofs.Complete.{found_at, name_all}
-use Rattle.listing_types.proofs.Sound.{placed_name}
+use Rattle.listing_parts.proofs.Complete.{found_at, name_all}
+use Rattle.listing_parts.proofs.Sound.{placed_name}
 use Rattle.listing_lines.specs.CodeFound.{StatementsAreRead, TerminatorsAreRead, TerminatorsAreNoStatements}
 use Rattle.listing_lines.specs.CodeReading.{names_stmt, names_term, stmt_from, term_from, statement_read, terminator_read}
 use Rattle.listing_lines.specs.CodeStands.{NamesNothing, SendsNothing}

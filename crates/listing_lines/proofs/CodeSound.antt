@@ -21,8 +21,8 @@ use Rattle.mir_text.proofs.Reading.Parts.{every_from_all}
 use Rattle.listing_parts.specs.LinesFound.{behind_line}
 use Rattle.listing_parts.specs.Numbers.{adt_no, trait_no}
 use Rattle.listing_parts.proofs.LineByLine.{line_sound}
-use Rattle.listing_types.proofs.Splits.{split, same_found}
-use Rattle.listing_types.proofs.Complete.{found_at}
+use Rattle.listing_parts.proofs.Splits.{split, same_found}
+use Rattle.listing_parts.proofs.Complete.{found_at}
 use Rattle.listing_lines.specs.CodeFound.{StatementsAreSound, TerminatorsAreSound}
 use Rattle.listing_lines.specs.CodeReading.{names_stmt, names_term, behind_stmt, behind_term, stmt_from, term_from}
 use Rattle.listing_lines.specs.CodeStands.{IsAdtName, IsTraitName, AreNames, StmtLineStands, TermLineStands}

@@ -18,10 +18,10 @@ use Rattle.mir_text.proofs.Reading.Parts.{every_from_all}
 use Rattle.mir_text.proofs.Reading.Rows.{many_reads, flat_counted}
 use Rattle.listing_parts.specs.Numbers.{adt_no, trait_no}
 use Rattle.listing_parts.proofs.LineByLine.{strip_whole}
-use Rattle.listing_types.specs.TypeReading.{type_read, types_read}
-use Rattle.listing_types.specs.TypesFound.{no_digit_at}
-use Rattle.listing_types.proofs.Complete.{type_reads, rows_read, found_at, name_all}
-use Rattle.listing_types.proofs.PlainNumbers.{plain_read}
+use Rattle.listing_parts.specs.TypeReading.{type_read, types_read}
+use Rattle.listing_parts.specs.TypesFound.{no_digit_at}
+use Rattle.listing_parts.proofs.Complete.{type_reads, rows_read, found_at, name_all}
+use Rattle.listing_parts.proofs.PlainNumbers.{plain_read}
 use Rattle.listing_lines.specs.LineReading.{due_number, named, name_read, params_from, body_read, local_read, kind_read, rank_from, block_read, captures_from, closure_read, blank_number, bodies_read, adt_called, known_adt_read, trait_called, known_trait_read, for_adt, impl_read}
 use Rattle.listing_lines.specs.LinesFound.{BodiesAreRead, LocalsAreRead, BlocksAreRead, ClosuresAreRead, ImplsAreRead}
 

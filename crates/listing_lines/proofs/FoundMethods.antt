@@ -19,11 +19,11 @@ use Rattle.mir_text.specs.Compared.{SigSeen, sig_seen}
 use Rattle.mir_text.specs.Reading.Rows.{many, many_within, comma}
 use Rattle.mir_text.specs.Reading.Words.{FoundInText}
 use Rattle.mir_text.proofs.Reading.Basics.{Every}
-use Rattle.listing_types.specs.Table.{AreRead, Grow, WithTypes, under, text_under}
-use Rattle.listing_types.proofs.FoundRows.{map-append, then_grow, still_types}
-use Rattle.listing_types.proofs.Texts.{every_from_all, text_grown, texts_grown, no_less, still_there}
-use Rattle.listing_types.specs.TypesRead.{GivesType}
-use Rattle.listing_types.proofs.Splits.{same_is}
+use Rattle.listing_parts.specs.Table.{AreRead, Grow, WithTypes, under, text_under}
+use Rattle.listing_parts.proofs.FoundRows.{map-append, then_grow, still_types}
+use Rattle.listing_parts.proofs.Texts.{every_from_all, text_grown, texts_grown, no_less, still_there}
+use Rattle.listing_parts.specs.TypesRead.{GivesType}
+use Rattle.listing_parts.proofs.Splits.{same_is}
 use Rattle.listing_lines.specs.TraitReading.{sig_of, reference_to}
 use Rattle.listing_lines.specs.TraitsRead.{BeginWithSelf, GivesSelf, FindsParams, FindsMethod, FindsMore}
 

@@ -12,9 +12,9 @@ use Rattle.mir_ty.specs.ItemTable.{ItemTable}
 use Rattle.mir_text.specs.Compared.{VariantSeen, AdtSeen, variant_seen, adt_seen}
 use Rattle.mir_text.specs.Reading.Rows.{many, many_within, comma}
 use Rattle.mir_text.specs.Reading.Words.{FoundInText}
-use Rattle.listing_types.specs.Table.{AreRead, Grow, under, text_under}
-use Rattle.listing_types.proofs.FoundRows.{map-append, then_grow, still_types}
-use Rattle.listing_types.proofs.Texts.{every_from_all, texts_grown}
+use Rattle.listing_parts.specs.Table.{AreRead, Grow, under, text_under}
+use Rattle.listing_parts.proofs.FoundRows.{map-append, then_grow, still_types}
+use Rattle.listing_parts.proofs.Texts.{every_from_all, texts_grown}
 use Rattle.mir_text.proofs.Reading.Basics.{Every}
 use Rattle.listing_lines.specs.ItemReading.{first_names}
 use Rattle.listing_lines.specs.ItemsRead.{FindsVariant, FindsMore, FindsAdt, variant_of, struct_of}

@@ -14,10 +14,10 @@ use Rattle.mir_text.specs.Reading.Lines.{ended}
 use Rattle.mir_text.specs.Reading.Rows.{many_within, after, comma}
 use Rattle.mir_text.specs.Reading.Words.{FoundInText, bind, chosen, as_, strip}
 use Rattle.mir_text.proofs.Reading.Basics.{behind3, behind7}
-use Rattle.listing_types.specs.TypesFound.{EachStands}
-use Rattle.listing_types.proofs.Complete.{rows_read, not_true, name_all}
-use Rattle.listing_types.proofs.Depth.{is_a_name, some_name}
-use Rattle.listing_types.proofs.PlainNumbers.{plain_read}
+use Rattle.listing_parts.specs.TypesFound.{EachStands}
+use Rattle.listing_parts.proofs.Complete.{rows_read, not_true, name_all}
+use Rattle.listing_parts.proofs.Depth.{is_a_name, some_name}
+use Rattle.listing_parts.proofs.PlainNumbers.{plain_read}
 use Rattle.listing_lines.proofs.Complete.{name_reads}
 use Rattle.listing_lines.specs.ItemReading.{copy_read, drop_read, marks_from, marks_read, blank_behind, adt_named, adt_name_read, blank_name, variant_from, variant_read, with_more, closed_braces, variants_behind, variants_read, marked, struct_from, struct_read, enum_from, adt_read}
 use Rattle.listing_lines.specs.ItemsFound.{VariantsStand, found_variant, StructsAreRead, EnumsAreRead}

@@ -15,10 +15,10 @@ use Rattle.mir_text.specs.Reading.Rows.{many, many_within, comma}
 use Rattle.mir_text.specs.Reading.Words.{FoundInText, bind, chosen, as_, strip}
 use Rattle.mir_text.proofs.Reading.Basics.{behind3, behind7}
 use Rattle.listing_parts.proofs.LineByLine.{strip_sound}
-use Rattle.listing_types.specs.TypeReading.{plain_number, types_read}
-use Rattle.listing_types.proofs.PlainNumbers.{plain_sound}
-use Rattle.listing_types.proofs.Sound.{rows_sound}
-use Rattle.listing_types.proofs.Splits.{split, either, same_found}
+use Rattle.listing_parts.specs.TypeReading.{plain_number, types_read}
+use Rattle.listing_parts.proofs.PlainNumbers.{plain_sound}
+use Rattle.listing_parts.proofs.Sound.{rows_sound}
+use Rattle.listing_parts.proofs.Splits.{split, either, same_found}
 use Rattle.listing_lines.specs.LineReading.{name_read}
 use Rattle.listing_lines.proofs.Sound.{name_sound, ended_sound, as_sound}
 use Rattle.listing_lines.specs.ItemReading.{copy_from, copy_read, drop_read, marks_from, marks_read, blank_behind, adt_named, adt_name_read, blank_name, variant_from, variant_read, with_more, some_variants, closed_braces, variants_behind, variants_read, marked, struct_from, struct_read, enum_from, enum_read}

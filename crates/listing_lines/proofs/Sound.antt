@@ -22,10 +22,10 @@ use Rattle.mir_text.proofs.Reading.Basics.{behind7}
 use Rattle.listing_parts.specs.Numbers.{adt_no, trait_no}
 use Rattle.listing_parts.proofs.LineByLine.{strip_sound}
 use Rattle.listing_parts.proofs.Spans.{span_all}
-use Rattle.listing_types.specs.TypeReading.{plain_number, type_read, types_read}
-use Rattle.listing_types.proofs.PlainNumbers.{plain_sound}
-use Rattle.listing_types.proofs.Sound.{type_sound, rows_sound, placed_name}
-use Rattle.listing_types.proofs.Splits.{split, one_of_two, same_found, span_parts}
+use Rattle.listing_parts.specs.TypeReading.{plain_number, type_read, types_read}
+use Rattle.listing_parts.proofs.PlainNumbers.{plain_sound}
+use Rattle.listing_parts.proofs.Sound.{type_sound, rows_sound, placed_name}
+use Rattle.listing_parts.proofs.Splits.{split, one_of_two, same_found, span_parts}
 use Rattle.listing_lines.specs.LineReading.{due_number, named, name_read, params_from, local_head, kind_read, rank_from, closure_head, last_number, captures_from, blank_number, bodies_read, known_adt_read, known_trait_read, for_adt, impl_head}
 use Rattle.listing_lines.specs.LinesFound.{BodiesAreSound, LocalsAreSound, BlocksAreSound, ClosuresAreSound, ImplsAreSound}
 

@@ -14,10 +14,10 @@ use Rattle.mir_text.specs.Reading.Words.{FoundInText, bind, chosen, as_, strip}
 use Rattle.mir_text.specs.Types.{trait_name, name_of_trait}
 use Rattle.mir_text.proofs.Reading.Basics.{stops, span_run, behind5}
 use Rattle.mir_text.proofs.Reading.Listed.{same_as_itself}
-use Rattle.listing_types.specs.TypeReading.{more_types, type_within}
-use Rattle.listing_types.specs.TypesFound.{EachStands, closes}
-use Rattle.listing_types.proofs.Complete.{type_reads, found_at, name_all, parts_read, as_trees, all_stand, texts_of}
-use Rattle.listing_types.proofs.Depth.{parts_deep, some_name}
+use Rattle.listing_parts.specs.TypeReading.{more_types, type_within}
+use Rattle.listing_parts.specs.TypesFound.{EachStands, closes}
+use Rattle.listing_parts.proofs.Complete.{type_reads, found_at, name_all, parts_read, as_trees, all_stand, texts_of}
+use Rattle.listing_parts.proofs.Depth.{parts_deep, some_name}
 use Rattle.listing_lines.proofs.Complete.{name_reads}
 use Rattle.listing_lines.specs.ItemReading.{blank_behind, blank_name}
 use Rattle.listing_lines.specs.TraitReading.{self_text, own_from, own_read, self_read, closed_params, params_from, params_read, result_from, method_from, method_read, with_more, closed_braces, methods_behind, methods_read, trait_from, own_head_from, trait_read}

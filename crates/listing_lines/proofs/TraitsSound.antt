@@ -13,9 +13,9 @@ use Rattle.mir_text.specs.Reading.Words.{FoundInText, bind, as_, said, strip, sp
 use Rattle.mir_text.specs.Types.{trait_name, name_of_trait}
 use Rattle.mir_text.proofs.Reading.Basics.{behind5}
 use Rattle.listing_parts.proofs.LineByLine.{strip_sound}
-use Rattle.listing_types.specs.TypeReading.{more_types, type_read, type_within}
-use Rattle.listing_types.proofs.Sound.{many_sound, within_sound, type_sound}
-use Rattle.listing_types.proofs.Splits.{split, either, one_of_two, same_found, same_is, span_parts}
+use Rattle.listing_parts.specs.TypeReading.{more_types, type_read, type_within}
+use Rattle.listing_parts.proofs.Sound.{many_sound, within_sound, type_sound}
+use Rattle.listing_parts.proofs.Splits.{split, either, one_of_two, same_found, same_is, span_parts}
 use Rattle.listing_lines.specs.LineReading.{name_read}
 use Rattle.listing_lines.proofs.Sound.{name_sound, ended_sound, as_sound}
 use Rattle.listing_lines.specs.ItemReading.{blank_behind, blank_name}

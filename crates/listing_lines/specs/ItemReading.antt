@@ -7,7 +7,7 @@ use Rattle.mir_text.specs.Compared.{AdtSeen, VariantSeen}
 use Rattle.mir_text.specs.Reading.Lines.{ended}
 use Rattle.mir_text.specs.Reading.Rows.{many, comma}
 use Rattle.mir_text.specs.Reading.Words.{FoundInText, bind, chosen, as_, strip}
-use Rattle.listing_types.specs.TypeReading.{plain_number, types_read}
+use Rattle.listing_parts.specs.TypeReading.{plain_number, types_read}
 use Rattle.listing_lines.specs.LineReading.{name_read}
 
 -- the names 0, 1 and so on, of so many fields

@@ -9,7 +9,7 @@ use Rattle.mir_text.specs.Fields.{Fits}
 use Rattle.mir_text.specs.Items.{copy_text, drop_text}
 use Rattle.mir_text.specs.Lines.{Tree, tree_text, line_text, StructLine, EnumLine}
 use Rattle.mir_text.specs.Lists.{in_braces, in_parentheses, line}
-use Rattle.listing_types.specs.TypesFound.{EachStands}
+use Rattle.listing_parts.specs.TypesFound.{EachStands}
 use Rattle.listing_lines.specs.ItemReading.{adt_read}
 
 -- variants of names in UTF-8, whose types stand under the heads

@@ -10,7 +10,7 @@ use Rattle.mir_ty.specs.ItemTable.{ItemTable}
 use Rattle.mir_text.specs.Compared.{AdtSeen, VariantSeen, adt_seen, variant_seen}
 use Rattle.mir_text.specs.Reading.Words.{FoundInText}
 use Rattle.listing_parts.specs.declared.error.ReadError.{ReadError}
-use Rattle.listing_types.specs.Table.{Grow, under}
+use Rattle.listing_parts.specs.Table.{Grow, under}
 use Rattle.listing_lines.specs.ItemReading.{first_names}
 
 -- a name, and the text behind it

@@ -10,7 +10,7 @@ use Rattle.mir_text.specs.Reading.Lines.{ended}
 use Rattle.mir_text.specs.Reading.Rows.{many}
 use Rattle.mir_text.specs.Reading.Words.{FoundInText, bind, or_else, as_, said, strip, span}
 use Rattle.listing_parts.specs.Numbers.{adt_no, trait_no}
-use Rattle.listing_types.specs.TypeReading.{plain_number, type_read, types_read}
+use Rattle.listing_parts.specs.TypeReading.{plain_number, type_read, types_read}
 
 -- behind the number that is due
 abbrev pub due_number : ℕ → List ℕ → Option (List ℕ)

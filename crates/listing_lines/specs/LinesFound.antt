@@ -13,7 +13,7 @@ use Rattle.mir_text.specs.Lines.{Tree, tree_text, line_text, ImplLine, ClosureLi
 use Rattle.mir_text.specs.Lists.{in_parentheses, line}
 use Rattle.mir_text.specs.Types.{trait_name}
 use Rattle.listing_parts.specs.Numbers.{adt_no, trait_no}
-use Rattle.listing_types.specs.TypesFound.{Stands, EachStands}
+use Rattle.listing_parts.specs.TypesFound.{Stands, EachStands}
 use Rattle.listing_lines.specs.LineReading.{body_read, local_read, block_read, closure_read, impl_read}
 
 abbrev pub BodiesAreRead : Type 0

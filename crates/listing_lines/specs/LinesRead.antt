@@ -6,7 +6,7 @@ use Rattle.mir_ty.specs.AreItems.{AreTypes}
 use Rattle.mir_ty.specs.ItemTable.{ItemTable}
 use Rattle.mir_text.specs.Reading.Words.{FoundInText}
 use Rattle.listing_parts.specs.declared.error.ReadError.{ReadError}
-use Rattle.listing_types.specs.Table.{Grow, text_under}
+use Rattle.listing_parts.specs.Table.{Grow, text_under}
 
 -- a name and a number, and the text behind them
 abbrev pub seen_named : Option ((Bor (List ℕ) × ℕ) × Bor (List ℕ)) → FoundInText (List ℕ × ℕ)

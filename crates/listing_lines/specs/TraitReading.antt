@@ -10,7 +10,7 @@ use Rattle.mir_text.specs.Compared.{SigSeen}
 use Rattle.mir_text.specs.Reading.Lines.{ended}
 use Rattle.mir_text.specs.Reading.Rows.{many, comma}
 use Rattle.mir_text.specs.Reading.Words.{FoundInText, bind, chosen, or_else, as_, said, strip, span}
-use Rattle.listing_types.specs.TypeReading.{more_types, type_read}
+use Rattle.listing_parts.specs.TypeReading.{more_types, type_read}
 use Rattle.listing_lines.specs.ItemReading.{blank_name}
 
 -- whether `&mut` stands before the `dyn` of `self`

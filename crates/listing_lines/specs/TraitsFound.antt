@@ -8,7 +8,7 @@ use Rattle.mir_text.specs.Compared.{SigSeen}
 use Rattle.mir_text.specs.Lines.{Tree, tree_text, line_text, TraitLine}
 use Rattle.mir_text.specs.Lists.{in_braces, in_parentheses, line}
 use Rattle.mir_text.specs.Types.{trait_name}
-use Rattle.listing_types.specs.TypesFound.{Stands, EachStands}
+use Rattle.listing_parts.specs.TypesFound.{Stands, EachStands}
 use Rattle.listing_lines.specs.TraitReading.{self_text, trait_read}
 
 -- parameters of which the first is a reference to `dyn` of the trait of this name

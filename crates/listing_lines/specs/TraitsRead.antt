@@ -11,7 +11,7 @@ use Rattle.mir_text.specs.Compared.{SigSeen, sig_seen, trait_seen}
 use Rattle.mir_text.specs.Reading.Words.{FoundInText}
 use Rattle.mir_text.specs.Types.{trait_name}
 use Rattle.listing_parts.specs.declared.error.ReadError.{ReadError}
-use Rattle.listing_types.specs.Table.{Grow, text_under, under}
+use Rattle.listing_parts.specs.Table.{Grow, text_under, under}
 use Rattle.listing_lines.specs.TraitReading.{self_text}
 
 -- the type of `self` stands in the new items

@@ -1,14 +1,13 @@
 //! The lines of structs and enums.
 ghost use Rattle.std.specs.Prelude.{◌≡◌, IfOk};
 ghost use Rattle.listing_parts.specs.Found.{seen};
-ghost use Rattle.listing_types.specs.Table.{AreRead};
+ghost use Rattle.listing_parts.specs.Table.{AreRead};
 ghost use Rattle.listing_lines.specs.ItemReading as reading;
 ghost use Rattle.listing_lines.specs.ItemsRead.{FindsAdt, enum_of, struct_of};
 
 use crate::item_names::adt_name;
 use crate::variants::{make_variant, only, read_variants};
-use listing_parts::{Heads, ReadError, strip};
-use listing_types::{plain_number, read_types};
+use listing_parts::{Heads, ReadError, plain_number, read_types, strip};
 use mir_base::{List, Name, NoMemory};
 use mir_ty::{Adt, Items, TyId, Variant};
 use std::alloc::Global;

@@ -2,15 +2,14 @@
 ghost use Rattle.std.specs.Prelude.{◌≡◌};
 ghost use Rattle.std.specs.Option.{option_copied};
 ghost use Rattle.listing_parts.specs.Found.{seen};
-ghost use Rattle.listing_types.specs.Table.{AreRead};
-ghost use Rattle.listing_types.specs.TypesRead.{FindsType};
+ghost use Rattle.listing_parts.specs.Table.{AreRead};
+ghost use Rattle.listing_parts.specs.TypesRead.{FindsType};
 ghost use Rattle.listing_lines.specs.LineReading as reading;
 ghost use Rattle.listing_lines.specs.LinesRead.{seen_named};
 
 use crate::words::{due_number, utf8_name};
 use cfg_graph::Kind;
-use listing_parts::{Heads, ReadError, strip};
-use listing_types::{plain_number, read_type};
+use listing_parts::{Heads, ReadError, plain_number, read_type, strip};
 use mir_ty::{Items, TyId};
 use std::alloc::Global;
 

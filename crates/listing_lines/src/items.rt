@@ -3,13 +3,12 @@ ghost use Rattle.std.specs.Prelude.{◌≡◌, IfOk};
 ghost use Rattle.std.specs.Option.{option_copied};
 ghost use Rattle.mir_text.specs.Reading.Rows.{many};
 ghost use Rattle.listing_parts.specs.Found.{Finds, seen};
-ghost use Rattle.listing_types.specs.Table.{AreRead};
+ghost use Rattle.listing_parts.specs.Table.{AreRead};
 ghost use Rattle.listing_lines.specs.LineReading as reading;
 ghost use Rattle.listing_lines.specs.LinesRead.{FindsClosure};
 
 use crate::words::{due_number, known_adt, known_trait};
-use listing_parts::{Heads, ReadError, strip};
-use listing_types::{plain_number, read_types};
+use listing_parts::{Heads, ReadError, plain_number, read_types, strip};
 use mir_base::{List, NoMemory};
 use mir_ty::{ClosureDef, ImplDef, Items};
 use std::alloc::Global;

@@ -4,14 +4,13 @@ ghost use Rattle.mir_ty.specs.AreItems.{AreTypes, IsMethod};
 ghost use Rattle.mir_text.specs.Compared.{sig_seen};
 ghost use Rattle.mir_text.specs.Reading.Rows.{comma, many};
 ghost use Rattle.mir_text.specs.Types.{trait_name};
-ghost use Rattle.listing_types.specs.Table.{AreRead, text_under, under};
+ghost use Rattle.listing_parts.specs.Table.{AreRead, text_under, under};
 ghost use Rattle.listing_lines.specs.TraitReading as reading;
 ghost use Rattle.listing_lines.specs.TraitsRead.{BeginWithSelf, FindsMethod, FindsMethods, FindsMore};
 
 use crate::blank_name;
 use crate::params::read_params;
-use listing_parts::{Heads, ReadError, strip};
-use listing_types::read_type;
+use listing_parts::{Heads, ReadError, read_type, strip};
 use mir_base::{List, Name, NoMemory};
 use mir_ty::{Items, Sig, TyId};
 use std::alloc::Global;

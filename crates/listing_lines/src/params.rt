@@ -2,14 +2,13 @@
 ghost use Rattle.std.specs.Prelude.{◌≡◌, ◌<◌, ◌∷◌, IfOk, length, slice_get};
 ghost use Rattle.mir_ty.specs.AreItems.{IsSelfTy};
 ghost use Rattle.mir_text.specs.Types.{trait_name};
-ghost use Rattle.listing_types.specs.Table.{AreRead, text_under};
-ghost use Rattle.listing_types.specs.TypeReading.{more_types as more};
+ghost use Rattle.listing_parts.specs.Table.{AreRead, text_under};
+ghost use Rattle.listing_parts.specs.TypeReading.{more_types as more};
 ghost use Rattle.listing_lines.specs.TraitReading as reading;
 ghost use Rattle.listing_lines.specs.TraitsRead.{FindsParams};
 
 use crate::receiver::{receiver, self_type};
-use listing_parts::{Heads, ReadError, strip};
-use listing_types::more_types;
+use listing_parts::{Heads, ReadError, more_types, strip};
 use mir_base::{List, NoMemory};
 use mir_ty::{Items, TyId};
 use std::alloc::Global;

@@ -2,12 +2,11 @@
 ghost use Rattle.std.specs.Prelude.{◌≡◌, ◌<◌, length};
 ghost use Rattle.std.specs.Option.{option_copied};
 ghost use Rattle.listing_parts.specs.Found.{seen};
-ghost use Rattle.listing_types.specs.Table.{AreRead};
+ghost use Rattle.listing_parts.specs.Table.{AreRead};
 ghost use Rattle.listing_lines.specs.TraitReading as reading;
 ghost use Rattle.listing_lines.specs.TraitsRead.{GivesSelf};
 
-use listing_parts::{Heads, name, strip};
-use listing_types::give_number;
+use listing_parts::{Heads, give_number, name, strip};
 use mir_base::NoMemory;
 use mir_ty::{Items, Ty, TyId};
 

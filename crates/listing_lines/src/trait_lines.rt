@@ -2,7 +2,7 @@
 ghost use Rattle.std.specs.Prelude.{◌≡◌, ◌<◌, IfSome, IfOk, length};
 ghost use Rattle.mir_text.specs.Types.{trait_name};
 ghost use Rattle.listing_lines.specs.ItemsRead.{seen_name};
-ghost use Rattle.listing_types.specs.Table.{AreRead};
+ghost use Rattle.listing_parts.specs.Table.{AreRead};
 ghost use Rattle.listing_lines.specs.TraitReading as reading;
 ghost use Rattle.listing_lines.specs.TraitsRead.{FindsTrait};
 

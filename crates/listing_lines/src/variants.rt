@@ -3,13 +3,12 @@ ghost use Rattle.std.specs.Prelude.{◌≡◌, [], ◌∷◌, All, IfOk};
 ghost use Rattle.mir_text.specs.Compared.{variant_seen};
 ghost use Rattle.mir_ty.specs.AreItems.{IsVariant};
 ghost use Rattle.mir_text.specs.Reading.Rows.{comma, many};
-ghost use Rattle.listing_types.specs.Table.{AreRead, under};
+ghost use Rattle.listing_parts.specs.Table.{AreRead, under};
 ghost use Rattle.listing_lines.specs.ItemReading as reading;
 ghost use Rattle.listing_lines.specs.ItemsRead.{FindsMore, FindsVariant, FindsVariants, variant_of};
 
 use crate::item_names::{blank_name, field_names};
-use listing_parts::{Heads, ReadError, strip};
-use listing_types::read_types;
+use listing_parts::{Heads, ReadError, read_types, strip};
 use mir_base::{List, Name, NoMemory};
 use mir_ty::{Items, TyId, Variant};
 use std::alloc::Global;

@@ -4,8 +4,7 @@ ghost use Rattle.std.specs.Option.{option_copied};
 ghost use Rattle.listing_parts.specs.Found.{seen};
 ghost use Rattle.listing_lines.specs.LineReading as reading;
 
-use listing_parts::{Heads, name, strip};
-use listing_types::plain_number;
+use listing_parts::{Heads, name, plain_number, strip};
 
 /// What stands behind the number that is due.
 pub fn due_number(n: u32, text: &[u8]) -> Option<&[u8]>

@@ -4,3 +4,12 @@ pub mod Numbers
 pub mod Rows
 pub mod Spans
 pub mod Values
+pub mod Complete
+pub mod Depth
+pub mod FoundRows
+pub mod Given
+pub mod Leaves
+pub mod PlainNumbers
+pub mod Sound
+pub mod Splits
+pub mod Texts

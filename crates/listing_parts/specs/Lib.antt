@@ -3,3 +3,8 @@ pub mod HeadTables
 pub mod LinesFound
 pub mod Numbers
 pub mod Reads
+pub mod Leaves
+pub mod Table
+pub mod TypeReading
+pub mod TypesFound
+pub mod TypesRead

@@ -14,9 +14,9 @@ use Rattle.mir_text.specs.Reading.Words.{FoundInText}
 use Rattle.mir_text.proofs.Reading.Basics.{Every}
 use Rattle.listing_lines.proofs.Until.{so_far, one_more, last_one, no_more, all_gone}
 use Rattle.listing_parts.specs.declared.error.ReadError.{ReadError}
-use Rattle.listing_types.specs.Table.{AreRead, Grow}
-use Rattle.listing_types.proofs.FoundRows.{still_types, then_grow}
-use Rattle.listing_types.proofs.Texts.{every_from_all, texts_grown, still_there}
+use Rattle.listing_parts.specs.Table.{AreRead, Grow}
+use Rattle.listing_parts.proofs.FoundRows.{still_types, then_grow}
+use Rattle.listing_parts.proofs.Texts.{every_from_all, texts_grown, still_there}
 use Rattle.listing_reader.specs.BodyReading.{BodyTold, body_read, bodies_read}
 use Rattle.listing_reader.specs.BodiesRead.{body_told, bodies_told, IsResultOf, IsSigOf, AreSigned, FindsBody, FindsSig, BodiesDrafted, NoBodyMore, OneBodyMore, AddsBody, FindsBodies}
 use Rattle.listing_reader.specs.SectionsRead.{items_seen, Drafted}

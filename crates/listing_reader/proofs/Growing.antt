@@ -21,10 +21,10 @@ use Rattle.listing_lines.proofs.FoundVariants.{still_variants}
 use Rattle.listing_lines.specs.LineReading.{impl_read, closure_read}
 use Rattle.listing_parts.specs.declared.error.ReadError.{ReadError}
 use Rattle.listing_lines.specs.TraitReading.{trait_read}
-use Rattle.listing_types.specs.Table.{AreRead, Grow, under, text_under}
-use Rattle.listing_types.proofs.FoundRows.{map-append, still_types}
-use Rattle.listing_types.proofs.Splits.{split, same_found}
-use Rattle.listing_types.proofs.Texts.{every_from_all, texts_grown, text_grown, no_less}
+use Rattle.listing_parts.specs.Table.{AreRead, Grow, under, text_under}
+use Rattle.listing_parts.proofs.FoundRows.{map-append, still_types}
+use Rattle.listing_parts.proofs.Splits.{split, same_found}
+use Rattle.listing_parts.proofs.Texts.{every_from_all, texts_grown, text_grown, no_less}
 use Rattle.listing_reader.specs.SectionReading.{ItemsSeen, one_adt, one_trait, one_impl, one_closure, on_within, as_long_as}
 use Rattle.listing_reader.specs.SectionsRead.{items_seen, Drafted, FindsItem, FindsSection}
 use Rattle.listing_reader.proofs.Onward.{one_more, no_more, all_gone}

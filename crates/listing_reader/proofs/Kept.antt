@@ -5,8 +5,8 @@ use Rattle.mir_text.specs.Compared.{trait_seen, closure_seen}
 use Rattle.listing_lines.specs.ItemReading.{adt_read}
 use Rattle.listing_lines.specs.LineReading.{impl_read}
 use Rattle.listing_lines.specs.TraitReading.{trait_read}
-use Rattle.listing_types.specs.Table.{under}
-use Rattle.listing_types.proofs.Splits.{split, same_found}
+use Rattle.listing_parts.specs.Table.{under}
+use Rattle.listing_parts.proofs.Splits.{split, same_found}
 use Rattle.listing_reader.specs.SectionReading.{ItemsSeen, one_adt, one_trait, one_impl, as_long_as}
 use Rattle.listing_reader.specs.SectionsRead.{items_seen}
 use Rattle.listing_reader.proofs.Onward.{keeps}

@@ -9,9 +9,9 @@ use Rattle.mir_ty.specs.ItemTable.{ItemTable}
 use Rattle.mir_text.specs.Compared.{Written}
 use Rattle.mir_text.specs.Reading.Words.{FoundInText, bind}
 use Rattle.listing_lines.specs.LineReading.{local_read}
-use Rattle.listing_types.specs.Table.{AreRead, Grow, text_under}
-use Rattle.listing_types.proofs.FoundRows.{map-append, still_types, then_grow, one_more_type}
-use Rattle.listing_types.proofs.Texts.{every_from_all, texts_grown, same_types}
+use Rattle.listing_parts.specs.Table.{AreRead, Grow, text_under}
+use Rattle.listing_parts.proofs.FoundRows.{map-append, still_types, then_grow, one_more_type}
+use Rattle.listing_parts.proofs.Texts.{every_from_all, texts_grown, same_types}
 use Rattle.listing_reader.specs.BodyReading.{one_local, locals_read}
 use Rattle.listing_reader.specs.BodiesRead.{FindsLocals}
 use Rattle.listing_reader.specs.SectionReading.{on_within}

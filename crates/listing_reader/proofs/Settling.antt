@@ -4,7 +4,7 @@ use Rattle.std.specs.Prelude.{◌⊎◌}
 use Rattle.std.proofs.lemmas.Option.{same_Some, none-some}
 use Rattle.mir_ty.specs.ItemTable.{ItemTable, no_items, with_adt, with_trait}
 use Rattle.mir_text.specs.Reading.Words.{FoundInText}
-use Rattle.listing_types.proofs.Splits.{split, same_found}
+use Rattle.listing_parts.proofs.Splits.{split, same_found}
 use Rattle.listing_reader.specs.SectionReading.{onward, on_within}
 use Rattle.listing_reader.proofs.Onward.{keeps}
 use Rattle.listing_reader.specs.GraphReading.{items_under, fewer, fewer_of, again, heads_after}

@@ -11,7 +11,7 @@ use Rattle.cfg_graph.specs.declared.graph.Body.{Body}
 use Rattle.mir_text.specs.Compared.{Written}
 use Rattle.mir_text.specs.Reading.Words.{FoundInText}
 use Rattle.listing_parts.specs.declared.error.ReadError.{ReadError}
-use Rattle.listing_types.specs.Table.{Grow, text_under}
+use Rattle.listing_parts.specs.Table.{Grow, text_under}
 use Rattle.listing_reader.specs.BodyReading.{BodyTold}
 use Rattle.listing_reader.specs.SectionsRead.{items_seen, Drafted}
 

@@ -6,3 +6,8 @@ pub mod BodiesRead
 pub mod BodyReading
 pub mod SectionReading
 pub mod SectionsRead
+pub mod Answers
+pub mod Beginning
+pub mod Judged
+pub mod Laws
+pub mod Wrong

@@ -7,7 +7,7 @@ use Rattle.mir_ty.specs.ItemTable.{ItemTable}
 use Rattle.mir_text.specs.Compared.{adt_seen, trait_seen, closure_seen}
 use Rattle.mir_text.specs.Reading.Words.{FoundInText}
 use Rattle.listing_parts.specs.declared.error.ReadError.{ReadError}
-use Rattle.listing_types.specs.Table.{AreRead, under}
+use Rattle.listing_parts.specs.Table.{AreRead, under}
 use Rattle.listing_reader.specs.SectionReading.{ItemsSeen}
 
 -- items as they are seen under heads

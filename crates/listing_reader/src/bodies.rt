@@ -2,7 +2,7 @@
 ghost use Rattle.std.specs.Prelude.{◌≡◌, ◌∷◌, ◌++◌, [], OnOk, length};
 ghost use Rattle.mir_ty.specs.AreItems.{IsSig};
 ghost use Rattle.mir_ty.specs.ItemTable.{with_body};
-ghost use Rattle.listing_types.specs.Table.{AreRead};
+ghost use Rattle.listing_parts.specs.Table.{AreRead};
 ghost use Rattle.listing_reader.specs.BodyReading as reading;
 ghost use Rattle.listing_reader.specs.BodiesRead.{AddsBody, BodiesDrafted, FindsBodies, FindsBody, FindsLocals};
 ghost use Rattle.listing_reader.specs.SectionsRead.{Drafted};

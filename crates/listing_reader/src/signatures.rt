@@ -1,12 +1,11 @@
 //! The signatures of bodies, as their locals tell them.
 ghost use Rattle.std.specs.Prelude.{◌≡◌, ◌<◌, IfOk, take, drop, length};
 ghost use Rattle.mir_ty.specs.AreItems.{AreTypes};
-ghost use Rattle.listing_types.specs.Table.{AreRead, Grow};
+ghost use Rattle.listing_parts.specs.Table.{AreRead, Grow};
 ghost use Rattle.listing_reader.specs.BodiesRead.{FindsSig, IsResultOf};
 
 use cfg_graph::Body;
-use listing_parts::Heads;
-use listing_types::give_number;
+use listing_parts::{Heads, give_number};
 use mir_base::{List, Name, NoMemory};
 use mir_ty::{Items, Sig, Ty, TyId};
 use std::alloc::Global;

@@ -16,3 +16,4 @@ mod Forms
 mod LineCells
 pub mod Facts
 pub mod WholeLines
+pub mod AcceptedWhole

@@ -1,3 +1,4 @@
 pub mod Lowerable
 pub mod Laws
 pub mod Lines
+pub mod Accepted

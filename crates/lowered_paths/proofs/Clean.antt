@@ -12,7 +12,7 @@ use Rattle.cfg_graph.specs.Uses.{PlaceUse, Copies, Moves, Borrows, Touches, Test
 use Rattle.move_errors.specs.Reaches.{rule_of, is_bad, first_bad, MeetsNone}
 use Rattle.move_flow.proofs.Along.{actions_between}
 use Rattle.move_errors.proofs.Pathways.{actions-snoc, entry_choices, path-snoc, way-between}
-use Rattle.free_walks.specs.Meets.{RunsReach, in_block, on_way}
+use Rattle.lowered_paths.specs.Meets.{RunsReach, in_block, on_way}
 
 module _ (items : ItemTable) (body : Body) where
   -- the bad uses, as the definition has them

@@ -30,9 +30,9 @@ use Rattle.move_flow.proofs.Along.{actions_in, actions_between}
 use Rattle.move_errors.proofs.Pathways.{in-flat, in-map, map-in, along, entry_choices, choices_between, between-way, way-between, path-snoc, actions-snoc}
 use Rattle.move_errors.proofs.Sorted.{here, none-in, first-or}
 use Rattle.move_errors.specs.Reaches.{first_bad, Reaches, MeetsNone}
-use Rattle.free_walks.specs.Meets.{PanicsLeadElsewhere, before_bad, RunsReach, in_block, on_way}
-use Rattle.free_walks.proofs.Lines.{at_line, stmt_actions}
-use Rattle.free_walks.proofs.Performing.{some-rest}
+use Rattle.lowered_paths.specs.Meets.{PanicsLeadElsewhere, before_bad, RunsReach, in_block, on_way}
+use Rattle.lowered_paths.proofs.Lines.{at_line, stmt_actions}
+use Rattle.lowered_paths.proofs.Performing.{some-rest}
 use Rattle.cfg_build.specs.Build.{LoweringFrame}
 use Rattle.cfg_build.proofs.Stops.{BlockStops}
 use Rattle.lowered_paths.proofs.Clean.{none-after}

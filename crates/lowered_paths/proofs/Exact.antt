@@ -18,8 +18,8 @@ use Rattle.cfg_graph.specs.WellFormed.LineFaults.{stmt_tests, stmt_faults, term_
 use Rattle.cfg_graph.specs.WellFormed.Typing.{stmt_is_typed, term_is_typed}
 use Rattle.cfg_graph.proofs.NoFaults.{first_empty, second_empty, map_empty, of_each-empty, broken-holds}
 use Rattle.move_errors.specs.Reaches.{Reaches}
-use Rattle.free_walks.specs.Meets.{site_of, RunsReach, in_block, on_way}
-use Rattle.free_walks.proofs.Elsewhere.{kept-elsewhere}
+use Rattle.lowered_paths.specs.Meets.{site_of, RunsReach, in_block, on_way}
+use Rattle.lowered_paths.proofs.Elsewhere.{kept-elsewhere}
 use Rattle.typed_tree.specs.Nodes.{numbers_of}
 use Rattle.typed_tree.specs.Tree.{BodyTree, ProgramTree}
 use Rattle.src_meaning.specs.Programs.{reached_by}

@@ -10,9 +10,9 @@ use Rattle.cfg_graph.specs.Moves.BadUses as bad_uses
 use Rattle.cfg_graph.specs.Moves.BadUses.{UseRule, U1, U2}
 use Rattle.cfg_meaning.specs.Programs.{free_walk}
 use Rattle.move_errors.specs.Reaches.{MeetsNone}
-use Rattle.free_walks.specs.Meets.{site_of, halt_by, halt_of, is_refused, RunsReach, MeetsSame}
-use Rattle.free_walks.proofs.Elsewhere.{kept-elsewhere}
-use Rattle.free_walks.proofs.Law.{free-walks-meet}
+use Rattle.lowered_paths.specs.Meets.{site_of, halt_by, halt_of, is_refused, RunsReach, MeetsSame}
+use Rattle.lowered_paths.proofs.Elsewhere.{kept-elsewhere}
+use Rattle.lowered_paths.proofs.WalkLaw.{free-walks-meet}
 use Rattle.typed_tree.specs.Tree.{BodyTree}
 use Rattle.src_meaning.specs.Programs.{reached_by, refused_of}
 use Rattle.cfg_build.specs.Laws.{NamesItsLoops}

@@ -27,9 +27,9 @@ use Rattle.cfg_graph.specs.WellFormed.Typing.{stmt_is_typed, stmt_has_types, ter
 use Rattle.cfg_graph.specs.Moves.BadUses.{BadUse, may_not_store}
 use Rattle.cfg_graph.specs.Moves.Gone.{PathAction, counts, is_at_or_above, are_first, is_param, last_left, is_gone_after, is_whole_after, leaves_gone}
 use Rattle.move_errors.specs.Reaches.{rule_of, is_bad, first_bad}
-use Rattle.free_walks.specs.Meets.{ends_runs, before_bad}
-use Rattle.free_walks.proofs.Lines.{at_line, stmt_actions}
-use Rattle.free_walks.proofs.Performing.{before-append, some-rest}
+use Rattle.lowered_paths.specs.Meets.{ends_runs, before_bad}
+use Rattle.lowered_paths.proofs.Lines.{at_line, stmt_actions}
+use Rattle.lowered_paths.proofs.Performing.{before-append, some-rest}
 use Rattle.cfg_build.specs.Build.{LoweringFrame}
 use Rattle.cfg_build.proofs.Stops.{CopiesNone, AllCopyNone, StmtCopies, TermCopies, IsNever, IsOwn, Behind, BlockStops}
 

@@ -6,7 +6,7 @@ use Rattle.cfg_graph.specs.declared.graph.Body.{Body}
 use Rattle.cfg_graph.specs.Moves.BadUses.{BadUse}
 use Rattle.cfg_graph.specs.WellFormed.Faults.{IsWellFormed}
 use Rattle.move_errors.specs.Reaches.{Reaches, MeetsNone}
-use Rattle.free_walks.specs.Meets.{site_of, RunsReach}
+use Rattle.lowered_paths.specs.Meets.{site_of, RunsReach}
 use Rattle.typed_tree.specs.Nodes.{numbers_of}
 use Rattle.typed_tree.specs.Tree.{BodyTree, ProgramTree}
 use Rattle.src_meaning.specs.Programs.{reached_by}

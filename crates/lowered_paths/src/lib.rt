@@ -5,6 +5,8 @@
 
 mod laws;
 mod use_laws;
+mod walk_laws;
 
 pub use laws::law_of_lowered_paths;
 pub use use_laws::law_of_lowered_uses;
+pub use walk_laws::law_of_free_walks;

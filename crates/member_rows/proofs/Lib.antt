@@ -2,3 +2,9 @@ pub mod CalledMethods
 pub mod Heads
 pub mod Names
 pub mod Steps
+pub mod Begun
+pub mod Fields
+pub mod GivenOnes
+pub mod InitForms
+pub mod Tabled
+pub mod Turns

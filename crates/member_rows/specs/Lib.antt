@@ -3,3 +3,7 @@ pub mod Fields
 pub mod Going
 pub mod Methods
 pub mod Rests
+pub mod StructFields
+pub mod Given
+pub mod StructRests
+pub mod Inits

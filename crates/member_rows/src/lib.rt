@@ -3,9 +3,18 @@
 #![tactic(auto)]
 
 mod fields;
+mod given;
 mod going;
+mod made;
 mod methods;
 mod receivers;
+mod structs;
+mod variants;
+mod wanted;
 
 pub use fields::{field_end, field_named, part_end};
+pub use made::wrap_make;
 pub use receivers::{Called, MethodReceiver, method_end, method_receiver};
+pub use structs::{StructBegun, struct_begin, struct_end};
+pub use variants::{copied, field_want, variant_types};
+pub use wanted::{FieldWanted, field_wanted};

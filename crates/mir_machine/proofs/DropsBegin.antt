@@ -6,10 +6,10 @@ use Rattle.cfg_graph.specs.declared.terminator.Term.{Term}
 use Rattle.cfg_meaning.specs.Actions.{mode_of, site_of}
 use Rattle.cfg_meaning.specs.Laws.{bodies_of}
 use Rattle.cfg_meaning.specs.Programs.{setting_of}
-use Rattle.drop_glue.specs.declared.drops.Drops.{Drops}
-use Rattle.drop_glue.specs.declared.drops.Turn.{Turn}
-use Rattle.drop_glue.specs.Left.{finished}
-use Rattle.drop_glue.specs.Turns.{TurnLeft}
+use Rattle.mir_steps.specs.declared.drops.Drops.{Drops}
+use Rattle.mir_steps.specs.declared.drops.Turn.{Turn}
+use Rattle.mir_steps.specs.Left.{finished}
+use Rattle.mir_steps.specs.Turns.{TurnLeft}
 use Rattle.mir_base.specs.declared.trace.End.{End}
 use Rattle.mir_base.specs.declared.trace.Event.{Event}
 use Rattle.mir_base.specs.Trace.{Trace}

@@ -10,11 +10,11 @@ use Rattle.cfg_meaning.specs.Actions.{site_of}
 use Rattle.cfg_meaning.specs.Laws.{bodies_of, concrete_effects_of}
 use Rattle.cfg_meaning.specs.Programs.{setting_of, code_of}
 use Rattle.cfg_meaning.specs.Walk.{acts, renamed, stuck_in}
-use Rattle.drop_glue.specs.declared.drops.Drops.{Drops}
-use Rattle.drop_glue.specs.declared.drops.Turn.{Turn}
-use Rattle.drop_glue.specs.Left as dropping
-use Rattle.drop_glue.specs.Left.{Level, PartsOf, ContentOf, DropRest, AtEnd, after_by, HasLeft, IsAfter, Visits, AsRead, Again, Then, AwaitsLeft, finished, found_as, from_part, at_path}
-use Rattle.drop_glue.specs.Turns.{TurnLeft, levels_of, mode_by, stage_by}
+use Rattle.mir_steps.specs.declared.drops.Drops.{Drops}
+use Rattle.mir_steps.specs.declared.drops.Turn.{Turn}
+use Rattle.mir_steps.specs.Left as dropping
+use Rattle.mir_steps.specs.Left.{Level, PartsOf, ContentOf, DropRest, AtEnd, after_by, HasLeft, IsAfter, Visits, AsRead, Again, Then, AwaitsLeft, finished, found_as, from_part, at_path}
+use Rattle.mir_steps.specs.Turns.{TurnLeft, levels_of, mode_by, stage_by}
 use Rattle.mir_base.specs.declared.trace.End.{End}
 use Rattle.mir_base.specs.declared.trace.Event.{Event}
 use Rattle.mir_base.specs.Trace.{Trace}

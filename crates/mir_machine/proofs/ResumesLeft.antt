@@ -6,8 +6,8 @@ use Rattle.cfg_graph.specs.declared.place.Place.{Place}
 use Rattle.cfg_meaning.specs.Actions.{site_of}
 use Rattle.cfg_meaning.specs.Laws.{bodies_of}
 use Rattle.cfg_meaning.specs.Programs.{setting_of}
-use Rattle.drop_glue.specs.declared.drops.Drops.{Drops}
-use Rattle.drop_glue.specs.Turns.{TurnLeft}
+use Rattle.mir_steps.specs.declared.drops.Drops.{Drops}
+use Rattle.mir_steps.specs.Turns.{TurnLeft}
 use Rattle.mir_base.specs.declared.trace.End.{End}
 use Rattle.mir_machine.proofs.RunsLeft.{halts_end}
 use Rattle.mir_machine.proofs.TasksLeft.{tasks_halt, youngest_waits}

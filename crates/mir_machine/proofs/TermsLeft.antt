@@ -8,9 +8,9 @@ use Rattle.cfg_meaning.specs.Actions.{mode_of}
 use Rattle.cfg_meaning.specs.Laws.{bodies_of, concrete_effects_of}
 use Rattle.cfg_meaning.specs.Programs.{code_of, setting_of}
 use Rattle.cfg_meaning.specs.Walk.{naming, stuck_in, term_does}
-use Rattle.drop_glue.specs.declared.drops.Turn.{Turn}
-use Rattle.drop_glue.specs.Left.{found_as}
-use Rattle.drop_glue.specs.Turns.{TurnLeft, mode_by}
+use Rattle.mir_steps.specs.declared.drops.Turn.{Turn}
+use Rattle.mir_steps.specs.Left.{found_as}
+use Rattle.mir_steps.specs.Turns.{TurnLeft, mode_by}
 use Rattle.mir_base.specs.declared.trace.End.{End}
 use Rattle.mir_base.specs.Trace.{Trace}
 use Rattle.mir_machine.proofs.TasksLeft.{ends_halted, moved}

@@ -10,10 +10,10 @@ use Rattle.cfg_meaning.specs.Actions.{site_of}
 use Rattle.cfg_meaning.specs.Laws.{bodies_of, concrete_effects_of}
 use Rattle.cfg_meaning.specs.Programs.{setting_of}
 use Rattle.cfg_meaning.specs.Walk.{naming, stuck_in, term_does}
-use Rattle.drop_glue.specs.declared.drops.Drops.{Drops}
-use Rattle.drop_glue.specs.Left.{AwaitsLeft}
+use Rattle.mir_steps.specs.declared.drops.Drops.{Drops}
+use Rattle.mir_steps.specs.Left.{AwaitsLeft}
 use Rattle.cfg_meaning.specs.Actions.{mode_of}
-use Rattle.drop_glue.specs.Turns.{IsDropOf, IsResumedBy, TurnLeft, levels_of, mode_by}
+use Rattle.mir_steps.specs.Turns.{IsDropOf, IsResumedBy, TurnLeft, levels_of, mode_by}
 use Rattle.mir_store.specs.declared.types.Dynamic.{Dynamic}
 use Rattle.store_model.specs.declared.address.Addr.{Addr}
 use Rattle.mir_base.specs.declared.trace.End.{End}
@@ -32,7 +32,7 @@ use Rattle.store_model.specs.Concrete.State.{Answer, Returns, Unwinds, State}
 use Rattle.cfg_graph.specs.declared.graph.Kind.{Kind}
 use Rattle.cfg_graph.specs.declared.statement.Stmt.{Stmt}
 use Rattle.cfg_meaning.specs.Walk.{stmts_do}
-use Rattle.drop_glue.specs.declared.drops.Turn.{Turn}
+use Rattle.mir_steps.specs.declared.drops.Turn.{Turn}
 use Rattle.mir_base.specs.declared.trace.Event.{Event}
 use Rattle.mir_ty.specs.ItemTable.{ItemTable, type_at}
 use Rattle.store_model.specs.Concrete.Effects.{concrete_effects, put}

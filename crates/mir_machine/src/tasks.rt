@@ -1,8 +1,8 @@
 //! What the machine holds of a run besides its storage: what waits, and what is done next.
 use crate::whole::Whole;
 use cfg_graph::Unwind;
-use drop_glue::{Drops, Turn};
 use mir_base::End;
+use mir_steps::{Drops, Turn};
 use mir_store::Dynamic;
 
 /// A block that waits for what its terminator does, and the ways on from there.

@@ -5,3 +5,9 @@ pub mod ForgettingDone
 pub mod NumbersDone
 pub mod Operands
 pub mod StepsDone
+pub mod Below
+pub mod Dropping
+pub mod DropSteps
+pub mod SweptValues
+pub mod SweepsOver
+pub mod TurnsLeft

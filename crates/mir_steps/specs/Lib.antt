@@ -5,3 +5,8 @@ pub mod Numbers
 pub mod Steps
 pub mod Typed
 pub mod Worlds
+pub mod Left
+pub mod Reading
+pub mod Seen
+pub mod Swept
+pub mod Turns

@@ -2,7 +2,7 @@
 ghost use Rattle.std.specs.Prelude.{◌≡◌, []};
 
 use cfg_graph::{Graph, Place, Steps};
-use listing_answers::read_listing;
+use listing_reader::read_listing;
 use mir_base::{Key, NoMemory};
 use mir_pipeline::read_typed;
 use move_flow::MaybeInit;

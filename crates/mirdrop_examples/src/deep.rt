@@ -1,7 +1,7 @@
 //! Values that are deep, at paths as long, and runs of graphs that are long or deep, over a sink that keeps nothing.
 ghost use Rattle.std.specs.Prelude.{None};
 
-use listing_answers::read_listing;
+use listing_reader::read_listing;
 use mir_base::{End, List, NoMemory};
 use mir_edge::{Fault, Sink};
 use mir_machine::run;

@@ -3,8 +3,8 @@ use Rattle.std.proofs.Common.{◌≡◌, ℕ, ℤ, Bool, true, List, Option, Res
 use Rattle.cfg_graph.specs.declared.graph.Graph.{Graph}
 use Rattle.cfg_lower.specs.declared.programs.Lowered.{Lowered}
 use Rattle.cfg_meaning.specs.Programs.{graph_run, raw_graph_run}
-use Rattle.listing_answers.specs.Answers.{IsText, Answers as AnswersListing}
-use Rattle.listing_answers.specs.declared.error.ListingError.{ListingError}
+use Rattle.listing_reader.specs.Answers.{IsText, Answers as AnswersListing}
+use Rattle.listing_reader.specs.declared.error.ListingError.{ListingError}
 use Rattle.mir_base.specs.declared.memory.NoMemory.{NoMemory}
 use Rattle.mir_machine.specs.Runs.{run_text}
 use Rattle.mir_pipeline.specs.Graphs.{IsAcceptedOf, IsNotAccepted}

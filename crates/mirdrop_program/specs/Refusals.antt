@@ -1,6 +1,6 @@
 -- The lines of a refusal.
 use Rattle.std.specs.Prelude.{ℕ, List, [], ◌++◌, ⊤, codes}
-use Rattle.listing_answers.specs.declared.error.ListingError.{ListingError}
+use Rattle.listing_reader.specs.declared.error.ListingError.{ListingError}
 use Rattle.mir_pipeline.specs.declared.refusal.Refusal.{Refusal}
 use Rattle.mir_pipeline.specs.declared.refusal.Refusal.TheVariants as refusal
 use Rattle.program_text.specs.Lines.{graph_line, lex_words, listing_line, refused_at, rule_words, store_line, use_line, way_lines}

@@ -13,7 +13,7 @@ use crate::deliver::hand_on;
 use crate::refused::refused_listing;
 use crate::running::{status_by, status_without};
 use cfg_graph::Graph;
-use listing_answers::read_listing;
+use listing_reader::read_listing;
 use mir_edge::Sink;
 use mir_machine::run;
 use program_text::Request;

@@ -5,7 +5,7 @@ ghost use Rattle.mirdrop_program.specs.Refusals as refusals;
 ghost use Rattle.mirdrop_program.specs.Refusals.{IsTold, IsToldError};
 
 use crate::answers::Answer;
-use listing_answers::ListingError;
+use listing_reader::ListingError;
 use mir_base::NoMemory;
 use mir_pipeline::Refusal;
 use move_errors::BadUse;

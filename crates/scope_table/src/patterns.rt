@@ -3,14 +3,13 @@ ghost use Rattle.std.specs.Prelude.{◌≡◌, ◌++◌, OnOk, map};
 ghost use Rattle.scope_table.specs.Table as table;
 ghost use Rattle.typed_tree.specs.Nodes as below;
 ghost use Rattle.typed_tree.specs.View.{tree_of, form_of, field_of, nodes_from, fields_from};
-ghost use Rattle.body_nodes.specs.Listed.{trees};
+ghost use Rattle.typed_tree.specs.Listed.{trees};
 
 use crate::forms::{has_parts, nothing};
 use crate::row::{MadeAround, ScopeRow};
-use body_nodes::nodes_of;
 use mir_base::{List, NoMemory, NodeId};
 use std::alloc::Global;
-use typed_tree::{Form, Node, NumberedField};
+use typed_tree::{Form, Node, NumberedField, nodes_of};
 
 /// The row of a node.
 pub fn row_of(node: NodeId, temporary: NodeId, made: MadeAround) -> ScopeRow

@@ -2,3 +2,5 @@ pub mod FormNodes
 pub mod NumberLemmas
 pub mod SearchLemmas
 pub mod ViewLemmas
+mod Following
+mod PlainForms

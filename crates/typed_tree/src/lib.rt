@@ -5,10 +5,12 @@ mod body;
 mod discard;
 mod law;
 mod node;
+mod nodes;
 mod search;
 
 pub use body::{Param, TBody, Typed};
 pub use discard::{boxed_node, discard_fields, discard_node, discard_nodes, push_field, push_node};
 pub use law::law_numbers_in_order;
 pub use node::{Form, Node, NumberedField, Use};
+pub use nodes::{all_nodes, nodes_of};
 pub use search::node_at;

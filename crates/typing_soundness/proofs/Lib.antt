@@ -3,3 +3,17 @@ pub mod Items
 pub mod Numbers
 pub mod Sound
 pub mod Walking
+pub mod Due
+pub mod Expressions
+pub mod Functions
+pub mod Good
+pub mod TreeItems
+pub mod Lists
+pub mod Names
+pub mod Placed
+pub mod Telling
+pub mod Texts
+pub mod Tokens
+pub mod Trees
+pub mod Types
+pub mod Words

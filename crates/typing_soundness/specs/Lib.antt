@@ -10,3 +10,4 @@ pub mod Program
 pub mod Shapes
 pub mod Types
 pub mod Walks
+pub mod Texts

@@ -6,7 +6,7 @@ use Rattle.std.proofs.lemmas.Bool.{false≢true, and_parts, leb-true, ne_eqb, eq
 use Rattle.std.proofs.lemmas.Option.{slice_get-map, slice_get-get_or}
 use Rattle.std.specs.Borrow.{Bor}
 use Rattle.std.specs.Prelude.{◌<◌, length, get_or, option_map}
-use Rattle.body_nodes.specs.Listed.{trees}
+use Rattle.typed_tree.specs.Listed.{trees}
 use Rattle.typed_tree.specs.View.{tree_of}
 use Rattle.typed_tree.specs.declared.node.Node as declared
 use Rattle.typed_tree.specs.Nodes.{number_of, first_with}

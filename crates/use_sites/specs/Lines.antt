@@ -13,7 +13,7 @@ use Rattle.typed_tree.specs.declared.node.Use.{Use}
 use Rattle.typed_tree.specs.Nodes.{body_nodes, first_with}
 use Rattle.typed_tree.specs.Tree.{Node, BodyTree}
 use Rattle.body_locals.specs.View.{entry_of}
-use Rattle.body_nodes.specs.Listed.{trees}
+use Rattle.typed_tree.specs.Listed.{trees}
 use Rattle.cfg_build.specs.Sites.{UseSite, position_of, use_of, use_by_stmt, use_by_term, used_by_term}
 use Rattle.use_sites.specs.Words.{place_words}
 use Rattle.use_sites.specs.declared.names.PlaceNames.{PlaceNames}

@@ -2,7 +2,7 @@
 use Rattle.std.specs.Prelude.{ℕ, suc, ◌≡◌, nat_le, Bool, true, ◌&&◌, List, [], ◌∷◌}
 use Rattle.typed_tree.specs.Nodes.{number_of}
 use Rattle.typed_tree.specs.Tree.{Node}
-use Rattle.body_nodes.specs.Listed.{trees}
+use Rattle.typed_tree.specs.Listed.{trees}
 use Rattle.use_sites.specs.declared.names.PlaceNames.{PlaceNames}
 
 -- the numbers of nodes rise, from one that is at least so much

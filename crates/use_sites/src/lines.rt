@@ -2,7 +2,7 @@
 ghost use Rattle.std.specs.Prelude.{◌≡◌, ◌++◌, ◌∷◌, [], IfOk, OnOk, map};
 ghost use Rattle.std.specs.Option.{option_copied};
 ghost use Rattle.body_locals.specs.View.{entry_of};
-ghost use Rattle.body_nodes.specs.Listed.{trees};
+ghost use Rattle.typed_tree.specs.Listed.{trees};
 ghost use Rattle.cfg_build.specs.Sites as plain;
 ghost use Rattle.cfg_graph.specs.declared.terminator.Term as term;
 ghost use Rattle.use_sites.specs.Told.{AreTold};

@@ -6,7 +6,7 @@ ghost use Rattle.cfg_graph.specs.Places.{named, named_step};
 ghost use Rattle.typed_tree.specs.Nodes.{first_with};
 ghost use Rattle.typed_tree.specs.View.{tree_of, tree_found};
 ghost use Rattle.body_locals.specs.View.{entry_of, keys, tys};
-ghost use Rattle.body_nodes.specs.Listed.{trees};
+ghost use Rattle.typed_tree.specs.Listed.{trees};
 ghost use Rattle.use_sites.specs.Told.{AreTold, rise_from};
 ghost use Rattle.use_sites.specs.Words as words;
 

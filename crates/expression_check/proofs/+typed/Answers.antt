@@ -16,11 +16,11 @@ use Rattle.function_rows.specs.Heads.{unvalued}
 use Rattle.src_ast.specs.View.{idents, syns_of}
 use Rattle.typing_rules.specs.Bodies as bodies_of
 use Rattle.typing_rules.specs.Places.{a_node_of, wanted}
-use Rattle.struct_rows.proofs.InitForms.{init_seen}
-use Rattle.struct_rows.proofs.Turns.{below_more, field_refused, no_more, one_field}
-use Rattle.struct_rows.specs.Inits.{GivesInit, behind_inits, init_by, one_init, variant_by}
-use Rattle.struct_rows.specs.Fields.{numbered_by, variant_of}
-use Rattle.struct_rows.specs.Rests.{struct_rest}
+use Rattle.member_rows.proofs.InitForms.{init_seen}
+use Rattle.member_rows.proofs.Turns.{below_more, field_refused, no_more, one_field}
+use Rattle.member_rows.specs.Inits.{GivesInit, behind_inits, init_by, one_init, variant_by}
+use Rattle.member_rows.specs.StructFields.{numbered_by, variant_of}
+use Rattle.member_rows.specs.StructRests.{struct_rest}
 use Rattle.mir_ty.specs.declared.adt.Variant.{Variant}
 use Rattle.src_ast.specs.Syntax.{Shape, Word}
 use Rattle.typed_tree.specs.Tree.{Fields}

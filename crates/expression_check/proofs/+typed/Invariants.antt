@@ -2,7 +2,7 @@ use Rattle.std.proofs.Common.{◌≡◌, ◌≤◌, ◌+◌, ◌*◌, Some, drop
 use Rattle.src_ast.specs.Expressions.{arm_of, expression_of, init_of}
 use Rattle.src_ast.specs.Seen.{maybe_of, nodes_of, syn_of}
 use Rattle.call_rows.specs.Lists.{below_all}
-use Rattle.struct_rows.specs.Inits.{behind_inits, variant_by}
+use Rattle.member_rows.specs.Inits.{behind_inits, variant_by}
 use Rattle.src_ast.specs.Syntax.{Word}
 use Rattle.pattern_rows.specs.Expected.{expected_of}
 use Rattle.type_rows.specs.Stand.{Stays, env, stack, state}

@@ -1,6 +1,6 @@
 use Rattle.std.proofs.Common.{◌≡◌, map, take}
 use Rattle.typed_tree.specs.Nodes.{number_of}
-use Rattle.body_nodes.specs.Listed.{trees}
+use Rattle.typed_tree.specs.Listed.{trees}
 use Rattle.body_rows.proofs.text_order.numbers.Given as goal
 
 abbrev pub invariant-loop-node : goal.invariant-loop-node

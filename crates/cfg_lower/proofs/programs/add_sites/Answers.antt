@@ -6,7 +6,7 @@ use Rattle.typed_tree.specs.Nodes.{body_nodes}
 use Rattle.typed_tree.specs.Tree.{BodyTree}
 use Rattle.typed_tree.specs.View.{body_of}
 use Rattle.body_locals.specs.View.{entry_of}
-use Rattle.body_nodes.specs.Listed.{trees}
+use Rattle.typed_tree.specs.Listed.{trees}
 use Rattle.use_sites.specs.Listed.{ids_of}
 use Rattle.cfg_lower.proofs.programs.add_sites.Goals as goal
 

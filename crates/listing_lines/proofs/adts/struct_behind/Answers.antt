@@ -1,7 +1,7 @@
 use Rattle.std.proofs.Common.{rules, ◌≡◌, ◌∷◌, [], false, Some, map}
 use Rattle.mir_ty.specs.AreItems.{AreTypes}
 use Rattle.mir_text.specs.Compared.{AdtSeen}
-use Rattle.listing_types.specs.Table.{text_under}
+use Rattle.listing_parts.specs.Table.{text_under}
 use Rattle.listing_lines.specs.ItemReading.{struct_from}
 use Rattle.listing_lines.proofs.FoundVariants.{struct_found}
 use Rattle.listing_lines.proofs.adts.struct_behind.Goals as goal

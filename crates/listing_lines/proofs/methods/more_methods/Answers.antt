@@ -5,8 +5,8 @@ use Rattle.mir_ty.specs.declared.def.Sig.{Sig}
 use Rattle.listing_lines.specs.TraitsRead.{FindsMore}
 use Rattle.mir_text.specs.Compared.{sig_seen}
 use Rattle.mir_text.specs.Reading.Rows.{comma, many}
-use Rattle.listing_types.specs.Table.{under}
-use Rattle.listing_types.proofs.FoundRows.{then_grow}
+use Rattle.listing_parts.specs.Table.{under}
+use Rattle.listing_parts.proofs.FoundRows.{then_grow}
 use Rattle.listing_lines.specs.TraitReading.{method_read}
 use Rattle.listing_lines.proofs.FoundMethods.{row_fails, row_stops, row_goes_on, still_methods, one_more_method}
 use Rattle.listing_lines.proofs.methods.more_methods.Goals as goal

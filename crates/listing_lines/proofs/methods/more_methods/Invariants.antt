@@ -2,7 +2,7 @@ use Rattle.std.proofs.Common.{◌≡◌, ◌-◌, ◌++◌, List, ℕ, All, leng
 use Rattle.mir_ty.specs.AreItems.{IsMethod}
 use Rattle.mir_text.specs.Compared.{SigSeen, sig_seen}
 use Rattle.mir_text.specs.Reading.Rows.{comma, many, many_within}
-use Rattle.listing_types.specs.Table.{Grow, under}
+use Rattle.listing_parts.specs.Table.{Grow, under}
 use Rattle.listing_lines.specs.TraitReading.{method_read}
 use Rattle.listing_lines.proofs.methods.more_methods.Given as goal
 

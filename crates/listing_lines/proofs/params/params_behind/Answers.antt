@@ -1,6 +1,6 @@
 use Rattle.std.proofs.Common.{rules, ◌≡◌, ◌∷◌, Some, map}
-use Rattle.listing_types.specs.Table.{text_under}
-use Rattle.listing_types.specs.TypeReading.{more_types}
+use Rattle.listing_parts.specs.Table.{text_under}
+use Rattle.listing_parts.specs.TypeReading.{more_types}
 use Rattle.listing_lines.specs.TraitReading.{closed_params}
 use Rattle.listing_lines.proofs.FoundMethods.{params_found}
 use Rattle.listing_lines.proofs.params.params_behind.Goals as goal

@@ -2,8 +2,8 @@ use Rattle.std.proofs.Common.{rules, ◌≡◌, ◌++◌, codes, Some}
 use Rattle.mir_ty.specs.declared.ty.Ty.{Ty}
 use Rattle.mir_ty.specs.ItemTable.{type_at}
 use Rattle.mir_text.specs.Types.{trait_name}
-use Rattle.listing_types.specs.Table.{text_under}
-use Rattle.listing_types.specs.TypesRead.{GivesType}
+use Rattle.listing_parts.specs.Table.{text_under}
+use Rattle.listing_parts.specs.TypesRead.{GivesType}
 use Rattle.listing_lines.specs.TraitReading.{reference_to}
 use Rattle.listing_lines.proofs.FoundMethods.{self_given}
 use Rattle.listing_lines.proofs.receiver.self_type.Goals as goal

@@ -3,8 +3,8 @@ use Rattle.std.proofs.Common.{rules, ◌≡◌, ◌-◌, ◌+◌, All, length, S
 use Rattle.mir_ty.specs.AreItems.{IsVariant}
 use Rattle.mir_text.specs.Compared.{variant_seen}
 use Rattle.mir_text.specs.Reading.Rows.{comma, many}
-use Rattle.listing_types.specs.Table.{under}
-use Rattle.listing_types.proofs.FoundRows.{then_grow}
+use Rattle.listing_parts.specs.Table.{under}
+use Rattle.listing_parts.proofs.FoundRows.{then_grow}
 use Rattle.listing_lines.specs.ItemReading.{variant_read}
 use Rattle.listing_lines.proofs.FoundVariants.{row_stops, row_goes_on, still_variants, one_more_variant}
 use Rattle.listing_lines.proofs.variants.more_variants.Goals as goal

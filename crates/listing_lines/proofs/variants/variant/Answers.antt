@@ -1,6 +1,6 @@
 use Rattle.std.proofs.Common.{rules, ◌≡◌, Some, map}
 use Rattle.mir_ty.specs.AreItems.{AreTypes}
-use Rattle.listing_types.specs.Table.{text_under}
+use Rattle.listing_parts.specs.Table.{text_under}
 use Rattle.listing_lines.specs.ItemReading.{variant_read}
 use Rattle.listing_lines.proofs.FoundVariants.{variant_found}
 use Rattle.listing_lines.proofs.variants.variant.Goals as goal

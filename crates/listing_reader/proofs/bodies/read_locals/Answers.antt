@@ -1,7 +1,7 @@
 -- One local more, and no more locals.
 use Rattle.std.proofs.Common.{rules, ◌≡◌, ◌-◌, ◌+◌, ◌<◌, ◌++◌, ◌∷◌, [], ℕ, Some, None, length, ap, sym, ◌∙◌, arith}
 use Rattle.listing_lines.specs.LineReading.{local_read}
-use Rattle.listing_types.specs.Table.{text_under}
+use Rattle.listing_parts.specs.Table.{text_under}
 use Rattle.listing_reader.proofs.Locals.{begins, goes_on, stops, fails, ends}
 use Rattle.listing_reader.proofs.bodies.read_locals.Goals as goal
 

@@ -4,7 +4,7 @@ use Rattle.mir_ty.specs.AreItems.{IsAdt}
 use Rattle.mir_text.specs.Compared.{adt_seen}
 use Rattle.listing_parts.specs.declared.error.ReadError.{ReadError}
 use Rattle.listing_lines.specs.ItemReading.{adt_read}
-use Rattle.listing_types.specs.Table.{under}
+use Rattle.listing_parts.specs.Table.{under}
 use Rattle.listing_reader.specs.SectionReading.{one_adt}
 use Rattle.listing_reader.specs.SectionsRead.{items_seen}
 use Rattle.listing_reader.proofs.Growing.{adt_added, err_item, missed, no_adt}

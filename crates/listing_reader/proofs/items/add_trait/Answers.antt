@@ -4,7 +4,7 @@ use Rattle.mir_ty.specs.AreItems.{IsMethod}
 use Rattle.mir_text.specs.Compared.{trait_seen}
 use Rattle.listing_parts.specs.declared.error.ReadError.{ReadError}
 use Rattle.listing_lines.specs.TraitReading.{trait_read}
-use Rattle.listing_types.specs.Table.{under}
+use Rattle.listing_parts.specs.Table.{under}
 use Rattle.listing_reader.specs.SectionReading.{one_trait}
 use Rattle.listing_reader.specs.SectionsRead.{items_seen}
 use Rattle.listing_reader.proofs.Growing.{trait_added, err_item, missed, no_trait}

@@ -1,7 +1,7 @@
 use Rattle.std.proofs.Common.{refl, sym, subst}
 use Rattle.std.proofs.lemmas.Result.{IfOk-weaker}
 use Rattle.mir_machine.proofs.DropsBegin.{ended_goes_on, stuck_turn, turn_kept}
-use Rattle.drop_glue.specs.declared.drops.Turn.{Turn}
+use Rattle.mir_steps.specs.declared.drops.Turn.{Turn}
 use Rattle.mir_machine.specs.Tasks.{AtOutcome, AtTurn, Keeps, Next}
 use Rattle.mir_machine.proofs.dropping.drop_turn.Goals as goal
 

@@ -1,6 +1,6 @@
 use Rattle.std.proofs.Common.{[], ◌∷◌, sym, subst}
 use Rattle.std.proofs.lemmas.Result.{IfOk-weaker}
-use Rattle.drop_glue.specs.declared.drops.Turn.{Turn}
+use Rattle.mir_steps.specs.declared.drops.Turn.{Turn}
 use Rattle.mir_base.specs.declared.trace.Event.{Event}
 use Rattle.mir_machine.proofs.DropsBegin.{drop_waits}
 use Rattle.mir_machine.specs.Tasks.{AtEntry, AtTurn, Keeps, Next}

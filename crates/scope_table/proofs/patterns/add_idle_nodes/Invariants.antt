@@ -1,5 +1,5 @@
 use Rattle.std.proofs.Common.{◌≡◌, ◌++◌, drop}
-use Rattle.body_nodes.specs.Listed.{trees}
+use Rattle.typed_tree.specs.Listed.{trees}
 use Rattle.scope_table.specs.Table.{idle}
 use Rattle.scope_table.proofs.patterns.add_idle_nodes.Given as goal
 

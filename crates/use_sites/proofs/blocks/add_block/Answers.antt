@@ -2,7 +2,7 @@ use Rattle.std.proofs.Common.{rules, ◌≡◌, ◌∙◌, ◌+◌, ◌++◌, �
 use Rattle.std.proofs.lemmas.Result.{on_ok_weaker}
 use Rattle.cfg_graph.specs.declared.statement.Stmt.{Stmt}
 use Rattle.body_locals.specs.View.{entry_of}
-use Rattle.body_nodes.specs.Listed.{trees}
+use Rattle.typed_tree.specs.Listed.{trees}
 use Rattle.use_sites.specs.Listed.{ids_of, of_lines}
 use Rattle.use_sites.proofs.Told.{line_more, last_more}
 use Rattle.use_sites.proofs.blocks.add_block.Goals as goal

@@ -4,7 +4,7 @@ use Rattle.std.specs.Prelude.{slice_get}
 use Rattle.cfg_build.specs.Sites.{position_of, use_of, use_by_term, used_by_term}
 use Rattle.cfg_graph.specs.Uses.{stored_by_term}
 use Rattle.body_locals.specs.View.{entry_of}
-use Rattle.body_nodes.specs.Listed.{trees}
+use Rattle.typed_tree.specs.Listed.{trees}
 use Rattle.typed_tree.specs.Tree.{Node}
 use Rattle.typed_tree.specs.View.{tree_of}
 use Rattle.typed_tree.specs.declared.node.Form.{the_lemmas}

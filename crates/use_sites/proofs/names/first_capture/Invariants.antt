@@ -1,5 +1,5 @@
 use Rattle.std.proofs.Common.{◌≡◌, drop}
-use Rattle.body_nodes.specs.Listed.{trees}
+use Rattle.typed_tree.specs.Listed.{trees}
 use Rattle.use_sites.specs.Words.{first_capture}
 use Rattle.use_sites.proofs.names.first_capture.Given as goal
 

@@ -1,6 +1,6 @@
 use Rattle.std.proofs.Common.{◌≡◌, drop}
 use Rattle.typed_tree.specs.Nodes.{first_with}
-use Rattle.body_nodes.specs.Listed.{trees}
+use Rattle.typed_tree.specs.Listed.{trees}
 use Rattle.use_sites.proofs.names.first_node.Given as goal
 
 abbrev pub invariant-loop-node : goal.invariant-loop-node

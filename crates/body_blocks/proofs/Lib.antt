@@ -1,3 +1,0 @@
-mod Ignoring
-mod Reading
-mod Steps

@@ -1,5 +1,0 @@
-pub mod Left
-pub mod Reading
-pub mod Seen
-pub mod Swept
-pub mod Turns

@@ -1,9 +1,0 @@
-pub mod Complete
-pub mod Depth
-pub mod FoundRows
-pub mod Given
-pub mod Leaves
-pub mod PlainNumbers
-pub mod Sound
-pub mod Splits
-pub mod Texts

@@ -1,5 +1,0 @@
-pub mod Leaves
-pub mod Table
-pub mod TypeReading
-pub mod TypesFound
-pub mod TypesRead

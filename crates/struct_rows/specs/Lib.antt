@@ -1,4 +1,0 @@
-pub mod Fields
-pub mod Given
-pub mod Rests
-pub mod Inits
