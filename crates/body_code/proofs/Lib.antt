@@ -3,7 +3,6 @@ mod Grouped
 mod Nodes
 mod OfOperands
 mod Params
-mod PlainForms
 mod Statements
 mod Wanting
 mod Ways

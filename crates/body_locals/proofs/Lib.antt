@@ -1,6 +1,6 @@
 pub mod Bodies
 pub mod Following
 pub mod OwnFirst
-pub mod PlainForms
+pub mod FoundLocals
 pub mod Placing
 pub mod Positions

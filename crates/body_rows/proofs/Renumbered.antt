@@ -1,14 +1,14 @@
 -- A form whose parts were renumbered is the form renumbered.
-use Rattle.std.proofs.Common.{◌≡◌, ◌∙◌, ℕ, Bool, List, Option, None, Some, ap, sym, map}
+use Rattle.std.proofs.Common.{◌≡◌, ◌∙◌, ℕ, Bool, List, Option, ap, sym, map}
 use Rattle.std.specs.Prelude.{Box}
 use Rattle.std.specs.declared.alloc.Global.{Global}
 use Rattle.mir_base.specs.declared.operator.Cmp.{Cmp}
 use Rattle.mir_base.specs.declared.operator.Math.{Math}
+use Rattle.typed_tree.proofs.PlainForms.{and_seen, arithmetic_seen, arm_seen, array_pattern_seen, array_seen, assign_seen, block_seen, borrow_seen, call_seen, closure_call_seen, closure_seen, comparison_seen, deref_seen, drop_value_seen, evaluate_seen, field_seen, forget_seen, if_let_seen, if_seen, index_seen, let_seen, loop_seen, match_seen, method_call_seen, negate_seen, new_box_seen, not_seen, or_pattern_seen, or_seen, print_seen, return_seen, tuple_pattern_seen, tuple_seen, unsize_seen, virtual_call_seen, while_let_seen, while_seen}
 use Rattle.typed_tree.specs.Tree as tree
-use Rattle.typed_tree.specs.View.{form_of, form_layer, node_layer, field_layer, maybe_of, nodes_from, tree_of}
+use Rattle.typed_tree.specs.View.{form_of, maybe_of, nodes_from, tree_of}
 use Rattle.typed_tree.specs.declared.node.Form as form
-use Rattle.typed_tree.specs.declared.node.Form.{Form, Form-F, fold-roll-Form}
-use Rattle.typed_tree.specs.declared.node.Form.TheViews.{rolls-And, rolls-Arithmetic, rolls-Arm, rolls-Array, rolls-ArrayPattern, rolls-Assign, rolls-Block, rolls-Borrow, rolls-Call, rolls-Closure, rolls-ClosureCall, rolls-Comparison, rolls-Deref, rolls-DropValue, rolls-Evaluate, rolls-Field, rolls-Forget, rolls-If, rolls-IfLet, rolls-Index, rolls-Let, rolls-Loop, rolls-Match, rolls-MethodCall, rolls-Negate, rolls-NewBox, rolls-Not, rolls-Or, rolls-OrPattern, rolls-Print, rolls-Return, rolls-Tuple, rolls-TuplePattern, rolls-Unsize, rolls-VirtualCall, rolls-While, rolls-WhileLet}
+use Rattle.typed_tree.specs.declared.node.Form.{Form}
 use Rattle.typed_tree.specs.declared.node.Node.{Node}
 use Rattle.typing_rules.specs.Numbered.{form_renumbered, maybe_renumbered, nodes_renumbered, renumbered}
 
@@ -19,19 +19,11 @@ module _ (f : ℕ → ℕ) (whole : Form) where
   made old new before after is was is_new same =
       is_new ∙ same ∙ ap (form_renumbered f) (sym was) ∙ ap (λ (x : Form). form_renumbered f (form_of x)) (sym is)
 
-  index_seen : (length : ℕ) (a : Box Node Global) (b : Box Node Global) →
-      form_of (form.Index a b length) ≡ tree.Index (tree_of a.value) (tree_of b.value) length
-  index_seen length a b = ap form_of (sym (rolls-Index a b length)) ∙ fold-roll-Form tree.Form tree.Node (ℕ × tree.Node) form_layer node_layer field_layer (Form-F.Index a b length)
-
   pub index_made : (length : ℕ) (a p : Box Node Global) (b q : Box Node Global) → whole ≡ form.Index a b length →
       tree_of p.value ≡ renumbered f (tree_of a.value) → tree_of q.value ≡ renumbered f (tree_of b.value) →
       form_of (form.Index p q length) ≡ form_renumbered f (form_of whole)
   index_made length a p b q is h i =
-      made (form.Index a b length) (form.Index p q length) _ _ is (index_seen length a b) (index_seen length p q) (λ z. tree.Index (h z) (i z) length)
-
-  arithmetic_seen : (operator : Math) (a : Box Node Global) (b : Box Node Global) →
-      form_of (form.Arithmetic operator a b) ≡ tree.Arithmetic operator (tree_of a.value) (tree_of b.value)
-  arithmetic_seen operator a b = ap form_of (sym (rolls-Arithmetic operator a b)) ∙ fold-roll-Form tree.Form tree.Node (ℕ × tree.Node) form_layer node_layer field_layer (Form-F.Arithmetic operator a b)
+      made (form.Index a b length) (form.Index p q length) _ _ is (index_seen a b length) (index_seen p q length) (λ z. tree.Index (h z) (i z) length)
 
   pub arithmetic_made : (operator : Math) (a p : Box Node Global) (b q : Box Node Global) → whole ≡ form.Arithmetic operator a b →
       tree_of p.value ≡ renumbered f (tree_of a.value) → tree_of q.value ≡ renumbered f (tree_of b.value) →
@@ -39,19 +31,11 @@ module _ (f : ℕ → ℕ) (whole : Form) where
   arithmetic_made operator a p b q is h i =
       made (form.Arithmetic operator a b) (form.Arithmetic operator p q) _ _ is (arithmetic_seen operator a b) (arithmetic_seen operator p q) (λ z. tree.Arithmetic operator (h z) (i z))
 
-  comparison_seen : (operator : Cmp) (a : Box Node Global) (b : Box Node Global) →
-      form_of (form.Comparison operator a b) ≡ tree.Comparison operator (tree_of a.value) (tree_of b.value)
-  comparison_seen operator a b = ap form_of (sym (rolls-Comparison operator a b)) ∙ fold-roll-Form tree.Form tree.Node (ℕ × tree.Node) form_layer node_layer field_layer (Form-F.Comparison operator a b)
-
   pub comparison_made : (operator : Cmp) (a p : Box Node Global) (b q : Box Node Global) → whole ≡ form.Comparison operator a b →
       tree_of p.value ≡ renumbered f (tree_of a.value) → tree_of q.value ≡ renumbered f (tree_of b.value) →
       form_of (form.Comparison operator p q) ≡ form_renumbered f (form_of whole)
   comparison_made operator a p b q is h i =
       made (form.Comparison operator a b) (form.Comparison operator p q) _ _ is (comparison_seen operator a b) (comparison_seen operator p q) (λ z. tree.Comparison operator (h z) (i z))
-
-  and_seen : (a : Box Node Global) (b : Box Node Global) →
-      form_of (form.And a b) ≡ tree.And (tree_of a.value) (tree_of b.value)
-  and_seen a b = ap form_of (sym (rolls-And a b)) ∙ fold-roll-Form tree.Form tree.Node (ℕ × tree.Node) form_layer node_layer field_layer (Form-F.And a b)
 
   pub and_made : (a p : Box Node Global) (b q : Box Node Global) → whole ≡ form.And a b →
       tree_of p.value ≡ renumbered f (tree_of a.value) → tree_of q.value ≡ renumbered f (tree_of b.value) →
@@ -59,19 +43,11 @@ module _ (f : ℕ → ℕ) (whole : Form) where
   and_made a p b q is h i =
       made (form.And a b) (form.And p q) _ _ is (and_seen a b) (and_seen p q) (λ z. tree.And (h z) (i z))
 
-  or_seen : (a : Box Node Global) (b : Box Node Global) →
-      form_of (form.Or a b) ≡ tree.Or (tree_of a.value) (tree_of b.value)
-  or_seen a b = ap form_of (sym (rolls-Or a b)) ∙ fold-roll-Form tree.Form tree.Node (ℕ × tree.Node) form_layer node_layer field_layer (Form-F.Or a b)
-
   pub or_made : (a p : Box Node Global) (b q : Box Node Global) → whole ≡ form.Or a b →
       tree_of p.value ≡ renumbered f (tree_of a.value) → tree_of q.value ≡ renumbered f (tree_of b.value) →
       form_of (form.Or p q) ≡ form_renumbered f (form_of whole)
   or_made a p b q is h i =
       made (form.Or a b) (form.Or p q) _ _ is (or_seen a b) (or_seen p q) (λ z. tree.Or (h z) (i z))
-
-  assign_seen : (a : Box Node Global) (b : Box Node Global) →
-      form_of (form.Assign a b) ≡ tree.Assign (tree_of a.value) (tree_of b.value)
-  assign_seen a b = ap form_of (sym (rolls-Assign a b)) ∙ fold-roll-Form tree.Form tree.Node (ℕ × tree.Node) form_layer node_layer field_layer (Form-F.Assign a b)
 
   pub assign_made : (a p : Box Node Global) (b q : Box Node Global) → whole ≡ form.Assign a b →
       tree_of p.value ≡ renumbered f (tree_of a.value) → tree_of q.value ≡ renumbered f (tree_of b.value) →
@@ -79,19 +55,11 @@ module _ (f : ℕ → ℕ) (whole : Form) where
   assign_made a p b q is h i =
       made (form.Assign a b) (form.Assign p q) _ _ is (assign_seen a b) (assign_seen p q) (λ z. tree.Assign (h z) (i z))
 
-  method_call_seen : (body : ℕ) (a : Box Node Global) (b : List Node) →
-      form_of (form.MethodCall body a b) ≡ tree.MethodCall body (tree_of a.value) (nodes_from (map tree_of b))
-  method_call_seen body a b = ap form_of (sym (rolls-MethodCall body a b)) ∙ fold-roll-Form tree.Form tree.Node (ℕ × tree.Node) form_layer node_layer field_layer (Form-F.MethodCall body a b)
-
   pub method_call_made : (body : ℕ) (a p : Box Node Global) (b q : List Node) → whole ≡ form.MethodCall body a b →
       tree_of p.value ≡ renumbered f (tree_of a.value) → nodes_from (map tree_of q) ≡ nodes_renumbered f (nodes_from (map tree_of b)) →
       form_of (form.MethodCall body p q) ≡ form_renumbered f (form_of whole)
   method_call_made body a p b q is h i =
       made (form.MethodCall body a b) (form.MethodCall body p q) _ _ is (method_call_seen body a b) (method_call_seen body p q) (λ z. tree.MethodCall body (h z) (i z))
-
-  virtual_call_seen : (trait_no : ℕ) (method : ℕ) (a : Box Node Global) (b : List Node) →
-      form_of (form.VirtualCall trait_no method a b) ≡ tree.VirtualCall trait_no method (tree_of a.value) (nodes_from (map tree_of b))
-  virtual_call_seen trait_no method a b = ap form_of (sym (rolls-VirtualCall trait_no method a b)) ∙ fold-roll-Form tree.Form tree.Node (ℕ × tree.Node) form_layer node_layer field_layer (Form-F.VirtualCall trait_no method a b)
 
   pub virtual_call_made : (trait_no : ℕ) (method : ℕ) (a p : Box Node Global) (b q : List Node) → whole ≡ form.VirtualCall trait_no method a b →
       tree_of p.value ≡ renumbered f (tree_of a.value) → nodes_from (map tree_of q) ≡ nodes_renumbered f (nodes_from (map tree_of b)) →
@@ -99,20 +67,11 @@ module _ (f : ℕ → ℕ) (whole : Form) where
   virtual_call_made trait_no method a p b q is h i =
       made (form.VirtualCall trait_no method a b) (form.VirtualCall trait_no method p q) _ _ is (virtual_call_seen trait_no method a b) (virtual_call_seen trait_no method p q) (λ z. tree.VirtualCall trait_no method (h z) (i z))
 
-  closure_call_seen : (body : ℕ) (a : Box Node Global) (b : List Node) →
-      form_of (form.ClosureCall body a b) ≡ tree.ClosureCall body (tree_of a.value) (nodes_from (map tree_of b))
-  closure_call_seen body a b = ap form_of (sym (rolls-ClosureCall body a b)) ∙ fold-roll-Form tree.Form tree.Node (ℕ × tree.Node) form_layer node_layer field_layer (Form-F.ClosureCall body a b)
-
   pub closure_call_made : (body : ℕ) (a p : Box Node Global) (b q : List Node) → whole ≡ form.ClosureCall body a b →
       tree_of p.value ≡ renumbered f (tree_of a.value) → nodes_from (map tree_of q) ≡ nodes_renumbered f (nodes_from (map tree_of b)) →
       form_of (form.ClosureCall body p q) ≡ form_renumbered f (form_of whole)
   closure_call_made body a p b q is h i =
       made (form.ClosureCall body a b) (form.ClosureCall body p q) _ _ is (closure_call_seen body a b) (closure_call_seen body p q) (λ z. tree.ClosureCall body (h z) (i z))
-
-  block_seen : (a : List Node) (b : Option (Box Node Global)) →
-      form_of (form.Block a b) ≡ tree.Block (nodes_from (map tree_of a)) (maybe_of b)
-  block_seen a None = ap form_of (sym (rolls-Block a None)) ∙ fold-roll-Form tree.Form tree.Node (ℕ × tree.Node) form_layer node_layer field_layer (Form-F.Block a None)
-  block_seen a (Some box) = ap form_of (sym (rolls-Block a (Some box))) ∙ fold-roll-Form tree.Form tree.Node (ℕ × tree.Node) form_layer node_layer field_layer (Form-F.Block a (Some box))
 
   pub block_made : (a p : List Node) (b q : Option (Box Node Global)) → whole ≡ form.Block a b →
       nodes_from (map tree_of p) ≡ nodes_renumbered f (nodes_from (map tree_of a)) → maybe_of q ≡ maybe_renumbered f (maybe_of b) →
@@ -120,21 +79,11 @@ module _ (f : ℕ → ℕ) (whole : Form) where
   block_made a p b q is h i =
       made (form.Block a b) (form.Block p q) _ _ is (block_seen a b) (block_seen p q) (λ z. tree.Block (h z) (i z))
 
-  let_seen : (a : Box Node Global) (b : Option (Box Node Global)) →
-      form_of (form.Let a b) ≡ tree.Let (tree_of a.value) (maybe_of b)
-  let_seen a None = ap form_of (sym (rolls-Let a None)) ∙ fold-roll-Form tree.Form tree.Node (ℕ × tree.Node) form_layer node_layer field_layer (Form-F.Let a None)
-  let_seen a (Some box) = ap form_of (sym (rolls-Let a (Some box))) ∙ fold-roll-Form tree.Form tree.Node (ℕ × tree.Node) form_layer node_layer field_layer (Form-F.Let a (Some box))
-
   pub let_made : (a p : Box Node Global) (b q : Option (Box Node Global)) → whole ≡ form.Let a b →
       tree_of p.value ≡ renumbered f (tree_of a.value) → maybe_of q ≡ maybe_renumbered f (maybe_of b) →
       form_of (form.Let p q) ≡ form_renumbered f (form_of whole)
   let_made a p b q is h i =
       made (form.Let a b) (form.Let p q) _ _ is (let_seen a b) (let_seen p q) (λ z. tree.Let (h z) (i z))
-
-  if_seen : (a : Box Node Global) (b : Box Node Global) (c : Option (Box Node Global)) →
-      form_of (form.If a b c) ≡ tree.If (tree_of a.value) (tree_of b.value) (maybe_of c)
-  if_seen a b None = ap form_of (sym (rolls-If a b None)) ∙ fold-roll-Form tree.Form tree.Node (ℕ × tree.Node) form_layer node_layer field_layer (Form-F.If a b None)
-  if_seen a b (Some box) = ap form_of (sym (rolls-If a b (Some box))) ∙ fold-roll-Form tree.Form tree.Node (ℕ × tree.Node) form_layer node_layer field_layer (Form-F.If a b (Some box))
 
   pub if_made : (a p : Box Node Global) (b q : Box Node Global) (c r : Option (Box Node Global)) → whole ≡ form.If a b c →
       tree_of p.value ≡ renumbered f (tree_of a.value) → tree_of q.value ≡ renumbered f (tree_of b.value) → maybe_of r ≡ maybe_renumbered f (maybe_of c) →
@@ -142,20 +91,11 @@ module _ (f : ℕ → ℕ) (whole : Form) where
   if_made a p b q c r is h i j =
       made (form.If a b c) (form.If p q r) _ _ is (if_seen a b c) (if_seen p q r) (λ z. tree.If (h z) (i z) (j z))
 
-  if_let_seen : (a : Box Node Global) (b : Box Node Global) (c : Box Node Global) (d : Option (Box Node Global)) →
-      form_of (form.IfLet a b c d) ≡ tree.IfLet (tree_of a.value) (tree_of b.value) (tree_of c.value) (maybe_of d)
-  if_let_seen a b c None = ap form_of (sym (rolls-IfLet a b c None)) ∙ fold-roll-Form tree.Form tree.Node (ℕ × tree.Node) form_layer node_layer field_layer (Form-F.IfLet a b c None)
-  if_let_seen a b c (Some box) = ap form_of (sym (rolls-IfLet a b c (Some box))) ∙ fold-roll-Form tree.Form tree.Node (ℕ × tree.Node) form_layer node_layer field_layer (Form-F.IfLet a b c (Some box))
-
   pub if_let_made : (a p : Box Node Global) (b q : Box Node Global) (c r : Box Node Global) (d s : Option (Box Node Global)) → whole ≡ form.IfLet a b c d →
       tree_of p.value ≡ renumbered f (tree_of a.value) → tree_of q.value ≡ renumbered f (tree_of b.value) → tree_of r.value ≡ renumbered f (tree_of c.value) → maybe_of s ≡ maybe_renumbered f (maybe_of d) →
       form_of (form.IfLet p q r s) ≡ form_renumbered f (form_of whole)
   if_let_made a p b q c r d s is h i j k =
       made (form.IfLet a b c d) (form.IfLet p q r s) _ _ is (if_let_seen a b c d) (if_let_seen p q r s) (λ z. tree.IfLet (h z) (i z) (j z) (k z))
-
-  match_seen : (a : Box Node Global) (b : List Node) →
-      form_of (form.Match a b) ≡ tree.Match (tree_of a.value) (nodes_from (map tree_of b))
-  match_seen a b = ap form_of (sym (rolls-Match a b)) ∙ fold-roll-Form tree.Form tree.Node (ℕ × tree.Node) form_layer node_layer field_layer (Form-F.Match a b)
 
   pub match_made : (a p : Box Node Global) (b q : List Node) → whole ≡ form.Match a b →
       tree_of p.value ≡ renumbered f (tree_of a.value) → nodes_from (map tree_of q) ≡ nodes_renumbered f (nodes_from (map tree_of b)) →
@@ -163,20 +103,11 @@ module _ (f : ℕ → ℕ) (whole : Form) where
   match_made a p b q is h i =
       made (form.Match a b) (form.Match p q) _ _ is (match_seen a b) (match_seen p q) (λ z. tree.Match (h z) (i z))
 
-  arm_seen : (a : Box Node Global) (b : Option (Box Node Global)) (c : Box Node Global) →
-      form_of (form.Arm a b c) ≡ tree.Arm (tree_of a.value) (maybe_of b) (tree_of c.value)
-  arm_seen a None c = ap form_of (sym (rolls-Arm a None c)) ∙ fold-roll-Form tree.Form tree.Node (ℕ × tree.Node) form_layer node_layer field_layer (Form-F.Arm a None c)
-  arm_seen a (Some box) c = ap form_of (sym (rolls-Arm a (Some box) c)) ∙ fold-roll-Form tree.Form tree.Node (ℕ × tree.Node) form_layer node_layer field_layer (Form-F.Arm a (Some box) c)
-
   pub arm_made : (a p : Box Node Global) (b q : Option (Box Node Global)) (c r : Box Node Global) → whole ≡ form.Arm a b c →
       tree_of p.value ≡ renumbered f (tree_of a.value) → maybe_of q ≡ maybe_renumbered f (maybe_of b) → tree_of r.value ≡ renumbered f (tree_of c.value) →
       form_of (form.Arm p q r) ≡ form_renumbered f (form_of whole)
   arm_made a p b q c r is h i j =
       made (form.Arm a b c) (form.Arm p q r) _ _ is (arm_seen a b c) (arm_seen p q r) (λ z. tree.Arm (h z) (i z) (j z))
-
-  while_seen : (a : Box Node Global) (b : Box Node Global) →
-      form_of (form.While a b) ≡ tree.While (tree_of a.value) (tree_of b.value)
-  while_seen a b = ap form_of (sym (rolls-While a b)) ∙ fold-roll-Form tree.Form tree.Node (ℕ × tree.Node) form_layer node_layer field_layer (Form-F.While a b)
 
   pub while_made : (a p : Box Node Global) (b q : Box Node Global) → whole ≡ form.While a b →
       tree_of p.value ≡ renumbered f (tree_of a.value) → tree_of q.value ≡ renumbered f (tree_of b.value) →
@@ -184,29 +115,17 @@ module _ (f : ℕ → ℕ) (whole : Form) where
   while_made a p b q is h i =
       made (form.While a b) (form.While p q) _ _ is (while_seen a b) (while_seen p q) (λ z. tree.While (h z) (i z))
 
-  while_let_seen : (a : Box Node Global) (b : Box Node Global) (c : Box Node Global) →
-      form_of (form.WhileLet a b c) ≡ tree.WhileLet (tree_of a.value) (tree_of b.value) (tree_of c.value)
-  while_let_seen a b c = ap form_of (sym (rolls-WhileLet a b c)) ∙ fold-roll-Form tree.Form tree.Node (ℕ × tree.Node) form_layer node_layer field_layer (Form-F.WhileLet a b c)
-
   pub while_let_made : (a p : Box Node Global) (b q : Box Node Global) (c r : Box Node Global) → whole ≡ form.WhileLet a b c →
       tree_of p.value ≡ renumbered f (tree_of a.value) → tree_of q.value ≡ renumbered f (tree_of b.value) → tree_of r.value ≡ renumbered f (tree_of c.value) →
       form_of (form.WhileLet p q r) ≡ form_renumbered f (form_of whole)
   while_let_made a p b q c r is h i j =
       made (form.WhileLet a b c) (form.WhileLet p q r) _ _ is (while_let_seen a b c) (while_let_seen p q r) (λ z. tree.WhileLet (h z) (i z) (j z))
 
-  field_seen : (part : ℕ) (a : Box Node Global) →
-      form_of (form.Field a part) ≡ tree.Field (tree_of a.value) part
-  field_seen part a = ap form_of (sym (rolls-Field a part)) ∙ fold-roll-Form tree.Form tree.Node (ℕ × tree.Node) form_layer node_layer field_layer (Form-F.Field a part)
-
   pub field_made : (part : ℕ) (a p : Box Node Global) → whole ≡ form.Field a part →
       tree_of p.value ≡ renumbered f (tree_of a.value) →
       form_of (form.Field p part) ≡ form_renumbered f (form_of whole)
   field_made part a p is h =
-      made (form.Field a part) (form.Field p part) _ _ is (field_seen part a) (field_seen part p) (λ z. tree.Field (h z) part)
-
-  deref_seen : (a : Box Node Global) →
-      form_of (form.Deref a) ≡ tree.Deref (tree_of a.value)
-  deref_seen a = ap form_of (sym (rolls-Deref a)) ∙ fold-roll-Form tree.Form tree.Node (ℕ × tree.Node) form_layer node_layer field_layer (Form-F.Deref a)
+      made (form.Field a part) (form.Field p part) _ _ is (field_seen a part) (field_seen p part) (λ z. tree.Field (h z) part)
 
   pub deref_made : (a p : Box Node Global) → whole ≡ form.Deref a →
       tree_of p.value ≡ renumbered f (tree_of a.value) →
@@ -214,19 +133,11 @@ module _ (f : ℕ → ℕ) (whole : Form) where
   deref_made a p is h =
       made (form.Deref a) (form.Deref p) _ _ is (deref_seen a) (deref_seen p) (λ z. tree.Deref (h z))
 
-  not_seen : (a : Box Node Global) →
-      form_of (form.Not a) ≡ tree.Not (tree_of a.value)
-  not_seen a = ap form_of (sym (rolls-Not a)) ∙ fold-roll-Form tree.Form tree.Node (ℕ × tree.Node) form_layer node_layer field_layer (Form-F.Not a)
-
   pub not_made : (a p : Box Node Global) → whole ≡ form.Not a →
       tree_of p.value ≡ renumbered f (tree_of a.value) →
       form_of (form.Not p) ≡ form_renumbered f (form_of whole)
   not_made a p is h =
       made (form.Not a) (form.Not p) _ _ is (not_seen a) (not_seen p) (λ z. tree.Not (h z))
-
-  negate_seen : (a : Box Node Global) →
-      form_of (form.Negate a) ≡ tree.Negate (tree_of a.value)
-  negate_seen a = ap form_of (sym (rolls-Negate a)) ∙ fold-roll-Form tree.Form tree.Node (ℕ × tree.Node) form_layer node_layer field_layer (Form-F.Negate a)
 
   pub negate_made : (a p : Box Node Global) → whole ≡ form.Negate a →
       tree_of p.value ≡ renumbered f (tree_of a.value) →
@@ -234,19 +145,11 @@ module _ (f : ℕ → ℕ) (whole : Form) where
   negate_made a p is h =
       made (form.Negate a) (form.Negate p) _ _ is (negate_seen a) (negate_seen p) (λ z. tree.Negate (h z))
 
-  new_box_seen : (a : Box Node Global) →
-      form_of (form.NewBox a) ≡ tree.NewBox (tree_of a.value)
-  new_box_seen a = ap form_of (sym (rolls-NewBox a)) ∙ fold-roll-Form tree.Form tree.Node (ℕ × tree.Node) form_layer node_layer field_layer (Form-F.NewBox a)
-
   pub new_box_made : (a p : Box Node Global) → whole ≡ form.NewBox a →
       tree_of p.value ≡ renumbered f (tree_of a.value) →
       form_of (form.NewBox p) ≡ form_renumbered f (form_of whole)
   new_box_made a p is h =
       made (form.NewBox a) (form.NewBox p) _ _ is (new_box_seen a) (new_box_seen p) (λ z. tree.NewBox (h z))
-
-  print_seen : (a : Box Node Global) →
-      form_of (form.Print a) ≡ tree.Print (tree_of a.value)
-  print_seen a = ap form_of (sym (rolls-Print a)) ∙ fold-roll-Form tree.Form tree.Node (ℕ × tree.Node) form_layer node_layer field_layer (Form-F.Print a)
 
   pub print_made : (a p : Box Node Global) → whole ≡ form.Print a →
       tree_of p.value ≡ renumbered f (tree_of a.value) →
@@ -254,19 +157,11 @@ module _ (f : ℕ → ℕ) (whole : Form) where
   print_made a p is h =
       made (form.Print a) (form.Print p) _ _ is (print_seen a) (print_seen p) (λ z. tree.Print (h z))
 
-  drop_value_seen : (a : Box Node Global) →
-      form_of (form.DropValue a) ≡ tree.DropValue (tree_of a.value)
-  drop_value_seen a = ap form_of (sym (rolls-DropValue a)) ∙ fold-roll-Form tree.Form tree.Node (ℕ × tree.Node) form_layer node_layer field_layer (Form-F.DropValue a)
-
   pub drop_value_made : (a p : Box Node Global) → whole ≡ form.DropValue a →
       tree_of p.value ≡ renumbered f (tree_of a.value) →
       form_of (form.DropValue p) ≡ form_renumbered f (form_of whole)
   drop_value_made a p is h =
       made (form.DropValue a) (form.DropValue p) _ _ is (drop_value_seen a) (drop_value_seen p) (λ z. tree.DropValue (h z))
-
-  forget_seen : (a : Box Node Global) →
-      form_of (form.Forget a) ≡ tree.Forget (tree_of a.value)
-  forget_seen a = ap form_of (sym (rolls-Forget a)) ∙ fold-roll-Form tree.Form tree.Node (ℕ × tree.Node) form_layer node_layer field_layer (Form-F.Forget a)
 
   pub forget_made : (a p : Box Node Global) → whole ≡ form.Forget a →
       tree_of p.value ≡ renumbered f (tree_of a.value) →
@@ -274,19 +169,11 @@ module _ (f : ℕ → ℕ) (whole : Form) where
   forget_made a p is h =
       made (form.Forget a) (form.Forget p) _ _ is (forget_seen a) (forget_seen p) (λ z. tree.Forget (h z))
 
-  borrow_seen : (unique : Bool) (a : Box Node Global) →
-      form_of (form.Borrow unique a) ≡ tree.Borrow unique (tree_of a.value)
-  borrow_seen unique a = ap form_of (sym (rolls-Borrow unique a)) ∙ fold-roll-Form tree.Form tree.Node (ℕ × tree.Node) form_layer node_layer field_layer (Form-F.Borrow unique a)
-
   pub borrow_made : (unique : Bool) (a p : Box Node Global) → whole ≡ form.Borrow unique a →
       tree_of p.value ≡ renumbered f (tree_of a.value) →
       form_of (form.Borrow unique p) ≡ form_renumbered f (form_of whole)
   borrow_made unique a p is h =
       made (form.Borrow unique a) (form.Borrow unique p) _ _ is (borrow_seen unique a) (borrow_seen unique p) (λ z. tree.Borrow unique (h z))
-
-  unsize_seen : (trait_no : ℕ) (a : Box Node Global) →
-      form_of (form.Unsize trait_no a) ≡ tree.Unsize trait_no (tree_of a.value)
-  unsize_seen trait_no a = ap form_of (sym (rolls-Unsize trait_no a)) ∙ fold-roll-Form tree.Form tree.Node (ℕ × tree.Node) form_layer node_layer field_layer (Form-F.Unsize trait_no a)
 
   pub unsize_made : (trait_no : ℕ) (a p : Box Node Global) → whole ≡ form.Unsize trait_no a →
       tree_of p.value ≡ renumbered f (tree_of a.value) →
@@ -294,19 +181,11 @@ module _ (f : ℕ → ℕ) (whole : Form) where
   unsize_made trait_no a p is h =
       made (form.Unsize trait_no a) (form.Unsize trait_no p) _ _ is (unsize_seen trait_no a) (unsize_seen trait_no p) (λ z. tree.Unsize trait_no (h z))
 
-  evaluate_seen : (a : Box Node Global) →
-      form_of (form.Evaluate a) ≡ tree.Evaluate (tree_of a.value)
-  evaluate_seen a = ap form_of (sym (rolls-Evaluate a)) ∙ fold-roll-Form tree.Form tree.Node (ℕ × tree.Node) form_layer node_layer field_layer (Form-F.Evaluate a)
-
   pub evaluate_made : (a p : Box Node Global) → whole ≡ form.Evaluate a →
       tree_of p.value ≡ renumbered f (tree_of a.value) →
       form_of (form.Evaluate p) ≡ form_renumbered f (form_of whole)
   evaluate_made a p is h =
       made (form.Evaluate a) (form.Evaluate p) _ _ is (evaluate_seen a) (evaluate_seen p) (λ z. tree.Evaluate (h z))
-
-  loop_seen : (a : Box Node Global) →
-      form_of (form.Loop a) ≡ tree.Loop (tree_of a.value)
-  loop_seen a = ap form_of (sym (rolls-Loop a)) ∙ fold-roll-Form tree.Form tree.Node (ℕ × tree.Node) form_layer node_layer field_layer (Form-F.Loop a)
 
   pub loop_made : (a p : Box Node Global) → whole ≡ form.Loop a →
       tree_of p.value ≡ renumbered f (tree_of a.value) →
@@ -314,20 +193,11 @@ module _ (f : ℕ → ℕ) (whole : Form) where
   loop_made a p is h =
       made (form.Loop a) (form.Loop p) _ _ is (loop_seen a) (loop_seen p) (λ z. tree.Loop (h z))
 
-  return_seen : (a : Option (Box Node Global)) →
-      form_of (form.Return a) ≡ tree.Return (maybe_of a)
-  return_seen None = ap form_of (sym (rolls-Return None)) ∙ fold-roll-Form tree.Form tree.Node (ℕ × tree.Node) form_layer node_layer field_layer (Form-F.Return None)
-  return_seen (Some box) = ap form_of (sym (rolls-Return (Some box))) ∙ fold-roll-Form tree.Form tree.Node (ℕ × tree.Node) form_layer node_layer field_layer (Form-F.Return (Some box))
-
   pub return_made : (a p : Option (Box Node Global)) → whole ≡ form.Return a →
       maybe_of p ≡ maybe_renumbered f (maybe_of a) →
       form_of (form.Return p) ≡ form_renumbered f (form_of whole)
   return_made a p is h =
       made (form.Return a) (form.Return p) _ _ is (return_seen a) (return_seen p) (λ z. tree.Return (h z))
-
-  call_seen : (body : ℕ) (a : List Node) →
-      form_of (form.Call body a) ≡ tree.Call body (nodes_from (map tree_of a))
-  call_seen body a = ap form_of (sym (rolls-Call body a)) ∙ fold-roll-Form tree.Form tree.Node (ℕ × tree.Node) form_layer node_layer field_layer (Form-F.Call body a)
 
   pub call_made : (body : ℕ) (a p : List Node) → whole ≡ form.Call body a →
       nodes_from (map tree_of p) ≡ nodes_renumbered f (nodes_from (map tree_of a)) →
@@ -335,19 +205,11 @@ module _ (f : ℕ → ℕ) (whole : Form) where
   call_made body a p is h =
       made (form.Call body a) (form.Call body p) _ _ is (call_seen body a) (call_seen body p) (λ z. tree.Call body (h z))
 
-  tuple_seen : (a : List Node) →
-      form_of (form.Tuple a) ≡ tree.Tuple (nodes_from (map tree_of a))
-  tuple_seen a = ap form_of (sym (rolls-Tuple a)) ∙ fold-roll-Form tree.Form tree.Node (ℕ × tree.Node) form_layer node_layer field_layer (Form-F.Tuple a)
-
   pub tuple_made : (a p : List Node) → whole ≡ form.Tuple a →
       nodes_from (map tree_of p) ≡ nodes_renumbered f (nodes_from (map tree_of a)) →
       form_of (form.Tuple p) ≡ form_renumbered f (form_of whole)
   tuple_made a p is h =
       made (form.Tuple a) (form.Tuple p) _ _ is (tuple_seen a) (tuple_seen p) (λ z. tree.Tuple (h z))
-
-  array_seen : (a : List Node) →
-      form_of (form.Array a) ≡ tree.Array (nodes_from (map tree_of a))
-  array_seen a = ap form_of (sym (rolls-Array a)) ∙ fold-roll-Form tree.Form tree.Node (ℕ × tree.Node) form_layer node_layer field_layer (Form-F.Array a)
 
   pub array_made : (a p : List Node) → whole ≡ form.Array a →
       nodes_from (map tree_of p) ≡ nodes_renumbered f (nodes_from (map tree_of a)) →
@@ -355,19 +217,11 @@ module _ (f : ℕ → ℕ) (whole : Form) where
   array_made a p is h =
       made (form.Array a) (form.Array p) _ _ is (array_seen a) (array_seen p) (λ z. tree.Array (h z))
 
-  closure_seen : (closure : ℕ) (a : List Node) →
-      form_of (form.Closure closure a) ≡ tree.Closure closure (nodes_from (map tree_of a))
-  closure_seen closure a = ap form_of (sym (rolls-Closure closure a)) ∙ fold-roll-Form tree.Form tree.Node (ℕ × tree.Node) form_layer node_layer field_layer (Form-F.Closure closure a)
-
   pub closure_made : (closure : ℕ) (a p : List Node) → whole ≡ form.Closure closure a →
       nodes_from (map tree_of p) ≡ nodes_renumbered f (nodes_from (map tree_of a)) →
       form_of (form.Closure closure p) ≡ form_renumbered f (form_of whole)
   closure_made closure a p is h =
       made (form.Closure closure a) (form.Closure closure p) _ _ is (closure_seen closure a) (closure_seen closure p) (λ z. tree.Closure closure (h z))
-
-  tuple_pattern_seen : (a : List Node) →
-      form_of (form.TuplePattern a) ≡ tree.TuplePattern (nodes_from (map tree_of a))
-  tuple_pattern_seen a = ap form_of (sym (rolls-TuplePattern a)) ∙ fold-roll-Form tree.Form tree.Node (ℕ × tree.Node) form_layer node_layer field_layer (Form-F.TuplePattern a)
 
   pub tuple_pattern_made : (a p : List Node) → whole ≡ form.TuplePattern a →
       nodes_from (map tree_of p) ≡ nodes_renumbered f (nodes_from (map tree_of a)) →
@@ -375,19 +229,11 @@ module _ (f : ℕ → ℕ) (whole : Form) where
   tuple_pattern_made a p is h =
       made (form.TuplePattern a) (form.TuplePattern p) _ _ is (tuple_pattern_seen a) (tuple_pattern_seen p) (λ z. tree.TuplePattern (h z))
 
-  array_pattern_seen : (a : List Node) →
-      form_of (form.ArrayPattern a) ≡ tree.ArrayPattern (nodes_from (map tree_of a))
-  array_pattern_seen a = ap form_of (sym (rolls-ArrayPattern a)) ∙ fold-roll-Form tree.Form tree.Node (ℕ × tree.Node) form_layer node_layer field_layer (Form-F.ArrayPattern a)
-
   pub array_pattern_made : (a p : List Node) → whole ≡ form.ArrayPattern a →
       nodes_from (map tree_of p) ≡ nodes_renumbered f (nodes_from (map tree_of a)) →
       form_of (form.ArrayPattern p) ≡ form_renumbered f (form_of whole)
   array_pattern_made a p is h =
       made (form.ArrayPattern a) (form.ArrayPattern p) _ _ is (array_pattern_seen a) (array_pattern_seen p) (λ z. tree.ArrayPattern (h z))
-
-  or_pattern_seen : (a : List Node) →
-      form_of (form.OrPattern a) ≡ tree.OrPattern (nodes_from (map tree_of a))
-  or_pattern_seen a = ap form_of (sym (rolls-OrPattern a)) ∙ fold-roll-Form tree.Form tree.Node (ℕ × tree.Node) form_layer node_layer field_layer (Form-F.OrPattern a)
 
   pub or_pattern_made : (a p : List Node) → whole ≡ form.OrPattern a →
       nodes_from (map tree_of p) ≡ nodes_renumbered f (nodes_from (map tree_of a)) →

@@ -1,4 +1,5 @@
-//! Blocks of a body as they are made, from the end of its code to its beginning: rules for what is no tree of words.
+//! Blocks of a body, made of the words of its code from the last to the first (the rustc development guide, "MIR
+//! construction"): the rules for what is no tree of words, and over them the recursion along the words.
 #![tactic(auto, using(crate::proofs::Chained::chains_last, crate::proofs::Chained::lines_last))]
 
 mod acting;

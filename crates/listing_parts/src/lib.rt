@@ -1,4 +1,5 @@
-//! Readers of the parts of a listing: words, numbers, places, operands, statements and terminators.
+//! Readers of the parts of a listing: words, numbers, names, places, operands, statements, terminators and types; and
+//! the heads under which a listing is read.
 #![tactic(auto)]
 
 mod begin;

@@ -1,5 +1,6 @@
-//! Listings, read: their sections, items and bodies with their signatures, as long as their lines come; and the graph
-//! behind their first line.
+//! Listings, read: the graph of a listing, its first wrong line, or the first fault of its graph. Below that their
+//! sections, items and bodies with their signatures, as long as their lines come, and the graph behind their first
+//! line.
 #![tactic(auto)]
 
 mod bodies;

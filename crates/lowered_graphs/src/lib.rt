@@ -1,4 +1,5 @@
-//! The laws that the lines of lowered bodies are well typed, and the graphs of lowered programs well formed.
+//! The laws that the lines of lowered bodies are well typed, and the graphs of lowered programs well formed, as those
+//! of accepted texts are.
 #![tactic(auto)]
 
 mod accepted_laws;

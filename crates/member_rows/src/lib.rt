@@ -1,5 +1,6 @@
 //! How the rows of fields and methods end, once what they are of is checked: boxes and references are gone through up
-//! to the first type that has the field or the method.
+//! to the first type that has the field or the method. And struct expressions: how they begin, the types that are
+//! required of their fields, which field an initialiser names, and how they end.
 #![tactic(auto)]
 
 mod fields;

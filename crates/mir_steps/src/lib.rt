@@ -1,4 +1,5 @@
-//! What statements and terminators of a graph do to what a run has at hand.
+//! What statements and terminators of a graph do to what a run has at hand; and drops of what stands at an address,
+//! turn by turn: what is left of a drop is a list, so that deep values and nested drops do not deepen the stack.
 #![tactic(auto)]
 
 mod actions;

@@ -38,12 +38,20 @@ struct Slot {
 
 /// The variables in scope. To enter one, to leave it, and to find one by its name cost about the same however many
 /// there are.
-#[derive(Drop)]
 pub struct Variables {
     /// The oldest first.
     slots: List<Slot>,
     /// The place of the youngest variable of each name that is in scope.
     youngest: HashMap<String, u32>,
+}
+
+/// As a derived one; but written here, it is proved here, and not again in each crate in which variables end.
+impl Drop for Variables {
+    fn drop(self) {
+        let Variables { slots, youngest } = self;
+        drop(slots);
+        drop(youngest);
+    }
 }
 
 impl Model for Variables {

@@ -1,5 +1,5 @@
 -- What is found among the parts of a form is found in the form.
-use Rattle.std.proofs.Common.{◌≡◌, ◌∙◌, ℕ, List, ◌++◌, Option, None, Some, ◌⊎◌, inl, inr, ap, sym, map}
+use Rattle.std.proofs.Common.{◌≡◌, ◌∙◌, ℕ, List, ◌++◌, Option, ◌⊎◌, inl, inr, ap, sym, map}
 use Rattle.mir_base.specs.declared.operator.Cmp.{Cmp}
 use Rattle.mir_base.specs.declared.operator.Math.{Math}
 use Rattle.std.specs.Borrow.{Bor}
@@ -8,34 +8,34 @@ use Rattle.std.specs.Prelude.{Box}
 use Rattle.std.specs.declared.alloc.Global.{Global}
 use Rattle.typed_tree.specs.Tree as plain
 use Rattle.typed_tree.specs.Nodes.{nodes_of, nodes_in, nodes_among, nodes_if_any, first_with}
-use Rattle.typed_tree.specs.View.{tree_of, form_of, maybe_of, nodes_from, tree_found, form_layer, node_layer, field_layer}
-use Rattle.typed_tree.specs.declared.node.Form.{Form, Form-F, fold-roll-Form, And, Arithmetic, Arm, Assign, Block, ClosureCall, Comparison, If, IfLet, Index, Let, Match, MethodCall, Or, VirtualCall, While, WhileLet}
-use Rattle.typed_tree.specs.declared.node.Form.TheViews.{rolls-And, rolls-Arithmetic, rolls-Arm, rolls-Assign, rolls-Block, rolls-ClosureCall, rolls-Comparison, rolls-If, rolls-IfLet, rolls-Index, rolls-Let, rolls-Match, rolls-MethodCall, rolls-Or, rolls-VirtualCall, rolls-While, rolls-WhileLet}
+use Rattle.typed_tree.specs.View.{tree_of, form_of, maybe_of, nodes_from, tree_found}
+use Rattle.typed_tree.specs.declared.node.Form.{Form, And, Arithmetic, Arm, Assign, Block, ClosureCall, Comparison, If, IfLet, Index, Let, Match, MethodCall, Or, VirtualCall, While, WhileLet}
 use Rattle.typed_tree.specs.declared.node.Node.{Node}
+use Rattle.typed_tree.proofs.PlainForms.{and_seen, arithmetic_seen, arm_seen, assign_seen, block_seen, closure_call_seen, comparison_seen, if_let_seen, if_seen, index_seen, let_seen, match_seen, method_call_seen, or_seen, virtual_call_seen, while_let_seen, while_seen}
 use Rattle.typed_tree.proofs.SearchLemmas.{found_either}
 
 -- two operands of a form, whichever form it is
 module _ (a b : Box Node Global) where
   index_nodes : (n : ℕ) → nodes_in (form_of (Index a b n)) ≡ nodes_of (tree_of a.value) ++ nodes_of (tree_of b.value)
-  index_nodes n = ap (λ (f : Form). nodes_in (form_of f)) (sym (rolls-Index a b n)) ∙ ap nodes_in (fold-roll-Form plain.Form plain.Node (ℕ × plain.Node) form_layer node_layer field_layer (Form-F.Index a b n))
+  index_nodes n = ap nodes_in (index_seen a b n)
 
   arithmetic_nodes : (op : Math) → nodes_in (form_of (Arithmetic op a b)) ≡ nodes_of (tree_of a.value) ++ nodes_of (tree_of b.value)
-  arithmetic_nodes op = ap (λ (f : Form). nodes_in (form_of f)) (sym (rolls-Arithmetic op a b)) ∙ ap nodes_in (fold-roll-Form plain.Form plain.Node (ℕ × plain.Node) form_layer node_layer field_layer (Form-F.Arithmetic op a b))
+  arithmetic_nodes op = ap nodes_in (arithmetic_seen op a b)
 
   comparison_nodes : (op : Cmp) → nodes_in (form_of (Comparison op a b)) ≡ nodes_of (tree_of a.value) ++ nodes_of (tree_of b.value)
-  comparison_nodes op = ap (λ (f : Form). nodes_in (form_of f)) (sym (rolls-Comparison op a b)) ∙ ap nodes_in (fold-roll-Form plain.Form plain.Node (ℕ × plain.Node) form_layer node_layer field_layer (Form-F.Comparison op a b))
+  comparison_nodes op = ap nodes_in (comparison_seen op a b)
 
   and_nodes : nodes_in (form_of (And a b)) ≡ nodes_of (tree_of a.value) ++ nodes_of (tree_of b.value)
-  and_nodes = ap (λ (f : Form). nodes_in (form_of f)) (sym (rolls-And a b)) ∙ ap nodes_in (fold-roll-Form plain.Form plain.Node (ℕ × plain.Node) form_layer node_layer field_layer (Form-F.And a b))
+  and_nodes = ap nodes_in (and_seen a b)
 
   or_nodes : nodes_in (form_of (Or a b)) ≡ nodes_of (tree_of a.value) ++ nodes_of (tree_of b.value)
-  or_nodes = ap (λ (f : Form). nodes_in (form_of f)) (sym (rolls-Or a b)) ∙ ap nodes_in (fold-roll-Form plain.Form plain.Node (ℕ × plain.Node) form_layer node_layer field_layer (Form-F.Or a b))
+  or_nodes = ap nodes_in (or_seen a b)
 
   assign_nodes : nodes_in (form_of (Assign a b)) ≡ nodes_of (tree_of a.value) ++ nodes_of (tree_of b.value)
-  assign_nodes = ap (λ (f : Form). nodes_in (form_of f)) (sym (rolls-Assign a b)) ∙ ap nodes_in (fold-roll-Form plain.Form plain.Node (ℕ × plain.Node) form_layer node_layer field_layer (Form-F.Assign a b))
+  assign_nodes = ap nodes_in (assign_seen a b)
 
   while_nodes : nodes_in (form_of (While a b)) ≡ nodes_of (tree_of a.value) ++ nodes_of (tree_of b.value)
-  while_nodes = ap (λ (f : Form). nodes_in (form_of f)) (sym (rolls-While a b)) ∙ ap nodes_in (fold-roll-Form plain.Form plain.Node (ℕ × plain.Node) form_layer node_layer field_layer (Form-F.While a b))
+  while_nodes = ap nodes_in (while_seen a b)
 
   pub two_operands : (form : Form) → ((n : ℕ) × form ≡ Index a b n) ⊎ (((op : Math) × form ≡ Arithmetic op a b) ⊎ (((op : Cmp) × form ≡ Comparison op a b) ⊎ ((form ≡ And a b) ⊎ ((form ≡ Or a b) ⊎ ((form ≡ Assign a b) ⊎ (form ≡ While a b)))))) →
       nodes_in (form_of form) ≡ nodes_of (tree_of a.value) ++ nodes_of (tree_of b.value)
@@ -50,16 +50,16 @@ module _ (a b : Box Node Global) where
 -- an operand of a form, and nodes
 module _ (a : Box Node Global) (l : List Node) where
   method_call_nodes : (n : ℕ) → nodes_in (form_of (MethodCall n a l)) ≡ nodes_of (tree_of a.value) ++ nodes_among (nodes_from (map tree_of l))
-  method_call_nodes n = ap (λ (f : Form). nodes_in (form_of f)) (sym (rolls-MethodCall n a l)) ∙ ap nodes_in (fold-roll-Form plain.Form plain.Node (ℕ × plain.Node) form_layer node_layer field_layer (Form-F.MethodCall n a l))
+  method_call_nodes n = ap nodes_in (method_call_seen n a l)
 
   virtual_call_nodes : (n : ℕ) (m : ℕ) → nodes_in (form_of (VirtualCall n m a l)) ≡ nodes_of (tree_of a.value) ++ nodes_among (nodes_from (map tree_of l))
-  virtual_call_nodes n m = ap (λ (f : Form). nodes_in (form_of f)) (sym (rolls-VirtualCall n m a l)) ∙ ap nodes_in (fold-roll-Form plain.Form plain.Node (ℕ × plain.Node) form_layer node_layer field_layer (Form-F.VirtualCall n m a l))
+  virtual_call_nodes n m = ap nodes_in (virtual_call_seen n m a l)
 
   closure_call_nodes : (n : ℕ) → nodes_in (form_of (ClosureCall n a l)) ≡ nodes_of (tree_of a.value) ++ nodes_among (nodes_from (map tree_of l))
-  closure_call_nodes n = ap (λ (f : Form). nodes_in (form_of f)) (sym (rolls-ClosureCall n a l)) ∙ ap nodes_in (fold-roll-Form plain.Form plain.Node (ℕ × plain.Node) form_layer node_layer field_layer (Form-F.ClosureCall n a l))
+  closure_call_nodes n = ap nodes_in (closure_call_seen n a l)
 
   match_nodes : nodes_in (form_of (Match a l)) ≡ nodes_of (tree_of a.value) ++ nodes_among (nodes_from (map tree_of l))
-  match_nodes = ap (λ (f : Form). nodes_in (form_of f)) (sym (rolls-Match a l)) ∙ ap nodes_in (fold-roll-Form plain.Form plain.Node (ℕ × plain.Node) form_layer node_layer field_layer (Form-F.Match a l))
+  match_nodes = ap nodes_in (match_seen a l)
 
   pub operand_and_nodes : (form : Form) → ((n : ℕ) × form ≡ MethodCall n a l) ⊎ (((n : ℕ) × (m : ℕ) × form ≡ VirtualCall n m a l) ⊎ (((n : ℕ) × form ≡ ClosureCall n a l) ⊎ (form ≡ Match a l))) →
       nodes_in (form_of form) ≡ nodes_of (tree_of a.value) ++ nodes_among (nodes_from (map tree_of l))
@@ -70,32 +70,27 @@ module _ (a : Box Node Global) (l : List Node) where
 
 block_nodes : (s : List Node) (t : Option (Box Node Global)) →
     nodes_in (form_of (Block s t)) ≡ nodes_among (nodes_from (map tree_of s)) ++ nodes_if_any (maybe_of t)
-block_nodes s None = ap (λ (f : Form). nodes_in (form_of f)) (sym (rolls-Block s None)) ∙ ap nodes_in (fold-roll-Form plain.Form plain.Node (ℕ × plain.Node) form_layer node_layer field_layer (Form-F.Block s None))
-block_nodes s (Some q) = ap (λ (f : Form). nodes_in (form_of f)) (sym (rolls-Block s (Some q))) ∙ ap nodes_in (fold-roll-Form plain.Form plain.Node (ℕ × plain.Node) form_layer node_layer field_layer (Form-F.Block s (Some q)))
+block_nodes s o = ap nodes_in (block_seen s o)
 
 let_nodes : (p : Box Node Global) (i : Option (Box Node Global)) →
     nodes_in (form_of (Let p i)) ≡ nodes_of (tree_of p.value) ++ nodes_if_any (maybe_of i)
-let_nodes p None = ap (λ (f : Form). nodes_in (form_of f)) (sym (rolls-Let p None)) ∙ ap nodes_in (fold-roll-Form plain.Form plain.Node (ℕ × plain.Node) form_layer node_layer field_layer (Form-F.Let p None))
-let_nodes p (Some q) = ap (λ (f : Form). nodes_in (form_of f)) (sym (rolls-Let p (Some q))) ∙ ap nodes_in (fold-roll-Form plain.Form plain.Node (ℕ × plain.Node) form_layer node_layer field_layer (Form-F.Let p (Some q)))
+let_nodes p o = ap nodes_in (let_seen p o)
 
 if_nodes : (c t : Box Node Global) (o : Option (Box Node Global)) →
     nodes_in (form_of (If c t o)) ≡ nodes_of (tree_of c.value) ++ nodes_of (tree_of t.value) ++ nodes_if_any (maybe_of o)
-if_nodes c t None = ap (λ (f : Form). nodes_in (form_of f)) (sym (rolls-If c t None)) ∙ ap nodes_in (fold-roll-Form plain.Form plain.Node (ℕ × plain.Node) form_layer node_layer field_layer (Form-F.If c t None))
-if_nodes c t (Some q) = ap (λ (f : Form). nodes_in (form_of f)) (sym (rolls-If c t (Some q))) ∙ ap nodes_in (fold-roll-Form plain.Form plain.Node (ℕ × plain.Node) form_layer node_layer field_layer (Form-F.If c t (Some q)))
+if_nodes c t o = ap nodes_in (if_seen c t o)
 
 if_let_nodes : (p s t : Box Node Global) (o : Option (Box Node Global)) →
     nodes_in (form_of (IfLet p s t o)) ≡ nodes_of (tree_of p.value) ++ nodes_of (tree_of s.value) ++ nodes_of (tree_of t.value) ++ nodes_if_any (maybe_of o)
-if_let_nodes p s t None = ap (λ (f : Form). nodes_in (form_of f)) (sym (rolls-IfLet p s t None)) ∙ ap nodes_in (fold-roll-Form plain.Form plain.Node (ℕ × plain.Node) form_layer node_layer field_layer (Form-F.IfLet p s t None))
-if_let_nodes p s t (Some q) = ap (λ (f : Form). nodes_in (form_of f)) (sym (rolls-IfLet p s t (Some q))) ∙ ap nodes_in (fold-roll-Form plain.Form plain.Node (ℕ × plain.Node) form_layer node_layer field_layer (Form-F.IfLet p s t (Some q)))
+if_let_nodes p s t o = ap nodes_in (if_let_seen p s t o)
 
 arm_nodes : (p : Box Node Global) (g : Option (Box Node Global)) (b : Box Node Global) →
     nodes_in (form_of (Arm p g b)) ≡ nodes_of (tree_of p.value) ++ nodes_if_any (maybe_of g) ++ nodes_of (tree_of b.value)
-arm_nodes p None b = ap (λ (f : Form). nodes_in (form_of f)) (sym (rolls-Arm p None b)) ∙ ap nodes_in (fold-roll-Form plain.Form plain.Node (ℕ × plain.Node) form_layer node_layer field_layer (Form-F.Arm p None b))
-arm_nodes p (Some q) b = ap (λ (f : Form). nodes_in (form_of f)) (sym (rolls-Arm p (Some q) b)) ∙ ap nodes_in (fold-roll-Form plain.Form plain.Node (ℕ × plain.Node) form_layer node_layer field_layer (Form-F.Arm p (Some q) b))
+arm_nodes p o b = ap nodes_in (arm_seen p o b)
 
 while_let_nodes : (p s b : Box Node Global) →
     nodes_in (form_of (WhileLet p s b)) ≡ nodes_of (tree_of p.value) ++ nodes_of (tree_of s.value) ++ nodes_of (tree_of b.value)
-while_let_nodes p s b = ap (λ (f : Form). nodes_in (form_of f)) (sym (rolls-WhileLet p s b)) ∙ ap nodes_in (fold-roll-Form plain.Form plain.Node (ℕ × plain.Node) form_layer node_layer field_layer (Form-F.WhileLet p s b))
+while_let_nodes p s b = ap nodes_in (while_let_seen p s b)
 
 -- what is found below a box, by the node that was read there
 below : (id : ℕ) (b : Box Node Global) (x : Node) (found : Option (Bor Node)) → x ≡ b.value → tree_found found ≡ first_with id (nodes_of (tree_of x)) →

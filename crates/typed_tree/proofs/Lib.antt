@@ -3,4 +3,5 @@ pub mod NumberLemmas
 pub mod SearchLemmas
 pub mod ViewLemmas
 mod Following
-mod PlainForms
+pub mod PlainForms
+mod FoundNodes

@@ -1,4 +1,5 @@
-//! The typed tree of a program: every node with its type, its use of a place, and the numbers of what it means.
+//! The typed tree of a program: every node with its type, its use of a place, and the numbers of what it means. Nodes
+//! are found by their numbers, or listed in text order.
 #![tactic(auto)]
 
 mod body;

@@ -20,7 +20,6 @@ pub enum Use {
 }
 
 /// A node of a body's typed tree.
-#[derive(Drop)]
 #[cycle(node)]
 pub struct Node {
     /// Its number among the nodes of its body, in text order.
@@ -32,6 +31,21 @@ pub struct Node {
     /// How it uses its place; `None` where it is no place.
     pub by: Option<Use>,
     pub form: Form,
+}
+
+/// As a derived one; but written here, it is proved here, and not again in each crate in which a node ends.
+impl Drop for Node {
+    #[cycle(node)]
+    fn drop(self) {
+        let Node {
+            id: _,
+            at: _,
+            ty: _,
+            by: _,
+            form,
+        } = self;
+        drop(form);
+    }
 }
 
 /// A field of a struct expression, a variant or a pattern, by its number in the order of declaration.

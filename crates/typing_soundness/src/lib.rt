@@ -1,4 +1,4 @@
-//! What is typed is well typed: laws of the rules of typing.
+//! What is typed is well typed: laws of the rules of typing; and the syntax tree of a text is one as these laws ask.
 #![tactic(auto)]
 
 mod law;

@@ -1,5 +1,5 @@
 use Rattle.body_code.proofs.Elements.{of_element}
-use Rattle.body_code.proofs.PlainForms.{array_form, block_form, call_form, closure_form, index_form, make_form, match_form, tuple_form, virtual_call_form}
+use Rattle.typed_tree.proofs.PlainForms.{array_form, block_form, call_form, closure_form, index_form, make_form, match_form, tuple_form, virtual_call_form}
 use Rattle.body_code.proofs.Grouped.{does_nothing, not_in}
 use Rattle.body_code.proofs.OfOperands.{on_all, each, of_nodes, of_first_and_nodes, of_fields}
 use Rattle.body_code.proofs.Statements.{of_match, of_block, of_declared, of_parts, parted}
@@ -108,7 +108,7 @@ call_code-returns-in_ok-called_virtual-in-VirtualCall t c =
     let action : EffectSite → List Operand → Action = λ site. effects.CallVirtual site c.in-VirtualCall.trait_no c.in-VirtualCall.method in
     let before : List Op = ops_of c.args.code.now in
     let is : on_all c.args.at (code items (tree_of first) ∷ each items nodes) action ≡ form_code items (form_of c.args.form.now) c.args.at =
-    ap (λ (form : Form). form_code items form c.args.at) (sym (virtual_call_form _ _ _ c.as_slice-args-in-VirtualCall.ensures _ _ c.deref-receiver.ensures _ _ c.in-VirtualCall.is)) in
+    ap (λ (form : Form). form_code items form c.args.at) (sym (virtual_call_form _ _ _ c.deref-receiver.ensures _ _ c.as_slice-args-in-VirtualCall.ensures _ _ c.in-VirtualCall.is)) in
     let keys : keys_seen c.in_ok-keys-in-VirtualCall.keys ≡ first.id.0 ∷ map (λ n. n.id.0) nodes = c.in_ok-keys-in-VirtualCall.ensures in
     of_first_and_nodes items c.args.at nodes (keys_seen c.in_ok-keys-in-VirtualCall.keys) action before first
     (ops_of c.node_code.new.code) (ops_of c.nodes_code-in-VirtualCall.new.code) (ops_of c.push.new.self) (ops_of c.called_virtual.new.code)
@@ -135,7 +135,7 @@ part_code-returns-in_ok-element-in-Index t c =
     let index : tree.Node = tree_of c.deref-index.result.now in
     let number : (code items index).head.id ≡ c.deref-index.result.now.id.0 = search (rules, the_lemmas) in
     let is : reach_element (head_of c.args.at.head) (shape_of items (tree.Index base index c.in-Index.length) (head_of c.args.at.head)) (code items base) (code items index) c.in-Index.length (around_of c.args.at.around) ≡ form_code items (form_of c.args.form.now) c.args.at =
-    ap (λ (form : Form). form_code items form c.args.at) (sym (index_form _ _ _ _ _ c.deref-base.ensures c.deref-index.ensures _ c.in-Index.is)) in
+    ap (λ (form : Form). form_code items form c.args.at) (sym (index_form _ _ _ c.deref-base.ensures _ _ c.deref-index.ensures _ c.in-Index.is)) in
     of_element items (head_of c.args.at.head) (around_of c.args.at.around) base index c.in-Index.length
     (named c.in_ok-array-in-Index.array) (ops_of c.args.code.now) (ops_of c.node_code.new.code) (ops_of c.node_code-in-Index.new.code) (ops_of c.element.new.code)
     (c.in_ok-element-in-Index.ensures
@@ -152,7 +152,7 @@ pattern_code-returns-in_ok-push-in-Match-3 t c =
     let place : Place = named c.in_ok-place-in-Match.place in
     let number : (code items scrutinee).head.id ≡ c.deref-scrutinee.result.now.id.0 = search (rules, the_lemmas) in
     let form : form_of c.args.form.now ≡ tree.Match scrutinee (nodes_from (map tree_of c.as_slice.result.now)) =
-    match_form _ _ _ c.as_slice.ensures _ _ c.deref-scrutinee.ensures c.in-Match.is in
+    match_form _ _ _ c.deref-scrutinee.ensures _ _ c.as_slice.ensures c.in-Match.is in
     let is : matching (head_of c.args.at.head) (code items scrutinee) ms (around_of c.args.at.around) c.args.at.own (destination_of c.args.at.to) ≡ form_code items (form_of c.args.form.now) c.args.at =
     ap (λ (form : Form). form_code items form c.args.at) (sym form) in
     of_match items (head_of c.args.at.head) (around_of c.args.at.around) c.args.at.own (destination_of c.args.at.to) ms place (ops_of c.args.code.now) scrutinee

@@ -3,7 +3,7 @@ use Rattle.typed_tree.specs.declared.body.Param.{Param}
 use Rattle.typed_tree.specs.View.{param_tree}
 use Rattle.body_locals.specs.View.{entry_of, inside, inside_params}
 use Rattle.body_locals.proofs.Following.{one_more}
-use Rattle.body_locals.proofs.PlainForms.{node_seen}
+use Rattle.typed_tree.proofs.PlainForms.{node_seen}
 use Rattle.body_locals.proofs.body.add_in_params.Goals as goal
 
 pub loop-param-preserved : goal.loop-param-preserved

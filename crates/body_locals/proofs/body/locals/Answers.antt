@@ -9,7 +9,7 @@ use Rattle.typed_tree.specs.Tree.{node}
 use Rattle.typed_tree.specs.View.{tree_of, form_of, param_tree, body_of}
 use Rattle.body_locals.specs.View.{entry_of, param_entry, inside, inside_params}
 use Rattle.body_locals.proofs.Bodies.{locals_are}
-use Rattle.body_locals.proofs.PlainForms.{node_seen}
+use Rattle.typed_tree.proofs.PlainForms.{node_seen}
 use Rattle.body_locals.proofs.body.locals.Goals as goal
 
 pub returns : goal.returns

@@ -10,7 +10,8 @@ use Rattle.body_locals.specs.Own.{own_local, where_true}
 use Rattle.body_locals.specs.View.{entry_of, locals_of, locals_if_any, asked_of_initialiser}
 use Rattle.body_locals.proofs.Following.{one_more, two_behind}
 use Rattle.body_locals.proofs.OwnFirst.{own_first}
-use Rattle.body_locals.proofs.PlainForms.{node_seen, field_seen, arm_found, block_found, call_found, if_found, if_let_found, let_found, match_found, operands_found, reaching_found, shortcut_found, while_found, while_let_found}
+use Rattle.typed_tree.proofs.PlainForms.{node_seen, value_seen}
+use Rattle.body_locals.proofs.FoundLocals.{arm_found, block_found, call_found, if_found, if_let_found, let_found, match_found, operands_found, reaching_found, shortcut_found, while_found, while_let_found}
 use Rattle.body_locals.proofs.parts.+parts.Goals as goal
 
 pub add_nodes-loop-node-preserved : goal.add_nodes-loop-node-preserved
@@ -24,7 +25,7 @@ add_fields-loop-field-preserved t c =
     let F = λ (all : List NumberedField). cells_of_fields c.args.items.now (fields_from (map field_of all)) in
     let part = λ (x : NumberedField). cells c.args.items.now true (field_of x).1 in
     let is_new : map entry_of c.add_node.new.found ≡ map entry_of c.loop-field.found ++ part c.field-item.result =
-    c.in_ok-add_node.ensures ∙ ap (λ (n : tree.Node). map entry_of c.loop-field.found ++ cells c.args.items.now true n) (sym (field_seen c.field-item.result)) in
+    c.in_ok-add_node.ensures ∙ ap (λ (n : tree.Node). map entry_of c.loop-field.found ++ cells c.args.items.now true n) (sym (value_seen c.field-item.result)) in
     one_more F part c.args.fields.now c.loop-field.field-index c.field-item.result _ _ _ (λ x rest. refl) c.loop-field-test.true c.field-item.is is_new c.loop-field.invariant
 
 pub add_node-returns : goal.add_node-returns

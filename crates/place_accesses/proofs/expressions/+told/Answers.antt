@@ -14,7 +14,8 @@ use Rattle.place_accesses.specs.Forms.{argument_told, arm_told, borrow_access, b
 use Rattle.place_accesses.specs.View.{access_in, aliases_in, argument_in, bound_in, place_if_any, referring_if_any, told_in}
 use Rattle.place_accesses.specs.declared.arguments.Argument as rust
 use Rattle.place_accesses.proofs.Arms.{by_form}
-use Rattle.place_accesses.proofs.Forms.{arm_form, argument_by_form, assign_form, block_form, borrow_form, call_form, closure_call_form, field_seen, if_form, if_let_form, index_form, let_form, match_form, method_told, node_seen, operands_told, plain_argument, told_by_form, while_let_form}
+use Rattle.typed_tree.proofs.PlainForms.{arm_form, assign_form, block_form, borrow_form, call_form, closure_call_form, if_form, if_let_form, index_form, let_form, match_form, node_seen, value_seen, while_let_form}
+use Rattle.place_accesses.proofs.Forms.{argument_by_form, method_told, operands_told, plain_argument, told_by_form}
 use Rattle.place_accesses.proofs.Joined.{one, two, three, four, one_more, one_more_listed}
 use Rattle.place_accesses.proofs.expressions.+told.Goals as goal
 
@@ -212,7 +213,7 @@ tell_fields-loop-field-preserved t c =
     let F = λ (all : List NumberedField). told_fields A (fields_from (map field_of all)) in
     let part = λ (x : NumberedField). told A (field_of x).1 in
     let is_new : told_in c.tell.new.out ≡ (told_in c.loop-field.out ⊕ part c.field-item.result) =
-    c.in_ok-tell.ensures ∙ ap (λ (n : tree.Node). told_in c.loop-field.out ⊕ told A n) (sym (field_seen c.field-item.result)) in
+    c.in_ok-tell.ensures ∙ ap (λ (n : tree.Node). told_in c.loop-field.out ⊕ told A n) (sym (value_seen c.field-item.result)) in
     one_more F part c.args.fields.now c.loop-field.field-index c.field-item.result _ _ _ (λ x rest. refl) c.loop-field-test.true c.field-item.is is_new c.loop-field.invariant
 
 pub tell_arms-loop-arm-preserved : goal.tell_arms-loop-arm-preserved

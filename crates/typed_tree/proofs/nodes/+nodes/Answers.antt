@@ -7,7 +7,9 @@ use Rattle.typed_tree.specs.Tree as tree
 use Rattle.typed_tree.specs.View.{tree_of, field_of, nodes_from, fields_from}
 use Rattle.typed_tree.specs.Listed.{trees}
 use Rattle.typed_tree.proofs.Following.{one_more}
-use Rattle.typed_tree.proofs.PlainForms.{arm_found, block_found, field_seen, if_found, if_let_found, let_found, operand_and_nodes, operand_and_nodes_found, operands_found, two_operands, while_let_found}
+use Rattle.typed_tree.proofs.FormNodes.{operand_and_nodes, two_operands}
+use Rattle.typed_tree.proofs.FoundNodes.{arm_found, block_found, if_found, if_let_found, let_found, operand_and_nodes_found, operands_found, while_let_found}
+use Rattle.typed_tree.proofs.PlainForms.{value_seen}
 use Rattle.typed_tree.proofs.nodes.+nodes.Goals as goal
 
 pub add_nodes-loop-node-preserved : goal.add_nodes-loop-node-preserved
@@ -21,7 +23,7 @@ add_fields-loop-field-preserved t c =
     let F = λ (all : List NumberedField). nodes_of_fields (fields_from (map field_of all)) in
     let part = λ (x : NumberedField). nodes_of (field_of x).1 in
     let is_new : trees c.add_node.new.found ≡ trees c.loop-field.found ++ part c.field-item.result =
-    c.in_ok-add_node.ensures ∙ ap (λ (n : tree.Node). trees c.loop-field.found ++ nodes_of n) (sym (field_seen c.field-item.result)) in
+    c.in_ok-add_node.ensures ∙ ap (λ (n : tree.Node). trees c.loop-field.found ++ nodes_of n) (sym (value_seen c.field-item.result)) in
     one_more F part c.args.fields.now c.loop-field.field-index c.field-item.result _ _ _ (λ x rest. refl) c.loop-field-test.true c.field-item.is is_new c.loop-field.invariant
 
 pub add_in_form-returns-in_ok-add_node-in-Index : goal.add_in_form-returns-in_ok-add_node-in-Index

@@ -1,5 +1,5 @@
 -- The locals of a form of several parts, whose nodes are seen through their boxes.
-use Rattle.std.proofs.Common.{◌≡◌, ◌++◌, ◌∙◌, ℕ, List, Option, None, Some, ◌⊎◌, inl, inr, true, false, rules, refl, ap, sym, map}
+use Rattle.std.proofs.Common.{◌≡◌, ◌++◌, ◌∙◌, ℕ, List, Option, ◌⊎◌, inl, inr, true, false, refl, ap, sym, map}
 use Rattle.std.specs.Prelude.{Box}
 use Rattle.std.specs.declared.alloc.Global.{Global}
 use Rattle.mir_base.specs.declared.operator.Cmp.{Cmp}
@@ -7,81 +7,17 @@ use Rattle.mir_base.specs.declared.operator.Math.{Math}
 use Rattle.mir_ty.specs.ItemTable.{ItemTable}
 use Rattle.src_meaning.specs.Locals.OfBody.{cells, reached_cells, cells_in, all_cells, cells_if_any, initial_cells}
 use Rattle.src_meaning.specs.Scopes.{Entry}
-use Rattle.typed_tree.specs.declared.node.Form.{Form, Form-F, fold-roll-Form, And, Arithmetic, Arm, Assign, Block, ClosureCall, Comparison, If, IfLet, Index, Let, Match, MethodCall, Or, VirtualCall, While, WhileLet, the_lemmas}
-use Rattle.typed_tree.specs.declared.node.Form.TheViews.{rolls-And, rolls-Arithmetic, rolls-Arm, rolls-Assign, rolls-Block, rolls-ClosureCall, rolls-Comparison, rolls-If, rolls-IfLet, rolls-Index, rolls-Let, rolls-Match, rolls-MethodCall, rolls-Or, rolls-VirtualCall, rolls-While, rolls-WhileLet}
+use Rattle.typed_tree.specs.declared.node.Form.{Form, And, Arithmetic, Arm, Assign, Block, ClosureCall, Comparison, If, IfLet, Index, Let, Match, MethodCall, Or, VirtualCall, While, WhileLet}
 use Rattle.typed_tree.specs.declared.node.Node.{Node}
-use Rattle.typed_tree.specs.declared.node.NumberedField.{NumberedField}
+use Rattle.typed_tree.proofs.PlainForms.{and_seen, arithmetic_seen, arm_seen, assign_seen, block_seen, closure_call_seen, comparison_seen, if_let_seen, if_seen, index_seen, let_seen, match_seen, method_call_seen, or_seen, virtual_call_seen, while_let_seen, while_seen}
 use Rattle.typed_tree.specs.Tree as tree
-use Rattle.typed_tree.specs.View.{tree_of, form_of, field_of, maybe_of, nodes_from, form_layer, node_layer, field_layer}
+use Rattle.typed_tree.specs.View.{tree_of, form_of, maybe_of, nodes_from}
 use Rattle.body_locals.specs.Groups.{has_branches, has_members, has_operands, has_place, has_statements}
 use Rattle.body_locals.specs.Own.{where_true}
 use Rattle.body_locals.specs.View.{locals_if_any, asked_of_initialiser}
 use Rattle.body_locals.specs.declared.own.AskedAs.{AskedAs}
 use Rattle.body_locals.proofs.Following.{two_behind, three_behind}
 use Rattle.body_locals.proofs.OwnFirst.{initialiser}
-
-pub node_seen : (n : Node) → tree_of n ≡ tree.node n.id.0 n.at n.ty n.by (form_of n.form)
-node_seen n = search (rules, the_lemmas)
-
-pub field_seen : (field : NumberedField) → (field_of field).1 ≡ tree_of field.value
-field_seen field = search (rules, the_lemmas)
-
--- the plain forms of forms
-arm_seen : (p : Box Node Global) (g : Option (Box Node Global)) (b : Box Node Global) → form_of (Arm p g b) ≡ tree.Arm (tree_of p.value) (maybe_of g) (tree_of b.value)
-arm_seen p None b = ap form_of (sym (rolls-Arm p None b)) ∙ fold-roll-Form tree.Form tree.Node (ℕ × tree.Node) form_layer node_layer field_layer (Form-F.Arm p None b)
-arm_seen p (Some q) b = ap form_of (sym (rolls-Arm p (Some q) b)) ∙ fold-roll-Form tree.Form tree.Node (ℕ × tree.Node) form_layer node_layer field_layer (Form-F.Arm p (Some q) b)
-
-block_seen : (s : List Node) (t : Option (Box Node Global)) → form_of (Block s t) ≡ tree.Block (nodes_from (map tree_of s)) (maybe_of t)
-block_seen s None = ap form_of (sym (rolls-Block s None)) ∙ fold-roll-Form tree.Form tree.Node (ℕ × tree.Node) form_layer node_layer field_layer (Form-F.Block s None)
-block_seen s (Some q) = ap form_of (sym (rolls-Block s (Some q))) ∙ fold-roll-Form tree.Form tree.Node (ℕ × tree.Node) form_layer node_layer field_layer (Form-F.Block s (Some q))
-
-if_seen : (c t : Box Node Global) (o : Option (Box Node Global)) → form_of (If c t o) ≡ tree.If (tree_of c.value) (tree_of t.value) (maybe_of o)
-if_seen c t None = ap form_of (sym (rolls-If c t None)) ∙ fold-roll-Form tree.Form tree.Node (ℕ × tree.Node) form_layer node_layer field_layer (Form-F.If c t None)
-if_seen c t (Some q) = ap form_of (sym (rolls-If c t (Some q))) ∙ fold-roll-Form tree.Form tree.Node (ℕ × tree.Node) form_layer node_layer field_layer (Form-F.If c t (Some q))
-
-if_let_seen : (p s t : Box Node Global) (o : Option (Box Node Global)) → form_of (IfLet p s t o) ≡ tree.IfLet (tree_of p.value) (tree_of s.value) (tree_of t.value) (maybe_of o)
-if_let_seen p s t None = ap form_of (sym (rolls-IfLet p s t None)) ∙ fold-roll-Form tree.Form tree.Node (ℕ × tree.Node) form_layer node_layer field_layer (Form-F.IfLet p s t None)
-if_let_seen p s t (Some q) = ap form_of (sym (rolls-IfLet p s t (Some q))) ∙ fold-roll-Form tree.Form tree.Node (ℕ × tree.Node) form_layer node_layer field_layer (Form-F.IfLet p s t (Some q))
-
-let_seen : (p : Box Node Global) (i : Option (Box Node Global)) → form_of (Let p i) ≡ tree.Let (tree_of p.value) (maybe_of i)
-let_seen p None = ap form_of (sym (rolls-Let p None)) ∙ fold-roll-Form tree.Form tree.Node (ℕ × tree.Node) form_layer node_layer field_layer (Form-F.Let p None)
-let_seen p (Some q) = ap form_of (sym (rolls-Let p (Some q))) ∙ fold-roll-Form tree.Form tree.Node (ℕ × tree.Node) form_layer node_layer field_layer (Form-F.Let p (Some q))
-
-match_seen : (s : Box Node Global) (a : List Node) → form_of (Match s a) ≡ tree.Match (tree_of s.value) (nodes_from (map tree_of a))
-match_seen s a = ap form_of (sym (rolls-Match s a)) ∙ fold-roll-Form tree.Form tree.Node (ℕ × tree.Node) form_layer node_layer field_layer (Form-F.Match s a)
-
-while_seen : (c b : Box Node Global) → form_of (While c b) ≡ tree.While (tree_of c.value) (tree_of b.value)
-while_seen c b = ap form_of (sym (rolls-While c b)) ∙ fold-roll-Form tree.Form tree.Node (ℕ × tree.Node) form_layer node_layer field_layer (Form-F.While c b)
-
-while_let_seen : (p s b : Box Node Global) → form_of (WhileLet p s b) ≡ tree.WhileLet (tree_of p.value) (tree_of s.value) (tree_of b.value)
-while_let_seen p s b = ap form_of (sym (rolls-WhileLet p s b)) ∙ fold-roll-Form tree.Form tree.Node (ℕ × tree.Node) form_layer node_layer field_layer (Form-F.WhileLet p s b)
-
-and_seen : (a b : Box Node Global) → form_of (And a b) ≡ tree.And (tree_of a.value) (tree_of b.value)
-and_seen a b = ap form_of (sym (rolls-And a b)) ∙ fold-roll-Form tree.Form tree.Node (ℕ × tree.Node) form_layer node_layer field_layer (Form-F.And a b)
-
-or_seen : (a b : Box Node Global) → form_of (Or a b) ≡ tree.Or (tree_of a.value) (tree_of b.value)
-or_seen a b = ap form_of (sym (rolls-Or a b)) ∙ fold-roll-Form tree.Form tree.Node (ℕ × tree.Node) form_layer node_layer field_layer (Form-F.Or a b)
-
-arithmetic_seen : (op : Math) (a b : Box Node Global) → form_of (Arithmetic op a b) ≡ tree.Arithmetic op (tree_of a.value) (tree_of b.value)
-arithmetic_seen op a b = ap form_of (sym (rolls-Arithmetic op a b)) ∙ fold-roll-Form tree.Form tree.Node (ℕ × tree.Node) form_layer node_layer field_layer (Form-F.Arithmetic op a b)
-
-comparison_seen : (op : Cmp) (a b : Box Node Global) → form_of (Comparison op a b) ≡ tree.Comparison op (tree_of a.value) (tree_of b.value)
-comparison_seen op a b = ap form_of (sym (rolls-Comparison op a b)) ∙ fold-roll-Form tree.Form tree.Node (ℕ × tree.Node) form_layer node_layer field_layer (Form-F.Comparison op a b)
-
-index_seen : (a b : Box Node Global) (n : ℕ) → form_of (Index a b n) ≡ tree.Index (tree_of a.value) (tree_of b.value) n
-index_seen a b n = ap form_of (sym (rolls-Index a b n)) ∙ fold-roll-Form tree.Form tree.Node (ℕ × tree.Node) form_layer node_layer field_layer (Form-F.Index a b n)
-
-assign_seen : (a b : Box Node Global) → form_of (Assign a b) ≡ tree.Assign (tree_of a.value) (tree_of b.value)
-assign_seen a b = ap form_of (sym (rolls-Assign a b)) ∙ fold-roll-Form tree.Form tree.Node (ℕ × tree.Node) form_layer node_layer field_layer (Form-F.Assign a b)
-
-method_call_seen : (n : ℕ) (a : Box Node Global) (l : List Node) → form_of (MethodCall n a l) ≡ tree.MethodCall n (tree_of a.value) (nodes_from (map tree_of l))
-method_call_seen n a l = ap form_of (sym (rolls-MethodCall n a l)) ∙ fold-roll-Form tree.Form tree.Node (ℕ × tree.Node) form_layer node_layer field_layer (Form-F.MethodCall n a l)
-
-virtual_call_seen : (n m : ℕ) (a : Box Node Global) (l : List Node) → form_of (VirtualCall n m a l) ≡ tree.VirtualCall n m (tree_of a.value) (nodes_from (map tree_of l))
-virtual_call_seen n m a l = ap form_of (sym (rolls-VirtualCall n m a l)) ∙ fold-roll-Form tree.Form tree.Node (ℕ × tree.Node) form_layer node_layer field_layer (Form-F.VirtualCall n m a l)
-
-closure_call_seen : (n : ℕ) (a : Box Node Global) (l : List Node) → form_of (ClosureCall n a l) ≡ tree.ClosureCall n (tree_of a.value) (nodes_from (map tree_of l))
-closure_call_seen n a l = ap form_of (sym (rolls-ClosureCall n a l)) ∙ fold-roll-Form tree.Form tree.Node (ℕ × tree.Node) form_layer node_layer field_layer (Form-F.ClosureCall n a l)
 
 -- how parts are asked for that may be missing
 around_if_any : (items : ItemTable) (v : tree.MaybeNode) → cells_if_any items false v ≡ locals_if_any items AskedAs.Around v
