@@ -9,7 +9,7 @@ use crate::places::NumberPlaces;
 use mir_base::{Key, List, NodeId};
 use std::alloc::Global;
 use std::mem;
-use typed_tree::{Form, Node, NumberedField};
+use typed_tree::{Form, Node, NumberedField, discard_form};
 
 /// A node gets another number, and those below it, and so does what it names.
 #[cycle(renumber)]
@@ -17,7 +17,7 @@ pub fn renumber(node: &mut Node, places: &NumberPlaces)
     ensures { tree_of node.new ≡ renumbered (placed places.now) (tree_of node.old) }
 {
     let form = mem::replace(&mut node.form, Form::UnitValue);
-    drop(mem::replace(&mut node.form, form_with(form, places)));
+    discard_form(mem::replace(&mut node.form, form_with(form, places)));
     node.id = NodeId(places.get(node.id.0));
 }
 

@@ -4,7 +4,7 @@
 //! dropped is then proved in the crate where it does. It is proved here, once, for all crates that hand their nodes on.
 ghost use Rattle.std.specs.Prelude.{◌≡◌, ◌∷◌, ◌++◌, [], IfOk, OnOk};
 
-use crate::{Node, NumberedField, Typed};
+use crate::{Form, Node, NumberedField, Typed};
 use mir_base::{List, NoMemory};
 use std::alloc::Global;
 
@@ -45,6 +45,11 @@ pub fn push_field(fields: &mut List<NumberedField>, field: NumberedField) -> Res
     ensures { OnOk result (fields.new ≡ fields.old ++ field ∷ []) }
 {
     fields.push(field)
+}
+
+/// A form is let go.
+pub fn discard_form(form: Form) {
+    drop(form);
 }
 
 /// A node is let go.

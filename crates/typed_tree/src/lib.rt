@@ -10,7 +10,9 @@ mod nodes;
 mod search;
 
 pub use body::{Param, TBody, Typed};
-pub use discard::{boxed_node, discard_fields, discard_node, discard_nodes, push_field, push_node};
+pub use discard::{
+    boxed_node, discard_fields, discard_form, discard_node, discard_nodes, push_field, push_node,
+};
 pub use law::law_numbers_in_order;
 pub use node::{Form, Node, NumberedField, Use};
 pub use nodes::{all_nodes, nodes_of};
