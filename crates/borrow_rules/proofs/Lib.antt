@@ -4,3 +4,8 @@ pub mod Lists
 pub mod Noting
 pub mod Sets
 pub mod Selves
+pub mod Alike
+pub mod Arms
+pub mod Forms
+pub mod Joined
+pub mod Keys

@@ -1,3 +1,5 @@
 pub mod Answers
 pub mod Found
 pub mod View
+pub mod Forms
+pub mod AccessView

@@ -1,0 +1,10 @@
+use Rattle.std.proofs.Common.{◌≡◌, ◌++◌, map, drop}
+use Rattle.std.specs.List.{filter_map}
+use Rattle.typing_rules.specs.Accesses as rules
+use Rattle.borrow_rules.specs.AccessView.{accessed_in, bound_in, place_if_any}
+use Rattle.borrow_rules.proofs.guards.against_guard.Given as goal
+
+abbrev pub invariant-loop-accessed : goal.invariant-loop-accessed
+invariant-loop-accessed l =
+    l.conflicts.items ++ filter_map (rules.against_guard (place_if_any l.scrutinee) (map bound_in l.bounds)) (map accessed_in (drop l.accessed-index l.accesses))
+    ≡ filter_map (rules.against_guard (place_if_any l.scrutinee) (map bound_in l.bounds)) (map accessed_in l.accesses)

@@ -1,8 +1,0 @@
-use Rattle.std.proofs.Common.{◌≡◌, map, drop}
-use Rattle.typing_rules.specs.Accesses.{begin_alike}
-use Rattle.place_accesses.specs.View.{step_in}
-use Rattle.place_accesses.proofs.place.begin_alike.Given as goal
-
-abbrev pub invariant-loop-n : goal.invariant-loop-n
-invariant-loop-n l =
-    begin_alike (map step_in (drop l.n l.a)) (map step_in (drop l.n l.b)) ≡ begin_alike (map step_in l.a) (map step_in l.b)
