@@ -4,7 +4,6 @@ use Rattle.std.proofs.lemmas.List.{append_cancel_left, append_cancel_right}
 use Rattle.mir_ty.specs.declared.ty.TyId.{TyId}
 use Rattle.mir_ty.specs.ItemTable.{ItemTable}
 use Rattle.src_meaning.specs.Locals.OfBody as of_body
-use Rattle.src_meaning.specs.Locals.OfBody.{answer_key}
 use Rattle.src_meaning.specs.Scopes.{Entry}
 use Rattle.typed_tree.specs.Nodes.{number_of}
 use Rattle.typed_tree.specs.Tree.{Node, node, ParamTree, BodyTree}

@@ -9,7 +9,7 @@ use Rattle.src_meaning.specs.Locals.OfBody.{cells, reached_cells, cells_in, all_
 use Rattle.src_meaning.specs.Scopes.{Entry}
 use Rattle.typed_tree.specs.declared.node.Form.{Form, And, Arithmetic, Arm, Assign, Block, ClosureCall, Comparison, If, IfLet, Index, Let, Match, MethodCall, Or, VirtualCall, While, WhileLet}
 use Rattle.typed_tree.specs.declared.node.Node.{Node}
-use Rattle.typed_tree.proofs.PlainForms.{and_seen, arithmetic_seen, arm_seen, assign_seen, block_seen, closure_call_seen, comparison_seen, if_let_seen, if_seen, index_seen, let_seen, match_seen, method_call_seen, or_seen, virtual_call_seen, while_let_seen, while_seen}
+use Rattle.typed_tree.proofs.PlainForms.{node_seen, and_seen, arithmetic_seen, arm_seen, assign_seen, block_seen, closure_call_seen, comparison_seen, if_let_seen, if_seen, index_seen, let_seen, match_seen, method_call_seen, or_seen, virtual_call_seen, while_let_seen, while_seen}
 use Rattle.typed_tree.specs.Tree as tree
 use Rattle.typed_tree.specs.View.{tree_of, form_of, maybe_of, nodes_from}
 use Rattle.body_locals.specs.Groups.{has_branches, has_members, has_operands, has_place, has_statements}

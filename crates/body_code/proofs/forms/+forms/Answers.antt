@@ -16,7 +16,7 @@ use Rattle.scope_code.specs.Forms.{code, codes_of_fields, acting, deliver, array
 use Rattle.scope_code.specs.Groups.{is_leaf, is_statement}
 use Rattle.body_code.specs.Parted.{reaches_any, is_any_operator, takes_any}
 use Rattle.scope_code.specs.Ops as ops
-use Rattle.scope_code.specs.Ops.{Op, onto, Then, Acts, Matches, InScope, thens}
+use Rattle.scope_code.specs.Ops.{Op, onto, Then, Acts, InScope, thens}
 use Rattle.scope_code.specs.View.{ops_of, around_of, destination_of, keys_seen, form_code, head_of, wanted_of}
 use Rattle.scope_code.specs.Wanted.{codes_for, AsOperand, WantedCode, code_for, made_into, finished_onto}
 use Rattle.scope_code.specs.declared.code.Code as words

@@ -1,13 +1,12 @@
 use Rattle.std.proofs.Common.{◌≡◌, ◌++◌, ◌∙◌, List, true, refl, sym, ap, map}
 use Rattle.std.proofs.lemmas.Result.{on_ok_weaker}
-use Rattle.src_meaning.specs.Locals.OfBody.{cells, reached_cells, cells_in, initial_cells, all_cells, cells_of_fields}
+use Rattle.src_meaning.specs.Locals.OfBody.{cells, cells_in, all_cells, cells_of_fields}
 use Rattle.typed_tree.specs.Tree as tree
 use Rattle.typed_tree.specs.declared.node.Node.{Node}
 use Rattle.typed_tree.specs.declared.node.NumberedField.{NumberedField}
-use Rattle.typed_tree.specs.View.{tree_of, form_of, field_of, maybe_of, nodes_from, fields_from}
-use Rattle.body_locals.specs.Groups.{has_statements}
-use Rattle.body_locals.specs.Own.{own_local, where_true}
-use Rattle.body_locals.specs.View.{entry_of, locals_of, locals_if_any, asked_of_initialiser}
+use Rattle.typed_tree.specs.View.{tree_of, form_of, field_of, nodes_from, fields_from}
+use Rattle.body_locals.specs.Own.{own_local}
+use Rattle.body_locals.specs.View.{entry_of, locals_of, asked_of_initialiser}
 use Rattle.body_locals.proofs.Following.{one_more, two_behind}
 use Rattle.body_locals.proofs.OwnFirst.{own_first}
 use Rattle.typed_tree.proofs.PlainForms.{node_seen, value_seen}

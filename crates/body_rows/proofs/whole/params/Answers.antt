@@ -1,7 +1,7 @@
-use Rattle.std.proofs.Common.{rules, ◌≡◌, ◌+◌, ◌∷◌, [], ◌++◌, length, map, slice_get, ap, sym, ◌∙◌, arith}
+use Rattle.std.proofs.Common.{◌≡◌, ◌+◌, ◌∷◌, [], ◌++◌, length, slice_get, ap, sym, ◌∙◌}
 use Rattle.std.proofs.lemmas.List.{length-append}
-use Rattle.typed_tree.specs.View.{nodes_from, param_tree, tree_of}
-use Rattle.body_rows.specs.Whole.{one_param, params_from}
+use Rattle.typed_tree.specs.View.{tree_of}
+use Rattle.body_rows.specs.Whole.{one_param}
 use Rattle.body_rows.proofs.Zipped.{one_more, zipped}
 use Rattle.body_rows.proofs.whole.params.Goals as goal
 
