@@ -1,6 +1,6 @@
 pub mod EachIsRead
 pub mod LineByLine
-pub mod Numbers
+pub mod NumberTables
 pub mod Rows
 pub mod Spans
 pub mod Values

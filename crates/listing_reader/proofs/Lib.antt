@@ -14,7 +14,7 @@ pub mod Fronts
 pub mod GraphLines
 pub mod HeadLines
 pub mod Judging
-pub mod Heads
+pub mod ListedHeads
 pub mod InFront
 pub mod Listed
 pub mod Longest

@@ -9,7 +9,7 @@ use Rattle.mir_text.specs.Lines.{Line, HeadLine, EndLine, lines_of, line_of_adt,
 use Rattle.mir_text.proofs.Reading.Basics.{Every}
 use Rattle.listing_reader.specs.Beginning.{LineStands, texts}
 use Rattle.listing_reader.proofs.CodeThrough.{told_full, EndsBody, EndsAll, bodies_through, bodies_broken}
-use Rattle.listing_reader.proofs.Heads.{after_adts, after_traits, after_impls}
+use Rattle.listing_reader.proofs.ListedHeads.{after_adts, after_traits, after_impls}
 use Rattle.listing_reader.proofs.Named.{Extends}
 use Rattle.listing_reader.proofs.Passing.{count_seen, adts_pass, adts_grow, traits_pass, traits_grow, impls_pass, impls_grow, closures_pass, closures_grow, BehindAdts, BehindTraits, BehindImpls, BehindClosures, behind_adts, behind_traits, behind_impls, behind_closures, no_adt_at, no_trait_at, no_impl_at, no_closure_at}
 use Rattle.listing_reader.proofs.Sections.{Read, section, counted_so, never_less, stand_behind}

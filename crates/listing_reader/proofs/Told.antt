@@ -23,7 +23,7 @@ use Rattle.mir_text.proofs.Reading.Basics.{Every}
 use Rattle.listing_reader.proofs.Aligned.{HaveFree, heads_free, word_free, words_free, first_of_all}
 use Rattle.listing_reader.proofs.Free.{AllFree, both_free, name_free, row_free, braces_free}
 use Rattle.listing_reader.proofs.HeadLines.{adt_line_named, trait_line_named}
-use Rattle.listing_reader.proofs.Heads.{after_adts, after_traits, after_impls, adts_stay, traits_stay}
+use Rattle.listing_reader.proofs.ListedHeads.{after_adts, after_traits, after_impls, adts_stay, traits_stay}
 use Rattle.listing_reader.proofs.InFront.{EachFrom, IsOne, StandInFront, in_front}
 use Rattle.listing_reader.proofs.Named.{Extends, adt_names, trait_names, length_map}
 use Rattle.listing_reader.proofs.Valid.{IsNamed, EnumNamed, gives_adt, MethodNamed, TraitNamed, gives_trait, closure_fits, ImplValid, gives_impl}

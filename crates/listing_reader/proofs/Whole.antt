@@ -23,7 +23,7 @@ use Rattle.listing_reader.specs.Wrong.{wrong_line}
 use Rattle.listing_reader.proofs.CodeThrough.{block_full, blocks_full}
 use Rattle.listing_reader.proofs.Fronts.{Fronts, FrontOf, then_front, one_in_front}
 use Rattle.listing_reader.proofs.GraphLines.{adts_front, traits_front, impls_front, closures_front, bodies_front}
-use Rattle.listing_reader.proofs.Heads.{Front, spare, after_adts, after_traits, after_impls, rounds_extend}
+use Rattle.listing_reader.proofs.ListedHeads.{Front, spare, after_adts, after_traits, after_impls, rounds_extend}
 use Rattle.listing_reader.proofs.InFront.{EachFrom}
 use Rattle.listing_reader.proofs.Longest.{adt_lines, trait_lines, impl_lines, closure_lines, body_lines_of, from_impls, from_adts, lines_are, seen_count, tolds, tolds_full, is_whole, left, Bounded, bounded}
 use Rattle.listing_reader.proofs.Named.{Extends, length_map}

@@ -3,7 +3,7 @@ pub mod Heads
 pub mod Names
 pub mod Steps
 pub mod Begun
-pub mod Fields
+pub mod FieldTurns
 pub mod GivenOnes
 pub mod InitForms
 pub mod Tabled

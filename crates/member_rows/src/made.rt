@@ -52,7 +52,7 @@ fn turned(fields: List<NumberedField>) -> List<NumberedField>
 }
 
 /// The last nodes, as many as numbers are given, the last one first, taken off onto none; a number that is none stands as 0.
-#[tactic(auto, using(crate::proofs::Fields::field_more, crate::proofs::Fields::below_more))]
+#[tactic(auto, using(crate::proofs::FieldTurns::field_more, crate::proofs::FieldTurns::below_more))]
 fn take_each(
     checker: &mut Checker,
     taken: &mut List<NumberedField>,

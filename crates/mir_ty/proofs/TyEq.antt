@@ -1,24 +1,21 @@
--- `==` of types is equality.
-use Rattle.std.proofs.Common.{◌≡◌, ℕ, ◌≤◌, Bool, true, false, cond, eqb, nat_lt, if◌then◌else◌, List, [], ◌∷◌, ◌++◌, length, slice_get, get_or, All, Contains, position, Option, Some, None, MatchOption, Decides, refl, ap, subst, sym, ◌∙◌, arith}
-use Rattle.std.specs.List.{position_or_len}
-use Rattle.std.proofs.lemmas.Bool.{false≢true, ltb-false}
-use Rattle.std.proofs.lemmas.Option.{none-some, slice_get-get_or}
-use Rattle.std.proofs.lemmas.List.Elements.{Contains-get_or}
-use Rattle.std.proofs.lemmas.List.Folds.{list_any_none}
-use Rattle.std.proofs.lemmas.List.Quantifiers.{position-Some}
-use Rattle.std.proofs.lemmas.List.Sums.{fails_before_first}
-use Rattle.indexmap.specs.IndexSet.{insert_key}
+-- `==` of types is equality; and the numbers that a table has of types.
+use Rattle.std.proofs.Common.{◌≡◌, ℕ, zero, suc, Bool, true, false, cond, eqb, List, [], ◌∷◌, ◌++◌, length, slice_get, Contains, Option, Some, None, ◌⊎◌, inl, inr, Decides, refl, ap, subst, sym, ◌∙◌}
+use Rattle.std.proofs.lemmas.Bool.{false≢true}
 use Rattle.std.proofs.lemmas.Bool.Decides.{Decides-eqb}
+use Rattle.std.proofs.lemmas.Option.{none-some, same_Some}
+use Rattle.std.proofs.lemmas.List.Elements.{Contains-append_cases}
 use Rattle.std.specs.Cmp.{first_so, second_so}
 use Rattle.std.specs.Cmp.Lexicographic.{pointwise_decides}
 use Rattle.mir_base.specs.declared.int_kind.IntKind.{IntKind}
 use Rattle.mir_base.specs.contracts.int_kind.IntKindPartialEq.TheImpl as kind
+use Rattle.mir_ty.specs.AreItems.{IsNumberOf}
 use Rattle.mir_ty.specs.declared.ty.Ty.{Ty}
 use Rattle.mir_ty.specs.declared.ty.TyId.{TyId}
 use Rattle.mir_ty.specs.contracts.ty.TyIdPartialEq.TheImpl as id
 use Rattle.mir_ty.specs.contracts.ty.TyIdEq.TheImpl.Laws as ids
 use Rattle.mir_ty.specs.contracts.ty.TyEq.TheImpl.Laws as tys
 use Rattle.mir_ty.specs.contracts.ty.TyPartialEq.TheImpl as ty
+use Rattle.mir_ty.proofs.ListLemmas.{slice_get-append_left, slice_get-last, slice_get-Contains}
 
 same_kind : (a b : IntKind) → kind.ghosts.eq a b ≡ true → a ≡ b
 same_kind IntKind.I32 IntKind.I32 h = refl
@@ -67,32 +64,27 @@ same (Ty.Closure m) _ h = absurd (false≢true h)
 pub ty_eq_Decides : (a b : Ty) → Decides (ty.ghosts.eq a b) (a ≡ b)
 ty_eq_Decides a b = (same a b, λ e. subst (λ b. ty.ghosts.eq a b ≡ true) e (tys.laws-law.refl a))
 
--- a type that is not in a list is equal to none of it
-no_other : (types : List Ty) (t : Ty) → ¬ Contains types t → All (λ x. ty.ghosts.eq t x ≡ false) types
-no_other types t absent k d below = by (ty.ghosts.eq t (get_or types k d)) refl
+-- a number of a type that is there already is its number behind one more
+still : (types : List Ty) (t u : Ty) (number : Option ℕ) → ty.ghosts.eq t u ≡ false → IsNumberOf types u number → IsNumberOf (types ++ t ∷ []) u number
+still types t u None other absent = λ has. by (Contains-append_cases types (t ∷ []) u has)
   where
-    by : (b : Bool) → ty.ghosts.eq t (get_or types k d) ≡ b → b ≡ false
-    by true is = absurd (absent (subst (Contains types) (sym (same t (get_or types k d) is)) (Contains-get_or types k d below)))
-    by false is = refl
+    by : Contains types u ⊎ Contains (t ∷ []) u → ⊥
+    by (inl before) = absent before
+    by (inr last) = false≢true (sym other ∙ (ty_eq_Decides t u).1 (same_Some t u (at_first last)))
+      where
+        at_first : Contains (t ∷ []) u → Some t ≡ Some u
+        at_first c = first_only c.0 (slice_get-Contains (t ∷ []) u c)
+          where
+            first_only : (n : ℕ) → slice_get (t ∷ []) n ≡ Some u → Some t ≡ Some u
+            first_only zero is = is
+            first_only (suc n) is = absurd (none-some u is)
+still types t u (Some n) other is = slice_get-append_left types (t ∷ []) n u is
 
-none_below : (a b : ℕ) → cond (nat_lt a b) (Some a) None ≡ None → b ≤ a
-none_below a b h = by (nat_lt a b) refl h
+-- the numbers of a table with one more type
+pub numbered : (types : List Ty) (t u : Ty) (old new : Option ℕ) → IsNumberOf types u old → new ≡ cond (ty.ghosts.eq t u) (Some (length types)) old →
+    IsNumberOf (types ++ t ∷ []) u new
+numbered types t u old new is updated = subst (IsNumberOf (types ++ t ∷ []) u) (sym updated) (by (ty.ghosts.eq t u) refl)
   where
-    by : (c : Bool) → nat_lt a b ≡ c → cond c (Some a) None ≡ None → b ≤ a
-    by true is h = absurd (none-some a (sym h))
-    by false is h = ltb-false a b is
-
--- the first place at which a type stands is a place of it
-pub found : (types : List Ty) (t : Ty) (r : Option ℕ) → r ≡ position (ty.ghosts.eq t) types → MatchOption r (¬ Contains types t) (λ n. slice_get types n ≡ Some t)
-found types t None is = λ has.
-    let first = position_or_len (ty.ghosts.eq t) types in
-    let passed : length types ≤ first = none_below first (length types) (sym is) in
-    let other : ty.ghosts.eq t t ≡ false = ap (ty.ghosts.eq t) (sym has.2) ∙ fails_before_first (ty.ghosts.eq t) types has.0 t (omega (arith, has.1)) in
-    false≢true (sym other ∙ tys.laws-law.refl t)
-found types t (Some n) is =
-    let p = position-Some (ty.ghosts.eq t) types n t (sym is) in
-    slice_get-get_or types n t p.0 ∙ ap Some (sym (same t (get_or types n t) p.1))
-
--- a type that is not in a list goes last
-pub insert_key-new : (types : List Ty) (t : Ty) → ¬ Contains types t → insert_key ty.ghosts.eq types t ≡ types ++ t ∷ []
-insert_key-new types t absent = ap (λ b. if b then types else types ++ t ∷ []) (list_any_none (ty.ghosts.eq t) types (no_other types t absent))
+    by : (b : Bool) → ty.ghosts.eq t u ≡ b → IsNumberOf (types ++ t ∷ []) u (cond b (Some (length types)) old)
+    by true is_last = slice_get-last types t ∙ ap Some (same t u is_last)
+    by false other = still types t u old other is

@@ -1,5 +1,5 @@
 -- What is true of all items: what the calls that add to them ask for, and how long their lists can be.
-use Rattle.std.specs.Prelude.{◌≡◌, ℕ, ◌-◌, ◌^◌, ◌<◌, List, [], ◌∷◌, Option, Some, None, length, slice_get, All, IsFalse, ⊤, option_and_then}
+use Rattle.std.specs.Prelude.{◌≡◌, ℕ, ◌-◌, ◌^◌, ◌<◌, List, [], ◌∷◌, Option, Some, None, length, slice_get, All, Contains, MatchOption, IsFalse, ⊤, option_and_then}
 use Rattle.mir_ty.specs.declared.ty.Ty.{Ty}
 use Rattle.mir_ty.specs.declared.ty.TyId.{TyId}
 use Rattle.mir_ty.specs.declared.adt.Adt.{Adt}
@@ -90,6 +90,10 @@ pub record AreShort (items : ItemTable) : Type 0 where
 -- equal types have one number
 abbrev pub AreDistinct : List Ty → Type 0
 AreDistinct types = (i j : ℕ) (ty : Ty) → slice_get types i ≡ Some ty → slice_get types j ≡ Some ty → i ≡ j
+
+-- what is found of a type: its number, or that it has none
+abbrev pub IsNumberOf : List Ty → Ty → Option ℕ → Type 0
+IsNumberOf types ty found = MatchOption found (¬ Contains types ty) (λ n. slice_get types n ≡ Some ty)
 
 -- each method of the trait with this number, where there is one
 abbrev pub AreMethods : List Ty → ℕ → Option TraitDef → Type 0

@@ -1,30 +1,47 @@
-ghost use Rattle.std.specs.Prelude.{◌≡◌, [], ◌∷◌, ◌++◌, ◌<◌, Contains, length, slice_get, MatchOption, OnOk, OnErr, Some};
+ghost use Rattle.std.specs.Prelude.{◌≡◌, [], ◌∷◌, ◌++◌, ◌<◌, Contains, length, slice_get, OnOk, OnErr};
 ghost use Rattle.std.specs.Option.{option_copied};
-ghost use Rattle.mir_ty.specs.AreItems.{AreDistinct};
+ghost use Rattle.mir_ty.specs.AreItems.{AreDistinct, IsNumberOf};
 
 use crate::Ty;
 use crate::duplicate::Duplicate;
-use indexmap::IndexSet;
-use mir_base::NoMemory;
+use mir_base::{List, NoMemory};
 use std::alloc::Global;
+use std::collections::HashMap;
 use std::marker::Model;
 
-/// The types of a program in the order of their numbers, each of them once.
-#[derive(Drop)]
+/// The types of a program in the order of their numbers, each of them once. A look-up costs about the same for all.
 pub struct TypeTable {
-    types: IndexSet<Ty>,
+    alloc: Global,
+    types: List<Ty>,
+    /// The number of each type.
+    numbers: HashMap<Ty, usize>,
+}
+
+/// As a derived one; but written here, it is proved here, and not again in each crate in which a table ends.
+impl Drop for TypeTable {
+    fn drop(self) {
+        let TypeTable {
+            alloc: _,
+            types,
+            numbers,
+        } = self;
+        drop(types);
+        drop(numbers);
+    }
 }
 
 impl Model for TypeTable {
     ghost use Rattle.std.specs.Prelude.{List};
+    ghost use Rattle.std.specs.HashMap.{get_by};
     ghost use Rattle.mir_ty.specs.declared.ty.Ty.{Ty};
-    ghost use Rattle.mir_ty.specs.AreItems.{AreDistinct};
+    ghost use Rattle.mir_ty.specs.contracts.ty.TyPartialEq.TheImpl as same;
+    ghost use Rattle.mir_ty.specs.AreItems.{AreDistinct, IsNumberOf};
 
     ghost Value = { List Ty };
 
-    ghost view = { λ table. table.types.keys };
+    ghost view = { λ table. table.types };
 
-    ghost invariant = { λ table. AreDistinct table.types.keys };
+    ghost invariant = { λ table. AreDistinct table.types × ((ty : Ty) → IsNumberOf table.types ty (get_by (same.ghosts.eq ty) table.numbers)) };
 }
 
 impl TypeTable {
@@ -32,7 +49,9 @@ impl TypeTable {
         ensures { result ≡ [] }
     {
         TypeTable {
-            types: IndexSet::new(alloc),
+            alloc,
+            types: List::new(alloc),
+            numbers: HashMap::new(alloc),
         }
     }
 
@@ -53,24 +72,33 @@ impl TypeTable {
     pub fn get(&self, n: usize) -> Option<&Ty>
         ensures { option_copied result ≡ slice_get self.now n }
     {
-        self.types.get_index(n)
+        self.types.get(n)
     }
 
     /// The number of a type, and `None` where it has none.
     pub fn find(&self, ty: &Ty) -> Option<usize>
-        ensures { MatchOption result (¬ Contains self.now ty.now) (λ n. slice_get self.now n ≡ Some ty.now) }
+        ensures { IsNumberOf self.now ty.now result }
     {
-        self.types.get_index_of(ty)
+        self.numbers.get(ty).copied()
     }
 
-    /// Gives a type that has no number the next one.
+    /// Gives a type that has no number the next one. Where memory is wanted the table is as it was.
     pub fn push(&mut self, ty: Ty) -> Result<(), NoMemory>
         requires { ¬ Contains self.old ty }
         ensures pushed { OnOk result (self.new ≡ self.old ++ ty ∷ []) }
         ensures refused { OnErr result (self.new ≡ self.old) }
     {
-        self.types.insert(ty)?;
-        Ok(())
+        let number = self.types.len();
+        let key = ty.duplicate(self.alloc)?;
+        self.types.push(ty)?;
+        match self.numbers.insert(key, number) {
+            Ok(_) => Ok(()),
+            Err(error) => {
+                drop(error);
+                self.types.truncate(number);
+                Err(NoMemory)
+            }
+        }
     }
 }
 

@@ -1,4 +1,4 @@
-use Rattle.listing_parts.proofs.Numbers.{put_in}
+use Rattle.listing_parts.proofs.NumberTables.{put_in}
 use Rattle.listing_parts.proofs.heads.note.Goals as goal
 
 pub returns : goal.returns

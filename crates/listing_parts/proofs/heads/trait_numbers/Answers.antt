@@ -1,6 +1,6 @@
 use Rattle.std.proofs.Common.{◌≤◌, ◌-◌, length, arith}
 use Rattle.mir_text.proofs.Counting.{over}
-use Rattle.listing_parts.proofs.Numbers.{one_earlier}
+use Rattle.listing_parts.proofs.NumberTables.{one_earlier}
 use Rattle.listing_parts.proofs.heads.trait_numbers.Goals as goal
 
 pub loop-n-preserved-in-Continue-1 : goal.loop-n-preserved-in-Continue-1

@@ -1,6 +1,6 @@
 use Rattle.std.proofs.Common.{◌≡◌, ℕ, List}
 use Rattle.listing_parts.specs.Numbers.{number_in}
-use Rattle.listing_parts.proofs.Numbers.{from}
+use Rattle.listing_parts.proofs.NumberTables.{from}
 use Rattle.listing_parts.proofs.heads.trait_numbers.Given as goal
 
 abbrev pub invariant-loop-n : goal.invariant-loop-n
