@@ -6,5 +6,6 @@ pub mod LeastRelations
 pub mod ListLemmas
 pub mod Rules
 pub mod TableLemmas
+pub mod Numbers
 pub mod TyEq
 pub mod TypeLists

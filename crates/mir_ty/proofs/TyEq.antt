@@ -1,21 +1,17 @@
--- `==` of types is equality; and the numbers that a table has of types.
-use Rattle.std.proofs.Common.{◌≡◌, ℕ, zero, suc, Bool, true, false, cond, eqb, List, [], ◌∷◌, ◌++◌, length, slice_get, Contains, Option, Some, None, ◌⊎◌, inl, inr, Decides, refl, ap, subst, sym, ◌∙◌}
+-- `==` of types is equality.
+use Rattle.std.proofs.Common.{◌≡◌, true, eqb, Decides, refl, ap, subst}
 use Rattle.std.proofs.lemmas.Bool.{false≢true}
 use Rattle.std.proofs.lemmas.Bool.Decides.{Decides-eqb}
-use Rattle.std.proofs.lemmas.Option.{none-some, same_Some}
-use Rattle.std.proofs.lemmas.List.Elements.{Contains-append_cases}
 use Rattle.std.specs.Cmp.{first_so, second_so}
 use Rattle.std.specs.Cmp.Lexicographic.{pointwise_decides}
 use Rattle.mir_base.specs.declared.int_kind.IntKind.{IntKind}
 use Rattle.mir_base.specs.contracts.int_kind.IntKindPartialEq.TheImpl as kind
-use Rattle.mir_ty.specs.AreItems.{IsNumberOf}
 use Rattle.mir_ty.specs.declared.ty.Ty.{Ty}
 use Rattle.mir_ty.specs.declared.ty.TyId.{TyId}
 use Rattle.mir_ty.specs.contracts.ty.TyIdPartialEq.TheImpl as id
 use Rattle.mir_ty.specs.contracts.ty.TyIdEq.TheImpl.Laws as ids
 use Rattle.mir_ty.specs.contracts.ty.TyEq.TheImpl.Laws as tys
 use Rattle.mir_ty.specs.contracts.ty.TyPartialEq.TheImpl as ty
-use Rattle.mir_ty.proofs.ListLemmas.{slice_get-append_left, slice_get-last, slice_get-Contains}
 
 same_kind : (a b : IntKind) → kind.ghosts.eq a b ≡ true → a ≡ b
 same_kind IntKind.I32 IntKind.I32 h = refl
@@ -63,28 +59,3 @@ same (Ty.Closure m) _ h = absurd (false≢true h)
 
 pub ty_eq_Decides : (a b : Ty) → Decides (ty.ghosts.eq a b) (a ≡ b)
 ty_eq_Decides a b = (same a b, λ e. subst (λ b. ty.ghosts.eq a b ≡ true) e (tys.laws-law.refl a))
-
--- a number of a type that is there already is its number behind one more
-still : (types : List Ty) (t u : Ty) (number : Option ℕ) → ty.ghosts.eq t u ≡ false → IsNumberOf types u number → IsNumberOf (types ++ t ∷ []) u number
-still types t u None other absent = λ has. by (Contains-append_cases types (t ∷ []) u has)
-  where
-    by : Contains types u ⊎ Contains (t ∷ []) u → ⊥
-    by (inl before) = absent before
-    by (inr last) = false≢true (sym other ∙ (ty_eq_Decides t u).1 (same_Some t u (at_first last)))
-      where
-        at_first : Contains (t ∷ []) u → Some t ≡ Some u
-        at_first c = first_only c.0 (slice_get-Contains (t ∷ []) u c)
-          where
-            first_only : (n : ℕ) → slice_get (t ∷ []) n ≡ Some u → Some t ≡ Some u
-            first_only zero is = is
-            first_only (suc n) is = absurd (none-some u is)
-still types t u (Some n) other is = slice_get-append_left types (t ∷ []) n u is
-
--- the numbers of a table with one more type
-pub numbered : (types : List Ty) (t u : Ty) (old new : Option ℕ) → IsNumberOf types u old → new ≡ cond (ty.ghosts.eq t u) (Some (length types)) old →
-    IsNumberOf (types ++ t ∷ []) u new
-numbered types t u old new is updated = subst (IsNumberOf (types ++ t ∷ []) u) (sym updated) (by (ty.ghosts.eq t u) refl)
-  where
-    by : (b : Bool) → ty.ghosts.eq t u ≡ b → IsNumberOf (types ++ t ∷ []) u (cond b (Some (length types)) old)
-    by true is_last = slice_get-last types t ∙ ap Some (same t u is_last)
-    by false other = still types t u old other is

@@ -91,9 +91,9 @@ pub record AreShort (items : ItemTable) : Type 0 where
 abbrev pub AreDistinct : List Ty → Type 0
 AreDistinct types = (i j : ℕ) (ty : Ty) → slice_get types i ≡ Some ty → slice_get types j ≡ Some ty → i ≡ j
 
--- what is found of a type: its number, or that it has none
-abbrev pub IsNumberOf : List Ty → Ty → Option ℕ → Type 0
-IsNumberOf types ty found = MatchOption found (¬ Contains types ty) (λ n. slice_get types n ≡ Some ty)
+-- what is found of an element: its number, or that it has none
+abbrev pub IsNumberOf : {X : Type 0} → List X → X → Option ℕ → Type 0
+IsNumberOf all x found = MatchOption found (¬ Contains all x) (λ n. slice_get all n ≡ Some x)
 
 -- each method of the trait with this number, where there is one
 abbrev pub AreMethods : List Ty → ℕ → Option TraitDef → Type 0

@@ -21,204 +21,292 @@ value_seen field = search (rules, the_lemmas)
 pub index_seen : (base index : Box Node Global) (length : ℕ) → form_of (form.Index base index length)
     ≡ tree.Index (tree_of base.value) (tree_of index.value) length
 index_seen base index length =
-    ap form_of (sym (rolls-Index base index length)) ∙ fold-roll-Form tree.Form tree.Node (ℕ × tree.Node) form_layer node_layer field_layer (Form-F.Index base index length)
+    ap form_of (sym (rolls-Index base index length))
+    ∙ fold-roll-Form tree.Form tree.Node (ℕ × tree.Node) form_layer node_layer field_layer
+    (Form-F.Index base index length)
 
 pub deref_seen : (base : Box Node Global) → form_of (form.Deref base)
     ≡ tree.Deref (tree_of base.value)
 deref_seen base =
-    ap form_of (sym (rolls-Deref base)) ∙ fold-roll-Form tree.Form tree.Node (ℕ × tree.Node) form_layer node_layer field_layer (Form-F.Deref base)
+    ap form_of (sym (rolls-Deref base))
+    ∙ fold-roll-Form tree.Form tree.Node (ℕ × tree.Node) form_layer node_layer field_layer
+    (Form-F.Deref base)
 
 pub field_seen : (base : Box Node Global) (part : ℕ) → form_of (form.Field base part)
     ≡ tree.Field (tree_of base.value) part
 field_seen base part =
-    ap form_of (sym (rolls-Field base part)) ∙ fold-roll-Form tree.Form tree.Node (ℕ × tree.Node) form_layer node_layer field_layer (Form-F.Field base part)
+    ap form_of (sym (rolls-Field base part))
+    ∙ fold-roll-Form tree.Form tree.Node (ℕ × tree.Node) form_layer node_layer field_layer
+    (Form-F.Field base part)
 
 pub not_seen : (operand : Box Node Global) → form_of (form.Not operand)
     ≡ tree.Not (tree_of operand.value)
 not_seen operand =
-    ap form_of (sym (rolls-Not operand)) ∙ fold-roll-Form tree.Form tree.Node (ℕ × tree.Node) form_layer node_layer field_layer (Form-F.Not operand)
+    ap form_of (sym (rolls-Not operand))
+    ∙ fold-roll-Form tree.Form tree.Node (ℕ × tree.Node) form_layer node_layer field_layer
+    (Form-F.Not operand)
 
 pub negate_seen : (operand : Box Node Global) → form_of (form.Negate operand)
     ≡ tree.Negate (tree_of operand.value)
 negate_seen operand =
-    ap form_of (sym (rolls-Negate operand)) ∙ fold-roll-Form tree.Form tree.Node (ℕ × tree.Node) form_layer node_layer field_layer (Form-F.Negate operand)
+    ap form_of (sym (rolls-Negate operand))
+    ∙ fold-roll-Form tree.Form tree.Node (ℕ × tree.Node) form_layer node_layer field_layer
+    (Form-F.Negate operand)
 
 pub arithmetic_seen : (operator : Math) (left right : Box Node Global) → form_of (form.Arithmetic operator left right)
     ≡ tree.Arithmetic operator (tree_of left.value) (tree_of right.value)
 arithmetic_seen operator left right =
-    ap form_of (sym (rolls-Arithmetic operator left right)) ∙ fold-roll-Form tree.Form tree.Node (ℕ × tree.Node) form_layer node_layer field_layer (Form-F.Arithmetic operator left right)
+    ap form_of (sym (rolls-Arithmetic operator left right))
+    ∙ fold-roll-Form tree.Form tree.Node (ℕ × tree.Node) form_layer node_layer field_layer
+    (Form-F.Arithmetic operator left right)
 
 pub comparison_seen : (operator : Cmp) (left right : Box Node Global) → form_of (form.Comparison operator left right)
     ≡ tree.Comparison operator (tree_of left.value) (tree_of right.value)
 comparison_seen operator left right =
-    ap form_of (sym (rolls-Comparison operator left right)) ∙ fold-roll-Form tree.Form tree.Node (ℕ × tree.Node) form_layer node_layer field_layer (Form-F.Comparison operator left right)
+    ap form_of (sym (rolls-Comparison operator left right))
+    ∙ fold-roll-Form tree.Form tree.Node (ℕ × tree.Node) form_layer node_layer field_layer
+    (Form-F.Comparison operator left right)
 
 pub and_seen : (left right : Box Node Global) → form_of (form.And left right)
     ≡ tree.And (tree_of left.value) (tree_of right.value)
 and_seen left right =
-    ap form_of (sym (rolls-And left right)) ∙ fold-roll-Form tree.Form tree.Node (ℕ × tree.Node) form_layer node_layer field_layer (Form-F.And left right)
+    ap form_of (sym (rolls-And left right))
+    ∙ fold-roll-Form tree.Form tree.Node (ℕ × tree.Node) form_layer node_layer field_layer
+    (Form-F.And left right)
 
 pub or_seen : (left right : Box Node Global) → form_of (form.Or left right)
     ≡ tree.Or (tree_of left.value) (tree_of right.value)
 or_seen left right =
-    ap form_of (sym (rolls-Or left right)) ∙ fold-roll-Form tree.Form tree.Node (ℕ × tree.Node) form_layer node_layer field_layer (Form-F.Or left right)
+    ap form_of (sym (rolls-Or left right))
+    ∙ fold-roll-Form tree.Form tree.Node (ℕ × tree.Node) form_layer node_layer field_layer
+    (Form-F.Or left right)
 
 pub assign_seen : (place value : Box Node Global) → form_of (form.Assign place value)
     ≡ tree.Assign (tree_of place.value) (tree_of value.value)
 assign_seen place value =
-    ap form_of (sym (rolls-Assign place value)) ∙ fold-roll-Form tree.Form tree.Node (ℕ × tree.Node) form_layer node_layer field_layer (Form-F.Assign place value)
+    ap form_of (sym (rolls-Assign place value))
+    ∙ fold-roll-Form tree.Form tree.Node (ℕ × tree.Node) form_layer node_layer field_layer
+    (Form-F.Assign place value)
 
 pub call_seen : (body : ℕ) (args : List Node) → form_of (form.Call body args)
     ≡ tree.Call body (nodes_from (map tree_of args))
 call_seen body args =
-    ap form_of (sym (rolls-Call body args)) ∙ fold-roll-Form tree.Form tree.Node (ℕ × tree.Node) form_layer node_layer field_layer (Form-F.Call body args)
+    ap form_of (sym (rolls-Call body args))
+    ∙ fold-roll-Form tree.Form tree.Node (ℕ × tree.Node) form_layer node_layer field_layer
+    (Form-F.Call body args)
 
 pub method_call_seen : (body : ℕ) (receiver : Box Node Global) (args : List Node) → form_of (form.MethodCall body receiver args)
     ≡ tree.MethodCall body (tree_of receiver.value) (nodes_from (map tree_of args))
 method_call_seen body receiver args =
-    ap form_of (sym (rolls-MethodCall body receiver args)) ∙ fold-roll-Form tree.Form tree.Node (ℕ × tree.Node) form_layer node_layer field_layer (Form-F.MethodCall body receiver args)
+    ap form_of (sym (rolls-MethodCall body receiver args))
+    ∙ fold-roll-Form tree.Form tree.Node (ℕ × tree.Node) form_layer node_layer field_layer
+    (Form-F.MethodCall body receiver args)
 
 pub virtual_call_seen : (trait_no method : ℕ) (receiver : Box Node Global) (args : List Node) → form_of (form.VirtualCall trait_no method receiver args)
     ≡ tree.VirtualCall trait_no method (tree_of receiver.value) (nodes_from (map tree_of args))
 virtual_call_seen trait_no method receiver args =
-    ap form_of (sym (rolls-VirtualCall trait_no method receiver args)) ∙ fold-roll-Form tree.Form tree.Node (ℕ × tree.Node) form_layer node_layer field_layer (Form-F.VirtualCall trait_no method receiver args)
+    ap form_of (sym (rolls-VirtualCall trait_no method receiver args))
+    ∙ fold-roll-Form tree.Form tree.Node (ℕ × tree.Node) form_layer node_layer field_layer
+    (Form-F.VirtualCall trait_no method receiver args)
 
 pub closure_call_seen : (body : ℕ) (callee : Box Node Global) (args : List Node) → form_of (form.ClosureCall body callee args)
     ≡ tree.ClosureCall body (tree_of callee.value) (nodes_from (map tree_of args))
 closure_call_seen body callee args =
-    ap form_of (sym (rolls-ClosureCall body callee args)) ∙ fold-roll-Form tree.Form tree.Node (ℕ × tree.Node) form_layer node_layer field_layer (Form-F.ClosureCall body callee args)
+    ap form_of (sym (rolls-ClosureCall body callee args))
+    ∙ fold-roll-Form tree.Form tree.Node (ℕ × tree.Node) form_layer node_layer field_layer
+    (Form-F.ClosureCall body callee args)
 
 pub make_seen : (adt variant : ℕ) (fields : List NumberedField) → form_of (form.Make adt variant fields)
     ≡ tree.Make adt variant (fields_from (map field_of fields))
 make_seen adt variant fields =
-    ap form_of (sym (rolls-Make adt variant fields)) ∙ fold-roll-Form tree.Form tree.Node (ℕ × tree.Node) form_layer node_layer field_layer (Form-F.Make adt variant fields)
+    ap form_of (sym (rolls-Make adt variant fields))
+    ∙ fold-roll-Form tree.Form tree.Node (ℕ × tree.Node) form_layer node_layer field_layer
+    (Form-F.Make adt variant fields)
 
 pub tuple_seen : (parts : List Node) → form_of (form.Tuple parts)
     ≡ tree.Tuple (nodes_from (map tree_of parts))
 tuple_seen parts =
-    ap form_of (sym (rolls-Tuple parts)) ∙ fold-roll-Form tree.Form tree.Node (ℕ × tree.Node) form_layer node_layer field_layer (Form-F.Tuple parts)
+    ap form_of (sym (rolls-Tuple parts))
+    ∙ fold-roll-Form tree.Form tree.Node (ℕ × tree.Node) form_layer node_layer field_layer
+    (Form-F.Tuple parts)
 
 pub array_seen : (elements : List Node) → form_of (form.Array elements)
     ≡ tree.Array (nodes_from (map tree_of elements))
 array_seen elements =
-    ap form_of (sym (rolls-Array elements)) ∙ fold-roll-Form tree.Form tree.Node (ℕ × tree.Node) form_layer node_layer field_layer (Form-F.Array elements)
+    ap form_of (sym (rolls-Array elements))
+    ∙ fold-roll-Form tree.Form tree.Node (ℕ × tree.Node) form_layer node_layer field_layer
+    (Form-F.Array elements)
 
 pub closure_seen : (closure : ℕ) (captures : List Node) → form_of (form.Closure closure captures)
     ≡ tree.Closure closure (nodes_from (map tree_of captures))
 closure_seen closure captures =
-    ap form_of (sym (rolls-Closure closure captures)) ∙ fold-roll-Form tree.Form tree.Node (ℕ × tree.Node) form_layer node_layer field_layer (Form-F.Closure closure captures)
+    ap form_of (sym (rolls-Closure closure captures))
+    ∙ fold-roll-Form tree.Form tree.Node (ℕ × tree.Node) form_layer node_layer field_layer
+    (Form-F.Closure closure captures)
 
 pub new_box_seen : (content : Box Node Global) → form_of (form.NewBox content)
     ≡ tree.NewBox (tree_of content.value)
 new_box_seen content =
-    ap form_of (sym (rolls-NewBox content)) ∙ fold-roll-Form tree.Form tree.Node (ℕ × tree.Node) form_layer node_layer field_layer (Form-F.NewBox content)
+    ap form_of (sym (rolls-NewBox content))
+    ∙ fold-roll-Form tree.Form tree.Node (ℕ × tree.Node) form_layer node_layer field_layer
+    (Form-F.NewBox content)
 
 pub print_seen : (operand : Box Node Global) → form_of (form.Print operand)
     ≡ tree.Print (tree_of operand.value)
 print_seen operand =
-    ap form_of (sym (rolls-Print operand)) ∙ fold-roll-Form tree.Form tree.Node (ℕ × tree.Node) form_layer node_layer field_layer (Form-F.Print operand)
+    ap form_of (sym (rolls-Print operand))
+    ∙ fold-roll-Form tree.Form tree.Node (ℕ × tree.Node) form_layer node_layer field_layer
+    (Form-F.Print operand)
 
 pub drop_value_seen : (operand : Box Node Global) → form_of (form.DropValue operand)
     ≡ tree.DropValue (tree_of operand.value)
 drop_value_seen operand =
-    ap form_of (sym (rolls-DropValue operand)) ∙ fold-roll-Form tree.Form tree.Node (ℕ × tree.Node) form_layer node_layer field_layer (Form-F.DropValue operand)
+    ap form_of (sym (rolls-DropValue operand))
+    ∙ fold-roll-Form tree.Form tree.Node (ℕ × tree.Node) form_layer node_layer field_layer
+    (Form-F.DropValue operand)
 
 pub forget_seen : (operand : Box Node Global) → form_of (form.Forget operand)
     ≡ tree.Forget (tree_of operand.value)
 forget_seen operand =
-    ap form_of (sym (rolls-Forget operand)) ∙ fold-roll-Form tree.Form tree.Node (ℕ × tree.Node) form_layer node_layer field_layer (Form-F.Forget operand)
+    ap form_of (sym (rolls-Forget operand))
+    ∙ fold-roll-Form tree.Form tree.Node (ℕ × tree.Node) form_layer node_layer field_layer
+    (Form-F.Forget operand)
 
 pub borrow_seen : (unique : Bool) (base : Box Node Global) → form_of (form.Borrow unique base)
     ≡ tree.Borrow unique (tree_of base.value)
 borrow_seen unique base =
-    ap form_of (sym (rolls-Borrow unique base)) ∙ fold-roll-Form tree.Form tree.Node (ℕ × tree.Node) form_layer node_layer field_layer (Form-F.Borrow unique base)
+    ap form_of (sym (rolls-Borrow unique base))
+    ∙ fold-roll-Form tree.Form tree.Node (ℕ × tree.Node) form_layer node_layer field_layer
+    (Form-F.Borrow unique base)
 
 pub unsize_seen : (trait_no : ℕ) (operand : Box Node Global) → form_of (form.Unsize trait_no operand)
     ≡ tree.Unsize trait_no (tree_of operand.value)
 unsize_seen trait_no operand =
-    ap form_of (sym (rolls-Unsize trait_no operand)) ∙ fold-roll-Form tree.Form tree.Node (ℕ × tree.Node) form_layer node_layer field_layer (Form-F.Unsize trait_no operand)
+    ap form_of (sym (rolls-Unsize trait_no operand))
+    ∙ fold-roll-Form tree.Form tree.Node (ℕ × tree.Node) form_layer node_layer field_layer
+    (Form-F.Unsize trait_no operand)
 
 pub block_seen : (statements : List Node) (tail : Option (Box Node Global)) → form_of (form.Block statements tail)
     ≡ tree.Block (nodes_from (map tree_of statements)) (maybe_of tail)
 block_seen statements None =
-    ap form_of (sym (rolls-Block statements None)) ∙ fold-roll-Form tree.Form tree.Node (ℕ × tree.Node) form_layer node_layer field_layer (Form-F.Block statements None)
+    ap form_of (sym (rolls-Block statements None))
+    ∙ fold-roll-Form tree.Form tree.Node (ℕ × tree.Node) form_layer node_layer field_layer
+    (Form-F.Block statements None)
 block_seen statements (Some part) =
-    ap form_of (sym (rolls-Block statements (Some part))) ∙ fold-roll-Form tree.Form tree.Node (ℕ × tree.Node) form_layer node_layer field_layer (Form-F.Block statements (Some part))
+    ap form_of (sym (rolls-Block statements (Some part)))
+    ∙ fold-roll-Form tree.Form tree.Node (ℕ × tree.Node) form_layer node_layer field_layer
+    (Form-F.Block statements (Some part))
 
 pub let_seen : (pattern : Box Node Global) (initialiser : Option (Box Node Global)) → form_of (form.Let pattern initialiser)
     ≡ tree.Let (tree_of pattern.value) (maybe_of initialiser)
 let_seen pattern None =
-    ap form_of (sym (rolls-Let pattern None)) ∙ fold-roll-Form tree.Form tree.Node (ℕ × tree.Node) form_layer node_layer field_layer (Form-F.Let pattern None)
+    ap form_of (sym (rolls-Let pattern None))
+    ∙ fold-roll-Form tree.Form tree.Node (ℕ × tree.Node) form_layer node_layer field_layer
+    (Form-F.Let pattern None)
 let_seen pattern (Some part) =
-    ap form_of (sym (rolls-Let pattern (Some part))) ∙ fold-roll-Form tree.Form tree.Node (ℕ × tree.Node) form_layer node_layer field_layer (Form-F.Let pattern (Some part))
+    ap form_of (sym (rolls-Let pattern (Some part)))
+    ∙ fold-roll-Form tree.Form tree.Node (ℕ × tree.Node) form_layer node_layer field_layer
+    (Form-F.Let pattern (Some part))
 
 pub evaluate_seen : (expression : Box Node Global) → form_of (form.Evaluate expression)
     ≡ tree.Evaluate (tree_of expression.value)
 evaluate_seen expression =
-    ap form_of (sym (rolls-Evaluate expression)) ∙ fold-roll-Form tree.Form tree.Node (ℕ × tree.Node) form_layer node_layer field_layer (Form-F.Evaluate expression)
+    ap form_of (sym (rolls-Evaluate expression))
+    ∙ fold-roll-Form tree.Form tree.Node (ℕ × tree.Node) form_layer node_layer field_layer
+    (Form-F.Evaluate expression)
 
 pub if_seen : (condition then : Box Node Global) (otherwise : Option (Box Node Global)) → form_of (form.If condition then otherwise)
     ≡ tree.If (tree_of condition.value) (tree_of then.value) (maybe_of otherwise)
 if_seen condition then None =
-    ap form_of (sym (rolls-If condition then None)) ∙ fold-roll-Form tree.Form tree.Node (ℕ × tree.Node) form_layer node_layer field_layer (Form-F.If condition then None)
+    ap form_of (sym (rolls-If condition then None))
+    ∙ fold-roll-Form tree.Form tree.Node (ℕ × tree.Node) form_layer node_layer field_layer
+    (Form-F.If condition then None)
 if_seen condition then (Some part) =
-    ap form_of (sym (rolls-If condition then (Some part))) ∙ fold-roll-Form tree.Form tree.Node (ℕ × tree.Node) form_layer node_layer field_layer (Form-F.If condition then (Some part))
+    ap form_of (sym (rolls-If condition then (Some part)))
+    ∙ fold-roll-Form tree.Form tree.Node (ℕ × tree.Node) form_layer node_layer field_layer
+    (Form-F.If condition then (Some part))
 
 pub if_let_seen : (pattern scrutinee then : Box Node Global) (otherwise : Option (Box Node Global)) → form_of (form.IfLet pattern scrutinee then otherwise)
     ≡ tree.IfLet (tree_of pattern.value) (tree_of scrutinee.value) (tree_of then.value) (maybe_of otherwise)
 if_let_seen pattern scrutinee then None =
-    ap form_of (sym (rolls-IfLet pattern scrutinee then None)) ∙ fold-roll-Form tree.Form tree.Node (ℕ × tree.Node) form_layer node_layer field_layer (Form-F.IfLet pattern scrutinee then None)
+    ap form_of (sym (rolls-IfLet pattern scrutinee then None))
+    ∙ fold-roll-Form tree.Form tree.Node (ℕ × tree.Node) form_layer node_layer field_layer
+    (Form-F.IfLet pattern scrutinee then None)
 if_let_seen pattern scrutinee then (Some part) =
-    ap form_of (sym (rolls-IfLet pattern scrutinee then (Some part))) ∙ fold-roll-Form tree.Form tree.Node (ℕ × tree.Node) form_layer node_layer field_layer (Form-F.IfLet pattern scrutinee then (Some part))
+    ap form_of (sym (rolls-IfLet pattern scrutinee then (Some part)))
+    ∙ fold-roll-Form tree.Form tree.Node (ℕ × tree.Node) form_layer node_layer field_layer
+    (Form-F.IfLet pattern scrutinee then (Some part))
 
 pub match_seen : (scrutinee : Box Node Global) (arms : List Node) → form_of (form.Match scrutinee arms)
     ≡ tree.Match (tree_of scrutinee.value) (nodes_from (map tree_of arms))
 match_seen scrutinee arms =
-    ap form_of (sym (rolls-Match scrutinee arms)) ∙ fold-roll-Form tree.Form tree.Node (ℕ × tree.Node) form_layer node_layer field_layer (Form-F.Match scrutinee arms)
+    ap form_of (sym (rolls-Match scrutinee arms))
+    ∙ fold-roll-Form tree.Form tree.Node (ℕ × tree.Node) form_layer node_layer field_layer
+    (Form-F.Match scrutinee arms)
 
 pub arm_seen : (pattern : Box Node Global) (guard : Option (Box Node Global)) (body : Box Node Global) → form_of (form.Arm pattern guard body)
     ≡ tree.Arm (tree_of pattern.value) (maybe_of guard) (tree_of body.value)
 arm_seen pattern None body =
-    ap form_of (sym (rolls-Arm pattern None body)) ∙ fold-roll-Form tree.Form tree.Node (ℕ × tree.Node) form_layer node_layer field_layer (Form-F.Arm pattern None body)
+    ap form_of (sym (rolls-Arm pattern None body))
+    ∙ fold-roll-Form tree.Form tree.Node (ℕ × tree.Node) form_layer node_layer field_layer
+    (Form-F.Arm pattern None body)
 arm_seen pattern (Some part) body =
-    ap form_of (sym (rolls-Arm pattern (Some part) body)) ∙ fold-roll-Form tree.Form tree.Node (ℕ × tree.Node) form_layer node_layer field_layer (Form-F.Arm pattern (Some part) body)
+    ap form_of (sym (rolls-Arm pattern (Some part) body))
+    ∙ fold-roll-Form tree.Form tree.Node (ℕ × tree.Node) form_layer node_layer field_layer
+    (Form-F.Arm pattern (Some part) body)
 
 pub loop_seen : (body : Box Node Global) → form_of (form.Loop body)
     ≡ tree.Loop (tree_of body.value)
 loop_seen body =
-    ap form_of (sym (rolls-Loop body)) ∙ fold-roll-Form tree.Form tree.Node (ℕ × tree.Node) form_layer node_layer field_layer (Form-F.Loop body)
+    ap form_of (sym (rolls-Loop body))
+    ∙ fold-roll-Form tree.Form tree.Node (ℕ × tree.Node) form_layer node_layer field_layer
+    (Form-F.Loop body)
 
 pub while_seen : (condition body : Box Node Global) → form_of (form.While condition body)
     ≡ tree.While (tree_of condition.value) (tree_of body.value)
 while_seen condition body =
-    ap form_of (sym (rolls-While condition body)) ∙ fold-roll-Form tree.Form tree.Node (ℕ × tree.Node) form_layer node_layer field_layer (Form-F.While condition body)
+    ap form_of (sym (rolls-While condition body))
+    ∙ fold-roll-Form tree.Form tree.Node (ℕ × tree.Node) form_layer node_layer field_layer
+    (Form-F.While condition body)
 
 pub while_let_seen : (pattern scrutinee body : Box Node Global) → form_of (form.WhileLet pattern scrutinee body)
     ≡ tree.WhileLet (tree_of pattern.value) (tree_of scrutinee.value) (tree_of body.value)
 while_let_seen pattern scrutinee body =
-    ap form_of (sym (rolls-WhileLet pattern scrutinee body)) ∙ fold-roll-Form tree.Form tree.Node (ℕ × tree.Node) form_layer node_layer field_layer (Form-F.WhileLet pattern scrutinee body)
+    ap form_of (sym (rolls-WhileLet pattern scrutinee body))
+    ∙ fold-roll-Form tree.Form tree.Node (ℕ × tree.Node) form_layer node_layer field_layer
+    (Form-F.WhileLet pattern scrutinee body)
 
 pub return_seen : (value : Option (Box Node Global)) → form_of (form.Return value)
     ≡ tree.Return (maybe_of value)
 return_seen None =
-    ap form_of (sym (rolls-Return None)) ∙ fold-roll-Form tree.Form tree.Node (ℕ × tree.Node) form_layer node_layer field_layer (Form-F.Return None)
+    ap form_of (sym (rolls-Return None))
+    ∙ fold-roll-Form tree.Form tree.Node (ℕ × tree.Node) form_layer node_layer field_layer
+    (Form-F.Return None)
 return_seen (Some part) =
-    ap form_of (sym (rolls-Return (Some part))) ∙ fold-roll-Form tree.Form tree.Node (ℕ × tree.Node) form_layer node_layer field_layer (Form-F.Return (Some part))
+    ap form_of (sym (rolls-Return (Some part)))
+    ∙ fold-roll-Form tree.Form tree.Node (ℕ × tree.Node) form_layer node_layer field_layer
+    (Form-F.Return (Some part))
 
 pub tuple_pattern_seen : (parts : List Node) → form_of (form.TuplePattern parts)
     ≡ tree.TuplePattern (nodes_from (map tree_of parts))
 tuple_pattern_seen parts =
-    ap form_of (sym (rolls-TuplePattern parts)) ∙ fold-roll-Form tree.Form tree.Node (ℕ × tree.Node) form_layer node_layer field_layer (Form-F.TuplePattern parts)
+    ap form_of (sym (rolls-TuplePattern parts))
+    ∙ fold-roll-Form tree.Form tree.Node (ℕ × tree.Node) form_layer node_layer field_layer
+    (Form-F.TuplePattern parts)
 
 pub array_pattern_seen : (elements : List Node) → form_of (form.ArrayPattern elements)
     ≡ tree.ArrayPattern (nodes_from (map tree_of elements))
 array_pattern_seen elements =
-    ap form_of (sym (rolls-ArrayPattern elements)) ∙ fold-roll-Form tree.Form tree.Node (ℕ × tree.Node) form_layer node_layer field_layer (Form-F.ArrayPattern elements)
+    ap form_of (sym (rolls-ArrayPattern elements))
+    ∙ fold-roll-Form tree.Form tree.Node (ℕ × tree.Node) form_layer node_layer field_layer
+    (Form-F.ArrayPattern elements)
 
 pub or_pattern_seen : (alternatives : List Node) → form_of (form.OrPattern alternatives)
     ≡ tree.OrPattern (nodes_from (map tree_of alternatives))
 or_pattern_seen alternatives =
-    ap form_of (sym (rolls-OrPattern alternatives)) ∙ fold-roll-Form tree.Form tree.Node (ℕ × tree.Node) form_layer node_layer field_layer (Form-F.OrPattern alternatives)
+    ap form_of (sym (rolls-OrPattern alternatives))
+    ∙ fold-roll-Form tree.Form tree.Node (ℕ × tree.Node) form_layer node_layer field_layer
+    (Form-F.OrPattern alternatives)
 
 -- the same, by what was read of it: `x`, `y` and `z` are what boxes of the form hold, and `slice` is a list of it
 module _ (whole : Form) (first : Box Node Global) (x : Node) (is_x : x ≡ first.value) where

@@ -1,11 +1,11 @@
-use Rattle.std.proofs.Common.{◌≡◌, ◌++◌, rules, sym, ap, subst, ◌∙◌, map, List, Some, None}
+use Rattle.std.proofs.Common.{◌≡◌, rules, sym, ap, subst, ◌∙◌, map, List, Some, None}
 use Rattle.std.proofs.lemmas.List.{at_drop_more}
 use Rattle.typed_tree.specs.declared.node.Form.{the_lemmas}
 use Rattle.typed_tree.specs.declared.node.Node.{Node}
 use Rattle.typed_tree.specs.declared.node.NumberedField.{NumberedField}
-use Rattle.typed_tree.specs.Nodes.{nodes_of, nodes_in, nodes_among, nodes_of_fields, nodes_if_any, first_with}
-use Rattle.typed_tree.specs.View.{tree_of, form_of, field_of, maybe_of, nodes_from, fields_from, tree_found}
-use Rattle.typed_tree.proofs.SearchLemmas.{found_either, first_with-front, first_with-back}
+use Rattle.typed_tree.specs.Nodes.{nodes_of, nodes_among, nodes_of_fields, first_with}
+use Rattle.typed_tree.specs.View.{tree_of, field_of, nodes_from, fields_from, tree_found}
+use Rattle.typed_tree.proofs.SearchLemmas.{first_with-front, first_with-back}
 use Rattle.typed_tree.proofs.FormNodes.{in_arm, in_block, in_if, in_if_let, in_let, in_operand_and_nodes, in_operands, in_while_let, operand_and_nodes, two_operands}
 use Rattle.typed_tree.proofs.search.+search.Goals as goal
 

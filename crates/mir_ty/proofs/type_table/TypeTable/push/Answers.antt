@@ -5,7 +5,8 @@ use Rattle.std.specs.Map.{lookup}
 use Rattle.mir_ty.specs.AreItems.{AreDistinct, IsNumberOf}
 use Rattle.mir_ty.specs.contracts.ty.TyPartialEq.TheImpl as same
 use Rattle.mir_ty.specs.declared.ty.Ty.{Ty}
-use Rattle.mir_ty.proofs.TyEq.{numbered}
+use Rattle.mir_ty.proofs.Numbers.{numbered}
+use Rattle.mir_ty.proofs.TyEq.{ty_eq_Decides}
 use Rattle.mir_ty.proofs.TypeLists.{AreDistinct-push}
 use Rattle.mir_ty.proofs.type_table.TypeTable.push.Goals as goal
 
@@ -21,7 +22,7 @@ invariant_of-self-in-Ok c =
     let pushed : c.push.new.self ≡ types ++ c.args.ty ∷ [] = c.in_ok-push.ensures.pushed in (
       subst AreDistinct (sym pushed) (AreDistinct-push types c.args.ty c.self.invariant.0 absent),
       λ ty. subst (λ all. IsNumberOf all ty (get_by (same.ghosts.eq ty) c.insert.new.self)) (sym pushed)
-          (numbered types c.args.ty ty (get_by (same.ghosts.eq ty) c.self.inside.numbers) _ (c.self.invariant.1 ty)
+          (numbered same.ghosts.eq ty_eq_Decides types c.args.ty ty (get_by (same.ghosts.eq ty) c.self.inside.numbers) _ (c.self.invariant.1 ty)
           (c.in-Ok.ensures.updates.0 ty
           ∙ (λ i. cond (same.ghosts.eq (c.in_ok-key.ensures i) ty) (Some (c.len-number.ensures i)) (get_by (same.ghosts.eq ty) c.self.inside.numbers)))),
     )
