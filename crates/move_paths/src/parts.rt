@@ -1,12 +1,13 @@
 //! The paths that are not locals, each by the path above it and the step from there.
-ghost use Rattle.std.specs.Prelude.{◌≡◌, [], ◌∷◌, ◌++◌, Contains, length, slice_get, MatchOption, IfOk, OnOk, OnErr, Some};
+ghost use Rattle.std.specs.Prelude.{◌≡◌, [], ◌∷◌, ◌++◌, Contains, length, slice_get, IfOk, OnOk, OnErr, Some};
 ghost use Rattle.std.specs.Option.{option_copied};
+ghost use Rattle.mir_ty.specs.AreItems.{IsNumberOf};
 ghost use Rattle.move_paths.specs.Trie.{AreOnce, Adds};
 
 use cfg_graph::Step;
-use indexmap::IndexSet;
-use mir_base::NoMemory;
+use mir_base::{List, NoMemory};
 use std::alloc::Global;
+use std::collections::HashMap;
 use std::marker::Model;
 
 /// A path below another: the number of that one, and the step from it.
@@ -16,22 +17,35 @@ pub struct PathPart {
     pub step: Step,
 }
 
-/// The parts in the order of their numbers, each of them once.
-#[derive(Drop)]
+/// The parts in the order of their numbers, each of them once. A look-up costs about the same for all.
 pub struct Parts {
-    parts: IndexSet<PathPart>,
+    parts: List<PathPart>,
+    /// The number of each part.
+    numbers: HashMap<PathPart, usize>,
+}
+
+/// As a derived one; but written here, it is proved here, and not again in each crate in which parts end.
+impl Drop for Parts {
+    fn drop(self) {
+        let Parts { parts, numbers } = self;
+        drop(parts);
+        drop(numbers);
+    }
 }
 
 impl Model for Parts {
     ghost use Rattle.std.specs.Prelude.{List};
+    ghost use Rattle.std.specs.HashMap.{get_by};
+    ghost use Rattle.mir_ty.specs.AreItems.{IsNumberOf};
     ghost use Rattle.move_paths.specs.declared.parts.PathPart.{PathPart};
+    ghost use Rattle.move_paths.specs.contracts.parts.PathPartPartialEq.TheImpl as same;
     ghost use Rattle.move_paths.specs.Trie.{AreOnce};
 
     ghost Value = { List PathPart };
 
-    ghost view = { λ parts. parts.parts.keys };
+    ghost view = { λ parts. parts.parts };
 
-    ghost invariant = { λ parts. AreOnce parts.parts.keys };
+    ghost invariant = { λ parts. AreOnce parts.parts × ((part : PathPart) → IsNumberOf parts.parts part (get_by (same.ghosts.eq part) parts.numbers)) };
 }
 
 impl Parts {
@@ -39,7 +53,8 @@ impl Parts {
         ensures { result ≡ [] }
     {
         Parts {
-            parts: IndexSet::new(alloc),
+            parts: List::new(alloc),
+            numbers: HashMap::new(alloc),
         }
     }
 
@@ -53,24 +68,33 @@ impl Parts {
     pub fn get(&self, n: usize) -> Option<&PathPart>
         ensures { option_copied result ≡ slice_get self.now n }
     {
-        self.parts.get_index(n)
+        self.parts.get(n)
     }
 
     /// The number of a part, if it has one.
     pub fn find(&self, part: &PathPart) -> Option<usize>
-        ensures found { MatchOption result (¬ Contains self.now part.now) (λ n. slice_get self.now n ≡ Some part.now) }
+        ensures found { IsNumberOf self.now part.now result }
         ensures once { AreOnce self.now }
     {
-        self.parts.get_index_of(part)
+        self.numbers.get(part).copied()
     }
 
+    /// Gives a part that has no number the next one. Where memory is wanted the parts are as they were.
     fn push(&mut self, part: PathPart) -> Result<(), NoMemory>
         requires { ¬ Contains self.old part }
         ensures pushed { OnOk result (self.new ≡ self.old ++ part ∷ []) }
         ensures refused { OnErr result (self.new ≡ self.old) }
     {
-        self.parts.insert(part)?;
-        Ok(())
+        let number = self.parts.len();
+        self.parts.push(part)?;
+        match self.numbers.insert(part, number) {
+            Ok(_) => Ok(()),
+            Err(error) => {
+                drop(error);
+                self.parts.truncate(number);
+                Err(NoMemory)
+            }
+        }
     }
 
     /// The number of a part, which is the next one where the part had none.

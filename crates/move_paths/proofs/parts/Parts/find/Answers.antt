@@ -1,5 +1,0 @@
-use Rattle.move_paths.proofs.PartEq.{found}
-use Rattle.move_paths.proofs.parts.Parts.find.Goals as goal
-
-pub returns-clause-found : goal.returns-clause-found
-returns-clause-found c = rw (← c.self.view_is) (found c.self.inside.parts.keys c.args.part.now c.get_index_of.result c.get_index_of.ensures.index)
