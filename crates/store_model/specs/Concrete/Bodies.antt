@@ -9,7 +9,7 @@ use Rattle.mir_base.specs.Trace.{Trace}
 use Rattle.mir_ty.specs.ItemTable.{ItemTable}
 use Rattle.store_model.specs.Concrete.Effects.{concrete_effects}
 use Rattle.store_model.specs.Values.Datum.{Datum}
-use Rattle.store_model.specs.Effects.{Halt, Aborted, OutOfTicks, Stuck, StuckAt, BadUse, BadStore, NoChoice, Infeasible, Unreachable, Out, Go, Unwind, Halts, Effects}
+use Rattle.store_model.specs.Effects.{Halt, Aborted, OutOfTicks, StuckAt, Out, Go, Unwind, Halts, Effects}
 use Rattle.store_model.specs.Concrete.Location.{Setting}
 use Rattle.store_model.specs.Concrete.State.{Activation, Cells, cell, State, with_event, tick, with_activation, without_activation, Answer, Returns, Unwinds, HaltsIn, Bodies, beginning}
 
