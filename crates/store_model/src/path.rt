@@ -48,7 +48,7 @@ fn two<S: Copy + Drop>(alloc: Global, first: S, second: S) -> Result<Vec<S>, NoM
     Ok(steps)
 }
 
-impl<S: Copy + Default + Drop> Path<S> {
+impl<S: Copy + Drop> Path<S> {
     /// The path without steps, which takes no memory.
     pub fn new(alloc: Global) -> Path<S>
         ensures { result ≡ [] }
