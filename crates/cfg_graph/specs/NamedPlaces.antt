@@ -14,14 +14,14 @@ abbrev pub same_place : Place → Place → Bool
 same_place a b = (a.local == b.local) && are_first a.steps b.steps && are_first b.steps a.steps
 
 -- two places of which one is at or in the other, where an index stands for all elements
-abbrev one_goes_on : List Step → List Step → Bool
+abbrev pub one_goes_on : List Step → List Step → Bool
 one_goes_on steps others = are_first steps others || are_first others steps
 
 abbrev pub overlaps : Place → Place → Bool
 overlaps a b = (a.local == b.local) && one_goes_on (before_element a.steps) (before_element b.steps)
 
 -- the reference that a statement makes in a whole local: the local, and the place that it names
-abbrev reference_made : Stmt → List (ℕ × Place)
+abbrev pub reference_made : Stmt → List (ℕ × Place)
 reference_made (Stmt.Borrow to unique of) =
     if same_place (named to) (whole_local to.local) then (to.local, named of) ∷ [] else []
 reference_made stmt = []
@@ -33,17 +33,17 @@ references_made body = flat_map (λ block. flat_map reference_made block.stmts) 
 abbrev pub named_by : ℕ → List (ℕ × Place) → Option Place
 named_by local made = option_map_or (λ one. Some one.1) (find (λ one. one.0 == local) made) None
 
-abbrev further : List Step → Place → Place
+abbrev pub further : List Step → Place → Place
 further steps place = record place { steps = place.steps ++ steps }
 
 -- where the steps begin by going through a reference that is made here
-abbrev behind : List (ℕ × Place) → ℕ → List Step → Option Place
+abbrev pub behind : List (ℕ × Place) → ℕ → List Step → Option Place
 behind made local [] = None
 behind made local (ToContent ∷ steps) = option_map_or (λ place. Some (further steps place)) (named_by local made) None
 behind made local (step ∷ steps) = None
 
 -- a place, and the places to which it is followed in turn, through no more references than there are
-abbrev follow : List (ℕ × Place) → ℕ → Place → List Place
+abbrev pub follow : List (ℕ × Place) → ℕ → Place → List Place
 follow made zero place = place ∷ []
 follow made (suc most) place =
     place ∷ option_map_or (follow made most) (behind made place.local place.steps) []
@@ -56,13 +56,13 @@ module _ (body : Body) where
   named_places local = option_map_or followed (named_by local (references_made body)) []
 
   -- what is moved, dropped or freed
-  abbrev takes : PathAction → Bool
+  abbrev pub takes : PathAction → Bool
   takes action = option_map_or (λ gone. gone) (leaves_gone action.how) false
 
-  abbrev goes_through : ℕ → List Place → Bool
+  abbrev pub goes_through : ℕ → List Place → Bool
   goes_through local places = list_any (λ place. place.local == local) places
 
-  abbrev overlap : List Place → List Place → Bool
+  abbrev pub overlap : List Place → List Place → Bool
   overlap places others = list_any (λ place. list_any (overlaps place) others) places
 
   -- an action takes nothing of what the reference in a local names, unless it goes through this reference
@@ -72,27 +72,27 @@ module _ (body : Body) where
       || goes_through local (followed action.place)
       || not (overlap (named_places local) (followed action.place))
 
-  abbrev stores : PlaceUse → Bool
+  abbrev pub stores : PlaceUse → Bool
   stores Stores = true
   stores how = false
 
   -- the reference in a local is made, or used
-  abbrev makes : ℕ → PathAction → Bool
+  abbrev pub makes : ℕ → PathAction → Bool
   makes local action = stores action.how && same_place action.place (whole_local local)
 
-  abbrev uses : ℕ → PathAction → Bool
+  abbrev pub uses : ℕ → PathAction → Bool
   uses local action = (action.place.local == local) && not (makes local action)
 
   -- the actions at the same line that come next
-  abbrev of_line : PathAction → List PathAction → List PathAction
+  abbrev pub of_line : PathAction → List PathAction → List PathAction
   of_line at later = take_while (λ action. (action.block == at.block) && (action.line == at.line)) later
 
-  abbrev if_used : Bool → List PathAction → List (List PathAction)
+  abbrev pub if_used : Bool → List PathAction → List (List PathAction)
   if_used used stretch = if used then stretch ∷ [] else []
 
   -- the actions from a making of the reference in a local up to each use of it, with all operands of that use, as long
   -- as it is not made again
-  abbrev up_to_uses : ℕ → List PathAction → List PathAction → List (List PathAction)
+  abbrev pub up_to_uses : ℕ → List PathAction → List PathAction → List (List PathAction)
   up_to_uses local between [] = []
   up_to_uses local between (action ∷ later) =
       if makes local action then []

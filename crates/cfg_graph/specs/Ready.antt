@@ -27,14 +27,14 @@ use Rattle.store_model.specs.Concrete.Drops.{drop_impl}
 use Rattle.store_model.specs.Places.Place.{Step, step_ty, is_reference, whole_local}
 
 -- a test of all statements of a body, and of all blocks
-abbrev all_stmts : (Stmt → Bool) → Body → Bool
+abbrev pub all_stmts : (Stmt → Bool) → Body → Bool
 all_stmts test body = list_all (λ block. list_all test block.stmts) body.blocks
 
-abbrev all_terms : (Term → Bool) → Body → Bool
+abbrev pub all_terms : (Term → Bool) → Body → Bool
 all_terms test body = list_all (λ block. test block.term) body.blocks
 
 -- nothing is freed by a statement of its own, as elaboration does it
-abbrev is_no_free : Stmt → Bool
+abbrev pub is_no_free : Stmt → Bool
 is_no_free (Stmt.Free place) = false
 is_no_free stmt = true
 
@@ -46,18 +46,18 @@ abbrev pub begins_once : Body → Bool
 begins_once body = all_terms (λ term. not (list_any (nat_eq 0) (targets term))) body
 
 -- the types of the containers of a place, from its local on
-abbrev container_tys : ItemTable → Option TyId → List Step → List (Option Ty)
+abbrev pub container_tys : ItemTable → Option TyId → List Step → List (Option Ty)
 container_tys items id [] = []
 container_tys items id (step ∷ steps) =
     option_and_then (type_at items) id
     ∷ container_tys items (option_and_then (step_ty items step) (option_and_then (type_at items) id)) steps
 
 -- the places that a statement stores into and those that a terminator does, in a whole body
-abbrev stored_in : Body → List Place
+abbrev pub stored_in : Body → List Place
 stored_in body = flat_map (λ block. flat_map stored_by_stmt block.stmts ++ stored_by_term block.term) body.blocks
 
 module _ (items : ItemTable) (body : Body) where
-  abbrev containers_of : Place → List (Option Ty)
+  abbrev pub containers_of : Place → List (Option Ty)
   containers_of place = container_tys items (slice_get body.locals place.local) (named place).steps
 
   -- a place may be left gone: it is not behind a reference, has no index, and does not lie within a value of a type
@@ -68,7 +68,7 @@ module _ (items : ItemTable) (body : Body) where
       && not (list_any (λ ty. is_reference ty || is_some (drop_impl items ty)) (containers_of place))
 
   -- a value is moved out only where its place may be left gone
-  abbrev moves_out_well : Operand → Bool
+  abbrev pub moves_out_well : Operand → Bool
   moves_out_well (Operand.Moved place) = may_be_left_gone place
   moves_out_well operand = true
 
@@ -78,20 +78,20 @@ module _ (items : ItemTable) (body : Body) where
       && all_terms (λ term. list_all moves_out_well (operands_of_term term)) body
 
   -- the first statement of a block stores into a place
-  abbrev begins_by_storing : Place → List Stmt → Bool
+  abbrev pub begins_by_storing : Place → List Stmt → Bool
   begins_by_storing place [] = false
   begins_by_storing place (first ∷ rest) = list_any (λ to. same_place (named to) (named place)) (stored_by_stmt first)
 
-  abbrev refills : Place → ℕ → Bool
+  abbrev pub refills : Place → ℕ → Bool
   refills place n = option_map_or (λ block. begins_by_storing place block.stmts) (slice_get body.blocks n) false
 
-  abbrev refills_after_panic : Place → Unwind → Bool
+  abbrev pub refills_after_panic : Place → Unwind → Bool
   refills_after_panic place (Unwind.Block block) = refills place block
   refills_after_panic place Unwind.Resume = false
   refills_after_panic place Unwind.Abort = true
 
   -- a place that may not be left gone gets a value again as soon as it is dropped
-  abbrev drops_well : Term → Bool
+  abbrev pub drops_well : Term → Bool
   drops_well (Term.DropAt place next unwind) =
       may_be_left_gone place || (refills place next && refills_after_panic place unwind)
   drops_well term = true
@@ -100,20 +100,20 @@ module _ (items : ItemTable) (body : Body) where
   refills_dropped = all_terms drops_well body
 
   -- how often a whole local is stored into, and how often a reference is made there
-  abbrev times_stored : ℕ → ℕ
+  abbrev pub times_stored : ℕ → ℕ
   times_stored local = count_by (λ to. same_place (named to) (whole_local local)) (stored_in body)
 
-  abbrev times_made : ℕ → ℕ
+  abbrev pub times_made : ℕ → ℕ
   times_made local = count_by (λ made. made.0 == local) (references_made body)
 
   -- a local of a reference type is a parameter, which is not stored into, or one whose reference is made by one
   -- statement and by nothing else
-  abbrev holds_reference_well : ℕ → Bool
+  abbrev pub holds_reference_well : ℕ → Bool
   holds_reference_well local =
       if is_param items body local then times_stored local == 0
       else not (local == 0) && (times_stored local == 1) && (times_made local == 1)
 
-  abbrev local_well : ℕ → Bool
+  abbrev pub local_well : ℕ → Bool
   local_well local =
       not (is_reference (option_and_then (type_at items) (slice_get body.locals local))) || holds_reference_well local
 
@@ -121,7 +121,7 @@ module _ (items : ItemTable) (body : Body) where
   references_in_locals = list_all local_well (range_with_len 0 (length body.locals))
 
 -- no type has a reference in it
-abbrev holds_no_reference : ItemTable → List TyId → Bool
+abbrev pub holds_no_reference : ItemTable → List TyId → Bool
 holds_no_reference items ids = not (list_any (λ id. is_reference (type_at items id)) ids)
 
 -- a reference type stands in no other type, in no field and no capture, and is the type of no result

@@ -21,7 +21,7 @@ abbrev pub arguments_from : ℕ → List Datum → Cells
 arguments_from local [] = []
 arguments_from local (arg ∷ args) = (local, arg) ∷ arguments_from (suc local) args
 
-abbrev no_node : ℕ → ℕ → ℕ
+abbrev pub no_node : ℕ → ℕ → ℕ
 no_node block line = 0
 
 abbrev pub setting_of : Bool → Graph → Setting

@@ -36,11 +36,11 @@ module _ (items : ItemTable) (body : Body) where
   may_not_store earlier place =
       container_gone_after items body earlier place || array_broken_after items body earlier place
 
-  abbrev if_bad : Bool → UseRule → PathAction → List BadUse
+  abbrev pub if_bad : Bool → UseRule → PathAction → List BadUse
   if_bad bad rule action = if bad then record { rule = rule; action = action } ∷ [] else []
 
   -- a use as it comes after the earlier actions of its path; to free is never bad
-  abbrev checked : List PathAction → PathAction → PlaceUse → List BadUse
+  abbrev pub checked : List PathAction → PathAction → PlaceUse → List BadUse
   checked earlier action Copies = if_bad (may_not_read earlier action.place) U1 action
   checked earlier action Moves = if_bad (may_not_read earlier action.place) U1 action
   checked earlier action Borrows = if_bad (may_not_read earlier action.place) U1 action
@@ -51,7 +51,7 @@ module _ (items : ItemTable) (body : Body) where
   checked earlier action Frees = []
 
   -- the bad ones of these actions, after earlier ones
-  abbrev bad_after : List PathAction → List PathAction → List BadUse
+  abbrev pub bad_after : List PathAction → List PathAction → List BadUse
   bad_after earlier [] = []
   bad_after earlier (action ∷ later) = checked earlier action action.how ++ bad_after (earlier ++ action ∷ []) later
 

@@ -52,7 +52,7 @@ has_index (ToElement local ∷ steps) = true
 has_index (step ∷ steps) = has_index steps
 
 -- a place is watched to its end
-abbrev reaches_whole : Watched → Bool
+abbrev pub reaches_whole : Watched → Bool
 reaches_whole w = elim w.reach [ Whole ↦ true | ThroughReference ↦ false | ByElement ↦ false ]
 
 module _ (items : ItemTable) (body : Body) where

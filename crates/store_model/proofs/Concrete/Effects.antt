@@ -320,7 +320,7 @@ module _ (m : ℕ) where
               in_mode_less mode _ _ (part_less (into setting.items (Part n) s) (drop_value setting run again ticks first Begins) mode w l (λ s. value_less first Begins s mode w l))
               (λ mode u j. parts_less rest (suc n) s mode u j)
 
-      drop_at_less : (n : ℕ) (stage : Stage) (s : Located) (mode : Mode) (w : State) → w.ticks ≤ m → Kept m (drop_at setting run n stage s mode w)
+      pub drop_at_less : (n : ℕ) (stage : Stage) (s : Located) (mode : Mode) (w : State) → w.ticks ≤ m → Kept m (drop_at setting run n stage s mode w)
       drop_at_less zero stage s mode w l = record { kept = tt }
       drop_at_less (suc n) stage s mode w l =
           still_found_less s.dynamic _ (dropped_there setting run (drop_at setting run n) stage mode) w
@@ -541,7 +541,7 @@ module _ (setting : Setting) (run run' : Bodies) (spending : Spending run) (n : 
           (λ s. value_less ticks setting run thrifty_run again again_less ticks first Begins s mode w l))
           (λ mode v j. parts_same rest (suc k) s mode v j)
 
-  drop_at_same : (b b' : ℕ) (stage : Stage) (s : Located) (mode : Mode) (w : State) → w.ticks ≤ n → w.ticks < b → w.ticks < b' →
+  pub drop_at_same : (b b' : ℕ) (stage : Stage) (s : Located) (mode : Mode) (w : State) → w.ticks ≤ n → w.ticks < b → w.ticks < b' →
       drop_at setting run b stage s mode w ≡ drop_at setting run' b' stage s mode w
   drop_at_same zero b' stage s mode w l h h' = absurd (let never : ⊥ = omega arith in never)
   drop_at_same (suc b) zero stage s mode w l h h' = absurd (let never : ⊥ = omega arith in never)

@@ -54,7 +54,7 @@ may_store w p = elim w.reach [
 ]
 
 -- what is done behind a reference, or at an element that a local names, counts for no place
-abbrev acted : Bool → Watched → Presence → Presence
+abbrev pub acted : Bool → Watched → Presence → Presence
 acted takes w p = elim w.reach [ Whole ↦ after_action takes w.steps p | ThroughReference ↦ p | ByElement ↦ p ]
 
 -- one choice: 0, 1, or none is left
@@ -85,7 +85,7 @@ module _ (table : ItemTable) (local_ty : ℕ → Option TyId) where
   abbrev pub watched_at : EffectSite → Watched
   watched_at site = watched table (local_ty site.place.local) site.place.steps
 
-  abbrev ty_at : EffectSite → Option TyId
+  abbrev pub ty_at : EffectSite → Option TyId
   ty_at site = place_ty table local_ty site.place
 
   abbrev pub never_at : EffectSite → Bool

@@ -47,7 +47,7 @@ run_body setting code (suc n) event body args w =
     (with_activation (record { body = body; cells = code.arguments body args }) (with_event event w))))
 
 -- how a run ends. A run of a source, and a free run, have no block to be stuck in
-abbrev end_of_halt : Halt → End
+abbrev pub end_of_halt : Halt → End
 end_of_halt Aborted = End.Aborted
 end_of_halt OutOfTicks = End.OutOfTicks
 end_of_halt (StuckAt body block) = End.Stuck body block

@@ -34,7 +34,7 @@ in_mode mode (Unwind w) next = unwinding_out (next Unwinding w)
 in_mode mode (Halts halt w) next = Halts halt w
 
 -- the number and the `Drop` body of a struct or an enum that has one
-abbrev with_drop_body : ℕ → Option ℕ → Option (ℕ × ℕ)
+abbrev pub with_drop_body : ℕ → Option ℕ → Option (ℕ × ℕ)
 with_drop_body n None = None
 with_drop_body n (Some body) = Some (n, body)
 
@@ -43,13 +43,13 @@ drop_impl items (Some (Ty.Adt n)) =
     with_drop_body n (option_map_or (λ adt. adt.drop_body) (slice_get items.adts n) None)
 drop_impl items _ = None
 
-abbrev serial_or_none : Option ℕ → ℕ
+abbrev pub serial_or_none : Option ℕ → ℕ
 serial_or_none None = 0
 serial_or_none (Some serial) = serial
 
 -- A place has not lost what was found there while it is found as that type, as for references; a trait object, as the
 -- concrete type of its impl. It need not be found in the same way.
-abbrev still_of : ItemTable → DynamicType → DynamicType → Bool
+abbrev pub still_of : ItemTable → DynamicType → DynamicType → Bool
 still_of items (OfType id) now = is_of_type items id now
 still_of items (OfObject id impl_no) now =
     option_map_or (λ n. is_adt n (concrete_ty items now)) (adt_of_impl items impl_no) false
@@ -70,7 +70,7 @@ pub data Stage : Type 0 where
 
 module _ (setting : Setting) (run : Bodies) where
   -- an address that has not lost its place: what stands there is still of the type that was found before
-  abbrev still : Located → (Located → State → Out State) → State → Out State
+  abbrev pub still : Located → (Located → State → Out State) → State → Out State
   still s next w = if_still_typed setting.items s.dynamic (located_at setting w s.address) next w
 
   abbrev pub gone_at : Located → State → Out State

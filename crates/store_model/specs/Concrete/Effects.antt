@@ -24,10 +24,10 @@ use Rattle.store_model.specs.Values.Wholeness.{is_whole, serials}
 
 -- Comparisons and checked operations.
 
-abbrev int_eq : ℤ → ℤ → Bool
+abbrev pub int_eq : ℤ → ℤ → Bool
 int_eq a b = int_le a b && int_le b a
 
-abbrev compared_numbers : Cmp → ℤ → ℤ → Bool
+abbrev pub compared_numbers : Cmp → ℤ → ℤ → Bool
 compared_numbers Cmp.Eq a b = int_eq a b
 compared_numbers Cmp.Ne a b = not (int_eq a b)
 compared_numbers Cmp.Lt a b = int_lt a b
@@ -35,7 +35,7 @@ compared_numbers Cmp.Le a b = int_le a b
 compared_numbers Cmp.Gt a b = int_lt b a
 compared_numbers Cmp.Ge a b = int_le b a
 
-abbrev number_of_truth : Bool → ℤ
+abbrev pub number_of_truth : Bool → ℤ
 number_of_truth false = pos 0
 number_of_truth true = pos 1
 
@@ -50,7 +50,7 @@ pub data Computed : Type 0 where
   Gives : (number : ℤ) → Computed
   PanicsBy : (why : Why) → Computed
 
-abbrev within_kind : Bool → ℤ → Computed
+abbrev pub within_kind : Bool → ℤ → Computed
 within_kind true number = Gives number
 within_kind false number = PanicsBy Why.Overflow
 
@@ -61,7 +61,7 @@ abbrev pub if_within : IntKind → ℤ → Computed
 if_within kind number = within_kind (fits kind number) number
 
 -- a remainder overflows where its quotient does
-abbrev divided : Bool → IntKind → ℤ → ℤ → Computed
+abbrev pub divided : Bool → IntKind → ℤ → ℤ → Computed
 divided true kind quotient answer = PanicsBy Why.Divide
 divided false kind quotient answer = within_kind (fits kind quotient) answer
 
@@ -74,11 +74,11 @@ computed Math.Rem kind a b = divided (int_eq b (pos 0)) kind (int_div a b) (int_
 
 -- What `forget` tells: a line for each numbered part, in the order in which it would be dropped or freed.
 
-abbrev made_forgotten : Option ℕ → Option (ℕ × ℕ) → List Event
+abbrev pub made_forgotten : Option ℕ → Option (ℕ × ℕ) → List Event
 made_forgotten (Some serial) (Some of) = Event.ForgotMade of.0 serial ∷ []
 made_forgotten serial of = []
 
-abbrev if_typed : Option DynamicType → (DynamicType → List Event) → List Event
+abbrev pub if_typed : Option DynamicType → (DynamicType → List Event) → List Event
 if_typed None forget = []
 if_typed (Some dynamic) forget = forget dynamic
 
@@ -97,14 +97,14 @@ abbrev mutual
   forgotten_parts items (a_part first rest) found_at n =
       if_typed (found_at n) (forgotten items first) ++ forgotten_parts items rest found_at (suc n)
 
-abbrev body_of_youngest : State → Option ℕ
+abbrev pub body_of_youngest : State → Option ℕ
 body_of_youngest w = option_map_or (λ a. Some a.body) (slice_get w.activations 0) None
 
 abbrev pub or_stuck : {A : Type 0} → Option A → (A → Out State) → State → Out State
 or_stuck None next w = Halts Stuck w
 or_stuck (Some a) next w = next a
 
-abbrev if_so : {A : Type 0} → Bool → A → Option A
+abbrev pub if_so : {A : Type 0} → Bool → A → Option A
 if_so true a = Some a
 if_so false a = None
 
@@ -112,12 +112,12 @@ if_so false a = None
 abbrev pub impl_of : ItemTable → ℕ → ℕ → Option ℕ
 impl_of items trait_no adt = position (λ impl. (impl.trait_no == trait_no) && (impl.adt == adt)) items.impls
 
-abbrev with_impl : ℕ → Datum → Option Datum
+abbrev pub with_impl : ℕ → Datum → Option Datum
 with_impl impl_no (Box serial other inside) = Some (Box serial (Some impl_no) inside)
 with_impl impl_no value = None
 
 -- a numbered value tells of its making
-abbrev made : ℕ → ℕ → List Datum → Option ℕ → Option (ℕ × ℕ) → Datum
+abbrev pub made : ℕ → ℕ → List Datum → Option ℕ → Option (ℕ × ℕ) → Datum
 made adt variant parts serial None = Aggregate variant None (data_from parts)
 made adt variant parts serial (Some of) = Aggregate variant serial (data_from parts)
 
@@ -132,14 +132,14 @@ module _ (setting : Setting) where
   abbrev pub never_at : State → effects.EffectSite → Bool
   never_at w site = is_never (ty_of_place w site)
 
-  abbrev ty_of_operand : State → Operand → Option Ty
+  abbrev pub ty_of_operand : State → Operand → Option Ty
   ty_of_operand w (effects.Copied site) = ty_of_place w site
   ty_of_operand w (effects.Moved site) = ty_of_place w site
   ty_of_operand w (effects.Number value kind) = Some (Ty.Int kind)
   ty_of_operand w (effects.Truth value) = Some Ty.Bool
   ty_of_operand w effects.UnitValue = Some Ty.Unit
 
-  abbrev whole : Located → Option Located
+  abbrev pub whole : Located → Option Located
   whole s = if_so (is_whole s.value) s
 
   -- what stands at a place whose value is used
@@ -183,10 +183,10 @@ module _ (setting : Setting) where
   tell_after event (Unwind w) = Unwind w
   tell_after event (Halts halt w) = Halts halt w
 
-  abbrev panics : Why → State → State
+  abbrev pub panics : Why → State → State
   panics why w = with_event (Event.Panicked why) w
 
-  abbrev negated : Datum → Option Datum
+  abbrev pub negated : Datum → Option Datum
   negated (Truth b) = Some (Truth (not b))
   negated _ = None
 
@@ -206,7 +206,7 @@ module _ (setting : Setting) where
   abbrev pub boxed : EffectSite → Datum → State → Out State
   boxed to content w = tell_after (Event.Boxed w.serial) (put to (Box w.serial None content) (numbered_next w))
 
-  abbrev impl_boxed : ℕ → State → Operand → Option ℕ
+  abbrev pub impl_boxed : ℕ → State → Operand → Option ℕ
   impl_boxed trait_no w operand =
       option_and_then (impl_of setting.items trait_no)
       (adt_of (option_and_then (type_at setting.items) (box_content (ty_of_operand w operand))))
@@ -215,10 +215,10 @@ module _ (setting : Setting) where
   printed (Number number) w = Go (with_event (Event.Printed number) w)
   printed value w = Halts Stuck w
 
-  abbrev with_events : List Event → State → State
+  abbrev pub with_events : List Event → State → State
   with_events events w = record w { trace = w.trace ++ events }
 
-  abbrev type_of_operand : State → Operand → Option DynamicType
+  abbrev pub type_of_operand : State → Operand → Option DynamicType
   type_of_operand w (effects.Copied site) = option_map_or (λ s. Some s.dynamic) (whole_at w site) None
   type_of_operand w (effects.Moved site) = option_map_or (λ s. Some s.dynamic) (whole_at w site) None
   type_of_operand w operand = None
@@ -258,10 +258,10 @@ module _ (setting : Setting) where
   answered to (Unwinds w) = Unwind w
   answered to (HaltsIn halt w) = Halts halt w
 
-  abbrev row_body : ItemTable → ℕ → ℕ → Option ℕ
+  abbrev pub row_body : ItemTable → ℕ → ℕ → Option ℕ
   row_body items method impl_no = option_and_then (λ impl. slice_get impl.bodies method) (slice_get items.impls impl_no)
 
-  abbrev object_body : ℕ → ℕ → DynamicType → Option ℕ
+  abbrev pub object_body : ℕ → ℕ → DynamicType → Option ℕ
   object_body trait_no method (OfType id) = None
   object_body trait_no method (OfObject id impl_no) =
       option_and_then (λ body. if_so (is_dyn_of trait_no (type_at setting.items id)) body)
@@ -296,7 +296,7 @@ module _ (setting : Setting) where
       on_reached (reach setting w site.place) (λ s. variant_tested variant s.value w) (Neither Stuck w)
       (Neither Stuck w)
 
-  abbrev impl_put : EffectSite → Option ℕ → Datum → State → Out State
+  abbrev pub impl_put : EffectSite → Option ℕ → Datum → State → Out State
   impl_put to impl_no value w = put_if to (option_and_then (λ n. with_impl n value) impl_no) w
 
   module _ (run : Bodies) where

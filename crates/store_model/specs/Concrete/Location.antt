@@ -45,15 +45,15 @@ is_of_type items id (OfType dynamic) = id.0 == dynamic.0
 is_of_type items id (OfObject dynamic impl_no) =
     id.0 == dynamic.0 || option_map_or (λ n. is_adt n (type_at items id)) (adt_of_impl items impl_no) false
 
-abbrev content_type : TyId → Option ℕ → DynamicType
+abbrev pub content_type : TyId → Option ℕ → DynamicType
 content_type id None = OfType id
 content_type id (Some impl_no) = OfObject id impl_no
 
-abbrev type_in_box : Option ℕ → Option Ty → Option DynamicType
+abbrev pub type_in_box : Option ℕ → Option Ty → Option DynamicType
 type_in_box impl_no (Some (Ty.Boxed inside)) = Some (content_type inside impl_no)
 type_in_box impl_no _ = None
 
-abbrev type_of_field : ItemTable → ℕ → ℕ → Option Ty → Option DynamicType
+abbrev pub type_of_field : ItemTable → ℕ → ℕ → Option Ty → Option DynamicType
 type_of_field items variant n None = None
 type_of_field items variant n (Some ty) =
     option_map_or (λ id. Some (OfType id)) (slice_get (parts_of items ty variant) n) None
@@ -71,10 +71,10 @@ pub record Located : Type 0 where
   pub dynamic : DynamicType
   pub value : Datum
 
-abbrev below : Addr → At → Addr
+abbrev pub below : Addr → At → Addr
 below address step = record address { path = address.path ++ step ∷ [] }
 
-abbrev located_part : Located → At → Option Datum → Option DynamicType → Option Located
+abbrev pub located_part : Located → At → Option Datum → Option DynamicType → Option Located
 located_part s step (Some value) (Some dynamic) =
     Some (record { address = below s.address step; dynamic = dynamic; value = value })
 located_part s step (Some value) None = None
@@ -84,21 +84,21 @@ located_part s step None dynamic = None
 abbrev pub into : ItemTable → At → Located → Option Located
 into items step s = located_part s step (part step s.value) (type_of_part items step s.value s.dynamic)
 
-abbrev into_all : ItemTable → List At → Located → Option Located
+abbrev pub into_all : ItemTable → List At → Located → Option Located
 into_all items [] s = Some s
 into_all items (step ∷ path) s = option_and_then (into_all items path) (into items step s)
 
 abbrev pub root_address : ℕ → ℕ → Addr
 root_address depth key = record { depth = depth; key = (record { 0 = key }); path = [] }
 
-abbrev located_root : ℕ → ℕ → Cells → Option TyId → Option Located
+abbrev pub located_root : ℕ → ℕ → Cells → Option TyId → Option Located
 located_root depth key cells None = None
 located_root depth key cells (Some id) =
     Some (record { address = root_address depth key; dynamic = OfType id; value = cell key cells })
 
 module _ (setting : Setting) (w : State) where
   -- what a local of the activation of a depth holds
-  abbrev located_in : ℕ → ℕ → Option Activation → Option Located
+  abbrev pub located_in : ℕ → ℕ → Option Activation → Option Located
   located_in depth key None = None
   located_in depth key (Some a) = located_root depth key a.cells (setting.local_ty a.body key)
 
@@ -114,11 +114,11 @@ pub data Reached : Type 0 where
   CutOff : Reached
   Nowhere : Reached
 
-abbrev reach_of : Option Located → Reached
+abbrev pub reach_of : Option Located → Reached
 reach_of (Some s) = Reaches s
 reach_of None = Nowhere
 
-abbrev reach_if : Bool → Option Located → Reached
+abbrev pub reach_if : Bool → Option Located → Reached
 reach_if true s = reach_of s
 reach_if false s = Nowhere
 
@@ -128,41 +128,41 @@ on_reached CutOff reaches cut_off nowhere = cut_off
 on_reached Nowhere reaches cut_off nowhere = nowhere
 
 -- the type that a reference names
-abbrev named_by : Option Ty → Option TyId
+abbrev pub named_by : Option Ty → Option TyId
 named_by (Some (Ty.Shared to)) = Some to
 named_by (Some (Ty.Unique to)) = Some to
 named_by _ = None
 
-abbrev by_reference : ItemTable → Option TyId → Option Located → Reached
+abbrev pub by_reference : ItemTable → Option TyId → Option Located → Reached
 by_reference items (Some id) (Some s) = reach_if (is_of_type items id s.dynamic) (Some s)
 by_reference items (Some id) None = Nowhere
 by_reference items None s = Nowhere
 
 module _ (setting : Setting) (w : State) (cells : Cells) where
   -- the element under the number that a local holds
-  abbrev into_element : Datum → Located → Reached
+  abbrev pub into_element : Datum → Located → Reached
   into_element (Number (pos n)) s = reach_of (into setting.items (Part n) s)
   into_element index s = Nowhere
 
-  abbrev through : Datum → Located → Reached
+  abbrev pub through : Datum → Located → Reached
   through (Address address) s =
       by_reference setting.items (named_by (concrete_ty setting.items s.dynamic)) (located_at setting w address)
   through (Box serial impl_no inside) s = reach_of (into setting.items Inside s)
   through value s = Nowhere
 
-  abbrev into_field : ℕ → ℕ → Datum → Located → Reached
+  abbrev pub into_field : ℕ → ℕ → Datum → Located → Reached
   into_field variant n (Aggregate active serial parts) s =
       reach_if (variant == active) (into setting.items (Part n) s)
   into_field variant n value s = Nowhere
 
-  abbrev follow : Step → Located → Reached
+  abbrev pub follow : Step → Located → Reached
   follow (ToPart n) s = reach_of (into setting.items (Part n) s)
   follow (ToField variant n) s = into_field variant n s.value s
   follow ToContent s = through s.value s
   follow (ToElement index) s = into_element (cell index cells) s
 
   -- nothing is below what is gone
-  abbrev follow_from : Step → Datum → Located → Reached
+  abbrev pub follow_from : Step → Datum → Located → Reached
   follow_from step Gone s = CutOff
   follow_from step value s = follow step s
 
@@ -170,7 +170,7 @@ module _ (setting : Setting) (w : State) (cells : Cells) where
   along [] s = Reaches s
   along (step ∷ steps) s = on_reached (follow_from step s.value s) (along steps) CutOff Nowhere
 
-abbrev in_youngest : Setting → State → Place → List Activation → Reached
+abbrev pub in_youngest : Setting → State → Place → List Activation → Reached
 in_youngest setting w place [] = Nowhere
 in_youngest setting w place (a ∷ older) =
     on_reached (reach_of (located_root (length older) place.local a.cells (setting.local_ty a.body place.local)))
@@ -180,7 +180,7 @@ in_youngest setting w place (a ∷ older) =
 abbrev pub reach : Setting → State → Place → Reached
 reach setting w place = in_youngest setting w place w.activations
 
-abbrev root_of : Addr → State → Datum
+abbrev pub root_of : Addr → State → Datum
 root_of address w = option_map_or (λ a. cell address.key.0 a.cells) (at_depth address.depth w.activations) Gone
 
 -- another value stands at an address

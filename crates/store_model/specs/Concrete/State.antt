@@ -59,7 +59,7 @@ tick w = spend w.ticks w
 abbrev pub with_activation : Activation → State → State
 with_activation a w = record w { activations = a ∷ w.activations }
 
-abbrev older_of : List Activation → List Activation
+abbrev pub older_of : List Activation → List Activation
 older_of [] = []
 older_of (a ∷ older) = older
 

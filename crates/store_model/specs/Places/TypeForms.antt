@@ -12,7 +12,7 @@ same_id a b = a.0 == b.0
 abbrev pub same_ids : List TyId → List TyId → Bool
 same_ids = pointwise same_id
 
-abbrev same_kind : IntKind → IntKind → Bool
+abbrev pub same_kind : IntKind → IntKind → Bool
 same_kind IntKind.I32 IntKind.I32 = true
 same_kind IntKind.I64 IntKind.I64 = true
 same_kind IntKind.U32 IntKind.U32 = true
