@@ -1,3 +1,5 @@
+ghost use Rattle.std.specs.Prelude.{◌≡◌};
+
 use crate::Pos;
 
 /// The typing rules, by the numbers under which a refusal names them to a user.
@@ -32,4 +34,21 @@ pub enum RuleError {
     Broken { rule: Rule, at: Pos },
     /// Memory was wanted and could not be had.
     Memory,
+}
+
+impl RuleError {
+    /// What a call answers where a number would pass 32 bits. Nothing was allocated; a text within the limits comes to no
+    /// such number.
+    pub fn past_32_bits() -> RuleError
+        ensures { result ≡ RuleError.Memory }
+    {
+        RuleError::Memory
+    }
+
+    /// What a call answers where it never comes, which its own contract cannot tell.
+    pub fn cannot_be() -> RuleError
+        ensures { result ≡ RuleError.Memory }
+    {
+        RuleError::Memory
+    }
 }
