@@ -4,8 +4,8 @@ pub mod ItemLemmas
 pub mod KnownLemmas
 pub mod LeastRelations
 pub mod ListLemmas
+pub mod Numbers
 pub mod Rules
 pub mod TableLemmas
-pub mod Numbers
 pub mod TyEq
 pub mod TypeLists

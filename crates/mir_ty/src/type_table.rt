@@ -4,44 +4,34 @@ ghost use Rattle.mir_ty.specs.AreItems.{AreDistinct, IsNumberOf};
 
 use crate::Ty;
 use crate::duplicate::Duplicate;
-use mir_base::{List, NoMemory};
+use indexmap::IndexSet;
+use mir_base::NoMemory;
 use std::alloc::Global;
-use std::collections::HashMap;
 use std::marker::Model;
 
 /// The types of a program in the order of their numbers, each of them once. A look-up costs about the same for all.
 pub struct TypeTable {
-    alloc: Global,
-    types: List<Ty>,
-    /// The number of each type.
-    numbers: HashMap<Ty, usize>,
+    types: IndexSet<Ty>,
 }
 
 /// As a derived one; but written here, it is proved here, and not again in each crate in which a table ends.
 impl Drop for TypeTable {
     fn drop(self) {
-        let TypeTable {
-            alloc: _,
-            types,
-            numbers,
-        } = self;
+        let TypeTable { types } = self;
         drop(types);
-        drop(numbers);
     }
 }
 
 impl Model for TypeTable {
     ghost use Rattle.std.specs.Prelude.{List};
-    ghost use Rattle.std.specs.HashMap.{get_by};
     ghost use Rattle.mir_ty.specs.declared.ty.Ty.{Ty};
-    ghost use Rattle.mir_ty.specs.contracts.ty.TyPartialEq.TheImpl as same;
-    ghost use Rattle.mir_ty.specs.AreItems.{AreDistinct, IsNumberOf};
+    ghost use Rattle.mir_ty.specs.AreItems.{AreDistinct};
 
     ghost Value = { List Ty };
 
-    ghost view = { λ table. table.types };
+    ghost view = { λ table. table.types.keys };
 
-    ghost invariant = { λ table. AreDistinct table.types × ((ty : Ty) → IsNumberOf table.types ty (get_by (same.ghosts.eq ty) table.numbers)) };
+    ghost invariant = { λ table. AreDistinct table.types.keys };
 }
 
 impl TypeTable {
@@ -49,9 +39,7 @@ impl TypeTable {
         ensures { result ≡ [] }
     {
         TypeTable {
-            alloc,
-            types: List::new(alloc),
-            numbers: HashMap::new(alloc),
+            types: IndexSet::new(alloc),
         }
     }
 
@@ -72,14 +60,14 @@ impl TypeTable {
     pub fn get(&self, n: usize) -> Option<&Ty>
         ensures { option_copied result ≡ slice_get self.now n }
     {
-        self.types.get(n)
+        self.types.get_index(n)
     }
 
     /// The number of a type, and `None` where it has none.
     pub fn find(&self, ty: &Ty) -> Option<usize>
         ensures { IsNumberOf self.now ty.now result }
     {
-        self.numbers.get(ty).copied()
+        self.types.get_index_of(ty)
     }
 
     /// Gives a type that has no number the next one. Where memory is wanted the table is as it was.
@@ -88,17 +76,8 @@ impl TypeTable {
         ensures pushed { OnOk result (self.new ≡ self.old ++ ty ∷ []) }
         ensures refused { OnErr result (self.new ≡ self.old) }
     {
-        let number = self.types.len();
-        let key = ty.duplicate(self.alloc)?;
-        self.types.push(ty)?;
-        match self.numbers.insert(key, number) {
-            Ok(_) => Ok(()),
-            Err(error) => {
-                drop(error);
-                self.types.truncate(number);
-                Err(NoMemory)
-            }
-        }
+        self.types.insert(ty)?;
+        Ok(())
     }
 }
 
