@@ -17,6 +17,6 @@ mod type_table;
 pub use adt::{Adt, Variant};
 pub use def::{ClosureDef, ImplDef, Sig, TraitDef};
 pub use items::Items;
-pub use line::event_line;
+pub use line::{event_line, put_event_line};
 pub use scalars::{BOOL, I32, I64, NEVER, U32, U64, UNIT, USIZE};
 pub use ty::{Ty, TyId};
