@@ -6,6 +6,7 @@ pub mod LeastRelations
 pub mod ListLemmas
 pub mod Numbers
 pub mod Rules
+pub mod Sets
 pub mod TableLemmas
 pub mod TyEq
 pub mod TypeLists

@@ -1,4 +1,5 @@
 pub mod AreItems
+pub mod DropBodies
 pub mod Facts
 pub mod ItemTable
 pub mod Known

@@ -5,6 +5,7 @@
 
 mod adt;
 mod def;
+mod drop_bodies;
 mod duplicate;
 mod facts;
 mod items;
