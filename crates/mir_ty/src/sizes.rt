@@ -13,7 +13,7 @@ pub fn check_len(len: usize) -> Result<(), NoMemory>
     ensures { OnOk result (len < 2 ^ 32 - 1) }
 {
     if len > MOST_MEMBERS {
-        return Err(NoMemory);
+        return Err(NoMemory::past_32_bits());
     }
     Ok(())
 }
@@ -24,7 +24,7 @@ pub fn next_number(len: usize) -> Result<u32, NoMemory>
     ensures short { OnOk result (len + 1 < 2 ^ 32 - 1) }
 {
     if len >= MOST_MEMBERS {
-        return Err(NoMemory);
+        return Err(NoMemory::past_32_bits());
     }
     Ok(len as u32)
 }
