@@ -2,13 +2,16 @@ use mir_base::IntKind;
 use store_model::Path;
 
 /// One step from a place inwards; rustc's development guide calls it a projection.
-#[derive(Clone, Copy, PartialEq, Eq, Hash)]
+///
+/// The default stands for itself alone: a short list of steps fills its places with it.
+#[derive(Clone, Copy, Default, PartialEq, Eq, Hash)]
 pub enum Step {
     /// To the part with this number of a struct, a tuple, an array or a closure, counted from 0.
     Part(u32),
     /// To a part of a variant of an enum, both counted from 0.
     Field { variant: u32, part: u32 },
     /// To the content of a box, or to what a reference names.
+    #[default]
     Inside,
     /// To the element of an array under the number that this local holds.
     Index(u32),

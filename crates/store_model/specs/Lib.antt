@@ -2,6 +2,5 @@ pub mod Abstract
 pub mod Concrete
 pub mod Effects
 pub mod Laws
-pub mod PathSteps
 pub mod Places
 pub mod Values

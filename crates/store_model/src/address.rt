@@ -2,11 +2,14 @@ use crate::Path;
 use mir_base::Key;
 
 /// One step from a value to a part of it.
-#[derive(Clone, Copy, PartialEq, Eq)]
+///
+/// The default stands for itself alone: a short path fills its places with it.
+#[derive(Clone, Copy, Default, PartialEq, Eq)]
 pub enum At {
     /// To the part with this number of a struct, a variant, a tuple, an array or a closure, counted from 0.
     Part(u32),
     /// To the content of a box.
+    #[default]
     Inside,
 }
 
