@@ -20,7 +20,7 @@ pub fn parts_in_order(alloc: Global, value: &Value) -> Result<List<At>, NoMemory
     match value {
         Value::Parts { parts, .. } => {
             let Ok(count) = u32::try_from(parts.len()) else {
-                return Err(NoMemory);
+                return Err(NoMemory::past_32_bits());
             };
             numbered_steps(alloc, count)
         }
