@@ -5,9 +5,9 @@ ghost use Rattle.mir_ty.specs.AreItems.{IsNumberOf};
 ghost use Rattle.move_paths.specs.Trie.{AreOnce, Adds};
 
 use cfg_graph::Step;
-use mir_base::{List, NoMemory};
+use indexmap::IndexSet;
+use mir_base::NoMemory;
 use std::alloc::Global;
-use std::collections::HashMap;
 use std::marker::Model;
 
 /// A path below another: the number of that one, and the step from it.
@@ -19,33 +19,27 @@ pub struct PathPart {
 
 /// The parts in the order of their numbers, each of them once. A look-up costs about the same for all.
 pub struct Parts {
-    parts: List<PathPart>,
-    /// The number of each part.
-    numbers: HashMap<PathPart, usize>,
+    parts: IndexSet<PathPart>,
 }
 
 /// As a derived one; but written here, it is proved here, and not again in each crate in which parts end.
 impl Drop for Parts {
     fn drop(self) {
-        let Parts { parts, numbers } = self;
+        let Parts { parts } = self;
         drop(parts);
-        drop(numbers);
     }
 }
 
 impl Model for Parts {
     ghost use Rattle.std.specs.Prelude.{List};
-    ghost use Rattle.std.specs.HashMap.{get_by};
-    ghost use Rattle.mir_ty.specs.AreItems.{IsNumberOf};
     ghost use Rattle.move_paths.specs.declared.parts.PathPart.{PathPart};
-    ghost use Rattle.move_paths.specs.contracts.parts.PathPartPartialEq.TheImpl as same;
     ghost use Rattle.move_paths.specs.Trie.{AreOnce};
 
     ghost Value = { List PathPart };
 
-    ghost view = { λ parts. parts.parts };
+    ghost view = { λ parts. parts.parts.keys };
 
-    ghost invariant = { λ parts. AreOnce parts.parts × ((part : PathPart) → IsNumberOf parts.parts part (get_by (same.ghosts.eq part) parts.numbers)) };
+    ghost invariant = { λ parts. AreOnce parts.parts.keys };
 }
 
 impl Parts {
@@ -53,8 +47,7 @@ impl Parts {
         ensures { result ≡ [] }
     {
         Parts {
-            parts: List::new(alloc),
-            numbers: HashMap::new(alloc),
+            parts: IndexSet::new(alloc),
         }
     }
 
@@ -68,7 +61,7 @@ impl Parts {
     pub fn get(&self, n: usize) -> Option<&PathPart>
         ensures { option_copied result ≡ slice_get self.now n }
     {
-        self.parts.get(n)
+        self.parts.get_index(n)
     }
 
     /// The number of a part, if it has one.
@@ -76,7 +69,7 @@ impl Parts {
         ensures found { IsNumberOf self.now part.now result }
         ensures once { AreOnce self.now }
     {
-        self.numbers.get(part).copied()
+        self.parts.get_index_of(part)
     }
 
     /// Gives a part that has no number the next one. Where memory is wanted the parts are as they were.
@@ -85,16 +78,8 @@ impl Parts {
         ensures pushed { OnOk result (self.new ≡ self.old ++ part ∷ []) }
         ensures refused { OnErr result (self.new ≡ self.old) }
     {
-        let number = self.parts.len();
-        self.parts.push(part)?;
-        match self.numbers.insert(part, number) {
-            Ok(_) => Ok(()),
-            Err(error) => {
-                drop(error);
-                self.parts.truncate(number);
-                Err(NoMemory)
-            }
-        }
+        self.parts.insert(part)?;
+        Ok(())
     }
 
     /// The number of a part, which is the next one where the part had none.
