@@ -226,7 +226,7 @@ fn forest_of(alloc: Global, items: &Items, body: &Body) -> Result<Forest, NoMemo
     ensures { IfOk result (λ forest. IsForest items.now body.now forest) }
 {
     let Ok(locals) = u32::try_from(body.locals.len()) else {
-        return Err(NoMemory);
+        return Err(NoMemory::past_32_bits());
     };
     let mut trie = Trie::new(alloc, locals);
     add_blocks(alloc, &mut trie, items, body)?;

@@ -96,7 +96,7 @@ impl Trie {
         ensures grows { OnOk result (Grows self.old self.new (place_of self.old (record { of = of; step = step }))) }
     {
         if self.locals as usize + self.parts.len() >= u32::MAX as usize {
-            return Err(NoMemory);
+            return Err(NoMemory::past_32_bits());
         }
         let n = self.parts.number(PathPart { of, step })?;
         Ok(self.locals + n as u32)
