@@ -9,7 +9,7 @@ ghost use Rattle.call_rows.specs.Lists.{behind_form, below_all, last_nodes, last
 ghost use Rattle.type_rows.specs.Stand.{Stays, below, node_if_any, stack, state, top};
 
 use mir_base::{List, NoMemory, NodeId, Pos, RuleError};
-use mir_ty::{Items, TyId};
+use mir_ty::{Items, NEVER, TyId, UNIT};
 use std::alloc::Global;
 use type_env::one_of_two;
 use type_rows::Checker;
@@ -199,7 +199,7 @@ fn ty_if_any(node: Option<&Node>) -> TyId
 {
     match node {
         Some(node) => node.ty,
-        None => TyId(0),
+        None => UNIT,
     }
 }
 
@@ -225,7 +225,7 @@ fn with_one(items: &Items, ty: TyId, others: Option<TyId>) -> Option<TyId>
 pub fn one_type_of(checker: &Checker, count: usize) -> Option<TyId>
     ensures { result ≡ rows.one_type checker.now.walk.items (last_types count (stack checker.now)) }
 {
-    let mut ty = Some(TyId(2));
+    let mut ty = Some(NEVER);
     for back in 0..count {
         ty = with_one(&checker.walk.items, ty_at(checker, back), ty);
     }

@@ -23,7 +23,7 @@ use crate::callees::Callee;
 use item_heads::{broken, pushed};
 use member_rows::{copied, variant_types};
 use mir_base::{List, NodeId, Pos, Rule, RuleError};
-use mir_ty::{Items, Ty, TyId};
+use mir_ty::{I32, Items, Ty, TyId};
 use std::alloc::Global;
 use type_env::{boxed_of, is_dyn};
 use type_rows::Checker;
@@ -200,7 +200,7 @@ pub fn begin(
     match callee {
         Callee::Function(body) => function(checker, body),
         Callee::Constructor { adt, variant } => constructor(checker, adt, variant),
-        Callee::Prints => built_in(checker, CallEnding::Print, Some(TyId(3))),
+        Callee::Prints => built_in(checker, CallEnding::Print, Some(I32)),
         Callee::Asks => built_in(checker, CallEnding::Ask, None),
         Callee::Drops => built_in(checker, CallEnding::DropValue, None),
         Callee::Forgets => built_in(checker, CallEnding::Forget, None),

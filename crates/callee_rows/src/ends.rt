@@ -18,7 +18,7 @@ use call_rows::{Many, box_end, call_end as body_end, let_go};
 use item_heads::{broken, obeys, pushed};
 use member_rows::wrap_make;
 use mir_base::{List, NodeId, Pos, Rule, RuleError};
-use mir_ty::TyId;
+use mir_ty::{I32, TyId, UNIT};
 use std::alloc::Global;
 use type_rows::{Checker, Leaf, One};
 
@@ -120,10 +120,10 @@ fn fitted_given(
     ensures kept { Keeps (below_all count (stack checker.old)) checker.old result checker.new }
 {
     if count == 0 {
-        return checker.fitted_leaf(id, at, TyId(0), Leaf::UnitValue, want);
+        return checker.fitted_leaf(id, at, UNIT, Leaf::UnitValue, want);
     }
     first_alone(checker, count)?;
-    checker.fitted_one(id, at, TyId(0), one, want)
+    checker.fitted_one(id, at, UNIT, one, want)
 }
 
 /// A built-in with one parameter.
@@ -154,7 +154,7 @@ fn ask_end(
     ensures kept { Keeps (below_all count (stack checker.old)) checker.old result checker.new }
 {
     let_go(checker, count)?;
-    checker.fitted_leaf(id, at, TyId(3), Leaf::Ask, want)?;
+    checker.fitted_leaf(id, at, I32, Leaf::Ask, want)?;
     obeys(Rule::T04, at, count == 0)
 }
 

@@ -14,7 +14,7 @@ use expression_rows::{
 };
 use item_heads::pushed;
 use mir_base::{List, Pos, RuleError};
-use mir_ty::TyId;
+use mir_ty::{TyId, UNIT};
 use src_ast::Nodes;
 use type_rows::{Checker, Leaf};
 
@@ -67,7 +67,7 @@ pub fn tuple(
     ensures kept { Keeps (stack checker.old) checker.old result checker.new }
 {
     if parts.is_empty() {
-        return checker.leaf(at, TyId(0), Leaf::UnitValue, want);
+        return checker.leaf(at, UNIT, Leaf::UnitValue, want);
     }
     let count = count_of(parts)?;
     tuple_row(checker, at, parts, count, want)

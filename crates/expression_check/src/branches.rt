@@ -10,7 +10,7 @@ ghost use Rattle.type_rows.specs.Stand.{Gives, GivesValue, Keeps, below, env, st
 use crate::expressions::typed;
 use expression_rows::if_else_end;
 use mir_base::{Pos, RuleError};
-use mir_ty::TyId;
+use mir_ty::{BOOL, TyId, UNIT};
 use src_tree::SyntaxNode;
 use type_rows::{Checker, TwoParts};
 
@@ -27,9 +27,9 @@ fn if_alone(
     ensures kept { Keeps (stack checker.old) checker.old result checker.new }
 {
     let id = checker.number()?;
-    typed(checker, condition, Some(TyId(1)))?;
-    typed(checker, body, Some(TyId(0)))?;
-    checker.settled_two(id, at, TyId(0), TwoParts::If, want)
+    typed(checker, condition, Some(BOOL))?;
+    typed(checker, body, Some(UNIT))?;
+    checker.settled_two(id, at, UNIT, TwoParts::If, want)
 }
 
 /// `if` with `else`.
@@ -46,7 +46,7 @@ fn if_else(
     ensures kept { Keeps (stack checker.old) checker.old result checker.new }
 {
     let id = checker.number()?;
-    typed(checker, condition, Some(TyId(1)))?;
+    typed(checker, condition, Some(BOOL))?;
     typed(checker, body, want)?;
     typed(checker, otherwise, want)?;
     if_else_end(checker, id, at, want)

@@ -21,7 +21,7 @@ use callee_rows::path_alone;
 use expression_rows::{PlaceForm, place_form};
 use item_heads::broken;
 use mir_base::{Pos, Rule, RuleError};
-use mir_ty::TyId;
+use mir_ty::{BOOL, NEVER, TyId};
 use name_rows::put_variable;
 use pattern_check::place_for_parts;
 use src_ast::{ExpressionForm, PathForm, expression_form};
@@ -117,7 +117,7 @@ fn value(
 {
     match form {
         ExpressionForm::Number { value, suffix } => checker.literal(at, false, value, suffix, want),
-        ExpressionForm::Truth(truth) => checker.leaf(at, TyId(1), Leaf::Truth(truth), want),
+        ExpressionForm::Truth(truth) => checker.leaf(at, BOOL, Leaf::Truth(truth), want),
         ExpressionForm::Path(path) => path_alone(checker, at, path, want),
         ExpressionForm::SelfValue => path_alone(
             checker,
@@ -162,7 +162,7 @@ fn value(
         ExpressionForm::Break { label, value } => break_of(checker, at, label, value, want),
         ExpressionForm::Continue { label } => continue_of(checker, at, label, want),
         ExpressionForm::Return(value) => return_of(checker, at, value, want),
-        ExpressionForm::Panic => checker.leaf(at, TyId(2), Leaf::Panic, want),
+        ExpressionForm::Panic => checker.leaf(at, NEVER, Leaf::Panic, want),
         ExpressionForm::Call { callee, args } => call(checker, at, callee, args, want),
         ExpressionForm::MethodCall {
             receiver,

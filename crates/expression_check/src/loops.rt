@@ -14,7 +14,7 @@ use expression_rows::{
     break_alone_end, break_end, carried, continue_end, jump_target, loop_end, return_alone_end,
 };
 use mir_base::{NodeId, Pos, RuleError};
-use mir_ty::TyId;
+use mir_ty::{BOOL, NEVER, TyId, UNIT};
 use name_rows::{enter_loop, leave_loop};
 use src_tree::SyntaxNode;
 use type_rows::{Checker, One, TwoParts};
@@ -62,7 +62,7 @@ pub fn loop_of(
         has_value: true,
         want,
     };
-    inside_loop(checker, label, id, breaks, body, Some(TyId(0)))?;
+    inside_loop(checker, label, id, breaks, body, Some(UNIT))?;
     loop_end(checker, id, at, want)
 }
 
@@ -84,9 +84,9 @@ pub fn while_of(
         has_value: false,
         want: None,
     };
-    inside_loop(checker, label, id, breaks, condition, Some(TyId(1)))?;
-    inside_loop(checker, label, id, breaks, body, Some(TyId(0)))?;
-    checker.settled_two(id, at, TyId(0), TwoParts::While, want)
+    inside_loop(checker, label, id, breaks, condition, Some(BOOL))?;
+    inside_loop(checker, label, id, breaks, body, Some(UNIT))?;
+    checker.settled_two(id, at, UNIT, TwoParts::While, want)
 }
 
 /// `break`.
@@ -149,7 +149,7 @@ pub fn return_of(
     match value {
         Some(value) => {
             typed(checker, value, Some(answer(checker)))?;
-            checker.settled_one(id, at, TyId(2), One::Return, want)
+            checker.settled_one(id, at, NEVER, One::Return, want)
         }
         None => return_alone_end(checker, id, at, want),
     }

@@ -20,7 +20,7 @@ use call_rows::match_end;
 use expression_rows::{if_let_else_end, one_more};
 use item_heads::broken;
 use mir_base::{NodeId, Pos, Rule, RuleError};
-use mir_ty::TyId;
+use mir_ty::{BOOL, TyId, UNIT};
 use name_rows::{count, enter_loop, leave, leave_loop};
 use pattern_check::{
     arm_end, bindings, enter_bound, enter_guard, expected_of_last, guarded_arm_end, scrutinised,
@@ -61,7 +61,7 @@ fn inside_guard(
 {
     let outer = count(checker);
     enter_guard(checker, bound)?;
-    typed(checker, guard, Some(TyId(1)))?;
+    typed(checker, guard, Some(BOOL))?;
     leave(checker, outer);
     Ok(())
 }
@@ -235,8 +235,8 @@ fn if_let_branches(
             if_let_else_end(checker, id, at, want)
         }
         None => {
-            inside_scope(checker, bound, body, Some(TyId(0)))?;
-            checker.settled_three(id, at, TyId(0), Three::IfLet, want)
+            inside_scope(checker, bound, body, Some(UNIT))?;
+            checker.settled_three(id, at, UNIT, Three::IfLet, want)
         }
     }
 }
@@ -293,7 +293,7 @@ fn body_inside_loop(
     ensures kept { Keeps (stack checker.old) checker.old result checker.new }
 {
     enter_loop(checker, label, id, false, None)?;
-    inside_scope(checker, bound, body, Some(TyId(0)))?;
+    inside_scope(checker, bound, body, Some(UNIT))?;
     leave_loop(checker);
     Ok(())
 }
@@ -333,7 +333,7 @@ fn while_let_behind(
     let ty = checker.last_ty();
     let bound = bindings(checker, e, ty, pattern)?;
     body_inside_loop(checker, label, id, &bound, body)?;
-    checker.settled_three(id, at, TyId(0), Three::WhileLet, want)
+    checker.settled_three(id, at, UNIT, Three::WhileLet, want)
 }
 
 /// `while let`.

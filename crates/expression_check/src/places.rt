@@ -12,7 +12,7 @@ use expression_rows::{deref_end, element_end};
 use item_heads::broken;
 use member_rows::{field_end, part_end};
 use mir_base::{Pos, Rule, RuleError};
-use mir_ty::TyId;
+use mir_ty::USIZE;
 use src_tree::SyntaxNode;
 use type_rows::Checker;
 
@@ -29,7 +29,7 @@ pub fn element(
 {
     let id = checker.number()?;
     plain_base(checker, base)?;
-    typed(checker, index, Some(TyId(7)))?;
+    typed(checker, index, Some(USIZE))?;
     element_end(checker, id, at)
 }
 

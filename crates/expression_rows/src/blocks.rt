@@ -11,7 +11,7 @@ ghost use Rattle.type_rows.specs.Stand.{Gives, Keeps, Stays, below, stack, state
 
 use call_rows::take_nodes;
 use mir_base::{NodeId, Pos, RuleError};
-use mir_ty::TyId;
+use mir_ty::{NEVER, TyId, UNIT};
 use type_rows::Checker;
 use typed_tree::{Form, discard_node};
 
@@ -81,7 +81,7 @@ pub fn block_end(
         (tree.Block (last_nodes count (stack checker.old)) absent)) (state checker.old)) result checker.new }
     ensures kept { Keeps (below_all count (stack checker.old)) checker.old result checker.new }
 {
-    let ty = if ends { TyId(2) } else { TyId(0) };
+    let ty = if ends { NEVER } else { UNIT };
     wrap_statements(checker, id, at, ty, count)?;
     checker.settled(want)
 }

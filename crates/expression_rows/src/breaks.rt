@@ -7,7 +7,7 @@ ghost use Rattle.type_rows.specs.Stand.{Gives, Keeps, below, stack, state, top};
 
 use item_heads::broken;
 use mir_base::{NodeId, Pos, Rule, RuleError};
-use mir_ty::{Items, TyId};
+use mir_ty::{Items, NEVER, TyId};
 use type_env::{BreakOut, one_of_two};
 use type_rows::{Checker, One};
 
@@ -25,7 +25,7 @@ fn with_one(items: &Items, ty: TyId, others: Option<TyId>) -> Option<TyId>
 fn breaks_ty(items: &Items, breaks: &[BreakOut], from: NodeId) -> Option<TyId>
     ensures { result ≡ rows.one_type items.now (carried_by from.0 (map break_of breaks.now)) }
 {
-    let mut ty = Some(TyId(2));
+    let mut ty = Some(NEVER);
     for n in (0..breaks.len()).rev() {
         let out = breaks[n];
         if out.from.0 == from.0 {

@@ -11,7 +11,7 @@ ghost use Rattle.type_rows.specs.Stand.{Gives, Keeps, below, env, stack, state, 
 
 use item_heads::{broken, obeys};
 use mir_base::{NodeId, Pos, Rule, RuleError};
-use mir_ty::TyId;
+use mir_ty::{NEVER, TyId, UNIT};
 use type_env::{is_unit, loop_left};
 use type_rows::{Checker, Leaf, One};
 
@@ -62,7 +62,7 @@ pub fn continue_end(
     ensures kept { Keeps (stack checker.old) checker.old result checker.new }
 {
     match target {
-        Some(target) => checker.settled_leaf(id, at, TyId(2), Leaf::Continue(target.id), want),
+        Some(target) => checker.settled_leaf(id, at, NEVER, Leaf::Continue(target.id), want),
         None => Err(broken(Rule::T06, at)),
     }
 }
@@ -94,8 +94,8 @@ fn break_out_alone(
     ensures gives { Gives (break_out_rest id.0 at want from.0 absent (state checker.old)) result checker.new }
     ensures kept { Keeps (stack checker.old) checker.old result checker.new }
 {
-    checker.breaks_out(from, TyId(0))?;
-    checker.settled_leaf(id, at, TyId(2), Leaf::Break(from), want)
+    checker.breaks_out(from, UNIT)?;
+    checker.settled_leaf(id, at, NEVER, Leaf::Break(from), want)
 }
 
 /// `break` out of a loop with the last node as its value.
@@ -129,7 +129,7 @@ fn break_out(
     ensures kept { Keeps (below (stack checker.old)) checker.old result checker.new }
 {
     checker.breaks_out(from, checker.last_ty())?;
-    checker.settled_one(id, at, TyId(2), One::Break(from), want)
+    checker.settled_one(id, at, NEVER, One::Break(from), want)
 }
 
 /// `return` without a value.
@@ -145,5 +145,5 @@ pub fn return_alone_end(
 {
     let is_nothing = is_unit(&checker.walk.items, checker.around.answer);
     obeys(Rule::T03, at, is_nothing)?;
-    checker.settled_leaf(id, at, TyId(2), Leaf::Return, want)
+    checker.settled_leaf(id, at, NEVER, Leaf::Return, want)
 }

@@ -8,7 +8,7 @@ ghost use Rattle.type_rows.specs.Stand.{Gives, Keeps, below, stack, state, top};
 
 use item_heads::{broken, obeys};
 use mir_base::{Cmp, Math, NodeId, Pos, Rule, RuleError};
-use mir_ty::{Items, TyId};
+use mir_ty::{BOOL, Items, TyId};
 use type_env::{fits, is_bool, is_int, one_of_two};
 use type_rows::{Checker, One, TwoParts};
 
@@ -69,9 +69,9 @@ pub fn not_end(
     ensures gives { Gives (not_rest id.0 at want (top (stack checker.old)) (state checker.old)) result checker.new }
     ensures kept { Keeps (below (stack checker.old)) checker.old result checker.new }
 {
-    let holds = fits(&checker.walk.items, TyId(1), checker.last_ty());
+    let holds = fits(&checker.walk.items, BOOL, checker.last_ty());
     obeys(Rule::T03, at, holds)?;
-    checker.fitted_one(id, at, TyId(1), One::Not, want)
+    checker.fitted_one(id, at, BOOL, One::Not, want)
 }
 
 /// `-e`.
@@ -85,7 +85,7 @@ pub fn negate_end(
     ensures kept { Keeps (below (stack checker.old)) checker.old result checker.new }
 {
     let ty = checker.last_ty();
-    obeys(Rule::T03, at, ty.0 == 3 || ty.0 == 4)?;
+    obeys(Rule::T03, at, ty.is_signed())?;
     checker.fitted_one(id, at, ty, One::Negate, want)
 }
 
@@ -135,7 +135,7 @@ pub fn comparison_end(
     ensures kept { Keeps (below (below (stack checker.old))) checker.old result checker.new }
 {
     match common(&checker.walk.items, checker.second_ty(), checker.last_ty()) {
-        Some(_) => checker.fitted_two(id, at, TyId(1), TwoParts::Comparison(operator), want),
+        Some(_) => checker.fitted_two(id, at, BOOL, TwoParts::Comparison(operator), want),
         None => Err(broken(Rule::T03, at)),
     }
 }
@@ -152,7 +152,7 @@ pub fn comparison_last_end(
     ensures kept { Keeps (below (below (stack checker.old))) checker.old result checker.new }
 {
     match common(&checker.walk.items, checker.last_ty(), checker.second_ty()) {
-        Some(_) => checker.fitted_two(id, at, TyId(1), TwoParts::ComparisonLast(operator), want),
+        Some(_) => checker.fitted_two(id, at, BOOL, TwoParts::ComparisonLast(operator), want),
         None => Err(broken(Rule::T03, at)),
     }
 }
@@ -168,8 +168,8 @@ pub fn logic_end(
     ensures gives { Gives (logic_rest id.0 at (two_form two) want (top (below (stack checker.old))) (top (stack checker.old)) (state checker.old)) result checker.new }
     ensures kept { Keeps (below (below (stack checker.old))) checker.old result checker.new }
 {
-    let left = fits(&checker.walk.items, TyId(1), checker.second_ty());
-    let right = fits(&checker.walk.items, TyId(1), checker.last_ty());
+    let left = fits(&checker.walk.items, BOOL, checker.second_ty());
+    let right = fits(&checker.walk.items, BOOL, checker.last_ty());
     obeys(Rule::T03, at, left && right)?;
-    checker.fitted_two(id, at, TyId(1), two, want)
+    checker.fitted_two(id, at, BOOL, two, want)
 }

@@ -5,7 +5,7 @@ ghost use Rattle.type_rows.specs.Stand.{GivesValue, Keeps, below, env, stack, st
 
 use item_heads::obeys;
 use mir_base::{NodeId, Pos, Rule, RuleError};
-use mir_ty::TyId;
+use mir_ty::UNIT;
 use type_env::{is_never, is_unit};
 use type_rows::{Checker, One};
 
@@ -24,6 +24,6 @@ pub fn evaluate_end(
     let ends = is_never(&checker.walk.items, ty);
     let is_whole = has_semicolon || is_unit(&checker.walk.items, ty) || ends;
     obeys(Rule::T03, checker.last_at(), is_whole)?;
-    checker.wrap_one(id, at, TyId(0), One::Evaluate)?;
+    checker.wrap_one(id, at, UNIT, One::Evaluate)?;
     Ok(ends)
 }

@@ -8,7 +8,7 @@ ghost use Rattle.type_rows.specs.Stand.{Gives, Keeps, below, env, stack, state, 
 
 use item_heads::{broken, obeys};
 use mir_base::{NodeId, Pos, Rule, RuleError};
-use mir_ty::TyId;
+use mir_ty::{TyId, UNIT};
 use type_env::is_dyn;
 use type_rows::{Checker, TwoParts};
 
@@ -27,7 +27,7 @@ pub fn store_end(
     let is_shared = checker.is_second_shared();
     let place_at = checker.second_at();
     obeys(Rule::T03, at, is_whole)?;
-    checker.fitted_two(id, at, TyId(0), TwoParts::Assign, want)?;
+    checker.fitted_two(id, at, UNIT, TwoParts::Assign, want)?;
     if !is_stored {
         return Err(broken(Rule::T05, at));
     }

@@ -22,7 +22,7 @@ use crate::standing::written_or_unit;
 use crate::steps::{interned, pushed};
 use crate::written_types::WrittenScope;
 use mir_base::{List, Name, NoMemory, Pos, RuleError};
-use mir_ty::{Items, Sig, Ty, TyId};
+use mir_ty::{Items, Sig, Ty, TyId, UNIT};
 use src_ast::{Function, Nodes, ParamForm, name_of, param_form};
 use src_tree::SyntaxNode;
 use std::alloc::{AllocError, Global};
@@ -80,8 +80,8 @@ fn closure_param(
 {
     match param_form(node) {
         ParamForm::Pattern { pattern: _, ty } => written_or_unit(items, scope, ty),
-        ParamForm::SelfValue(_) => Ok(TyId(0)),
-        ParamForm::Other => Ok(TyId(0)),
+        ParamForm::SelfValue(_) => Ok(UNIT),
+        ParamForm::Other => Ok(UNIT),
     }
 }
 
@@ -121,7 +121,7 @@ fn closure_answer(
 {
     match answer {
         Some(node) => written_or_unit(items, scope, node),
-        None => Ok(TyId(0)),
+        None => Ok(UNIT),
     }
 }
 

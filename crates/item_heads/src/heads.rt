@@ -12,7 +12,7 @@ ghost use Rattle.typing_rules.specs.Collected.{starting_with, receiver_ty, param
 use crate::steps::{broken, interned, pushed};
 use crate::written_types::{WrittenScope, written, written_param};
 use mir_base::{List, Name, Pos, Rule, RuleError};
-use mir_ty::{Items, Sig, Ty, TyId};
+use mir_ty::{Items, Sig, Ty, TyId, UNIT};
 use src_ast::{Nodes, ParamForm, Receiver, param_form};
 use src_tree::SyntaxNode;
 
@@ -125,7 +125,7 @@ pub fn answer_type(
 {
     match answer {
         Some(node) => written(items, scope, node),
-        None => Ok(TyId(0)),
+        None => Ok(UNIT),
     }
 }
 

@@ -9,7 +9,7 @@ ghost use Rattle.typing_rules.specs.Written as types;
 
 use crate::written_types::{WrittenScope, scalar, written};
 use mir_base::RuleError;
-use mir_ty::{Items, TyId};
+use mir_ty::{Items, TyId, UNIT};
 use src_ast::{Nodes, TypeForm, type_form};
 use src_tree::SyntaxNode;
 
@@ -90,6 +90,6 @@ pub fn written_or_unit(
     if stands(scope, node) {
         written(items, scope, node)
     } else {
-        Ok(TyId(0))
+        Ok(UNIT)
     }
 }

@@ -7,7 +7,7 @@ ghost use Rattle.typing_rules.specs.Check.{interned as interned_by, obeys as obe
 ghost use Rattle.typing_rules.specs.Collected.{starting_with};
 
 use mir_base::{List, NoMemory, Pos, Rule, RuleError};
-use mir_ty::{Items, Ty, TyId};
+use mir_ty::{Items, Ty, TyId, UNIT};
 
 #[tactic(auto, using(crate::proofs::Interning::interned_is))]
 /// The number of a type, which gets the next one where it has none.
@@ -17,7 +17,7 @@ pub fn interned(items: &mut Items, ty: Ty) -> Result<TyId, RuleError>
     ensures grows { length items.old.types ≤ length items.new.types }
     ensures known { IfOk result (λ id. id.0 < length items.new.types) }
 {
-    let known = items.ty(TyId(0)).is_some();
+    let known = items.ty(UNIT).is_some();
     prove!(known || !known);
     match items.intern(ty) {
         Ok(id) => Ok(id),

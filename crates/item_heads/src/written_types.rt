@@ -13,7 +13,7 @@ ghost use Rattle.typing_rules.specs.Written.{written_form, scalar_named, named_b
 use crate::names::NameTable;
 use crate::steps::{broken, interned, obeys, pushed};
 use mir_base::{IntKind, List, Pos, Rule, RuleError};
-use mir_ty::{Items, Ty, TyId};
+use mir_ty::{BOOL, I32, I64, Items, NEVER, Ty, TyId, U32, U64, UNIT, USIZE};
 use src_ast::{First, Nodes, TypeForm, type_form};
 use src_tree::SyntaxNode;
 use std::alloc::Global;
@@ -38,12 +38,12 @@ pub fn scalar(name: &str) -> Option<TyId>
     ensures small { IfSome result (λ id. id.0 < 8) }
 {
     match name {
-        "i32" => Some(TyId(3)),
-        "i64" => Some(TyId(4)),
-        "u32" => Some(TyId(5)),
-        "u64" => Some(TyId(6)),
-        "usize" => Some(TyId(7)),
-        "bool" => Some(TyId(1)),
+        "i32" => Some(I32),
+        "i64" => Some(I64),
+        "u32" => Some(U32),
+        "u64" => Some(U64),
+        "usize" => Some(USIZE),
+        "bool" => Some(BOOL),
         _ => None,
     }
 }
@@ -165,7 +165,7 @@ fn tuple_of(items: &mut Items, ids: List<TyId>) -> Result<TyId, RuleError>
     ensures known { IfOk result (λ id. id.0 < length items.new.types) }
 {
     if ids.is_empty() {
-        return Ok(TyId(0));
+        return Ok(UNIT);
     }
     interned(items, Ty::Tuple(ids))
 }
@@ -319,7 +319,7 @@ pub fn written(
             count,
             suffix,
         } => array(items, scope, at, element, count, suffix),
-        TypeForm::Never => Ok(TyId(2)),
+        TypeForm::Never => Ok(NEVER),
         TypeForm::Reference { unique, to } => reference(items, scope, at, unique, to),
         TypeForm::Other => Err(broken(Rule::T20, at)),
     }

@@ -23,7 +23,7 @@ use call_rows::{Behind, counted_end};
 use expression_rows::borrow_of;
 use item_heads::{broken, obeys};
 use mir_base::{List, NodeId, Pos, Rule, RuleError};
-use mir_ty::{Items, Sig, TyId};
+use mir_ty::{Items, Sig, TyId, UNIT};
 use std::alloc::Global;
 use type_env::{is_behind_shared, reference_of};
 use type_rows::Checker;
@@ -102,7 +102,7 @@ fn answer_of(items: &Items, method: Method) -> TyId
 {
     match head(items, method) {
         Some(sig) => sig.result,
-        None => TyId(0),
+        None => UNIT,
     }
 }
 

@@ -11,7 +11,7 @@ ghost use Rattle.typing_rules.specs.Written as types;
 
 use item_heads::{NameTable, WrittenScope};
 use mir_base::{List, RuleError};
-use mir_ty::{Items, TyId};
+use mir_ty::{Items, TyId, UNIT, USIZE};
 use src_tree::SyntaxNode;
 use std::alloc::Global;
 use std::collections::HashSet;
@@ -49,7 +49,7 @@ fn clear(alloc: Global, items: &mut Items, tables: &mut Tables)
 fn has_scalars(items: &Items) -> bool
     ensures { result ≡ true → 8 ≤ length items.now.types }
 {
-    items.ty(TyId(7)).is_some()
+    items.ty(USIZE).is_some()
 }
 
 /// A type as it is written. Behind an error the checker knows no items any more.
@@ -122,6 +122,6 @@ pub fn answer_of(checker: &mut Checker, ty: Option<&SyntaxNode>) -> Result<TyId,
 {
     match ty {
         Some(node) => written(checker, node),
-        None => Ok(TyId(0)),
+        None => Ok(UNIT),
     }
 }

@@ -20,7 +20,7 @@ use crate::bound::{bindings, enter_bound};
 use crate::scrutinees::expected_of_last;
 use item_heads::{broken, obeys};
 use mir_base::{NodeId, Pos, Rule, RuleError};
-use mir_ty::TyId;
+use mir_ty::{TyId, UNIT};
 use name_rows::adt_named;
 use pattern_rows::Expected;
 use src_ast::{PatternForm, pattern_form};
@@ -113,7 +113,7 @@ fn put_let(checker: &mut Checker, id: NodeId, at: Pos, bound: &Variables) -> Res
     ensures tables { OnOk result (checker.new.tables ≡ checker.old.tables) }
     ensures short { IfErr result (λ e. e ≡ RuleError.Memory) }
 {
-    checker.wrap_two(id, at, TyId(0), TwoParts::Let)?;
+    checker.wrap_two(id, at, UNIT, TwoParts::Let)?;
     enter_bound(checker, bound)
 }
 
@@ -129,7 +129,7 @@ fn put_let_alone(
     ensures tables { OnOk result (checker.new.tables ≡ checker.old.tables) }
     ensures short { IfErr result (λ e. e ≡ RuleError.Memory) }
 {
-    checker.wrap_one(id, at, TyId(0), One::Let)?;
+    checker.wrap_one(id, at, UNIT, One::Let)?;
     enter_bound(checker, bound)
 }
 

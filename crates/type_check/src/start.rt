@@ -15,7 +15,7 @@ use crate::items::{adt_names, body_names, method_names, trait_names};
 use crate::kinds::kinds;
 use item_heads::NameTable;
 use mir_base::{List, NoMemory};
-use mir_ty::{Items, TyId};
+use mir_ty::{Items, UNIT};
 use name_table::{NameSort, names_of};
 use src_ast::FieldKind;
 use src_tree::NodePiece;
@@ -161,7 +161,7 @@ fn outside(alloc: Global) -> Surroundings
         variables: Variables::new(alloc),
         loops: List::new(alloc),
         guards: List::new(alloc),
-        answer: TyId(0),
+        answer: UNIT,
     }
 }
 

@@ -6,7 +6,7 @@ ghost use Rattle.type_env.specs.Walked.{Gives, HasOnlyTypes, node_no, state_of};
 ghost use Rattle.typing_rules.specs.Check as steps;
 
 use mir_base::{List, NoMemory, NodeId, RuleError};
-use mir_ty::{Items, Ty, TyId};
+use mir_ty::{Items, Ty, TyId, UNIT};
 use std::alloc::Global;
 use typed_tree::{Node, TBody, Typed, discard_nodes};
 
@@ -88,7 +88,7 @@ impl Walk {
         ensures made { self.new.made ≡ self.old.made }
         ensures items { HasOnlyTypes self.old.items self.new.items }
     {
-        let known = self.items.ty(TyId(0)).is_some();
+        let known = self.items.ty(UNIT).is_some();
         prove!(known || !known);
         match self.items.intern(ty) {
             Ok(id) => Ok(id),

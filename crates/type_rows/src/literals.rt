@@ -11,7 +11,7 @@ use crate::checker::Checker;
 use crate::forms::Leaf;
 use item_heads::obeys;
 use mir_base::{IntKind, NodeId, Pos, Rule, RuleError};
-use mir_ty::TyId;
+use mir_ty::{I32, I64, TyId, U32, U64, USIZE};
 use type_env::kind_of;
 
 /// The number of an integer type.
@@ -19,11 +19,11 @@ pub fn int(kind: IntKind) -> TyId
     ensures { result ≡ places.int kind }
 {
     match kind {
-        IntKind::I32 => TyId(3),
-        IntKind::I64 => TyId(4),
-        IntKind::U32 => TyId(5),
-        IntKind::U64 => TyId(6),
-        IntKind::Usize => TyId(7),
+        IntKind::I32 => I32,
+        IntKind::I64 => I64,
+        IntKind::U32 => U32,
+        IntKind::U64 => U64,
+        IntKind::Usize => USIZE,
     }
 }
 

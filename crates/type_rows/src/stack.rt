@@ -13,7 +13,7 @@ use crate::forms::{
     form_of_two,
 };
 use mir_base::{List, NoMemory, NodeId, Pos, RuleError};
-use mir_ty::TyId;
+use mir_ty::{TyId, UNIT};
 use std::alloc::Global;
 use typed_tree::{Form, Node, Use, boxed_node, discard_node, push_node};
 
@@ -23,7 +23,7 @@ fn ty_if_any(node: Option<&Node>) -> TyId
 {
     match node {
         Some(node) => node.ty,
-        None => TyId(0),
+        None => UNIT,
     }
 }
 
