@@ -12,6 +12,7 @@ ghost use Rattle.body_rows.specs.Whole.{IsWithin, body_on, one_param, params_fro
 use crate::number_in_text_order;
 use call_rows::take_nodes;
 use item_heads::{broken, pushed};
+use mir_base::limits::MAX_BODY_NODES;
 use mir_base::{List, Pos, Rule, RuleError};
 use mir_ty::TyId;
 use std::alloc::Global;
@@ -76,7 +77,7 @@ fn of_count(at: Pos, body: TBody, count: usize) -> Result<TBody, RuleError>
     requires { count ≡ length (numbers_of (body_of body)) }
     ensures { (s : TypingState) → IsWithin at (body_of body) s result }
 {
-    if count > 2048 {
+    if count > MAX_BODY_NODES {
         drop(body);
         Err(broken(Rule::T19, at))
     } else {

@@ -8,6 +8,7 @@ ghost use Rattle.type_rows.specs.Stand.{Gives, Keeps, below, stack, state, top};
 use crate::calls::fitted_many;
 use crate::lists::Many;
 use item_heads::obeys;
+use mir_base::limits::{MAX_ARRAY_LENGTH, MAX_TUPLE_PARTS};
 use mir_base::{List, NodeId, Pos, Rule, RuleError};
 use mir_ty::{Ty, TyId};
 use type_rows::{Checker, One};
@@ -26,7 +27,7 @@ pub fn tuple_end(
 {
     let ty = checker.interned(Ty::Tuple(types))?;
     fitted_many(checker, id, at, ty, Many::Tuple, count, want)?;
-    obeys(Rule::T19, at, count <= 12)
+    obeys(Rule::T19, at, count <= MAX_TUPLE_PARTS)
 }
 
 /// `[a, b]`, whose elements are the last nodes, of one type.
@@ -43,7 +44,7 @@ pub fn array_end(
 {
     let ty = checker.interned(Ty::Array(element, count))?;
     fitted_many(checker, id, at, ty, Many::Array, count as usize, want)?;
-    obeys(Rule::T19, at, count <= 32)
+    obeys(Rule::T19, at, count <= MAX_ARRAY_LENGTH)
 }
 
 /// A part has the type that is required of it, else its own.

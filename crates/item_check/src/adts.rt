@@ -12,6 +12,7 @@ use crate::counts::are_at_most;
 use crate::fields::fields;
 use crate::variants::variants;
 use item_heads::obeys;
+use mir_base::limits::{MAX_FIELDS, MAX_VARIANTS};
 use mir_base::{Pos, Rule, RuleError};
 use src_ast::Nodes;
 use type_rows::Checker;
@@ -47,7 +48,7 @@ pub fn struct_item(
     ensures same { OnOk result (Same checker.old checker.new) }
 {
     own_fields(checker, name, nodes)?;
-    obeys(Rule::T19, at, are_at_most(nodes, 32))
+    obeys(Rule::T19, at, are_at_most(nodes, MAX_FIELDS))
 }
 
 /// An enum: its variants, of which there are at most 64.
@@ -56,5 +57,5 @@ pub fn enum_item(checker: &mut Checker, at: Pos, name: &str, nodes: Nodes) -> Re
     ensures same { OnOk result (Same checker.old checker.new) }
 {
     own_variants(checker, name, nodes)?;
-    obeys(Rule::T19, at, are_at_most(nodes, 64))
+    obeys(Rule::T19, at, are_at_most(nodes, MAX_VARIANTS))
 }

@@ -11,6 +11,7 @@ use crate::counts::are_at_most;
 use crate::fields::fields;
 use crate::names::{is_new, with_name};
 use item_heads::{NameTable, broken, obeys};
+use mir_base::limits::MAX_FIELDS;
 use mir_base::{Pos, Rule, RuleError};
 use src_ast::{Nodes, variant_form};
 use src_tree::SyntaxNode;
@@ -25,7 +26,7 @@ fn with_few_fields(
 ) -> Result<NameTable, RuleError>
     ensures { GivesValue reverse (limited_variant at name.now (nodes_of parts.entry) (reverse names) (state checker.now)) result checker.now }
 {
-    obeys(Rule::T19, at, are_at_most(parts, 32))?;
+    obeys(Rule::T19, at, are_at_most(parts, MAX_FIELDS))?;
     with_name(checker.alloc, names, name)
 }
 

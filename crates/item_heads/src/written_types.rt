@@ -12,6 +12,7 @@ ghost use Rattle.typing_rules.specs.Written.{written_form, scalar_named, named_b
 
 use crate::names::NameTable;
 use crate::steps::{broken, interned, obeys, pushed};
+use mir_base::limits::{MAX_ARRAY_LENGTH, MAX_TUPLE_PARTS};
 use mir_base::{IntKind, List, Pos, Rule, RuleError};
 use mir_ty::{BOOL, I32, I64, Items, NEVER, Ty, TyId, U32, U64, UNIT, USIZE};
 use src_ast::{First, Nodes, TypeForm, type_form};
@@ -178,7 +179,7 @@ fn tuple(items: &mut Items, scope: &WrittenScope, at: Pos, parts: Nodes) -> Resu
     ensures known { IfOk result (λ id. id.0 < length items.new.types) }
 {
     let ids = all_written(items, scope, parts)?;
-    let is_short = free_or(scope.has_limits, ids.len() <= 12);
+    let is_short = free_or(scope.has_limits, ids.len() <= MAX_TUPLE_PARTS);
     let id = tuple_of(items, ids)?;
     obeys(Rule::T19, at, is_short)?;
     Ok(id)
@@ -219,7 +220,7 @@ fn array_shown(
     ensures grows { length items.old.types ≤ length items.new.types }
     ensures known { IfOk result (λ id. id.0 < length items.new.types) }
 {
-    obeys(Rule::T19, at, free_or(scope.has_limits, count <= 32))?;
+    obeys(Rule::T19, at, free_or(scope.has_limits, count <= MAX_ARRAY_LENGTH as u64))?;
     interned(items, Ty::Array(element, shown(count)))
 }
 

@@ -9,12 +9,9 @@ use crate::number::{digits_value, is_up_to};
 use crate::request::{Command, Request, WordsError};
 use clap::error::ErrorKind;
 use clap::{Arg, ArgMatches};
+use mir_base::limits::{MAX_ASKED, MAX_ASKED_NUMBER, MAX_TICKS};
 use mir_base::{List, NoMemory};
 use std::alloc::{AllocError, Global};
-
-const MOST_ASKED: u64 = 2147483647;
-
-const MOST_TICKS: u64 = 1000000000;
 
 /// The command line, as `clap` reads it: a command, then numbers, and `--ticks` anywhere.
 fn command_line<'a>(alloc: Global) -> Result<clap::Command<'a>, AllocError>
@@ -77,7 +74,7 @@ fn most_numbers(command: Command) -> usize
 {
     match command {
         Command::Check | Command::Raw => 0,
-        Command::Run | Command::Exec => 64,
+        Command::Run | Command::Exec => MAX_ASKED,
     }
 }
 
@@ -88,7 +85,7 @@ fn numbers_of(alloc: Global, texts: &[&str]) -> Result<Option<List<i32>>, NoMemo
     let mut numbers = List::new(alloc);
     for text in texts {
         let bytes = text.as_bytes();
-        if !is_up_to(MOST_ASKED, bytes) {
+        if !is_up_to(MAX_ASKED_NUMBER, bytes) {
             return Ok(None);
         }
         numbers.push(digits_value(bytes) as i32)?;
@@ -127,7 +124,7 @@ fn ticks_of(text: &str) -> Option<u64>
     ensures { result ≡ asked.ticks_of text.now }
 {
     let bytes = text.as_bytes();
-    if is_up_to(MOST_TICKS, bytes) {
+    if is_up_to(MAX_TICKS, bytes) {
         Some(digits_value(bytes))
     } else {
         None
@@ -189,7 +186,7 @@ fn request_in(alloc: Global, found: &ArgMatches<'_>) -> Result<Option<Request>, 
 pub fn request_of(alloc: Global, words: &[String]) -> Result<Request, WordsError>
     ensures request { IfOk result (λ request. asked.request_of (map string_bytes words.now) ≡ Some request) }
     ensures refused { IsErrOf result an_error.Refused → asked.request_of (map string_bytes words.now) ≡ None }
-    ensures ticks { IfOk result (λ request. request.ticks ≤ MOST_TICKS) }
+    ensures ticks { IfOk result (λ request. request.ticks ≤ MAX_TICKS) }
 {
     let found = parsed(alloc, words)?;
     match request_in(alloc, &found) {

@@ -4,6 +4,7 @@ ghost use Rattle.src_tree.specs.Table.{rest_at, rest_of};
 ghost use Rattle.src_parse.specs.Bounds.{least_place as least_place_is, ended as ended_is, lesser as lesser_of, with_part as with_part_is, bound as bound_is};
 
 use crate::endings::ending_at;
+use mir_base::limits::MAX_NESTING;
 use src_tree::{
     GrammarPlace, GrammarPoint, GrammarRow, GrammarStep, Sort, Start, allowed, counts, place_of,
     step_at,
@@ -17,7 +18,7 @@ pub struct DepthBound {
 }
 
 /// A depth past the limit on nesting, for what can come to no end.
-const PAST_LIMIT: u32 = 65;
+const PAST_LIMIT: u32 = MAX_NESTING + 1;
 
 /// No point that the parser comes to has a greater bound.
 pub(crate) const MOST: DepthBound = DepthBound {

@@ -6,8 +6,8 @@ ghost use Rattle.src_tree.specs.Layout.{tok, sub, end};
 ghost use Rattle.src_tree.specs.View.{layout_of, parts_in};
 ghost use Rattle.src_parse.specs.View.{frame_of};
 
-use crate::LIMIT;
 use crate::bound::{DepthBound, MOST, bound_at};
+use mir_base::limits::MAX_NESTING;
 use mir_base::{List, NoMemory, Pos};
 use src_token::Token;
 use src_tree::{
@@ -57,7 +57,7 @@ fn need(frame: &ParserFrame) -> u32
 pub(crate) fn passes(frame: &ParserFrame) -> bool
     ensures { result ≡ passes_of (frame_of frame.now) }
 {
-    reach(frame, MOST).floor > LIMIT && need(frame) > LIMIT
+    reach(frame, MOST).floor > MAX_NESTING && need(frame) > MAX_NESTING
 }
 
 /// The frame of a text before its first token.

@@ -12,4 +12,4 @@ mod steps;
 pub use bound::DepthBound;
 pub use error::ParseError;
 pub use law::law_of_reading;
-pub use parser::{LIMIT, parse, parse_owned};
+pub use parser::{parse, parse_owned};

@@ -9,9 +9,6 @@ use src_token::Spanned;
 use src_tree::{Tree, copy_token};
 use std::alloc::Global;
 
-/// How deep a text may be nested.
-pub const LIMIT: u32 = 64;
-
 /// Second tokens with the same content.
 fn copies(alloc: Global, tokens: &[Spanned]) -> Result<List<Spanned>, NoMemory>
     ensures { IfOk result (λ copies. copies ≡ tokens.now) }
