@@ -11,21 +11,15 @@ use Rattle.typed_tree.specs.Tree as tree
 use Rattle.typed_tree.specs.Tree.{Node, MaybeNode, absent, present}
 use Rattle.typed_tree.specs.declared.node.Use.{Use}
 use Rattle.typing_rules.specs.Check.{Check, ◌>>=◌, ◌<$>◌, pure, known, the_items}
-use Rattle.typing_rules.specs.Patterns.{BoundPattern, pattern}
+use Rattle.typing_rules.specs.Patterns.{pattern}
 use Rattle.typing_rules.specs.Places.{a_node_of, place_in_text, unit}
-use Rattle.typing_rules.specs.Rows.{Expected, ends_by, expected, let_ty, no_reference, of_value, used_if_place}
+use Rattle.typing_rules.specs.Rows.{Expected, ends_by, let_ty, no_reference, of_value, used_if_place}
 use Rattle.typing_rules.specs.Scope.{Env, with_variables}
 use Rattle.well_typed.specs.Places.{ty_of}
 
 -- what patterns look at
 abbrev pub scrutinised_rest : Node → Check Node
 scrutinised_rest n = (used_if_place Use.Borrow) <$> no_reference n
-
--- the pattern that they match it with
-abbrev pub matched_rest : Env → Bool → Node → Syn → Check BoundPattern
-matched_rest env takes_all s p = do
-  items ← the_items
-  pattern env (expected env takes_all s items) (ty_of s) p []
 
 -- an arm of its pattern, guard and body
 abbrev pub arm_rest : ℕ → Node → MaybeNode → Node → Check Node

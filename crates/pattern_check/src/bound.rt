@@ -7,10 +7,8 @@ ghost use Rattle.src_ast.specs.Seen.{syn_of};
 ghost use Rattle.type_rows.specs.Stand.{GivesValue, Keeps, env, stack, state, top};
 ghost use Rattle.typing_rules.specs.Patterns as patterns;
 ghost use Rattle.typing_rules.specs.Scope.{in_guard, with_variables};
-ghost use Rattle.pattern_check.specs.BindingRests.{matched_rest};
 
 use crate::pattern;
-use crate::scrutinees::expected_of_last;
 use mir_base::RuleError;
 use mir_ty::TyId;
 use name_rows::enter_all;
@@ -33,21 +31,6 @@ pub fn bindings(
     let mut bound = Variables::new(checker.alloc);
     pattern(checker, &mut bound, e, ty, node)?;
     Ok(bound)
-}
-
-/// The pattern that the last node is matched with; answers its bindings, the youngest first.
-pub fn matched(
-    checker: &mut Checker,
-    takes_all: bool,
-    node: &SyntaxNode,
-) -> Result<Variables, RuleError>
-    ensures gives { GivesValue (λ bound. (top (stack checker.new), reverse bound))
-        (matched_rest (env checker.old) takes_all (top (stack checker.old)) (syn_of node.now) (state checker.old)) result checker.new }
-    ensures kept { Keeps (stack checker.old) checker.old result checker.new }
-{
-    let e = expected_of_last(checker, takes_all);
-    let ty = checker.last_ty();
-    bindings(checker, e, ty, node)
 }
 
 /// The bindings of a pattern come into scope.

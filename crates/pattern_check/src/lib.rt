@@ -11,7 +11,7 @@ mod patterns;
 mod scrutinees;
 
 pub use arms::{arm_end, guarded_arm_end};
-pub use bound::{bindings, enter_bound, enter_guard, matched};
+pub use bound::{bindings, enter_bound, enter_guard};
 pub use counts::count_of;
 pub use lets::{is_one_name, let_end, place_for_parts};
 pub use patterns::pattern;
