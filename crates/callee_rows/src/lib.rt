@@ -11,4 +11,4 @@ pub use begun::{BegunCall, CallEnding, begin};
 pub use callees::{Callee, callee_of};
 pub use closures::{ClosureCallee, closure_callee, closure_end};
 pub use ends::call_end;
-pub use paths::{PathValue, path, path_alone, path_value, variable_base};
+pub use paths::{PathValue, path, path_alone, path_value};

@@ -263,32 +263,3 @@ pub fn path(
         _ => path_alone(checker, at, path, want),
     }
 }
-
-fn name_base(checker: &mut Checker, at: Pos, name: &str) -> Result<(), RuleError>
-    ensures gives { Gives (typed.variable_base (env checker.old) at (Some name.now) None (scope.variable (env checker.old).variables name.now) (state checker.old)) result checker.new }
-    ensures kept { Keeps (stack checker.old) checker.old result checker.new }
-{
-    match variable(checker, name) {
-        Some(found) => put_variable(checker, at, name, found),
-        None => path_alone(
-            checker,
-            at,
-            PathForm {
-                first: Some(name),
-                second: None,
-            },
-            None,
-        ),
-    }
-}
-
-/// A path whose place is gone through: a variable, or a value that becomes a temporary.
-pub fn variable_base(checker: &mut Checker, at: Pos, path: PathForm) -> Result<(), RuleError>
-    ensures gives { Gives (typed.variable_base (env checker.old) at (word_of path.entry.first) (word_of path.entry.second) (typed.variable_of (env checker.old) (word_of path.entry.first) (word_of path.entry.second)) (state checker.old)) result checker.new }
-    ensures kept { Keeps (stack checker.old) checker.old result checker.new }
-{
-    match (path.first, path.second) {
-        (Some(name), None) => name_base(checker, at, name),
-        _ => path_alone(checker, at, path, None),
-    }
-}
