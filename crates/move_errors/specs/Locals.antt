@@ -17,7 +17,7 @@ abbrev pub has_locals : Body → Bool
 has_locals body =
     nat_lt 0 (length body.blocks) && list_all (is_local (length body.locals)) (flat_map block_uses body.blocks)
 
--- what the law of locals says: each body of a graph without a fault has them
+-- each body of a graph without a fault has them
 abbrev pub WellFormedHasLocals : Type 0
 WellFormedHasLocals =
     (graph : Graph) (n : ℕ) (body : Body) → IsWellFormed graph → slice_get graph.bodies n ≡ Some body →

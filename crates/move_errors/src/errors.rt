@@ -209,8 +209,8 @@ fn refused(alloc: Global, solved: Solved<'_>, body: u32) -> Result<Option<UseErr
     }
 }
 
-/// The same as [`check_uses`], of a body of which only this is known: it has a block, and the locals that its uses name
-/// (`crate::has_locals`).
+/// The same as [`check_uses`], of a body of which only this is known: it has a block, and the locals that its uses name, as
+/// each body of a well formed graph has.
 pub fn check_body(alloc: Global, graph: &Graph, body: u32) -> Result<(), UseError>
     requires locals { (found : GraphBody) → slice_get graph.now.bodies body ≡ Some found → has_locals found ≡ true }
     requires body { body < length graph.now.bodies }
