@@ -64,7 +64,7 @@ IsComplete words left taken taken_after source_failed sink_failed status =
 -- the statuses that answer a text
 abbrev pub answers_a_text : ℕ → Bool
 answers_a_text status =
-    status == 0 || (status == 1 || (status == 10 || (status == 11 || (status == 12 || (status == 13 || status == 70)))))
+    status == 0 || (status == 1 || (status == 10 || (status == 11 || (status == 12 || status == 13))))
 
 -- a text was handed to a sink, with a status
 pub data Delivered (status : ℕ) (text : List ℕ) (taken taken_after : Option (List ℕ)) (sink_failed : Type 0) : ℕ →

@@ -61,7 +61,6 @@ fn with_request<S: Source, K: Sink>(
 /// | 5 | memory was wanted; nothing was written, and of a trace some beginning |
 /// | 6 | the source gave more than 131,072 bytes |
 /// | 10, 11, 12, 13 | the run panicked, aborted, ran out of ticks, or was stuck |
-/// | 70 | the graph of a program has a fault, which that of a well typed program has not; that none has is not proved yet |
 pub fn mirdrop<S: Source, K: Sink>(
     alloc: Global,
     words: &[String],
