@@ -3,6 +3,7 @@ ghost use Rattle.std.specs.Prelude.{◌≡◌, ◌≤◌, length};
 ghost use Rattle.mir_edge.specs.Faults.{HasRisen};
 ghost use Rattle.mirdrop_program.specs.TopCall.{Responded};
 ghost use Rattle.program_text.specs.declared.request.Command.{Command as a_command};
+ghost use Rattle.program_text.specs.declared.request.Request.{Request as a_request};
 
 use crate::checking::check_answer;
 use crate::deliver::hand_on;
@@ -13,23 +14,21 @@ use mir_edge::Sink;
 use program_text::{Command, Request};
 use std::alloc::Global;
 
-fn respond_to_check<K: Sink>(alloc: Global, request: &Request, text: &[u8], sink: &mut K) -> u8
+fn respond_to_check<K: Sink>(alloc: Global, text: &[u8], sink: &mut K) -> u8
     requires short { length text.now ≤ 131072 }
-    requires command { request.now.command ≡ a_command.Check }
     ensures counts { K.faults sink.old ≤ K.faults sink.new }
-    ensures done { Responded request.now text.now (K.taken sink.old) (K.taken sink.new) (HasRisen (K.faults sink.old) (K.faults sink.new)) result }
+    ensures done { (request : a_request) → request.command ≡ a_command.Check →
+        Responded request text.now (K.taken sink.old) (K.taken sink.new) (HasRisen (K.faults sink.old) (K.faults sink.new)) result }
 {
-    let _ = request;
     hand_on(sink, check_answer(alloc, text))
 }
 
-fn respond_to_raw<K: Sink>(alloc: Global, request: &Request, text: &[u8], sink: &mut K) -> u8
+fn respond_to_raw<K: Sink>(alloc: Global, text: &[u8], sink: &mut K) -> u8
     requires short { length text.now ≤ 131072 }
-    requires command { request.now.command ≡ a_command.Raw }
     ensures counts { K.faults sink.old ≤ K.faults sink.new }
-    ensures done { Responded request.now text.now (K.taken sink.old) (K.taken sink.new) (HasRisen (K.faults sink.old) (K.faults sink.new)) result }
+    ensures done { (request : a_request) → request.command ≡ a_command.Raw →
+        Responded request text.now (K.taken sink.old) (K.taken sink.new) (HasRisen (K.faults sink.old) (K.faults sink.new)) result }
 {
-    let _ = request;
     hand_on(sink, raw_answer(alloc, text))
 }
 
@@ -41,8 +40,8 @@ pub fn respond<K: Sink>(alloc: Global, request: &Request, text: &[u8], sink: &mu
     ensures done { Responded request.now text.now (K.taken sink.old) (K.taken sink.new) (HasRisen (K.faults sink.old) (K.faults sink.new)) result }
 {
     match request.command {
-        Command::Check => respond_to_check(alloc, request, text, sink),
-        Command::Raw => respond_to_raw(alloc, request, text, sink),
+        Command::Check => respond_to_check(alloc, text, sink),
+        Command::Raw => respond_to_raw(alloc, text, sink),
         Command::Run => run_program(alloc, request, text, sink),
         Command::Exec => run_listing(alloc, request, text, sink),
     }

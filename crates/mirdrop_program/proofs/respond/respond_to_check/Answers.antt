@@ -5,6 +5,7 @@ use Rattle.mirdrop_program.proofs.respond.respond_to_check.Goals as goal
 
 pub returns-clause-done : goal.returns-clause-done
 returns-clause-done g c =
-    handed_on c.args.request.now c.args.text.now _ _ _ (OwedByCheck c.args.text.now)
-    (owes_by c.args.request.now Command.Check c.args.text.now c.requires.command) c.check_answer.result c.hand_on.result
+    λ request is.
+    handed_on request c.args.text.now _ _ _ (OwedByCheck c.args.text.now)
+    (owes_by request Command.Check c.args.text.now is) c.check_answer.result c.hand_on.result
     c.check_answer.ensures c.hand_on.ensures.done

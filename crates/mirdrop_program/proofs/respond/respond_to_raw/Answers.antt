@@ -5,6 +5,7 @@ use Rattle.mirdrop_program.proofs.respond.respond_to_raw.Goals as goal
 
 pub returns-clause-done : goal.returns-clause-done
 returns-clause-done g c =
-    handed_on c.args.request.now c.args.text.now _ _ _ (OwedByRaw c.args.text.now)
-    (owes_by c.args.request.now Command.Raw c.args.text.now c.requires.command) c.raw_answer.result c.hand_on.result
+    λ request is.
+    handed_on request c.args.text.now _ _ _ (OwedByRaw c.args.text.now)
+    (owes_by request Command.Raw c.args.text.now is) c.raw_answer.result c.hand_on.result
     c.raw_answer.ensures c.hand_on.ensures.done
