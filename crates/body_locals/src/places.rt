@@ -63,7 +63,7 @@ impl NumbersByKey {
         match self.near_at(key) {
             Some(_) => {
                 let at = (key.0 - self.first) as usize;
-                let stored = number.checked_add(1).ok_or(NoMemory)?;
+                let stored = number.checked_add(1).ok_or(NoMemory::past_32_bits())?;
                 self.near.set(at, stored);
             }
             None => {

@@ -100,7 +100,7 @@ fn first_places(alloc: Global, locals: &[Local]) -> Result<NumbersByKey, NoMemor
         found places key ≡ position (λ k. k == key) (map key_of locals.now)) }
 {
     if locals.len() > u32::MAX as usize {
-        return Err(NoMemory);
+        return Err(NoMemory::past_32_bits());
     }
     let (first, count) = row_of(locals);
     let mut places = NumbersByKey::new(alloc, first, count)?;

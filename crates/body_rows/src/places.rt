@@ -36,7 +36,7 @@ fn fill(table: &mut List<u32>, numbers: &[u32], count: u32) -> Result<(), NoMemo
         let at = numbers.len() - 1 - done;
         let number = numbers[at];
         let Ok(place) = u32::try_from(at) else {
-            return Err(NoMemory);
+            return Err(NoMemory::past_32_bits());
         };
         widen(table, number, count)?;
         table.set(number as usize, place);
@@ -50,7 +50,7 @@ impl NumberPlaces {
         ensures { IfOk result (λ places. (k : ℕ) → place_by places.table places.count k ≡ place_among numbers.now k) }
     {
         let Ok(count) = u32::try_from(numbers.len()) else {
-            return Err(NoMemory);
+            return Err(NoMemory::past_32_bits());
         };
         let mut table = List::new(alloc);
         fill(&mut table, numbers, count)?;

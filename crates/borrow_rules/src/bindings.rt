@@ -116,7 +116,7 @@ fn add_parts(
     for pattern in parts {
         add_part(alloc, place, number, pattern, bounds)?;
         let Some(next) = number.checked_add(1) else {
-            return Err(NoMemory);
+            return Err(NoMemory::past_32_bits());
         };
         number = next;
     }

@@ -55,7 +55,7 @@ fn add_facts(alloc: Global, body: &TBody, facts: &mut List<ParameterFact>) -> Re
         let fact = fact_of(alloc, nodes.as_slice(), body.number, number, param)?;
         facts.push(fact)?;
         let Some(next) = number.checked_add(1) else {
-            return Err(NoMemory);
+            return Err(NoMemory::past_32_bits());
         };
         number = next;
     }

@@ -110,7 +110,7 @@ fn add_numbers(
             passings.push(Passing { at, callee, number })?;
         }
         let Some(next) = number.checked_add(1) else {
-            return Err(NoMemory);
+            return Err(NoMemory::past_32_bits());
         };
         number = next;
     }

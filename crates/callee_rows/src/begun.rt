@@ -207,6 +207,6 @@ pub fn begin(
         Callee::Boxes => new_box(checker, want),
         Callee::Unnamed(rule) => Err(broken(rule, at)),
         Callee::NoCallee => Ok(refused(checker)),
-        Callee::Value => Err(RuleError::Memory),
+        Callee::Value => Err(RuleError::cannot_be()),
     }
 }

@@ -31,7 +31,7 @@ fn numbers(alloc: Global, count: usize) -> Result<List<Option<u32>>, RuleError>
     let mut numbers = List::new(alloc);
     for number in 0..count {
         if number > u32::MAX as usize {
-            return Err(RuleError::Memory);
+            return Err(RuleError::past_32_bits());
         }
         pushed(&mut numbers, Some(number as u32))?;
     }

@@ -160,7 +160,7 @@ fn count_of(params: &[Param]) -> Result<u32, NoMemory>
     ensures { IfOk result (λ count. count ≡ length params.now) }
 {
     if params.len() > u32::MAX as usize {
-        return Err(NoMemory);
+        return Err(NoMemory::past_32_bits());
     }
     Ok(params.len() as u32)
 }

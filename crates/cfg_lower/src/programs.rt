@@ -98,7 +98,7 @@ fn add_bodies(
     let mut number: u32 = 0;
     for body in all {
         add_body(alloc, items, body, number, bodies, sites)?;
-        number = number.checked_add(1).ok_or(NoMemory)?;
+        number = number.checked_add(1).ok_or(NoMemory::past_32_bits())?;
     }
     Ok(())
 }

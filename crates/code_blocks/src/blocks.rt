@@ -171,7 +171,7 @@ impl Blocks {
     {
         let count = self.made.len();
         if count > u32::MAX as usize {
-            return Err(NoMemory);
+            return Err(NoMemory::past_32_bits());
         }
         Ok(count as u32)
     }

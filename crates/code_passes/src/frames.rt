@@ -33,7 +33,7 @@ fn past(count: usize, key: Key) -> Result<u32, NoMemory>
     ensures { IfOk result (λ number. number ≡ count + key.0) }
 {
     if count > u32::MAX as usize {
-        return Err(NoMemory);
+        return Err(NoMemory::past_32_bits());
     }
-    (count as u32).checked_add(key.0).ok_or(NoMemory)
+    (count as u32).checked_add(key.0).ok_or(NoMemory::past_32_bits())
 }

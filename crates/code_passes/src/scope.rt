@@ -40,6 +40,6 @@ pub fn depth(scopes: &Scopes) -> Result<usize, NoMemory>
 {
     match scopes {
         Scopes::NoScope => Ok(0),
-        Scopes::Innermost(_, around) => depth(around)?.checked_add(1).ok_or(NoMemory),
+        Scopes::Innermost(_, around) => depth(around)?.checked_add(1).ok_or(NoMemory::past_32_bits()),
     }
 }

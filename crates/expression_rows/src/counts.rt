@@ -14,7 +14,7 @@ pub fn one_more(count: usize) -> Result<usize, RuleError>
 {
     match count.checked_add(1) {
         Some(more) => Ok(more),
-        None => Err(RuleError::Memory),
+        None => Err(RuleError::past_32_bits()),
     }
 }
 
@@ -38,7 +38,7 @@ pub fn as_length(count: usize) -> Result<u32, RuleError>
     ensures short { IfErr result (λ e. e ≡ RuleError.Memory) }
 {
     if count > u32::MAX as usize {
-        return Err(RuleError::Memory);
+        return Err(RuleError::past_32_bits());
     }
     Ok(count as u32)
 }

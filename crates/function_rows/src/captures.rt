@@ -123,7 +123,7 @@ fn one_more(count: u32) -> Result<u32, RuleError>
 {
     match count.checked_add(1) {
         Some(more) => Ok(more),
-        None => Err(RuleError::Memory),
+        None => Err(RuleError::past_32_bits()),
     }
 }
 

@@ -20,7 +20,7 @@ pub fn body_number(checker: &mut Checker) -> Result<u32, RuleError>
     ensures same { Same checker.old checker.new }
 {
     let Some(next) = checker.walk.next_body.checked_add(1) else {
-        return Err(RuleError::Memory);
+        return Err(RuleError::past_32_bits());
     };
     let number = checker.walk.next_body;
     checker.walk.next_body = next;
@@ -60,7 +60,7 @@ pub fn closure_added(
     ensures same { Same checker.old checker.new }
 {
     if !are_known(&checker.walk.items, captures.as_slice()) {
-        return Err(RuleError::Memory);
+        return Err(RuleError::cannot_be());
     }
     added(&mut checker.walk, captures, body)
 }

@@ -41,7 +41,7 @@ impl Flow {
         ensures state { IfOk result (λ flow. state_of flow ≡ untouched bits count) }
         ensures heap { IfOk result (λ flow. ways_in flow ≡ []) }
     {
-        let ways = count.checked_mul(2).ok_or(NoMemory)?;
+        let ways = count.checked_mul(2).ok_or(NoMemory::past_32_bits())?;
         Ok(Flow {
             rows: empty_rows(alloc, bits, count)?,
             reached: no_flags(alloc, count)?,

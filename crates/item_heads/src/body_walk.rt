@@ -38,7 +38,7 @@ fn closure_body(
         closures,
     } = count;
     if in_outer == u64::MAX || closures == u32::MAX {
-        return Err(RuleError::Memory);
+        return Err(RuleError::past_32_bits());
     }
     let Ok(name) = name_of_closure(known.alloc, &outer, in_outer + 1) else {
         return Err(RuleError::Memory);

@@ -65,7 +65,7 @@ impl NameTable {
         let mut numbers = numbers;
         let number = names.len();
         if number >= u32::MAX as usize {
-            return Err(NoMemory);
+            return Err(NoMemory::past_32_bits());
         }
         note(alloc, &mut numbers, name, number as u32)?;
         names.push(Name::from_str(alloc, name)?)?;

@@ -114,7 +114,7 @@ pub fn read_blocks<'a>(
     let mut rest = text;
     for n in 0..text.len() {
         let Ok(number) = u32::try_from(n) else {
-            return Err(NoMemory);
+            return Err(NoMemory::past_32_bits());
         };
         match block(alloc, heads, number, rest) {
             Ok((found, behind)) => {

@@ -29,7 +29,7 @@ fn read_locals<'a>(
     let mut rest = text;
     for n in 0..text.len() {
         let Ok(number) = u32::try_from(n) else {
-            return Err(NoMemory);
+            return Err(NoMemory::past_32_bits());
         };
         match local_line(alloc, heads, items, number, rest) {
             Ok((id, behind)) => {
@@ -136,7 +136,7 @@ pub fn read_bodies<'a>(
     let mut rest = text;
     for n in 0..text.len() {
         let Ok(number) = u32::try_from(n) else {
-            return Err(NoMemory);
+            return Err(NoMemory::past_32_bits());
         };
         match add_body(alloc, heads, items, &mut bodies, number, rest) {
             Ok((whole, behind)) => {

@@ -124,7 +124,7 @@ fn read_traits<'a>(
     let mut rest = text;
     for n in 0..text.len() {
         let Ok(number) = u32::try_from(n) else {
-            return Err(NoMemory);
+            return Err(NoMemory::past_32_bits());
         };
         match add_trait(alloc, heads, items, number, rest) {
             Ok(behind) => rest = behind,
@@ -170,7 +170,7 @@ fn read_closures<'a>(
     let mut rest = text;
     for n in 0..text.len() {
         let Ok(number) = u32::try_from(n) else {
-            return Err(NoMemory);
+            return Err(NoMemory::past_32_bits());
         };
         match add_closure(alloc, heads, items, number, rest) {
             Ok(behind) => rest = behind,

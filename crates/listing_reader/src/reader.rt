@@ -47,7 +47,7 @@ fn judged(graph: Graph) -> Result<Graph, ListingError>
             graph.discard();
             match line {
                 Some(line) => Err(ListingError::BadGraph { fault, line }),
-                None => Err(ListingError::Memory),
+                None => Err(ListingError::past_32_bits()),
             }
         }
     }
@@ -59,7 +59,7 @@ fn answer(graph: Graph, whole: bool, rest: &[u8]) -> Result<Graph, ListingError>
 {
     let Some(lines) = lines_count(&graph) else {
         graph.discard();
-        return Err(ListingError::Memory);
+        return Err(ListingError::past_32_bits());
     };
     match wrong_line(lines, whole, rest) {
         Some(line) => {

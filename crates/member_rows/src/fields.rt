@@ -156,7 +156,7 @@ fn through(
             None => return Ok(None),
         }
     }
-    Err(RuleError::Memory)
+    Err(RuleError::cannot_be())
 }
 
 fn wanted_end(

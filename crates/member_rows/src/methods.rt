@@ -99,7 +99,7 @@ pub fn through(checker: &mut Checker, at: Pos, name: &str) -> Result<Option<Meth
             None => return Ok(None),
         }
     }
-    Err(RuleError::Memory)
+    Err(RuleError::cannot_be())
 }
 
 /// Whether it is the body of a `Drop` impl, which is not called by its name.

@@ -48,7 +48,7 @@ impl TextFlow {
         ensures stops { IfErr result (StopsIn (K.taken out.old) (K.taken out.new) self.old []) }
     {
         let Some(sent) = self.sent.checked_add(self.piece.len() as u64) else {
-            return Err(RunError::Memory);
+            return Err(RunError::past_32_bits());
         };
         match write_whole(out, self.piece.as_bytes()) {
             Ok(()) => {

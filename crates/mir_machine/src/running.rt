@@ -44,7 +44,7 @@ fn main_number(items: &Items) -> Result<u32, NoMemory>
             None => return Ok(0),
         }
     }
-    Err(NoMemory)
+    Err(NoMemory::cannot_be())
 }
 
 /// How a run has ended, if it has.
@@ -147,7 +147,7 @@ fn turns<K: Sink>(
         }
     }
     drop(doing);
-    Err(RunError::Memory)
+    Err(RunError::cannot_be())
 }
 
 /// Runs `main`.

@@ -65,7 +65,7 @@ fn counted(lowered: Lowered) -> Result<Lowered, NoMemory>
         return Ok(lowered);
     }
     lowered.discard();
-    Err(NoMemory)
+    Err(NoMemory::past_32_bits())
 }
 
 /// The raw graph of a typed program, with the sites of its uses.

@@ -164,7 +164,7 @@ impl World<'_> {
                 self.serial = next;
                 Ok(serial)
             }
-            None => Err(NoMemory),
+            None => Err(NoMemory::past_32_bits()),
         }
     }
 

@@ -38,7 +38,7 @@ fn impl_number(items: &Items, trait_no: u32, adt: u32) -> Result<Option<u32>, No
             None => return Ok(None),
         }
     }
-    Err(NoMemory)
+    Err(NoMemory::cannot_be())
 }
 
 /// A box as one of a trait object with the row of this impl.
@@ -86,7 +86,7 @@ fn holds_no_number(alloc: Global, value: &Value) -> Result<bool, NoMemory>
             return Ok(false);
         }
     }
-    Err(NoMemory)
+    Err(NoMemory::cannot_be())
 }
 
 fn add_all<'a>(work: &mut List<&'a Value>, parts: &'a [Value]) -> Result<(), NoMemory>

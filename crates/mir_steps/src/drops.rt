@@ -142,7 +142,7 @@ impl Drops {
           address = record self.old.address { path = self.old.address.path ++ (Part part) ∷ [] };
         }) }
     {
-        let next = part.checked_add(1).ok_or(NoMemory)?;
+        let next = part.checked_add(1).ok_or(NoMemory::past_32_bits())?;
         self.levels.push(Level::Parts {
             dynamic,
             variant,

@@ -129,7 +129,7 @@ fn go_over_parts<'a>(
         return Ok(());
     };
     let Some(other) = next.checked_add(1) else {
-        return Err(NoMemory);
+        return Err(NoMemory::past_32_bits());
     };
     work.push(Forgets::Rest {
         parts: rest,
@@ -185,5 +185,5 @@ pub fn tell_forgotten(
         };
         go_over(items, told, &mut work, next)?;
     }
-    Err(NoMemory)
+    Err(NoMemory::cannot_be())
 }

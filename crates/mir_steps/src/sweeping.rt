@@ -151,7 +151,7 @@ fn sweep_parts<'a>(
         return Ok(false);
     };
     let Some(other) = next.checked_add(1) else {
-        return Err(NoMemory);
+        return Err(NoMemory::past_32_bits());
     };
     work.push(Sweeps::Rest {
         parts: rest,
@@ -218,7 +218,7 @@ fn sweep(
             return Ok(Pass::Ends { late: turn > MANY });
         }
     }
-    Err(NoMemory)
+    Err(NoMemory::cannot_be())
 }
 
 /// The same of what stands somewhere, where that is tried; it ends at once where nothing stands there.

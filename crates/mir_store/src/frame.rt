@@ -63,9 +63,9 @@ fn number_of_place(place: usize) -> Result<u32, NoMemory>
     match u32::try_from(place) {
         Ok(place) => match place.checked_add(1) {
             Some(number) => Ok(number),
-            None => Err(NoMemory),
+            None => Err(NoMemory::past_32_bits()),
         },
-        Err(_) => Err(NoMemory),
+        Err(_) => Err(NoMemory::past_32_bits()),
     }
 }
 

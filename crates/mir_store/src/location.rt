@@ -256,7 +256,7 @@ fn element_number(number: i128, count: usize) -> Result<Option<u32>, NoMemory>
     }
     match u32::try_from(number) {
         Ok(part) => Ok(Some(part)),
-        Err(_) => Err(NoMemory),
+        Err(_) => Err(NoMemory::past_32_bits()),
     }
 }
 
@@ -358,7 +358,7 @@ pub fn reach<'a>(
         return Ok(Reached::Nowhere);
     };
     let Ok(number) = u32::try_from(depth) else {
-        return Err(NoMemory);
+        return Err(NoMemory::past_32_bits());
     };
     let Some(mut s) = root(alloc, graph, frame, number, place.local) else {
         return Ok(Reached::Nowhere);

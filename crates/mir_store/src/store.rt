@@ -38,7 +38,7 @@ fn frame_with(alloc: Global, body: u32, args: List<Value>) -> Result<MachineFram
     for arg in args.into_vec() {
         let Some(next) = key.checked_add(1) else {
             drop(arg);
-            return Err(NoMemory);
+            return Err(NoMemory::past_32_bits());
         };
         key = next;
         frame.put(alloc, key, &[], arg)?;

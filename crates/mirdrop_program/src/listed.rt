@@ -58,7 +58,7 @@ fn with_refusal(alloc: Global, lowered: &Lowered, refusal: &Refusal) -> Result<A
     if is_of_use(refusal) {
         listing_with(alloc, &lowered.graph, refusal)
     } else {
-        Err(NoMemory)
+        Err(NoMemory::cannot_be())
     }
 }
 

@@ -56,7 +56,7 @@ fn next_line(line: u32) -> Result<u32, NoMemory>
 {
     match line.checked_add(1) {
         Some(next) => Ok(next),
-        None => Err(NoMemory),
+        None => Err(NoMemory::past_32_bits()),
     }
 }
 
@@ -68,7 +68,7 @@ fn block_acts<'a>(
     ensures { OnOk result ((n : ℕ) → runs.actions_of n acts.new ≡ runs.stmt_actions n 0 block.now.stmts ++ runs.at_line n (length block.now.stmts) (graph.term_uses block.now.term)) }
 {
     let Ok(line) = u32::try_from(block.stmts.len()) else {
-        return Err(NoMemory);
+        return Err(NoMemory::past_32_bits());
     };
     acts.truncate(0);
     add_stmts(acts, uses, block.stmts.as_slice())?;
@@ -96,7 +96,7 @@ fn store_acts<'a>(acts: &mut List<Act<'a>>, block: &'a Block, next: u32) -> Resu
     ensures { OnOk result ((n : ℕ) → runs.actions_of n acts.new ≡ runs.at_line n (length block.now.stmts) (map (λ place. (graph.Stores, place)) (runs.stored_towards block.now.term next))) }
 {
     let Ok(line) = u32::try_from(block.stmts.len()) else {
-        return Err(NoMemory);
+        return Err(NoMemory::past_32_bits());
     };
     acts.truncate(0);
     match stored(&block.term, next) {

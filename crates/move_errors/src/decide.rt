@@ -122,7 +122,7 @@ pub fn rows_show(alloc: Global, watch: &Watch<'_>, rows: &Solution) -> Result<bo
     ensures { IfOk result (λ shown. shown ≡ false → (block : ℕ) → block < length watch.now.body.now.blocks → ShowsNone (problem watch.now.items.now watch.now.body.now watch.now.forest.paths) block (slice_index_or rows.now block [])) }
 {
     let Ok(count) = u32::try_from(watch.body.blocks.len()) else {
-        return Err(NoMemory);
+        return Err(NoMemory::past_32_bits());
     };
     let mut acts = Acts::new(alloc);
     let mut inside = BitRow::new(alloc, watch.forest.len())?;

@@ -124,7 +124,7 @@ impl Search {
         ensures queue { self.new.queue ≡ self.old.queue }
     {
         let Ok(number) = u32::try_from(self.visits.len()) else {
-            return Err(NoMemory);
+            return Err(NoMemory::past_32_bits());
         };
         self.visits.push(visit)?;
         Ok(number)
@@ -315,7 +315,7 @@ fn first_found<'a>(
 fn point_count(blocks: usize) -> Result<usize, NoMemory>
     ensures { IfOk result (λ count. count ≡ blocks * 4) }
 {
-    blocks.checked_mul(4).ok_or(NoMemory)
+    blocks.checked_mul(4).ok_or(NoMemory::past_32_bits())
 }
 
 /// The first bad use that a body meets along the least of the shortest lists of choices that reach one; `None` where

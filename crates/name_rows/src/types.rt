@@ -58,7 +58,7 @@ pub fn written(checker: &mut Checker, node: &SyntaxNode) -> Result<TyId, RuleErr
     ensures same { OnOk result (Same checker.old checker.new) }
 {
     if !has_scalars(&checker.walk.items) {
-        return Err(RuleError::Memory);
+        return Err(RuleError::cannot_be());
     }
     let scope = WrittenScope {
         alloc: checker.alloc,
@@ -83,7 +83,7 @@ pub fn written_param(checker: &mut Checker, node: &SyntaxNode) -> Result<TyId, R
     ensures same { OnOk result (Same checker.old checker.new) }
 {
     if !has_scalars(&checker.walk.items) {
-        return Err(RuleError::Memory);
+        return Err(RuleError::cannot_be());
     }
     let scope = WrittenScope {
         alloc: checker.alloc,

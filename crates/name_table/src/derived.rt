@@ -102,7 +102,7 @@ pub fn next_number(number: u32) -> Result<u32, RuleError>
 {
     match number.checked_add(1) {
         Some(next) => Ok(next),
-        None => Err(RuleError::Memory),
+        None => Err(RuleError::past_32_bits()),
     }
 }
 

@@ -66,7 +66,7 @@ fn traits_behind(traits: u32, node: &SyntaxNode) -> Result<u32, RuleError>
     }
     match traits.checked_add(1) {
         Some(more) => Ok(more),
-        None => Err(RuleError::Memory),
+        None => Err(RuleError::past_32_bits()),
     }
 }
 

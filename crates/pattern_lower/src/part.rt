@@ -40,5 +40,5 @@ pub fn step_to(variant: Option<u32>, part: u32) -> Step
 pub fn next(number: u32) -> Result<u32, NoMemory>
     ensures { IfOk result (λ next. next ≡ suc number) }
 {
-    number.checked_add(1).ok_or(NoMemory)
+    number.checked_add(1).ok_or(NoMemory::past_32_bits())
 }

@@ -110,7 +110,7 @@ fn first_places(alloc: Global, rows: &[ScopeRow]) -> Result<HashMap<u32, u32>, N
         get nat_eq places id ≡ position (λ n. n == id) (map node_of rows.now)) }
 {
     if rows.len() > u32::MAX as usize {
-        return Err(NoMemory);
+        return Err(NoMemory::past_32_bits());
     }
     let mut places = HashMap::new(alloc);
     for number in (0..rows.len()).rev() {

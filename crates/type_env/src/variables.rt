@@ -115,7 +115,7 @@ impl Variables {
         let name = String::from_str(alloc, variable.name.as_str())?;
         let place = self.slots.len();
         if place >= u32::MAX as usize {
-            return Err(NoMemory);
+            return Err(NoMemory::past_32_bits());
         }
         let hides = self.youngest.get(variable.name.as_str()).copied();
         self.slots.push(Slot { variable, hides })?;

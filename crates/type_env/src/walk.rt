@@ -61,7 +61,7 @@ impl Walk {
         ensures items { self.new.items ≡ self.old.items }
     {
         let Some(next) = self.next_node.checked_add(1) else {
-            return Err(RuleError::Memory);
+            return Err(RuleError::past_32_bits());
         };
         let number = NodeId(self.next_node);
         self.next_node = next;

@@ -132,7 +132,7 @@ impl Checker {
     {
         match self.walk.made.pop() {
             Some(node) => Ok(node),
-            None => Err(RuleError::Memory),
+            None => Err(RuleError::cannot_be()),
         }
     }
 

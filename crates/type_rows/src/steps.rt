@@ -45,7 +45,7 @@ impl Checker {
         ensures same { Same self.old self.new }
     {
         if !is_known(&self.walk.items, &ty) {
-            return Err(RuleError::Memory);
+            return Err(RuleError::cannot_be());
         }
         self.walk.interned(ty)
     }

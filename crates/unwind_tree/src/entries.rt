@@ -45,7 +45,7 @@ impl Entries {
         ensures refused { OnErr result (self.new ≡ self.old) }
     {
         let Some(room) = self.room.checked_add(1) else {
-            return Err(NoMemory);
+            return Err(NoMemory::past_32_bits());
         };
         self.items.reserve(room)?;
         self.room = room;

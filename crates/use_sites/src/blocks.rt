@@ -55,7 +55,7 @@ fn add_block(
     for stmt in stmts {
         let at = LineAt { body, block, line };
         add_stmt(alloc, names, at, id_at(ids, line as usize), stmt, sites)?;
-        line = line.checked_add(1).ok_or(NoMemory)?;
+        line = line.checked_add(1).ok_or(NoMemory::past_32_bits())?;
     }
     let at = LineAt { body, block, line };
     add_term(
@@ -92,7 +92,7 @@ pub fn body_sites(
     for one in blocks {
         let own = ids_at(ids, block as usize);
         add_block(alloc, names, body, block, one, own, sites)?;
-        block = block.checked_add(1).ok_or(NoMemory)?;
+        block = block.checked_add(1).ok_or(NoMemory::past_32_bits())?;
     }
     Ok(())
 }
