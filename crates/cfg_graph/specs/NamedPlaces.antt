@@ -8,17 +8,29 @@ use Rattle.cfg_graph.specs.declared.statement.Stmt.{Stmt}
 use Rattle.cfg_graph.specs.Moves.Gone.{PathAction, leaves_gone, are_first}
 use Rattle.cfg_graph.specs.Places.{named}
 use Rattle.cfg_graph.specs.Uses.{PlaceUse, Stores}
-use Rattle.store_model.specs.Places.Place.{Step, ToContent, Place, whole_local, before_element}
+use Rattle.store_model.specs.Places.Place.{Step, ToPart, ToField, ToContent, ToElement, Place, whole_local, before_element}
 
 abbrev pub same_place : Place → Place → Bool
 same_place a b = (a.local == b.local) && are_first a.steps b.steps && are_first b.steps a.steps
 
--- two places of which one is at or in the other, where an index stands for all elements
+-- Steps as they lead through memory: the fields of all variants of an enum that have one number lie at one address.
+abbrev pub as_laid_out : List Step → List Step
+as_laid_out [] = []
+as_laid_out (ToPart part ∷ steps) = ToPart part ∷ as_laid_out steps
+as_laid_out (ToField variant part ∷ steps) = ToPart part ∷ as_laid_out steps
+as_laid_out (ToContent ∷ steps) = ToContent ∷ as_laid_out steps
+as_laid_out (ToElement local ∷ steps) = ToElement local ∷ as_laid_out steps
+
+-- one of two lists of steps goes on from where the other ends
 abbrev pub one_goes_on : List Step → List Step → Bool
 one_goes_on steps others = are_first steps others || are_first others steps
 
+-- two places of which one is at or in the other, where an index stands for all elements, and a field for the fields of
+-- other variants at its address
 abbrev pub overlaps : Place → Place → Bool
-overlaps a b = (a.local == b.local) && one_goes_on (before_element a.steps) (before_element b.steps)
+overlaps a b =
+    (a.local == b.local)
+    && one_goes_on (as_laid_out (before_element a.steps)) (as_laid_out (before_element b.steps))
 
 -- the reference that a statement makes in a whole local: the local, and the place that it names
 abbrev pub reference_made : Stmt → List (ℕ × Place)

@@ -22,7 +22,7 @@ use Rattle.cfg_graph.specs.Moves.Gone.{has_index, is_param}
 use Rattle.cfg_graph.specs.NamedPlaces.{same_place, references_made, keeps_named}
 use Rattle.cfg_graph.specs.Moves.Paths.{IsPath}
 use Rattle.cfg_graph.specs.Places.{named}
-use Rattle.cfg_graph.specs.Uses.{operands_of_stmt, operands_of_term, stored_by_stmt, stored_by_term}
+use Rattle.cfg_graph.specs.Uses.{operands_of_stmt, operands_of_term, stored_by_stmt, stored_by_term, places_of_stmt, places_of_term}
 use Rattle.store_model.specs.Concrete.Drops.{drop_impl}
 use Rattle.store_model.specs.Places.Place.{Step, step_ty, is_reference, whole_local}
 
@@ -106,12 +106,18 @@ module _ (items : ItemTable) (body : Body) where
   abbrev pub times_made : ℕ → ℕ
   times_made local = count_by (λ made. made.0 == local) (references_made body)
 
+  -- no line has a place that begins with the local
+  abbrev pub is_unnamed : ℕ → Bool
+  is_unnamed local =
+      all_stmts (λ stmt. list_all (λ place. not (place.local == local)) (places_of_stmt stmt)) body
+      && all_terms (λ term. list_all (λ place. not (place.local == local)) (places_of_term term)) body
+
   -- a local of a reference type is a parameter, which is not stored into, or one whose reference is made by one
-  -- statement and by nothing else
+  -- statement and by nothing else; none makes it where no line names it, since what did was never reached
   abbrev pub holds_reference_well : ℕ → Bool
   holds_reference_well local =
       if is_param items body local then times_stored local == 0
-      else not (local == 0) && (times_stored local == 1) && (times_made local == 1)
+      else not (local == 0) && ((times_stored local == 1) && (times_made local == 1) || is_unnamed local)
 
   abbrev pub local_well : ℕ → Bool
   local_well local =

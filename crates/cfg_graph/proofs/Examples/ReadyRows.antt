@@ -91,8 +91,11 @@ referring stmts = references_in_locals items (of_stmts stmts)
 each_made_once : referring (borrow 7 (var 2) ∷ borrow 8 behind ∷ []) ≡ true
 each_made_once = refl
 
-one_never_made : referring (borrow 7 (var 2) ∷ []) ≡ false
-one_never_made = refl
+one_that_no_line_names : referring (borrow 7 (var 2) ∷ []) ≡ true
+one_that_no_line_names = refl
+
+one_used_and_never_made : referring (borrow 7 (var 2) ∷ Stmt.Touch (along 8 (Step.Inside ∷ [])) ∷ []) ≡ false
+one_used_and_never_made = refl
 
 one_made_twice : referring (borrow 7 (var 2) ∷ borrow 8 behind ∷ borrow 8 (var 2) ∷ []) ≡ false
 one_made_twice = refl
@@ -130,6 +133,15 @@ a_container_taken = refl
 a_part_apart_taken : keeps (borrow 7 (along 3 (Step.Part 0 ∷ [])) ∷ moved (along 3 (Step.Part 1 ∷ [])) ∷ used ∷ [])
     ≡ true
 a_part_apart_taken = refl
+
+-- the fields of two variants lie at one address where they have one number
+a_field_of_another_variant_taken : keeps
+    (borrow 7 (along 3 (Step.Field 0 1 ∷ [])) ∷ moved (along 3 (Step.Field 1 1 ∷ [])) ∷ used ∷ []) ≡ false
+a_field_of_another_variant_taken = refl
+
+a_field_apart_taken : keeps
+    (borrow 7 (along 3 (Step.Field 0 1 ∷ [])) ∷ moved (along 3 (Step.Field 1 0 ∷ [])) ∷ used ∷ []) ≡ true
+a_field_apart_taken = refl
 
 taken_after_the_last_use : keeps (borrow 7 (var 2) ∷ used ∷ moved (var 2) ∷ []) ≡ true
 taken_after_the_last_use = refl
