@@ -11,7 +11,7 @@ use Rattle.typed_tree.specs.Tree.{node}
 use Rattle.typed_tree.specs.View.{tree_of, form_of, nodes_from}
 use Rattle.typed_tree.specs.declared.node.Form.{Form, And, Arithmetic, Comparison, MethodCall, Or, VirtualCall, While}
 use Rattle.typed_tree.specs.declared.node.Node.{Node}
-use Rattle.typing_rules.specs.Accesses.{◌⊕◌, Aliases, Referring, ToldAccesses, access_by, argument, arguments, inside, passed_together, own_access, place_of, refers_by, root_of, told}
+use Rattle.typing_rules.specs.Accesses.{◌⊕◌, Aliases, Referring, CollectedAccesses, access_by, argument, arguments, inside, passed_together, own_access, place_of, refers_by, root_of, told}
 use Rattle.borrow_rules.specs.Forms.{argument_told, call_told, parts_told}
 
 -- two operands, of whichever form
@@ -53,7 +53,7 @@ module _ (aliases : Aliases) where
       ∙ (λ i. inside aliases (sym shape i) ⊕ own_access (access_by n.by) (place_of aliases (sym shape i)) (root_of (sym shape i)) n.at)
 
   -- an argument by its form
-  pub argument_by_form : (n : Node) (is_receiver : Bool) (refers : Option Referring) (own : ToldAccesses) → refers ≡ refers_by aliases (form_of n.form)
+  pub argument_by_form : (n : Node) (is_receiver : Bool) (refers : Option Referring) (own : CollectedAccesses) → refers ≡ refers_by aliases (form_of n.form)
       → own ≡ told aliases (tree_of n)
       → record { refers = refers; is_receiver = is_receiver; at = n.at; told = own } ≡ argument_told aliases is_receiver (tree_of n)
   argument_by_form n is_receiver refers own is_refers is_own =

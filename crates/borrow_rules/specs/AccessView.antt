@@ -4,7 +4,7 @@ use Rattle.mir_base.specs.declared.place_in_text.Key.{Key}
 use Rattle.mir_base.specs.declared.place_in_text.Pos.{Pos}
 use Rattle.borrow_rules.specs.declared.access.Access as rust
 use Rattle.borrow_rules.specs.declared.access.Accessed.{Accessed}
-use Rattle.borrow_rules.specs.declared.access.ToldAccesses.{ToldAccesses}
+use Rattle.borrow_rules.specs.declared.access.CollectedAccesses.{CollectedAccesses}
 use Rattle.borrow_rules.specs.declared.arguments.Argument.{Argument}
 use Rattle.borrow_rules.specs.declared.arguments.Referring.{Referring}
 use Rattle.borrow_rules.specs.declared.bindings.BoundPart.{BoundPart}
@@ -56,7 +56,7 @@ accessed_in a =
       at = a.at;
     }
 
-abbrev pub told_in : ToldAccesses → rules.ToldAccesses
+abbrev pub told_in : CollectedAccesses → rules.CollectedAccesses
 told_in t = record { accesses = map accessed_in t.accesses.items; conflicts = t.conflicts.items }
 
 abbrev pub bound_in : BoundPart → ℕ × rules.Accessed

@@ -2,7 +2,7 @@
 use Rattle.std.specs.Prelude.{Bool, true, ◌∷◌, Option, if◌then◌else◌}
 use Rattle.mir_base.specs.declared.place_in_text.Pos.{Pos}
 use Rattle.typed_tree.specs.Tree.{Node, Form, Index, Assign, Borrow, Call, MethodCall, VirtualCall, ClosureCall, If, IfLet, WhileLet, Match, Arm, Arithmetic, Comparison, And, Or, While, Block, Let}
-use Rattle.typing_rules.specs.Accesses.{Access, AccessPlace, Borrows, BorrowsUniquely, Aliases, ToldAccesses, Argument, quiet, told, told_all, told_maybe, told_arms, told_guard, accesses_of, bound, told_form, arguments, argument, passed_together, of_scrutinee, place_of, ◌⊕◌}
+use Rattle.typing_rules.specs.Accesses.{Access, AccessPlace, Borrows, BorrowsUniquely, Aliases, CollectedAccesses, Argument, quiet, told, told_all, told_maybe, told_arms, told_guard, accesses_of, bound, told_form, arguments, argument, passed_together, of_scrutinee, place_of, ◌⊕◌}
 
 abbrev pub borrow_access : Bool → Access
 borrow_access is_unique = if is_unique then BorrowsUniquely else Borrows
@@ -12,14 +12,14 @@ abbrev pub argument_told : Aliases → Bool → Node → Argument
 argument_told aliases is_receiver n = record (argument aliases n) { is_receiver = is_receiver }
 
 -- what reaches a place
-abbrev pub reaching_told : Aliases → Pos → Form → ToldAccesses
+abbrev pub reaching_told : Aliases → Pos → Form → CollectedAccesses
 reaching_told aliases at (Index base index count) = told_form aliases at (Index base index count)
 reaching_told aliases at (Assign place value) = told_form aliases at (Assign place value)
 reaching_told aliases at (Borrow unique base) = told_form aliases at (Borrow unique base)
 reaching_told aliases at _ = quiet
 
 -- calls
-abbrev pub call_told : Aliases → Form → ToldAccesses
+abbrev pub call_told : Aliases → Form → CollectedAccesses
 call_told aliases (Call body args) = passed_together (arguments aliases args)
 call_told aliases (MethodCall body receiver args) =
     passed_together (argument_told aliases true receiver ∷ arguments aliases args)
@@ -29,7 +29,7 @@ call_told aliases (ClosureCall body callee args) = told aliases callee ⊕ passe
 call_told aliases _ = quiet
 
 -- branches, and loops on a pattern
-abbrev pub branch_told : Aliases → Form → ToldAccesses
+abbrev pub branch_told : Aliases → Form → CollectedAccesses
 branch_told aliases (If condition body otherwise) =
     told aliases condition ⊕ told aliases body ⊕ told_maybe aliases otherwise
 branch_told aliases (IfLet pattern scrutinee body otherwise) =
@@ -41,7 +41,7 @@ branch_told aliases (Match scrutinee arms) =
 branch_told aliases _ = quiet
 
 -- parts one after the other
-abbrev pub parts_told : Aliases → Pos → Form → ToldAccesses
+abbrev pub parts_told : Aliases → Pos → Form → CollectedAccesses
 parts_told aliases at (Arithmetic operator left right) = told aliases left ⊕ told aliases right
 parts_told aliases at (Comparison operator left right) = told aliases left ⊕ told aliases right
 parts_told aliases at (And left right) = told aliases left ⊕ told aliases right
@@ -52,7 +52,7 @@ parts_told aliases at (Let pattern initialiser) = told_form aliases at (Let patt
 parts_told aliases at _ = quiet
 
 -- an arm, by what its scrutinee is
-abbrev pub arm_told : Aliases → Option AccessPlace → Form → ToldAccesses
+abbrev pub arm_told : Aliases → Option AccessPlace → Form → CollectedAccesses
 arm_told aliases scrutinee (Arm pattern guard body) =
     told_guard aliases scrutinee (bound scrutinee pattern) guard ⊕ accesses_of (bound scrutinee pattern) ⊕ told aliases
     body

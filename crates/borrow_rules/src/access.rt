@@ -6,7 +6,7 @@ ghost use Rattle.borrow_rules.specs.AccessView.{access_if_any, access_in, bound_
 
 use crate::AccessPlace;
 use crate::bindings::BoundPart;
-use crate::place::copied;
+use crate::place::copy_place;
 use mir_base::{Key, NoMemory, Pos};
 use std::alloc::Global;
 use typed_tree::Use;
@@ -32,7 +32,7 @@ pub struct Accessed {
 
 /// What an expression does to places, in order, and where it conflicts within itself.
 #[derive(Drop)]
-pub struct ToldAccesses {
+pub struct CollectedAccesses {
     pub accesses: Vec<Accessed>,
     pub conflicts: Vec<Pos>,
 }
@@ -70,12 +70,12 @@ pub fn access_by(by: Option<Use>) -> Option<Access>
     }
 }
 
-impl ToldAccesses {
+impl CollectedAccesses {
     /// Nothing so far.
-    pub fn quiet(alloc: Global) -> ToldAccesses
+    pub fn quiet(alloc: Global) -> CollectedAccesses
         ensures { told_in result ≡ rules.quiet }
     {
-        ToldAccesses {
+        CollectedAccesses {
             accesses: Vec::new(alloc),
             conflicts: Vec::new(alloc),
         }
@@ -102,7 +102,7 @@ impl ToldAccesses {
     }
 
     /// What else is told.
-    pub fn append(&mut self, mut told: ToldAccesses) -> Result<(), NoMemory>
+    pub fn append(&mut self, mut told: CollectedAccesses) -> Result<(), NoMemory>
         ensures { OnOk result (told_in self.new ≡ told_in self.old ⊕ told_in told) }
     {
         self.accesses.append(&mut told.accesses)?;
@@ -124,7 +124,7 @@ impl ToldAccesses {
     {
         for bound in bounds {
             let taken = &bound.taken;
-            let place = copied(alloc, &taken.place)?;
+            let place = copy_place(alloc, &taken.place)?;
             self.push(taken.access, place, taken.root, taken.at)?;
         }
         Ok(())

@@ -9,7 +9,7 @@ ghost use Rattle.borrow_rules.specs.AccessView.{accessed_in, aliases_in, argumen
 
 use crate::access::changes;
 use crate::place::{overlap_if_any, place_of};
-use crate::{AccessPlace, Accessed, Alias, ToldAccesses};
+use crate::{AccessPlace, Accessed, Alias, CollectedAccesses};
 use mir_base::{List, NoMemory, Pos};
 use std::alloc::Global;
 use typed_tree::Form;
@@ -27,7 +27,7 @@ pub struct Argument {
     pub refers: Option<Referring>,
     pub is_receiver: bool,
     pub at: Pos,
-    pub told: ToldAccesses,
+    pub told: CollectedAccesses,
 }
 
 /// What an argument of this form refers to, if it is a borrow.
@@ -137,7 +137,7 @@ fn conflicts_among(alloc: Global, args: &[Argument]) -> Result<Vec<Pos>, NoMemor
 }
 
 /// What is told of arguments by themselves.
-fn append_all(args: List<Argument>, out: &mut ToldAccesses) -> Result<(), NoMemory>
+fn append_all(args: List<Argument>, out: &mut CollectedAccesses) -> Result<(), NoMemory>
     ensures { OnOk result (told_in out.new ≡ told_in out.old ⊕ rules.all_told (map argument_in args)) }
 {
     for argument in args {
@@ -150,7 +150,7 @@ fn append_all(args: List<Argument>, out: &mut ToldAccesses) -> Result<(), NoMemo
 pub fn passed_together(
     alloc: Global,
     args: List<Argument>,
-    out: &mut ToldAccesses,
+    out: &mut CollectedAccesses,
 ) -> Result<(), NoMemory>
     ensures { OnOk result (told_in out.new ≡ told_in out.old ⊕ rules.passed_together (map argument_in args)) }
 {

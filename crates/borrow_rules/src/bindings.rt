@@ -4,7 +4,7 @@ ghost use Rattle.typed_tree.specs.View.{tree_of, form_of, field_of, nodes_from, 
 ghost use Rattle.typing_rules.specs.Accesses as rules;
 ghost use Rattle.borrow_rules.specs.AccessView.{access_in, bound_in, bound_name, place_if_any};
 
-use crate::place::{copied, with_step};
+use crate::place::{copy_place, with_step};
 use crate::{Access, AccessPlace, AccessStep, Accessed};
 use mir_base::{Key, List, NoMemory};
 use std::alloc::Global;
@@ -37,7 +37,7 @@ fn add_name(
 {
     let taken = Accessed {
         access: access_of_binding(pattern.by),
-        place: copied(alloc, place)?,
+        place: copy_place(alloc, place)?,
         root: None,
         at: pattern.at,
     };
@@ -82,7 +82,7 @@ fn add_part(
     ensures { OnOk result (map bound_in bounds.new ≡ map bound_in bounds.old ++
         rules.bound (option_map (rules.with_step (rules.ToPart number)) (place_if_any place.now)) (tree_of pattern.now)) }
 {
-    let part = with_step(copied(alloc, place)?, AccessStep::Part(number))?;
+    let part = with_step(copy_place(alloc, place)?, AccessStep::Part(number))?;
     add_bound(alloc, &part, pattern, bounds)
 }
 

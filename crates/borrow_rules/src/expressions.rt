@@ -11,7 +11,7 @@ use crate::arguments::{Argument, passed_together, refers_by};
 use crate::bindings::{BoundPart, add_bound};
 use crate::guards::{aliases_with, of_guard};
 use crate::place::{place_of, root_of, with_end};
-use crate::{Access, AccessPlace, Alias, ToldAccesses};
+use crate::{Access, AccessPlace, Alias, CollectedAccesses};
 use mir_base::{List, NoMemory, Pos};
 use std::alloc::Global;
 use typed_tree::{Form, Node, NumberedField};
@@ -23,7 +23,7 @@ fn tell_place(
     access: Access,
     node: &Node,
     at: Pos,
-    out: &mut ToldAccesses,
+    out: &mut CollectedAccesses,
 ) -> Result<(), NoMemory>
     ensures { OnOk result (told_in out.new ≡ told_in out.old ⊕
         rules.one (access_in access) (rules.place_of (aliases_in aliases.now) (tree_of node.now)) (rules.root_of (tree_of node.now)) at) }
@@ -38,7 +38,7 @@ fn tell_array(
     aliases: &[Alias],
     array: &Node,
     at: Pos,
-    out: &mut ToldAccesses,
+    out: &mut CollectedAccesses,
 ) -> Result<(), NoMemory>
     ensures { OnOk result (told_in out.new ≡ told_in out.old ⊕
         rules.one rules.Borrows (option_map rules.with_end (rules.place_of (aliases_in aliases.now) (tree_of array.now))) (rules.root_of (tree_of array.now)) at) }
@@ -52,7 +52,7 @@ fn own_access(
     alloc: Global,
     aliases: &[Alias],
     node: &Node,
-    out: &mut ToldAccesses,
+    out: &mut CollectedAccesses,
 ) -> Result<(), NoMemory>
     ensures { OnOk result (told_in out.new ≡ told_in out.old ⊕
         rules.own_access (rules.access_by node.now.by) (rules.place_of (aliases_in aliases.now) (tree_of node.now)) (rules.root_of (tree_of node.now)) node.now.at) }
@@ -69,7 +69,7 @@ fn of_scrutinee(
     aliases: &[Alias],
     pattern: &Node,
     value: &Node,
-    out: &mut ToldAccesses,
+    out: &mut CollectedAccesses,
 ) -> Result<(), NoMemory>
     ensures { OnOk result (told_in out.new ≡ told_in out.old ⊕
         rules.of_scrutinee (aliases_in aliases.now) (tree_of pattern.now) (tree_of value.now)) }
@@ -86,7 +86,7 @@ fn of_let(
     aliases: &[Alias],
     pattern: &Node,
     value: &Node,
-    out: &mut ToldAccesses,
+    out: &mut CollectedAccesses,
 ) -> Result<(), NoMemory>
     ensures { OnOk result (told_in out.new ≡ told_in out.old ⊕
         rules.of_let (aliases_in aliases.now) (tree_of pattern.now) (tree_of value.now)) }
@@ -115,7 +115,7 @@ pub fn tell(
     alloc: Global,
     aliases: &[Alias],
     node: &Node,
-    out: &mut ToldAccesses,
+    out: &mut CollectedAccesses,
 ) -> Result<(), NoMemory>
     ensures { OnOk result (told_in out.new ≡ told_in out.old ⊕ rules.told (aliases_in aliases.now) (tree_of node.now)) }
 {
@@ -129,7 +129,7 @@ fn tell_inside(
     alloc: Global,
     aliases: &[Alias],
     node: &Node,
-    out: &mut ToldAccesses,
+    out: &mut CollectedAccesses,
 ) -> Result<(), NoMemory>
     ensures { OnOk result (told_in out.new ≡ told_in out.old ⊕ rules.inside (aliases_in aliases.now) (tree_of node.now)) }
 {
@@ -142,7 +142,7 @@ fn tell_form(
     aliases: &[Alias],
     at: Pos,
     form: &Form,
-    out: &mut ToldAccesses,
+    out: &mut CollectedAccesses,
 ) -> Result<(), NoMemory>
     ensures { OnOk result (told_in out.new ≡ told_in out.old ⊕ rules.told_form (aliases_in aliases.now) at (form_of form.now)) }
 {
@@ -212,7 +212,7 @@ fn tell_reaching(
     aliases: &[Alias],
     at: Pos,
     form: &Form,
-    out: &mut ToldAccesses,
+    out: &mut CollectedAccesses,
 ) -> Result<(), NoMemory>
     ensures { OnOk result (told_in out.new ≡ told_in out.old ⊕ reaching_told (aliases_in aliases.now) at (form_of form.now)) }
 {
@@ -244,7 +244,7 @@ fn tell_call(
     alloc: Global,
     aliases: &[Alias],
     form: &Form,
-    out: &mut ToldAccesses,
+    out: &mut CollectedAccesses,
 ) -> Result<(), NoMemory>
     ensures { OnOk result (told_in out.new ≡ told_in out.old ⊕ call_told (aliases_in aliases.now) (form_of form.now)) }
 {
@@ -292,7 +292,7 @@ fn tell_branches(
     alloc: Global,
     aliases: &[Alias],
     form: &Form,
-    out: &mut ToldAccesses,
+    out: &mut CollectedAccesses,
 ) -> Result<(), NoMemory>
     ensures { OnOk result (told_in out.new ≡ told_in out.old ⊕ branch_told (aliases_in aliases.now) (form_of form.now)) }
 {
@@ -352,7 +352,7 @@ fn tell_parts(
     aliases: &[Alias],
     at: Pos,
     form: &Form,
-    out: &mut ToldAccesses,
+    out: &mut CollectedAccesses,
 ) -> Result<(), NoMemory>
     ensures { OnOk result (told_in out.new ≡ told_in out.old ⊕ parts_told (aliases_in aliases.now) at (form_of form.now)) }
 {
@@ -392,7 +392,7 @@ fn tell_if_any(
     alloc: Global,
     aliases: &[Alias],
     node: &Option<Box<Node, Global>>,
-    out: &mut ToldAccesses,
+    out: &mut CollectedAccesses,
 ) -> Result<(), NoMemory>
     ensures { OnOk result (told_in out.new ≡ told_in out.old ⊕ rules.told_maybe (aliases_in aliases.now) (maybe_of node.now)) }
 {
@@ -407,7 +407,7 @@ fn tell_all(
     alloc: Global,
     aliases: &[Alias],
     nodes: &[Node],
-    out: &mut ToldAccesses,
+    out: &mut CollectedAccesses,
 ) -> Result<(), NoMemory>
     ensures { OnOk result (told_in out.new ≡ told_in out.old ⊕ rules.told_all (aliases_in aliases.now) (nodes_from (map tree_of nodes.now))) }
 {
@@ -422,7 +422,7 @@ fn tell_fields(
     alloc: Global,
     aliases: &[Alias],
     fields: &[NumberedField],
-    out: &mut ToldAccesses,
+    out: &mut CollectedAccesses,
 ) -> Result<(), NoMemory>
     ensures { OnOk result (told_in out.new ≡ told_in out.old ⊕ rules.told_fields (aliases_in aliases.now) (fields_from (map field_of fields.now))) }
 {
@@ -445,7 +445,7 @@ fn tell_argument(
         map argument_in args.old ++ argument_told (aliases_in aliases.now) is_receiver (tree_of node.now) ∷ []) }
 {
     let refers = refers_by(alloc, aliases, &node.form)?;
-    let mut own = ToldAccesses::quiet(alloc);
+    let mut own = CollectedAccesses::quiet(alloc);
     tell(alloc, aliases, node, &mut own)?;
     args.push(Argument {
         refers,
@@ -477,7 +477,7 @@ fn tell_arms(
     aliases: &[Alias],
     place: &Option<AccessPlace>,
     arms: &[Node],
-    out: &mut ToldAccesses,
+    out: &mut CollectedAccesses,
 ) -> Result<(), NoMemory>
     ensures { OnOk result (told_in out.new ≡ told_in out.old ⊕
         rules.told_arms (aliases_in aliases.now) (place_if_any place.now) (nodes_from (map tree_of arms.now))) }
@@ -495,7 +495,7 @@ fn tell_arm(
     aliases: &[Alias],
     place: &Option<AccessPlace>,
     arm: &Node,
-    out: &mut ToldAccesses,
+    out: &mut CollectedAccesses,
 ) -> Result<(), NoMemory>
     ensures { OnOk result (told_in out.new ≡ told_in out.old ⊕
         rules.told_arm (aliases_in aliases.now) (place_if_any place.now) (tree_of arm.now)) }
@@ -510,7 +510,7 @@ fn tell_guarded(
     aliases: &[Alias],
     place: &Option<AccessPlace>,
     form: &Form,
-    out: &mut ToldAccesses,
+    out: &mut CollectedAccesses,
 ) -> Result<(), NoMemory>
     ensures { OnOk result (told_in out.new ≡ told_in out.old ⊕
         arm_told (aliases_in aliases.now) (place_if_any place.now) (form_of form.now)) }
@@ -541,7 +541,7 @@ fn tell_guard(
     place: &Option<AccessPlace>,
     bounds: &[BoundPart],
     guard: &Option<Box<Node, Global>>,
-    out: &mut ToldAccesses,
+    out: &mut CollectedAccesses,
 ) -> Result<(), NoMemory>
     ensures { OnOk result (told_in out.new ≡ told_in out.old ⊕
         rules.told_guard (aliases_in aliases.now) (place_if_any place.now) (map bound_in bounds.now) (maybe_of guard.now)) }
@@ -550,7 +550,7 @@ fn tell_guard(
         Some(guard) => {
             let guard: &Node = guard;
             let aliases = aliases_with(alloc, bounds, aliases)?;
-            let mut own = ToldAccesses::quiet(alloc);
+            let mut own = CollectedAccesses::quiet(alloc);
             tell(alloc, aliases.as_slice(), guard, &mut own)?;
             of_guard(alloc, place, bounds, own, out)
         }

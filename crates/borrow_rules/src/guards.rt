@@ -8,8 +8,8 @@ ghost use Rattle.borrow_rules.specs.AccessView.{accessed_in, aliases_in, bound_i
 
 use crate::access::{changes, replaces};
 use crate::bindings::BoundPart;
-use crate::place::{copied, overlap_if_any};
-use crate::{AccessPlace, Accessed, Alias, ToldAccesses};
+use crate::place::{copy_place, overlap_if_any};
+use crate::{AccessPlace, Accessed, Alias, CollectedAccesses};
 use mir_base::{Key, List, NoMemory, Pos};
 use std::alloc::Global;
 
@@ -64,8 +64,8 @@ pub fn of_guard(
     alloc: Global,
     scrutinee: &Option<AccessPlace>,
     bounds: &[BoundPart],
-    told: ToldAccesses,
-    out: &mut ToldAccesses,
+    told: CollectedAccesses,
+    out: &mut CollectedAccesses,
 ) -> Result<(), NoMemory>
     ensures { OnOk result (told_in out.new ≡ told_in out.old ⊕
         rules.of_guard (place_if_any scrutinee.now) (map bound_in bounds.now) (told_in told)) }
@@ -84,7 +84,7 @@ fn add_alias(
 ) -> Result<(), NoMemory>
     ensures { OnOk result (aliases_in all.new ≡ aliases_in all.old ++ (key.0, place_if_any place.now) ∷ []) }
 {
-    let place = copied(alloc, place)?;
+    let place = copy_place(alloc, place)?;
     all.push(Alias { key, place })
 }
 

@@ -16,7 +16,7 @@ mod passings;
 mod place;
 mod replaceable;
 
-pub use access::{Access, Accessed, ToldAccesses};
+pub use access::{Access, Accessed, CollectedAccesses};
 pub use expressions::tell;
 pub use first_broken::borrow_check;
 pub use place::{AccessPlace, AccessStep, Alias};

@@ -44,7 +44,10 @@ fn copied_steps(alloc: Global, steps: &[AccessStep]) -> Result<List<AccessStep>,
 }
 
 /// The same place once more, if it is one.
-pub fn copied(alloc: Global, place: &Option<AccessPlace>) -> Result<Option<AccessPlace>, NoMemory>
+pub fn copy_place(
+    alloc: Global,
+    place: &Option<AccessPlace>,
+) -> Result<Option<AccessPlace>, NoMemory>
     ensures { IfOk result (λ copy. copy ≡ place.now) }
 {
     match place {
@@ -66,7 +69,7 @@ fn place_of_key(alloc: Global, aliases: &[Alias], key: Key) -> Result<Option<Acc
 {
     for alias in aliases {
         if alias.key.0 == key.0 {
-            return copied(alloc, &alias.place);
+            return copy_place(alloc, &alias.place);
         }
     }
     Ok(Some(AccessPlace {

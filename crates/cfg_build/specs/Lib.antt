@@ -1,6 +1,5 @@
-pub mod Build
-pub mod Codes
-pub mod Laws
-pub mod Loops
-pub mod Lower
-pub mod Sites
+pub mod Claims
+pub mod Lowered
+pub mod Lines
+pub mod Told
+pub mod Words

@@ -38,7 +38,7 @@ fn impl_key(def: &ImplDef) -> usize
 }
 
 /// What stands in a bucket with another mark in it, or none, when this mark is put into it.
-fn joined(before: u8, mark: u8) -> u8
+fn bucket_with(before: u8, mark: u8) -> u8
     ensures marked { (result ≡ mark) ⊎ (result ≡ 255) }
     ensures several { before ≢ 0 → result ≡ 255 }
 {
@@ -60,7 +60,7 @@ fn put(buckets: &mut [u8], key: usize) -> bool
     if before == mark || before == SEVERAL {
         return false;
     }
-    buckets[at] = joined(before, mark);
+    buckets[at] = bucket_with(before, mark);
     true
 }
 

@@ -20,9 +20,9 @@ pub fn law_of_walks()
     ensures nested { FuelOfGraphRunsIsIrrelevant }
 {}
 
-/// One tick more changes nothing of what was done: a strict or raw run that is not out of ticks is the same, and
+/// The third law: one tick more changes nothing of what a graph did: a strict or raw run that is not out of ticks is the same, and
 /// otherwise its trace is a prefix of the one with a tick more.
-pub fn law_of_ticks()
+pub fn law_l3()
     ensures strict { GraphRunGoesOn }
     ensures raw { RawGraphRunGoesOn }
 {}

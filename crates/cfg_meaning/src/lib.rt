@@ -4,4 +4,4 @@
 
 mod laws;
 
-pub use laws::{law_of_ticks, law_of_walks};
+pub use laws::{law_l3, law_of_walks};

@@ -4,3 +4,14 @@ pub mod Answer
 pub mod WayLemmas
 pub mod HeapLemmas
 pub mod Turn
+pub mod Along
+pub mod Carrying
+pub mod Fitting
+pub mod Following
+pub mod Inside
+pub mod Marking
+pub mod Masking
+pub mod OnPaths
+pub mod Starting
+pub mod Telling
+pub mod Upward

@@ -1,3 +1,9 @@
 pub mod Ways
 pub mod Carried
 pub mod WorkList
+pub mod Concerns
+pub mod Fits
+pub mod Laws
+pub mod Marks
+pub mod Moved
+pub mod Switches

@@ -12,16 +12,16 @@ use Rattle.mir_ty.specs.declared.adt.Adt.{Adt}
 use Rattle.mir_ty.specs.declared.def.TraitDef.{TraitDef}
 use Rattle.mir_ty.specs.ItemTable.{ItemTable, no_items}
 use Rattle.mir_ty.specs.Named.{adt_name, name_of_adt}
-use Rattle.mir_text.specs.Fields.{Fits, PlaceFits, OperandFits, WaysFit}
-use Rattle.mir_text.specs.Lines.{HeadLine, StructLine, EnumLine, TraitLine, ImplLine, ClosureLine, BodyLine, LocalLine, BlockLine, MakeLine, UnsizeLine, StmtLine, VirtualLine, TermLine, EndLine, line_text}
-use Rattle.mir_text.specs.Lists.{line}
-use Rattle.mir_text.specs.Parts.{place_text, operand_text, operands_text, stmt_text, term_text, ways_text}
-use Rattle.mir_text.specs.Reading.Lines.{numbered_operands, operands_from, make_from, unsize_from, virtual_from, sent_of, assigned, assigned_to, returned, returned_to, stmt_read, term_read}
-use Rattle.mir_text.specs.Reading.Words.{as_}
-use Rattle.mir_text.specs.Types.{trait_name, name_of_trait}
-use Rattle.mir_text.proofs.Reading.Basics.{FoundInText, bind, span_run, behind5, behind7, behind8}
-use Rattle.mir_text.proofs.Reading.Lines.{Named, TermNamed, stmt_reads, term_reads, no_stmt}
-use Rattle.mir_text.proofs.Reading.Parts.{number_of, IsPlaceEnd, place_reads, operand_reads, operands_reads, ways_reads}
+use Rattle.listing_write.specs.Fields.{Fits, PlaceFits, OperandFits, WaysFit}
+use Rattle.listing_write.specs.Lines.{HeadLine, StructLine, EnumLine, TraitLine, ImplLine, ClosureLine, BodyLine, LocalLine, BlockLine, MakeLine, UnsizeLine, StmtLine, VirtualLine, TermLine, EndLine, line_text}
+use Rattle.listing_write.specs.Lists.{line}
+use Rattle.listing_write.specs.Parts.{place_text, operand_text, operands_text, stmt_text, term_text, ways_text}
+use Rattle.listing_write.specs.Reading.Lines.{numbered_operands, operands_from, make_from, unsize_from, virtual_from, sent_of, assigned, assigned_to, returned, returned_to, stmt_read, term_read}
+use Rattle.listing_write.specs.Reading.Words.{as_}
+use Rattle.listing_write.specs.Types.{trait_name, name_of_trait}
+use Rattle.listing_write.proofs.Reading.Basics.{FoundInText, bind, span_run, behind5, behind7, behind8}
+use Rattle.listing_write.proofs.Reading.Lines.{Named, TermNamed, stmt_reads, term_reads, no_stmt}
+use Rattle.listing_write.proofs.Reading.Parts.{number_of, IsPlaceEnd, place_reads, operand_reads, operands_reads, ways_reads}
 use Rattle.listing_parts.specs.LinesFound.{behind_line}
 use Rattle.listing_parts.specs.Numbers.{adt_no, trait_no}
 use Rattle.listing_parts.proofs.LineByLine.{strip_append, strip_whole}

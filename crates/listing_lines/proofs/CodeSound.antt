@@ -9,15 +9,15 @@ use Rattle.mir_ty.specs.declared.adt.Adt.{Adt}
 use Rattle.mir_ty.specs.declared.def.TraitDef.{TraitDef}
 use Rattle.mir_ty.specs.ItemTable.{ItemTable}
 use Rattle.mir_ty.specs.Named.{adt_name, name_of_adt}
-use Rattle.mir_text.specs.Fields.{StmtFits, TermFits}
-use Rattle.mir_text.specs.Lines.{line_text, line_of_stmt, line_of_term}
-use Rattle.mir_text.specs.Lists.{line}
-use Rattle.mir_text.specs.Parts.{stmt_text, term_text}
-use Rattle.mir_text.specs.Reading.Lines.{stmt_read, term_read}
-use Rattle.mir_text.specs.Reading.Words.{place_in}
-use Rattle.mir_text.specs.Types.{trait_name, name_of_trait}
-use Rattle.mir_text.proofs.Reading.Basics.{Every}
-use Rattle.mir_text.proofs.Reading.Parts.{every_from_all}
+use Rattle.listing_write.specs.Fields.{StmtFits, TermFits}
+use Rattle.listing_write.specs.Lines.{line_text, line_of_stmt, line_of_term}
+use Rattle.listing_write.specs.Lists.{line}
+use Rattle.listing_write.specs.Parts.{stmt_text, term_text}
+use Rattle.listing_write.specs.Reading.Lines.{stmt_read, term_read}
+use Rattle.listing_write.specs.Reading.Words.{place_in}
+use Rattle.listing_write.specs.Types.{trait_name, name_of_trait}
+use Rattle.listing_write.proofs.Reading.Basics.{Every}
+use Rattle.listing_write.proofs.Reading.Parts.{every_from_all}
 use Rattle.listing_parts.specs.LinesFound.{behind_line}
 use Rattle.listing_parts.specs.Numbers.{adt_no, trait_no}
 use Rattle.listing_parts.proofs.LineByLine.{line_sound}

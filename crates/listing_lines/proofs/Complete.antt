@@ -7,15 +7,15 @@ use Rattle.mir_ty.specs.declared.def.TraitDef.{TraitDef}
 use Rattle.mir_ty.specs.ItemTable.{ItemTable}
 use Rattle.cfg_graph.specs.declared.graph.Kind.{Kind}
 use Rattle.cfg_graph.specs.WellFormed.NameFaults.{stands_in_names, is_name}
-use Rattle.mir_text.specs.Fields.{Fits}
-use Rattle.mir_text.specs.Lines.{tree_text, trees_in_row}
-use Rattle.mir_text.specs.Listing.{kind_word}
-use Rattle.mir_text.specs.Reading.Lines.{ended}
-use Rattle.mir_text.specs.Reading.Rows.{many}
-use Rattle.mir_text.specs.Reading.Words.{FoundInText, bind, as_, strip}
-use Rattle.mir_text.proofs.Reading.Basics.{Every, behind7, span_run, stops}
-use Rattle.mir_text.proofs.Reading.Parts.{every_from_all}
-use Rattle.mir_text.proofs.Reading.Rows.{many_reads, flat_counted}
+use Rattle.listing_write.specs.Fields.{Fits}
+use Rattle.listing_write.specs.Lines.{tree_text, trees_in_row}
+use Rattle.listing_write.specs.Listing.{kind_word}
+use Rattle.listing_write.specs.Reading.Lines.{ended}
+use Rattle.listing_write.specs.Reading.Rows.{many}
+use Rattle.listing_write.specs.Reading.Words.{FoundInText, bind, as_, strip}
+use Rattle.listing_write.proofs.Reading.Basics.{Every, behind7, span_run, stops}
+use Rattle.listing_write.proofs.Reading.Parts.{every_from_all}
+use Rattle.listing_write.proofs.Reading.Rows.{many_reads, flat_counted}
 use Rattle.listing_parts.specs.Numbers.{adt_no, trait_no}
 use Rattle.listing_parts.proofs.LineByLine.{strip_whole}
 use Rattle.listing_parts.specs.TypeReading.{type_read, types_read}

@@ -11,13 +11,13 @@ use Rattle.cfg_graph.specs.declared.place.Step.{Step}
 use Rattle.cfg_graph.specs.declared.statement.Stmt.{Stmt}
 use Rattle.cfg_graph.specs.declared.terminator.Term.{Term}
 use Rattle.cfg_graph.specs.declared.terminator.Unwind.{Unwind}
-use Rattle.mir_text.specs.Fields.{Fits, StepFits, PlaceFits, ConstantFits, OperandFits, StmtFits, UnwindFits, WaysFit, TermFits}
-use Rattle.mir_text.specs.Reading.Lines as lines
-use Rattle.mir_text.specs.Reading.Lines.{comparison_read, math_read, stmt_read, term_read}
-use Rattle.mir_text.specs.Reading.Parts as parts
-use Rattle.mir_text.specs.Reading.Parts.{step_read, place_from, place_read, operand_read, operands_read, unwind_read, ways_read}
-use Rattle.mir_text.specs.Reading.Rows.{many, many_within, comma, row, row_from, closed_row}
-use Rattle.mir_text.specs.Reading.Words.{FoundInText, bind, or_else, chosen, as_, strip, said, span, is_digit, limited, valued, number, negative, signed}
+use Rattle.listing_write.specs.Fields.{Fits, StepFits, PlaceFits, ConstantFits, OperandFits, StmtFits, UnwindFits, WaysFit, TermFits}
+use Rattle.listing_write.specs.Reading.Lines as lines
+use Rattle.listing_write.specs.Reading.Lines.{comparison_read, math_read, stmt_read, term_read}
+use Rattle.listing_write.specs.Reading.Parts as parts
+use Rattle.listing_write.specs.Reading.Parts.{step_read, place_from, place_read, operand_read, operands_read, unwind_read, ways_read}
+use Rattle.listing_write.specs.Reading.Rows.{many, many_within, comma, row, row_from, closed_row}
+use Rattle.listing_write.specs.Reading.Words.{FoundInText, bind, or_else, chosen, as_, strip, said, span, is_digit, limited, valued, number, negative, signed}
 
 -- all that a reader can find there is such
 abbrev pub Gives : {X : Type 0} → (X → Type 0) → FoundInText X → Type 0

@@ -6,7 +6,7 @@ use Rattle.std.specs.Borrow.{Bor}
 use Rattle.std.proofs.lemmas.Bool.{false≢true}
 use Rattle.cfg_graph.specs.WellFormed.NameFaults.{same_name}
 use Rattle.mir_ty.specs.declared.def.TraitDef.{TraitDef}
-use Rattle.mir_text.specs.Types.{trait_name, name_of_trait}
+use Rattle.listing_write.specs.Types.{trait_name, name_of_trait}
 use Rattle.std.proofs.lemmas.List.Elements.{All-append, All-cons, All-nil}
 use Rattle.std.proofs.lemmas.Option.{slice_get_within}
 use Rattle.mir_base.specs.declared.memory.NoMemory.{NoMemory}
@@ -15,10 +15,10 @@ use Rattle.mir_ty.specs.declared.ty.Ty.{Ty}
 use Rattle.mir_ty.specs.declared.ty.TyId.{TyId}
 use Rattle.mir_ty.specs.AreItems.{AreTypes, IsMethod, IsSelfTy}
 use Rattle.mir_ty.specs.ItemTable.{ItemTable, type_at}
-use Rattle.mir_text.specs.Compared.{SigSeen, sig_seen}
-use Rattle.mir_text.specs.Reading.Rows.{many, many_within, comma}
-use Rattle.mir_text.specs.Reading.Words.{FoundInText}
-use Rattle.mir_text.proofs.Reading.Basics.{Every}
+use Rattle.listing_write.specs.Compared.{SigSeen, sig_seen}
+use Rattle.listing_write.specs.Reading.Rows.{many, many_within, comma}
+use Rattle.listing_write.specs.Reading.Words.{FoundInText}
+use Rattle.listing_write.proofs.Reading.Basics.{Every}
 use Rattle.listing_parts.specs.Table.{AreRead, Grow, WithTypes, under, text_under}
 use Rattle.listing_parts.proofs.FoundRows.{map-append, then_grow, still_types}
 use Rattle.listing_parts.proofs.Texts.{every_from_all, text_grown, texts_grown, no_less, still_there}
@@ -154,7 +154,7 @@ module _ (heads : ItemTable) (n : ℕ) (read : List ℕ → FoundInText SigSeen)
   row_goes_on initial cur new fuel k before methods after sig rest behind found e left within grow more is pushed =
       let q : List SigSeen × List ℕ = many_within k read behind in
       let step : many_within fuel read rest ≡ (sig_seen (under heads new) sig ∷ q.0, q.1) =
-      ap (λ (n : ℕ). many_within n read rest) e ∙ ap (λ (f : FoundInText SigSeen). Rattle.mir_text.specs.Reading.Rows.after f (many_within k read) rest) is in
+      ap (λ (n : ℕ). many_within n read rest) e ∙ ap (λ (f : FoundInText SigSeen). Rattle.listing_write.specs.Reading.Rows.after f (many_within k read) rest) is in
       ap (λ (vs : List Sig). so_far new vs q) pushed
       ∙ ap (λ (ws : List SigSeen). (ws ++ q.0, q.1)) (map-append (sig_seen (under heads new)) methods (sig ∷ []))
       ∙ ap (λ (ws : List SigSeen). (ws, q.1)) (append_assoc (map (sig_seen (under heads new)) methods) (sig_seen (under heads new) sig ∷ []) q.0)

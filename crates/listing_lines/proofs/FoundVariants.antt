@@ -9,13 +9,13 @@ use Rattle.mir_ty.specs.declared.ty.Ty.{Ty}
 use Rattle.mir_ty.specs.declared.ty.TyId.{TyId}
 use Rattle.mir_ty.specs.AreItems.{AreTypes, IsAdt, IsVariant}
 use Rattle.mir_ty.specs.ItemTable.{ItemTable}
-use Rattle.mir_text.specs.Compared.{VariantSeen, AdtSeen, variant_seen, adt_seen}
-use Rattle.mir_text.specs.Reading.Rows.{many, many_within, comma}
-use Rattle.mir_text.specs.Reading.Words.{FoundInText}
+use Rattle.listing_write.specs.Compared.{VariantSeen, AdtSeen, variant_seen, adt_seen}
+use Rattle.listing_write.specs.Reading.Rows.{many, many_within, comma}
+use Rattle.listing_write.specs.Reading.Words.{FoundInText}
 use Rattle.listing_parts.specs.Table.{AreRead, Grow, under, text_under}
 use Rattle.listing_parts.proofs.FoundRows.{map-append, then_grow, still_types}
 use Rattle.listing_parts.proofs.Texts.{every_from_all, texts_grown}
-use Rattle.mir_text.proofs.Reading.Basics.{Every}
+use Rattle.listing_write.proofs.Reading.Basics.{Every}
 use Rattle.listing_lines.specs.ItemReading.{first_names}
 use Rattle.listing_lines.specs.ItemsRead.{FindsVariant, FindsMore, FindsAdt, variant_of, struct_of}
 
@@ -103,7 +103,7 @@ module _ (heads : ItemTable) (read : List ℕ → FoundInText VariantSeen) where
   row_goes_on initial cur new fuel k before variants after variant rest behind found e left within grow more is pushed =
       let q : List VariantSeen × List ℕ = many_within k read behind in
       let step : many_within fuel read rest ≡ (variant_seen (under heads new) variant ∷ q.0, q.1) =
-      ap (λ (n : ℕ). many_within n read rest) e ∙ ap (λ (f : FoundInText VariantSeen). Rattle.mir_text.specs.Reading.Rows.after f (many_within k read) rest) is in
+      ap (λ (n : ℕ). many_within n read rest) e ∙ ap (λ (f : FoundInText VariantSeen). Rattle.listing_write.specs.Reading.Rows.after f (many_within k read) rest) is in
       ap (λ (vs : List Variant). so_far new vs q) pushed
       ∙ ap (λ (ws : List VariantSeen). (ws ++ q.0, q.1)) (map-append (variant_seen (under heads new)) variants (variant ∷ []))
       ∙ ap (λ (ws : List VariantSeen). (ws, q.1)) (append_assoc (map (variant_seen (under heads new)) variants) (variant_seen (under heads new) variant ∷ []) q.0)

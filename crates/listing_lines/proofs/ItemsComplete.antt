@@ -5,15 +5,15 @@ use Rattle.std.specs.List.{starts_with}
 use Rattle.std.proofs.lemmas.Bool.{and_parts, false≢true}
 use Rattle.mir_ty.specs.ItemTable.{ItemTable}
 use Rattle.cfg_graph.specs.WellFormed.NameFaults.{stands_in_names, is_among, is_name, is_adt_name, type_words}
-use Rattle.mir_text.specs.Compared.{AdtSeen, VariantSeen}
-use Rattle.mir_text.specs.Fields.{Fits}
-use Rattle.mir_text.specs.Items.{copy_text, drop_text}
-use Rattle.mir_text.specs.Lines.{Tree, tree_text, trees_in_row, variant_words}
-use Rattle.mir_text.specs.Lists.{behind_commas, in_braces}
-use Rattle.mir_text.specs.Reading.Lines.{ended}
-use Rattle.mir_text.specs.Reading.Rows.{many_within, after, comma}
-use Rattle.mir_text.specs.Reading.Words.{FoundInText, bind, chosen, as_, strip}
-use Rattle.mir_text.proofs.Reading.Basics.{behind3, behind7}
+use Rattle.listing_write.specs.Compared.{AdtSeen, VariantSeen}
+use Rattle.listing_write.specs.Fields.{Fits}
+use Rattle.listing_write.specs.Items.{copy_text, drop_text}
+use Rattle.listing_write.specs.Lines.{Tree, tree_text, trees_in_row, variant_words}
+use Rattle.listing_write.specs.Lists.{behind_commas, in_braces}
+use Rattle.listing_write.specs.Reading.Lines.{ended}
+use Rattle.listing_write.specs.Reading.Rows.{many_within, after, comma}
+use Rattle.listing_write.specs.Reading.Words.{FoundInText, bind, chosen, as_, strip}
+use Rattle.listing_write.proofs.Reading.Basics.{behind3, behind7}
 use Rattle.listing_parts.specs.TypesFound.{EachStands}
 use Rattle.listing_parts.proofs.Complete.{rows_read, not_true, name_all}
 use Rattle.listing_parts.proofs.Depth.{is_a_name, some_name}

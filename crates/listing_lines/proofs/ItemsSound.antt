@@ -7,13 +7,13 @@ use Rattle.std.proofs.lemmas.Bool.{and_from}
 use Rattle.std.proofs.lemmas.Option.{none-some}
 use Rattle.mir_ty.specs.ItemTable.{ItemTable}
 use Rattle.cfg_graph.specs.WellFormed.NameFaults.{is_among, is_name, is_adt_name, type_words}
-use Rattle.mir_text.specs.Compared.{AdtSeen, VariantSeen}
-use Rattle.mir_text.specs.Fields.{Fits}
-use Rattle.mir_text.specs.Items.{copy_text, drop_text}
-use Rattle.mir_text.specs.Lists.{behind_commas, in_braces, in_parentheses, line}
-use Rattle.mir_text.specs.Reading.Rows.{many, many_within, comma}
-use Rattle.mir_text.specs.Reading.Words.{FoundInText, bind, chosen, as_, strip}
-use Rattle.mir_text.proofs.Reading.Basics.{behind3, behind7}
+use Rattle.listing_write.specs.Compared.{AdtSeen, VariantSeen}
+use Rattle.listing_write.specs.Fields.{Fits}
+use Rattle.listing_write.specs.Items.{copy_text, drop_text}
+use Rattle.listing_write.specs.Lists.{behind_commas, in_braces, in_parentheses, line}
+use Rattle.listing_write.specs.Reading.Rows.{many, many_within, comma}
+use Rattle.listing_write.specs.Reading.Words.{FoundInText, bind, chosen, as_, strip}
+use Rattle.listing_write.proofs.Reading.Basics.{behind3, behind7}
 use Rattle.listing_parts.proofs.LineByLine.{strip_sound}
 use Rattle.listing_parts.specs.TypeReading.{plain_number, types_read}
 use Rattle.listing_parts.proofs.PlainNumbers.{plain_sound}

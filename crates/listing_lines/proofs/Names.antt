@@ -4,7 +4,7 @@ use Rattle.std.specs.Str.{is_utf8, IsUtf8}
 use Rattle.std.proofs.lemmas.Bool.{and_from, and_parts}
 use Rattle.std.proofs.lemmas.Str.{is_utf8-from_IsUtf8, IsUtf8-from_is_utf8}
 use Rattle.cfg_graph.specs.WellFormed.NameFaults.{stands_in_names}
-use Rattle.mir_text.specs.Reading.Words.{FoundInText, span}
+use Rattle.listing_write.specs.Reading.Words.{FoundInText, span}
 use Rattle.listing_lines.specs.LineReading.{named, name_read}
 
 pub is_named : (w r t : List ℕ) → ◌≡◌ {A = List ℕ × List ℕ} (w, r) (span stands_in_names t) → 0 < length w → IsUtf8 w → name_read t ≡ Some (w, r)

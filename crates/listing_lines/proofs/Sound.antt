@@ -12,13 +12,13 @@ use Rattle.mir_ty.specs.ItemTable.{ItemTable}
 use Rattle.mir_ty.specs.Named.{adt_name, name_of_adt}
 use Rattle.cfg_graph.specs.declared.graph.Kind.{Kind}
 use Rattle.cfg_graph.specs.WellFormed.NameFaults.{stands_in_names, is_name}
-use Rattle.mir_text.specs.Lists.{in_parentheses}
-use Rattle.mir_text.specs.Listing.{kind_word}
-use Rattle.mir_text.specs.Reading.Lines.{ended}
-use Rattle.mir_text.specs.Reading.Rows.{many, many_within}
-use Rattle.mir_text.specs.Reading.Words.{FoundInText, bind, or_else, as_, said, strip, span}
-use Rattle.mir_text.specs.Types.{trait_name, name_of_trait}
-use Rattle.mir_text.proofs.Reading.Basics.{behind7}
+use Rattle.listing_write.specs.Lists.{in_parentheses}
+use Rattle.listing_write.specs.Listing.{kind_word}
+use Rattle.listing_write.specs.Reading.Lines.{ended}
+use Rattle.listing_write.specs.Reading.Rows.{many, many_within}
+use Rattle.listing_write.specs.Reading.Words.{FoundInText, bind, or_else, as_, said, strip, span}
+use Rattle.listing_write.specs.Types.{trait_name, name_of_trait}
+use Rattle.listing_write.proofs.Reading.Basics.{behind7}
 use Rattle.listing_parts.specs.Numbers.{adt_no, trait_no}
 use Rattle.listing_parts.proofs.LineByLine.{strip_sound}
 use Rattle.listing_parts.proofs.Spans.{span_all}

@@ -5,15 +5,15 @@ use Rattle.std.proofs.lemmas.Bool.{and_parts, false≢true}
 use Rattle.mir_ty.specs.declared.def.TraitDef.{TraitDef}
 use Rattle.mir_ty.specs.ItemTable.{ItemTable}
 use Rattle.cfg_graph.specs.WellFormed.NameFaults.{same_name, stands_in_names, is_name}
-use Rattle.mir_text.specs.Compared.{SigSeen}
-use Rattle.mir_text.specs.Lines.{Tree, tree_text, trees_in_row, method_words}
-use Rattle.mir_text.specs.Lists.{behind_commas, in_braces}
-use Rattle.mir_text.specs.Reading.Lines.{ended}
-use Rattle.mir_text.specs.Reading.Rows.{many_within, after, comma}
-use Rattle.mir_text.specs.Reading.Words.{FoundInText, bind, chosen, as_, strip}
-use Rattle.mir_text.specs.Types.{trait_name, name_of_trait}
-use Rattle.mir_text.proofs.Reading.Basics.{stops, span_run, behind5}
-use Rattle.mir_text.proofs.Reading.Listed.{same_as_itself}
+use Rattle.listing_write.specs.Compared.{SigSeen}
+use Rattle.listing_write.specs.Lines.{Tree, tree_text, trees_in_row, method_words}
+use Rattle.listing_write.specs.Lists.{behind_commas, in_braces}
+use Rattle.listing_write.specs.Reading.Lines.{ended}
+use Rattle.listing_write.specs.Reading.Rows.{many_within, after, comma}
+use Rattle.listing_write.specs.Reading.Words.{FoundInText, bind, chosen, as_, strip}
+use Rattle.listing_write.specs.Types.{trait_name, name_of_trait}
+use Rattle.listing_write.proofs.Reading.Basics.{stops, span_run, behind5}
+use Rattle.listing_write.proofs.Reading.Listed.{same_as_itself}
 use Rattle.listing_parts.specs.TypeReading.{more_types, type_within}
 use Rattle.listing_parts.specs.TypesFound.{EachStands, closes}
 use Rattle.listing_parts.proofs.Complete.{type_reads, found_at, name_all, parts_read, as_trees, all_stand, texts_of}

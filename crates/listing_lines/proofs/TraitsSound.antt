@@ -5,13 +5,13 @@ use Rattle.std.proofs.lemmas.Option.{same_Some, none-some}
 use Rattle.mir_ty.specs.declared.def.TraitDef.{TraitDef}
 use Rattle.mir_ty.specs.ItemTable.{ItemTable}
 use Rattle.cfg_graph.specs.WellFormed.NameFaults.{same_name, stands_in_names}
-use Rattle.mir_text.specs.Compared.{SigSeen}
-use Rattle.mir_text.specs.Lists.{behind_commas, in_braces, in_parentheses}
-use Rattle.mir_text.specs.Reading.Lines.{ended}
-use Rattle.mir_text.specs.Reading.Rows.{many, many_within, comma}
-use Rattle.mir_text.specs.Reading.Words.{FoundInText, bind, as_, said, strip, span}
-use Rattle.mir_text.specs.Types.{trait_name, name_of_trait}
-use Rattle.mir_text.proofs.Reading.Basics.{behind5}
+use Rattle.listing_write.specs.Compared.{SigSeen}
+use Rattle.listing_write.specs.Lists.{behind_commas, in_braces, in_parentheses}
+use Rattle.listing_write.specs.Reading.Lines.{ended}
+use Rattle.listing_write.specs.Reading.Rows.{many, many_within, comma}
+use Rattle.listing_write.specs.Reading.Words.{FoundInText, bind, as_, said, strip, span}
+use Rattle.listing_write.specs.Types.{trait_name, name_of_trait}
+use Rattle.listing_write.proofs.Reading.Basics.{behind5}
 use Rattle.listing_parts.proofs.LineByLine.{strip_sound}
 use Rattle.listing_parts.specs.TypeReading.{more_types, type_read, type_within}
 use Rattle.listing_parts.proofs.Sound.{many_sound, within_sound, type_sound}

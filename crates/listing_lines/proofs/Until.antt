@@ -1,6 +1,6 @@
 -- Things read one after the other until one is broken off, each with a byte less to go.
 use Rattle.std.proofs.Common.{◌≡◌, ℕ, zero, suc, Bool, true, false, List, [], ◌∷◌, ◌++◌, Some, None, ap, sym, ◌∙◌, append_assoc, append-nil}
-use Rattle.mir_text.specs.Reading.Words.{FoundInText}
+use Rattle.listing_write.specs.Reading.Words.{FoundInText}
 use Rattle.listing_lines.specs.CodeReading.{goes_on, until_within}
 
 module _ {X : Type 0} (read : ℕ → List ℕ → FoundInText (X × Bool)) where

@@ -4,8 +4,8 @@ use Rattle.std.specs.Prelude.{◌≡◌, ℕ, List, ◌++◌, Some, None}
 use Rattle.mir_ty.specs.ItemTable.{ItemTable}
 use Rattle.cfg_graph.specs.declared.statement.Stmt.{Stmt}
 use Rattle.cfg_graph.specs.declared.terminator.Term.{Term}
-use Rattle.mir_text.specs.Lines.{Line, line_text, line_of_stmt, line_of_term}
-use Rattle.mir_text.specs.Lists.{line}
+use Rattle.listing_write.specs.Lines.{Line, line_text, line_of_stmt, line_of_term}
+use Rattle.listing_write.specs.Lists.{line}
 use Rattle.listing_lines.specs.CodeReading.{statement_read, terminator_read}
 use Rattle.listing_lines.specs.CodeStands.{StmtLineStands, TermLineStands, stmt_in, term_in, AreNames}
 

@@ -5,10 +5,10 @@ use Rattle.cfg_graph.specs.declared.graph.Block.{Block}
 use Rattle.cfg_graph.specs.declared.graph.Kind.{Kind}
 use Rattle.cfg_graph.specs.declared.statement.Stmt.{Stmt}
 use Rattle.cfg_graph.specs.declared.terminator.Term.{Term}
-use Rattle.mir_text.specs.Parts.{stmt_text, term_text}
-use Rattle.mir_text.specs.Reading.Lines.{stmt_read, term_read}
-use Rattle.mir_text.specs.Reading.Rows.{many}
-use Rattle.mir_text.specs.Reading.Words.{FoundInText, bind}
+use Rattle.listing_write.specs.Parts.{stmt_text, term_text}
+use Rattle.listing_write.specs.Reading.Lines.{stmt_read, term_read}
+use Rattle.listing_write.specs.Reading.Rows.{many}
+use Rattle.listing_write.specs.Reading.Words.{FoundInText, bind}
 use Rattle.listing_lines.specs.LineReading.{block_read}
 use Rattle.listing_parts.specs.LinesFound.{behind_line}
 use Rattle.listing_parts.specs.Numbers.{adt_no, trait_no}

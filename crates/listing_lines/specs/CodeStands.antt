@@ -4,8 +4,8 @@ use Rattle.mir_ty.specs.ItemTable.{ItemTable}
 use Rattle.cfg_graph.specs.declared.statement.Stmt.{Stmt}
 use Rattle.cfg_graph.specs.declared.terminator.Term.{Term}
 use Rattle.cfg_graph.specs.WellFormed.NameFaults.{is_name, is_adt_name}
-use Rattle.mir_text.specs.Fields.{Fits, PlaceFits, OperandFits, StmtFits, TermFits, WaysFit}
-use Rattle.mir_text.specs.Lines.{Line, MakeLine, UnsizeLine, StmtLine, VirtualLine, TermLine}
+use Rattle.listing_write.specs.Fields.{Fits, PlaceFits, OperandFits, StmtFits, TermFits, WaysFit}
+use Rattle.listing_write.specs.Lines.{Line, MakeLine, UnsizeLine, StmtLine, VirtualLine, TermLine}
 use Rattle.listing_parts.specs.Numbers.{adt_no, trait_no}
 
 -- a struct or enum, and a trait, of this name is there

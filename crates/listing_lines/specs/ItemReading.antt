@@ -3,10 +3,10 @@ use Rattle.std.specs.Prelude.{ℕ, zero, suc, Bool, true, false, if◌then◌els
 use Rattle.std.specs.Fmt.{decimal}
 use Rattle.mir_ty.specs.ItemTable.{ItemTable}
 use Rattle.cfg_graph.specs.WellFormed.NameFaults.{is_among, type_words}
-use Rattle.mir_text.specs.Compared.{AdtSeen, VariantSeen}
-use Rattle.mir_text.specs.Reading.Lines.{ended}
-use Rattle.mir_text.specs.Reading.Rows.{many, comma}
-use Rattle.mir_text.specs.Reading.Words.{FoundInText, bind, chosen, as_, strip}
+use Rattle.listing_write.specs.Compared.{AdtSeen, VariantSeen}
+use Rattle.listing_write.specs.Reading.Lines.{ended}
+use Rattle.listing_write.specs.Reading.Rows.{many, comma}
+use Rattle.listing_write.specs.Reading.Words.{FoundInText, bind, chosen, as_, strip}
 use Rattle.listing_parts.specs.TypeReading.{plain_number, types_read}
 use Rattle.listing_lines.specs.LineReading.{name_read}
 

@@ -4,11 +4,11 @@ use Rattle.std.specs.Prelude.{◌≡◌, ℕ, Bool, true, false, List, [], ◌�
 use Rattle.std.specs.Str.{is_utf8}
 use Rattle.mir_ty.specs.ItemTable.{ItemTable}
 use Rattle.cfg_graph.specs.WellFormed.NameFaults.{is_name, is_adt_name}
-use Rattle.mir_text.specs.Compared.{AdtSeen, VariantSeen, Written}
-use Rattle.mir_text.specs.Fields.{Fits}
-use Rattle.mir_text.specs.Items.{copy_text, drop_text}
-use Rattle.mir_text.specs.Lines.{Tree, tree_text, line_text, StructLine, EnumLine}
-use Rattle.mir_text.specs.Lists.{in_braces, in_parentheses, line}
+use Rattle.listing_write.specs.Compared.{AdtSeen, VariantSeen, Written}
+use Rattle.listing_write.specs.Fields.{Fits}
+use Rattle.listing_write.specs.Items.{copy_text, drop_text}
+use Rattle.listing_write.specs.Lines.{Tree, tree_text, line_text, StructLine, EnumLine}
+use Rattle.listing_write.specs.Lists.{in_braces, in_parentheses, line}
 use Rattle.listing_parts.specs.TypesFound.{EachStands}
 use Rattle.listing_lines.specs.ItemReading.{adt_read}
 

@@ -7,8 +7,8 @@ use Rattle.mir_ty.specs.declared.adt.Variant.{Variant}
 use Rattle.mir_ty.specs.declared.ty.TyId.{TyId}
 use Rattle.mir_ty.specs.AreItems.{IsAdt, IsVariant}
 use Rattle.mir_ty.specs.ItemTable.{ItemTable}
-use Rattle.mir_text.specs.Compared.{AdtSeen, VariantSeen, adt_seen, variant_seen}
-use Rattle.mir_text.specs.Reading.Words.{FoundInText}
+use Rattle.listing_write.specs.Compared.{AdtSeen, VariantSeen, adt_seen, variant_seen}
+use Rattle.listing_write.specs.Reading.Words.{FoundInText}
 use Rattle.listing_parts.specs.declared.error.ReadError.{ReadError}
 use Rattle.listing_parts.specs.Table.{Grow, under}
 use Rattle.listing_lines.specs.ItemReading.{first_names}

@@ -6,9 +6,9 @@ use Rattle.mir_ty.specs.declared.def.ImplDef.{ImplDef}
 use Rattle.mir_ty.specs.ItemTable.{ItemTable}
 use Rattle.cfg_graph.specs.WellFormed.NameFaults.{stands_in_names}
 use Rattle.cfg_graph.specs.declared.graph.Kind.{Kind}
-use Rattle.mir_text.specs.Reading.Lines.{ended}
-use Rattle.mir_text.specs.Reading.Rows.{many}
-use Rattle.mir_text.specs.Reading.Words.{FoundInText, bind, or_else, as_, said, strip, span}
+use Rattle.listing_write.specs.Reading.Lines.{ended}
+use Rattle.listing_write.specs.Reading.Rows.{many}
+use Rattle.listing_write.specs.Reading.Words.{FoundInText, bind, or_else, as_, said, strip, span}
 use Rattle.listing_parts.specs.Numbers.{adt_no, trait_no}
 use Rattle.listing_parts.specs.TypeReading.{plain_number, type_read, types_read}
 

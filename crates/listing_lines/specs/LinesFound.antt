@@ -8,10 +8,10 @@ use Rattle.mir_ty.specs.ItemTable.{ItemTable}
 use Rattle.mir_ty.specs.Named.{adt_name}
 use Rattle.cfg_graph.specs.declared.graph.Kind.{Kind}
 use Rattle.cfg_graph.specs.WellFormed.NameFaults.{is_name}
-use Rattle.mir_text.specs.Fields.{Fits}
-use Rattle.mir_text.specs.Lines.{Tree, tree_text, line_text, ImplLine, ClosureLine, BodyLine, LocalLine, BlockLine}
-use Rattle.mir_text.specs.Lists.{in_parentheses, line}
-use Rattle.mir_text.specs.Types.{trait_name}
+use Rattle.listing_write.specs.Fields.{Fits}
+use Rattle.listing_write.specs.Lines.{Tree, tree_text, line_text, ImplLine, ClosureLine, BodyLine, LocalLine, BlockLine}
+use Rattle.listing_write.specs.Lists.{in_parentheses, line}
+use Rattle.listing_write.specs.Types.{trait_name}
 use Rattle.listing_parts.specs.Numbers.{adt_no, trait_no}
 use Rattle.listing_parts.specs.TypesFound.{Stands, EachStands}
 use Rattle.listing_lines.specs.LineReading.{body_read, local_read, block_read, closure_read, impl_read}

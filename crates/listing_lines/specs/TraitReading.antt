@@ -6,10 +6,10 @@ use Rattle.mir_ty.specs.declared.ty.Ty.{Ty}
 use Rattle.mir_ty.specs.declared.ty.TyId.{TyId}
 use Rattle.mir_ty.specs.ItemTable.{ItemTable}
 use Rattle.cfg_graph.specs.WellFormed.NameFaults.{same_name, stands_in_names}
-use Rattle.mir_text.specs.Compared.{SigSeen}
-use Rattle.mir_text.specs.Reading.Lines.{ended}
-use Rattle.mir_text.specs.Reading.Rows.{many, comma}
-use Rattle.mir_text.specs.Reading.Words.{FoundInText, bind, chosen, or_else, as_, said, strip, span}
+use Rattle.listing_write.specs.Compared.{SigSeen}
+use Rattle.listing_write.specs.Reading.Lines.{ended}
+use Rattle.listing_write.specs.Reading.Rows.{many, comma}
+use Rattle.listing_write.specs.Reading.Words.{FoundInText, bind, chosen, or_else, as_, said, strip, span}
 use Rattle.listing_parts.specs.TypeReading.{more_types, type_read}
 use Rattle.listing_lines.specs.ItemReading.{blank_name}
 

@@ -4,10 +4,10 @@ use Rattle.std.specs.Prelude.{◌≡◌, ℕ, ◌<◌, Bool, true, List, [], ◌
 use Rattle.std.specs.Str.{is_utf8}
 use Rattle.mir_ty.specs.ItemTable.{ItemTable}
 use Rattle.cfg_graph.specs.WellFormed.NameFaults.{is_name}
-use Rattle.mir_text.specs.Compared.{SigSeen}
-use Rattle.mir_text.specs.Lines.{Tree, tree_text, line_text, TraitLine}
-use Rattle.mir_text.specs.Lists.{in_braces, in_parentheses, line}
-use Rattle.mir_text.specs.Types.{trait_name}
+use Rattle.listing_write.specs.Compared.{SigSeen}
+use Rattle.listing_write.specs.Lines.{Tree, tree_text, line_text, TraitLine}
+use Rattle.listing_write.specs.Lists.{in_braces, in_parentheses, line}
+use Rattle.listing_write.specs.Types.{trait_name}
 use Rattle.listing_parts.specs.TypesFound.{Stands, EachStands}
 use Rattle.listing_lines.specs.TraitReading.{self_text, trait_read}
 

@@ -7,9 +7,9 @@ use Rattle.mir_ty.specs.declared.def.TraitDef.{TraitDef}
 use Rattle.mir_ty.specs.declared.ty.TyId.{TyId}
 use Rattle.mir_ty.specs.AreItems.{AreTypes, IsMethod, IsSelfTy}
 use Rattle.mir_ty.specs.ItemTable.{ItemTable}
-use Rattle.mir_text.specs.Compared.{SigSeen, sig_seen, trait_seen}
-use Rattle.mir_text.specs.Reading.Words.{FoundInText}
-use Rattle.mir_text.specs.Types.{trait_name}
+use Rattle.listing_write.specs.Compared.{SigSeen, sig_seen, trait_seen}
+use Rattle.listing_write.specs.Reading.Words.{FoundInText}
+use Rattle.listing_write.specs.Types.{trait_name}
 use Rattle.listing_parts.specs.declared.error.ReadError.{ReadError}
 use Rattle.listing_parts.specs.Table.{Grow, text_under, under}
 use Rattle.listing_lines.specs.TraitReading.{self_text}

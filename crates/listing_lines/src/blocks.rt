@@ -1,6 +1,6 @@
 //! The blocks of a body.
 ghost use Rattle.std.specs.Prelude.{◌≡◌, ◌∷◌, ◌++◌, [], IfOk};
-ghost use Rattle.mir_text.specs.Reading.Rows.{many};
+ghost use Rattle.listing_write.specs.Reading.Rows.{many};
 ghost use Rattle.listing_parts.specs.Found.{Finds};
 ghost use Rattle.listing_lines.specs.CodeReading as reading;
 

@@ -1,7 +1,7 @@
 //! The lines of impls and closures.
 ghost use Rattle.std.specs.Prelude.{◌≡◌, IfOk};
 ghost use Rattle.std.specs.Option.{option_copied};
-ghost use Rattle.mir_text.specs.Reading.Rows.{many};
+ghost use Rattle.listing_write.specs.Reading.Rows.{many};
 ghost use Rattle.listing_parts.specs.Found.{Finds, seen};
 ghost use Rattle.listing_parts.specs.Table.{AreRead};
 ghost use Rattle.listing_lines.specs.LineReading as reading;

@@ -1,7 +1,7 @@
 //! The lines of statements and terminators.
 ghost use Rattle.std.specs.Prelude.{◌≡◌};
 ghost use Rattle.std.specs.Option.{option_copied};
-ghost use Rattle.mir_text.specs.Reading.Words as word;
+ghost use Rattle.listing_write.specs.Reading.Words as word;
 ghost use Rattle.listing_parts.specs.Found.{Finds};
 ghost use Rattle.listing_parts.specs.LinesFound.{behind_line as behind};
 ghost use Rattle.listing_lines.specs.CodeRead.{FindsRest};
@@ -9,7 +9,7 @@ ghost use Rattle.listing_lines.specs.CodeReading as reading;
 
 use cfg_graph::{Stmt, Term};
 use listing_parts::{Heads, ReadError, read_stmt, read_term, strip};
-use mir_text::{stmt_text, term_text};
+use listing_write::{stmt_text, term_text};
 use std::alloc::Global;
 
 /// What stands behind these words, where the text begins with them.

@@ -1,9 +1,9 @@
 //! Methods of traits.
 ghost use Rattle.std.specs.Prelude.{◌≡◌, ◌<◌, [], ◌∷◌, All, IfOk, length, map};
 ghost use Rattle.mir_ty.specs.AreItems.{AreTypes, IsMethod};
-ghost use Rattle.mir_text.specs.Compared.{sig_seen};
-ghost use Rattle.mir_text.specs.Reading.Rows.{comma, many};
-ghost use Rattle.mir_text.specs.Types.{trait_name};
+ghost use Rattle.listing_write.specs.Compared.{sig_seen};
+ghost use Rattle.listing_write.specs.Reading.Rows.{comma, many};
+ghost use Rattle.listing_write.specs.Types.{trait_name};
 ghost use Rattle.listing_parts.specs.Table.{AreRead, text_under, under};
 ghost use Rattle.listing_lines.specs.TraitReading as reading;
 ghost use Rattle.listing_lines.specs.TraitsRead.{BeginWithSelf, FindsMethod, FindsMethods, FindsMore};

@@ -1,7 +1,7 @@
 //! The parameters of a trait's methods.
 ghost use Rattle.std.specs.Prelude.{◌≡◌, ◌<◌, ◌∷◌, IfOk, length, slice_get};
 ghost use Rattle.mir_ty.specs.AreItems.{IsSelfTy};
-ghost use Rattle.mir_text.specs.Types.{trait_name};
+ghost use Rattle.listing_write.specs.Types.{trait_name};
 ghost use Rattle.listing_parts.specs.Table.{AreRead, text_under};
 ghost use Rattle.listing_parts.specs.TypeReading.{more_types as more};
 ghost use Rattle.listing_lines.specs.TraitReading as reading;

@@ -1,6 +1,6 @@
 //! The lines of traits.
 ghost use Rattle.std.specs.Prelude.{◌≡◌, ◌<◌, IfSome, IfOk, length};
-ghost use Rattle.mir_text.specs.Types.{trait_name};
+ghost use Rattle.listing_write.specs.Types.{trait_name};
 ghost use Rattle.listing_lines.specs.ItemsRead.{seen_name};
 ghost use Rattle.listing_parts.specs.Table.{AreRead};
 ghost use Rattle.listing_lines.specs.TraitReading as reading;

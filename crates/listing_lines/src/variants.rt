@@ -1,8 +1,8 @@
 //! Variants of enums.
 ghost use Rattle.std.specs.Prelude.{◌≡◌, [], ◌∷◌, All, IfOk};
-ghost use Rattle.mir_text.specs.Compared.{variant_seen};
+ghost use Rattle.listing_write.specs.Compared.{variant_seen};
 ghost use Rattle.mir_ty.specs.AreItems.{IsVariant};
-ghost use Rattle.mir_text.specs.Reading.Rows.{comma, many};
+ghost use Rattle.listing_write.specs.Reading.Rows.{comma, many};
 ghost use Rattle.listing_parts.specs.Table.{AreRead, under};
 ghost use Rattle.listing_lines.specs.ItemReading as reading;
 ghost use Rattle.listing_lines.specs.ItemsRead.{FindsMore, FindsVariant, FindsVariants, variant_of};

@@ -10,14 +10,14 @@ use Rattle.mir_ty.specs.declared.def.TraitDef.{TraitDef}
 use Rattle.mir_ty.specs.ItemTable.{ItemTable}
 use Rattle.cfg_graph.specs.WellFormed.NameFaults.{same_name, is_among, stands_in_names, is_name, is_adt_name, type_words}
 use Rattle.listing_parts.specs.Numbers.{adt_no, trait_no}
-use Rattle.mir_text.specs.Fields.{Fits}
-use Rattle.mir_text.specs.Lists.{behind_commas, joined}
-use Rattle.mir_text.specs.Lines.{Tree, Trees, Number, Truth, Nothing, Never, Named, Tuple, Array, Boxed, Object, Shared, Unique, Closed, Missing, no_more, and_more, tree_text, trees_text}
-use Rattle.mir_text.specs.Reading.Rows.{many, many_within, row, row_from, closed_row, after, comma}
-use Rattle.mir_text.specs.Reading.Words.{FoundInText, bind, chosen, as_, said, strip, is_digit}
-use Rattle.mir_text.specs.Types.{tuple_text, kind_text, trait_name, name_of_trait}
+use Rattle.listing_write.specs.Fields.{Fits}
+use Rattle.listing_write.specs.Lists.{behind_commas, joined}
+use Rattle.listing_write.specs.Lines.{Tree, Trees, Number, Truth, Nothing, Never, Named, Tuple, Array, Boxed, Object, Shared, Unique, Closed, Missing, no_more, and_more, tree_text, trees_text}
+use Rattle.listing_write.specs.Reading.Rows.{many, many_within, row, row_from, closed_row, after, comma}
+use Rattle.listing_write.specs.Reading.Words.{FoundInText, bind, chosen, as_, said, strip, is_digit}
+use Rattle.listing_write.specs.Types.{tuple_text, kind_text, trait_name, name_of_trait}
 use Rattle.mir_ty.specs.Named.{adt_name, name_of_adt}
-use Rattle.mir_text.proofs.Reading.Basics.{stops, span_run, one_of, any_decimal}
+use Rattle.listing_write.proofs.Reading.Basics.{stops, span_run, one_of, any_decimal}
 use Rattle.listing_parts.specs.declared.begin.TypeAround.{TypeAround}
 use Rattle.listing_parts.specs.declared.begin.Begin.{Begin}
 use Rattle.listing_parts.specs.TypeReading.{word_type, unique_mark, reference_from, object_from, worded_begin, begin_from, begin_read, array_end, around_end, around_text, tuple_from, rest_read, type_within, type_read, types_read}

@@ -5,9 +5,9 @@ use Rattle.std.proofs.lemmas.Bool.{and_parts}
 use Rattle.mir_base.specs.declared.int_kind.IntKind.{IntKind}
 use Rattle.mir_ty.specs.ItemTable.{ItemTable}
 use Rattle.cfg_graph.specs.WellFormed.NameFaults.{is_name, is_adt_name}
-use Rattle.mir_text.specs.Lists.{behind_commas}
-use Rattle.mir_text.specs.Lines.{Tree, Trees, Number, Truth, Nothing, Never, Named, Tuple, Array, Boxed, Object, Shared, Unique, Closed, Missing, no_more, and_more, tree_text, trees_text}
-use Rattle.mir_text.specs.Types.{tuple_text, kind_text}
+use Rattle.listing_write.specs.Lists.{behind_commas}
+use Rattle.listing_write.specs.Lines.{Tree, Trees, Number, Truth, Nothing, Never, Named, Tuple, Array, Boxed, Object, Shared, Unique, Closed, Missing, no_more, and_more, tree_text, trees_text}
+use Rattle.listing_write.specs.Types.{tuple_text, kind_text}
 use Rattle.listing_parts.specs.TypesFound.{Stands, AllStand, HasOne}
 
 abbrev pub Deeper : (ℕ → Type 0) → ℕ → Type 0

@@ -7,10 +7,10 @@ use Rattle.mir_ty.specs.Named.{adt_name}
 use Rattle.cfg_graph.specs.WellFormed.NameFaults.{stands_in_names}
 use Rattle.cfg_graph.specs.declared.statement.Stmt.{Stmt}
 use Rattle.cfg_graph.specs.declared.terminator.Term.{Term}
-use Rattle.mir_text.specs.Types.{trait_name}
-use Rattle.mir_text.specs.Reading.Words.{is_digit}
-use Rattle.mir_text.proofs.Reading.Parts.{IsPlaceEnd, place_reads, operand_reads, operands_reads}
-use Rattle.mir_text.proofs.Reading.Lines.{Named, TermNamed, stmt_reads, term_reads, no_stmt}
+use Rattle.listing_write.specs.Types.{trait_name}
+use Rattle.listing_write.specs.Reading.Words.{is_digit}
+use Rattle.listing_write.proofs.Reading.Parts.{IsPlaceEnd, place_reads, operand_reads, operands_reads}
+use Rattle.listing_write.proofs.Reading.Lines.{Named, TermNamed, stmt_reads, term_reads, no_stmt}
 use Rattle.listing_parts.specs.Numbers.{adt_no, trait_no}
 use Rattle.listing_parts.specs.Reads.{ends_place, AreTold, StmtNames, TermNames, PlacesAreRead, OperandsAreRead, RowsAreRead, StmtsAreRead, TermsAreRead, TermsAreNoStmts}
 

@@ -8,8 +8,8 @@ use Rattle.mir_ty.specs.declared.ty.Ty.{Ty}
 use Rattle.mir_ty.specs.declared.ty.TyId.{TyId}
 use Rattle.mir_ty.specs.AreItems.{AreTypes}
 use Rattle.mir_ty.specs.ItemTable.{ItemTable}
-use Rattle.mir_text.specs.Reading.Rows.{many, many_within, after, comma, row, row_from}
-use Rattle.mir_text.specs.Reading.Words.{FoundInText, bind}
+use Rattle.listing_write.specs.Reading.Rows.{many, many_within, after, comma, row, row_from}
+use Rattle.listing_write.specs.Reading.Words.{FoundInText, bind}
 use Rattle.listing_parts.specs.Table.{AreRead, Grow, text_under}
 use Rattle.listing_parts.specs.TypesRead.{FindsRow}
 use Rattle.listing_parts.specs.TypeReading.{begin_read, rest_read, type_within}
@@ -72,7 +72,7 @@ module _ (heads : ItemTable) (read : List ℕ → FoundInText (List ℕ)) where
       ∙ left
     where
       after_ : FoundInText (List ℕ) → List (List ℕ) × List ℕ
-      after_ f = Rattle.mir_text.specs.Reading.Rows.after f (many_within k read) rest
+      after_ f = Rattle.listing_write.specs.Reading.Rows.after f (many_within k read) rest
 
 -- a row of no types
 pub row_of_none : (heads old new : ItemTable) (read : List ℕ → FoundInText (List ℕ)) (parts : List TyId) (text : Bor (List ℕ)) → AreTypes old.types parts → AreRead heads old.types → Grow heads old new → read text.now ≡ None

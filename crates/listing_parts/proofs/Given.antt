@@ -7,7 +7,7 @@ use Rattle.mir_ty.specs.declared.ty.Ty.{Ty}
 use Rattle.mir_ty.specs.declared.ty.TyId.{TyId}
 use Rattle.mir_ty.specs.AreItems.{AreItems}
 use Rattle.mir_ty.specs.ItemTable.{ItemTable, Interns}
-use Rattle.mir_text.specs.Types.{form_text}
+use Rattle.listing_write.specs.Types.{form_text}
 use Rattle.mir_base.specs.declared.memory.NoMemory.{NoMemory}
 use Rattle.listing_parts.specs.Table.{AreRead, Grow, MayStand, under, text_under}
 use Rattle.listing_parts.specs.TypesRead.{GivesType}

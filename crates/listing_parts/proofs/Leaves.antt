@@ -9,8 +9,8 @@ use Rattle.mir_ty.specs.declared.ty.TyId.{TyId}
 use Rattle.mir_ty.specs.ItemTable.{ItemTable}
 use Rattle.cfg_graph.specs.WellFormed.NameFaults.{same_name, stands_in_names}
 use Rattle.listing_parts.specs.Numbers.{adt_no, trait_no}
-use Rattle.mir_text.specs.Fields.{Fits}
-use Rattle.mir_text.specs.Reading.Words.{FoundInText, bind, or_else, said, strip, span}
+use Rattle.listing_write.specs.Fields.{Fits}
+use Rattle.listing_write.specs.Reading.Words.{FoundInText, bind, or_else, said, strip, span}
 use Rattle.listing_parts.specs.declared.begin.TypeAround.{TypeAround}
 use Rattle.listing_parts.specs.declared.begin.Begin.{Begin}
 use Rattle.listing_parts.specs.Leaves.{IsLeaf, BeginsLeaf}

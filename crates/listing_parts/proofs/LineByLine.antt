@@ -2,8 +2,8 @@
 use Rattle.std.proofs.Common.{◌≡◌, ℕ, Bool, true, false, nat_eq, List, [], ◌∷◌, ◌++◌, Some, refl, sym, ◌∙◌, eqb-true}
 use Rattle.std.proofs.lemmas.Bool.{eq-eqb}
 use Rattle.std.proofs.lemmas.Option.{none-some, same_Some}
-use Rattle.mir_text.specs.Lists.{line}
-use Rattle.mir_text.specs.Reading.Words.{bind, strip}
+use Rattle.listing_write.specs.Lists.{line}
+use Rattle.listing_write.specs.Reading.Words.{bind, strip}
 use Rattle.listing_parts.specs.LinesFound.{behind_line}
 
 pub strip_append : (v w t : List ℕ) → strip (v ++ w) t ≡ bind (strip v t) (strip w)

@@ -9,8 +9,8 @@ use Rattle.std.specs.Option.{option_map_or}
 use Rattle.std.specs.declared.vec.Vec.{Vec}
 use Rattle.std.proofs.lemmas.List.{drop_more}
 use Rattle.cfg_graph.specs.WellFormed.NameFaults.{same_name}
-use Rattle.mir_text.specs.Reading.Words.{place_in}
-use Rattle.mir_text.proofs.Counting.{stands}
+use Rattle.listing_write.specs.Reading.Words.{place_in}
+use Rattle.listing_write.proofs.Counting.{stands}
 use Rattle.listing_parts.specs.Numbers.{noted, number_in}
 
 others : {K X : Type 0} (eq : K → K → Bool) (test : K → Bool) (old new : List (K × X)) → KeepsOthers eq test old new →

@@ -7,9 +7,9 @@ use Rattle.std.proofs.lemmas.Bool.{and_parts, and_from}
 use Rattle.std.proofs.lemmas.Fmt.{decimal-digits_value, decimal_digit, first_decimal, decimal_nonempty}
 use Rattle.std.proofs.lemmas.Option.{same_Some, none-some}
 use Rattle.std.proofs.lemmas.Str.Parse.{IsDigitsTest, numerals_by_value}
-use Rattle.mir_text.specs.Fields.{Fits}
-use Rattle.mir_text.specs.Reading.Words.{FoundInText, bind, chosen, strip, span, is_digit, valued, limited, number}
-use Rattle.mir_text.proofs.Reading.Basics.{stops, number_reads}
+use Rattle.listing_write.specs.Fields.{Fits}
+use Rattle.listing_write.specs.Reading.Words.{FoundInText, bind, chosen, strip, span, is_digit, valued, limited, number}
+use Rattle.listing_write.proofs.Reading.Basics.{stops, number_reads}
 use Rattle.listing_parts.proofs.LineByLine.{strip_sound}
 use Rattle.listing_parts.proofs.Spans.{span_all}
 use Rattle.listing_parts.specs.TypeReading.{plain_number, whole_number, nothing_behind}

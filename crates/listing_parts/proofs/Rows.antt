@@ -1,7 +1,7 @@
 -- Things read one after the other, each with a byte less to go.
 use Rattle.std.proofs.Common.{◌≡◌, ℕ, zero, suc, List, [], ◌∷◌, ◌++◌, Some, None, ap, sym, ◌∙◌, append_assoc, append-nil}
-use Rattle.mir_text.specs.Reading.Rows.{after, many_within}
-use Rattle.mir_text.specs.Reading.Words.{FoundInText}
+use Rattle.listing_write.specs.Reading.Rows.{after, many_within}
+use Rattle.listing_write.specs.Reading.Words.{FoundInText}
 
 module _ {X : Type 0} (read : List ℕ → FoundInText X) where
   -- what stands before, and what is still read

@@ -11,10 +11,10 @@ use Rattle.mir_ty.specs.Named.{name_of_adt}
 use Rattle.cfg_graph.specs.WellFormed.NameFaults.{same_name, stands_in_names}
 use Rattle.listing_parts.specs.Numbers.{adt_no, trait_no}
 use Rattle.listing_parts.proofs.LineByLine.{strip_sound}
-use Rattle.mir_text.specs.Lists.{behind_commas, joined, in_parentheses}
-use Rattle.mir_text.specs.Reading.Rows.{many, many_within, row, comma}
-use Rattle.mir_text.specs.Reading.Words.{FoundInText, bind, or_else, chosen, as_, said, strip, span, place_in}
-use Rattle.mir_text.specs.Types.{form_text, tuple_text, trait_name, name_of_trait}
+use Rattle.listing_write.specs.Lists.{behind_commas, joined, in_parentheses}
+use Rattle.listing_write.specs.Reading.Rows.{many, many_within, row, comma}
+use Rattle.listing_write.specs.Reading.Words.{FoundInText, bind, or_else, chosen, as_, said, strip, span, place_in}
+use Rattle.listing_write.specs.Types.{form_text, tuple_text, trait_name, name_of_trait}
 use Rattle.listing_parts.specs.declared.begin.TypeAround.{TypeAround}
 use Rattle.listing_parts.specs.declared.begin.Begin.{Begin}
 use Rattle.listing_parts.specs.TypeReading.{plain_number, whole_number, word_type, closure_type, adt_type, named_type, type_of_word, unique_mark, reference_from, reference_begin, marked_begin, object_from, object_begin, worded_begin, begin_from, array_end, around_end, around_text, around_read, row_end, tuple_from, rest_read, type_within, types_behind}

@@ -6,7 +6,7 @@ use Rattle.std.specs.Option.{option_copied}
 use Rattle.std.specs.List.{prefix_len, list_all}
 use Rattle.std.specs.Cmp.Lexicographic.{pointwise}
 use Rattle.std.proofs.lemmas.Bool.{and_parts, eq-eqb, false≢true}
-use Rattle.mir_text.specs.Reading.Words.{strip, span}
+use Rattle.listing_write.specs.Reading.Words.{strip, span}
 
 one_more : (b : ℕ) (bs : List ℕ) (k n : ℕ) → n ≡ suc k → Path (List ℕ × List ℕ) (take n (b ∷ bs), drop n (b ∷ bs)) (b ∷ take k bs, drop k bs)
 one_more b bs k n e = ap (λ (m : ℕ). (take m (b ∷ bs), drop m (b ∷ bs))) e

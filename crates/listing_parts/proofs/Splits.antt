@@ -4,7 +4,7 @@ use Rattle.std.specs.Prelude.{◌⊎◌}
 use Rattle.std.proofs.lemmas.Option.{same_Some, none-some}
 use Rattle.std.proofs.lemmas.Bool.{and_parts, false≢true}
 use Rattle.cfg_graph.specs.WellFormed.NameFaults.{same_name}
-use Rattle.mir_text.specs.Reading.Words.{FoundInText, bind, chosen, or_else, span}
+use Rattle.listing_write.specs.Reading.Words.{FoundInText, bind, chosen, or_else, span}
 
 pub split : {X Y : Type 0} (o : Option X) (go : X → Option Y) (y : Y) → bind o go ≡ Some y → (x : X) × (o ≡ Some x) × (go x ≡ Some y)
 split None go y h = absurd (none-some y h)

@@ -7,8 +7,8 @@ use Rattle.mir_ty.specs.declared.ty.Ty.{Ty}
 use Rattle.mir_ty.specs.declared.ty.TyId.{TyId}
 use Rattle.mir_ty.specs.AreItems.{types_in}
 use Rattle.mir_ty.specs.ItemTable.{ItemTable, type_at, with_type, Interns}
-use Rattle.mir_text.specs.Types.{tuple_text, form_text, found_text, type_within, type_text, deepest}
-use Rattle.mir_text.proofs.Reading.Basics.{Every}
+use Rattle.listing_write.specs.Types.{tuple_text, form_text, found_text, type_within, type_text, deepest}
+use Rattle.listing_write.proofs.Reading.Basics.{Every}
 use Rattle.listing_parts.specs.Table.{MayStand, AreRead, WithTypes, Grow, under, text_under}
 
 pub every_from_all : {X : Type 0} (P : X → Type 0) (xs : List X) → All P xs → Every P xs

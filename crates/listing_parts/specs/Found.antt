@@ -1,7 +1,7 @@
 -- What a reader answers, as definitions see it.
 use Rattle.std.specs.Prelude.{◌≡◌, List, ℕ, Option, None, Some, option_map, Result, Err, IfOk}
 use Rattle.std.specs.Borrow.{Bor}
-use Rattle.mir_text.specs.Reading.Words.{FoundInText}
+use Rattle.listing_write.specs.Reading.Words.{FoundInText}
 use Rattle.listing_parts.specs.declared.error.ReadError.{ReadError}
 
 -- what was found, and the text behind it

@@ -4,7 +4,7 @@ use Rattle.mir_ty.specs.declared.ty.Ty.{Ty}
 use Rattle.mir_ty.specs.declared.ty.TyId.{TyId}
 use Rattle.mir_ty.specs.AreItems.{HasParts}
 use Rattle.mir_ty.specs.ItemTable.{ItemTable}
-use Rattle.mir_text.specs.Types.{form_text}
+use Rattle.listing_write.specs.Types.{form_text}
 use Rattle.listing_parts.specs.declared.begin.Begin.{Begin}
 use Rattle.listing_parts.specs.Table.{MayStand, under}
 

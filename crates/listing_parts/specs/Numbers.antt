@@ -5,7 +5,7 @@ use Rattle.std.specs.Option.{option_map_or}
 use Rattle.std.specs.declared.vec.Vec.{Vec}
 use Rattle.cfg_graph.specs.WellFormed.NameFaults.{same_name}
 use Rattle.mir_ty.specs.ItemTable.{ItemTable}
-use Rattle.mir_text.specs.Reading.Words.{place_in}
+use Rattle.listing_write.specs.Reading.Words.{place_in}
 
 -- of the first struct or enum of this name, and how many there are where there is none
 abbrev pub adt_no : ItemTable → List ℕ → ℕ

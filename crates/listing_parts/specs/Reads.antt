@@ -8,12 +8,12 @@ use Rattle.cfg_graph.specs.declared.place.Operand.{Operand}
 use Rattle.cfg_graph.specs.declared.place.Place.{Place}
 use Rattle.cfg_graph.specs.declared.statement.Stmt.{Stmt}
 use Rattle.cfg_graph.specs.declared.terminator.Term.{Term}
-use Rattle.mir_text.specs.Fields.{PlaceFits, OperandFits, StmtFits, TermFits}
-use Rattle.mir_text.specs.Parts.{place_text, operand_text, operands_text, stmt_text, term_text}
-use Rattle.mir_text.specs.Reading.Lines.{stmt_read, term_read}
-use Rattle.mir_text.specs.Reading.Parts.{place_read, operand_read, operands_read}
-use Rattle.mir_text.specs.Reading.Words.{is_digit}
-use Rattle.mir_text.specs.Types.{trait_name}
+use Rattle.listing_write.specs.Fields.{PlaceFits, OperandFits, StmtFits, TermFits}
+use Rattle.listing_write.specs.Parts.{place_text, operand_text, operands_text, stmt_text, term_text}
+use Rattle.listing_write.specs.Reading.Lines.{stmt_read, term_read}
+use Rattle.listing_write.specs.Reading.Parts.{place_read, operand_read, operands_read}
+use Rattle.listing_write.specs.Reading.Words.{is_digit}
+use Rattle.listing_write.specs.Types.{trait_name}
 use Rattle.listing_parts.specs.Numbers.{adt_no, trait_no}
 
 -- no place goes on with this text

@@ -4,8 +4,8 @@ use Rattle.mir_ty.specs.declared.ty.Ty.{Ty}
 use Rattle.mir_ty.specs.declared.ty.TyId.{TyId}
 use Rattle.mir_ty.specs.AreItems.{types_in}
 use Rattle.mir_ty.specs.ItemTable.{ItemTable}
-use Rattle.mir_text.specs.Fields.{TyFits}
-use Rattle.mir_text.specs.Types.{type_text}
+use Rattle.listing_write.specs.Fields.{TyFits}
+use Rattle.listing_write.specs.Types.{type_text}
 
 -- the structs, enums and traits that a type names have heads
 abbrev pub HasHead : ItemTable → Ty → Type 0

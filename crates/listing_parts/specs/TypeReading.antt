@@ -7,9 +7,9 @@ use Rattle.mir_ty.specs.ItemTable.{ItemTable}
 use Rattle.cfg_graph.specs.WellFormed.NameFaults.{same_name, stands_in_names}
 use Rattle.listing_parts.specs.Numbers.{adt_no, trait_no}
 use Rattle.mir_ty.specs.declared.ty.TyId.{TyId}
-use Rattle.mir_text.specs.Reading.Rows.{many, comma, row, closed_row}
-use Rattle.mir_text.specs.Reading.Words.{FoundInText, bind, or_else, chosen, as_, said, strip, span, number}
-use Rattle.mir_text.specs.Types.{form_text, tuple_text}
+use Rattle.listing_write.specs.Reading.Rows.{many, comma, row, closed_row}
+use Rattle.listing_write.specs.Reading.Words.{FoundInText, bind, or_else, chosen, as_, said, strip, span, number}
+use Rattle.listing_write.specs.Types.{form_text, tuple_text}
 use Rattle.listing_parts.specs.declared.begin.TypeAround.{TypeAround}
 use Rattle.listing_parts.specs.declared.begin.Begin.{Begin}
 

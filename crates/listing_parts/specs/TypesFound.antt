@@ -6,10 +6,10 @@ use Rattle.std.specs.List.{list_any}
 use Rattle.mir_ty.specs.ItemTable.{ItemTable}
 use Rattle.cfg_graph.specs.WellFormed.NameFaults.{is_name, is_adt_name}
 use Rattle.listing_parts.specs.Numbers.{adt_no, trait_no}
-use Rattle.mir_text.specs.Fields.{Fits}
-use Rattle.mir_text.specs.Lists.{in_parentheses}
-use Rattle.mir_text.specs.Reading.Words.{is_digit}
-use Rattle.mir_text.specs.Lines.{Tree, Trees, Number, Truth, Nothing, Never, Named, Tuple, Array, Boxed, Object, Shared, Unique, Closed, Missing, no_more, and_more, tree_text, trees_in_row}
+use Rattle.listing_write.specs.Fields.{Fits}
+use Rattle.listing_write.specs.Lists.{in_parentheses}
+use Rattle.listing_write.specs.Reading.Words.{is_digit}
+use Rattle.listing_write.specs.Lines.{Tree, Trees, Number, Truth, Nothing, Never, Named, Tuple, Array, Boxed, Object, Shared, Unique, Closed, Missing, no_more, and_more, tree_text, trees_in_row}
 use Rattle.listing_parts.specs.TypeReading.{plain_number, type_read, types_read}
 
 -- of two and more parts

@@ -6,8 +6,8 @@ use Rattle.mir_base.specs.declared.memory.NoMemory.{NoMemory}
 use Rattle.mir_ty.specs.AreItems.{AreTypes}
 use Rattle.mir_ty.specs.declared.ty.Ty.{Ty}
 use Rattle.mir_ty.specs.ItemTable.{ItemTable, type_at}
-use Rattle.mir_text.specs.Reading.Words.{FoundInText}
-use Rattle.mir_text.specs.Types.{form_text}
+use Rattle.listing_write.specs.Reading.Words.{FoundInText}
+use Rattle.listing_write.specs.Types.{form_text}
 use Rattle.listing_parts.specs.declared.error.ReadError.{ReadError}
 use Rattle.listing_parts.specs.Table.{Grow, text_under, under}
 

@@ -42,7 +42,7 @@ fn reference(text: &[u8]) -> (Begin, &[u8])
 }
 
 /// A type that begins with a mark.
-fn marked(text: &[u8]) -> Option<(Begin, &[u8])>
+fn read_marked(text: &[u8]) -> Option<(Begin, &[u8])>
     ensures { seen result ≡ reading.marked_begin text.now }
 {
     if let Some(rest) = strip(text, "(") {
@@ -69,7 +69,7 @@ fn object<'a>(heads: &Heads, text: &'a [u8]) -> Option<(Begin, &'a [u8])>
 }
 
 /// A type that begins with a word.
-fn worded<'a>(heads: &Heads, word: &[u8], rest: &'a [u8]) -> Option<(Begin, &'a [u8])>
+fn read_worded<'a>(heads: &Heads, word: &[u8], rest: &'a [u8]) -> Option<(Begin, &'a [u8])>
     ensures { seen result ≡ reading.worded_begin heads.now word.now rest.now }
 {
     if is_word(word, "Box") {
@@ -87,9 +87,9 @@ pub fn type_begin<'a>(heads: &Heads, text: &'a [u8]) -> Option<(Begin, &'a [u8])
 {
     let (word, rest) = name(text);
     if word.is_empty() {
-        marked(text)
+        read_marked(text)
     } else {
-        worded(heads, word, rest)
+        read_worded(heads, word, rest)
     }
 }
 

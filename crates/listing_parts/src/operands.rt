@@ -1,13 +1,13 @@
 //! Operands.
 ghost use Rattle.std.specs.Prelude.{◌≡◌, ◌++◌, IfOk};
-ghost use Rattle.mir_text.specs.Reading.Parts as reading;
-ghost use Rattle.mir_text.specs.Reading.Rows.{comma, many, row};
-ghost use Rattle.mir_text.specs.Reading.Words.{bind, signed as signed_read};
+ghost use Rattle.listing_write.specs.Reading.Parts as reading;
+ghost use Rattle.listing_write.specs.Reading.Rows.{comma, many, row};
+ghost use Rattle.listing_write.specs.Reading.Words.{bind, signed as signed_read};
 ghost use Rattle.listing_parts.specs.Found.{Finds, seen};
 
 use crate::ReadError;
 use crate::places::read_place;
-use crate::words::{signed, strip};
+use crate::words::{read_signed, strip};
 use cfg_graph::Operand;
 use mir_base::{IntKind, List, NoMemory};
 use std::alloc::Global;
@@ -31,7 +31,7 @@ fn int_kind(text: &[u8]) -> Option<(IntKind, &[u8])>
 fn number_constant(text: &[u8]) -> Option<(Operand, &[u8])>
     ensures { seen result ≡ bind (signed_read text.now) reading.constant_from }
 {
-    let (value, rest) = signed(text)?;
+    let (value, rest) = read_signed(text)?;
     let (kind, rest) = int_kind(strip(rest, "_")?)?;
     Some((Operand::Number(value, kind), rest))
 }

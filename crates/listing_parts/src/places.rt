@@ -1,8 +1,8 @@
 //! Places.
 ghost use Rattle.std.specs.Prelude.{◌≡◌, ℕ, List, IfOk};
 ghost use Rattle.cfg_graph.specs.declared.place.Step.{Step as step_form};
-ghost use Rattle.mir_text.specs.Reading.Parts as reading;
-ghost use Rattle.mir_text.specs.Reading.Rows.{many};
+ghost use Rattle.listing_write.specs.Reading.Parts as reading;
+ghost use Rattle.listing_write.specs.Reading.Rows.{many};
 ghost use Rattle.listing_parts.specs.Found.{Finds, seen};
 
 use crate::ReadError;

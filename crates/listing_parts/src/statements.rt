@@ -1,6 +1,6 @@
 //! Statements.
 ghost use Rattle.std.specs.Prelude.{◌≡◌, map};
-ghost use Rattle.mir_text.specs.Reading.Lines as reading;
+ghost use Rattle.listing_write.specs.Reading.Lines as reading;
 ghost use Rattle.listing_parts.specs.Found.{Finds, seen};
 ghost use Rattle.listing_parts.specs.Numbers.{adt_no, trait_no};
 
@@ -108,7 +108,7 @@ fn unsize<'a>(
 }
 
 /// A reference, or an operand.
-fn borrowed(alloc: Global, to: Place, text: &[u8]) -> Result<(Stmt, &[u8]), ReadError>
+fn read_borrow(alloc: Global, to: Place, text: &[u8]) -> Result<(Stmt, &[u8]), ReadError>
     ensures { Finds result (reading.borrowed to text.now) }
 {
     if let Some(rest) = strip(text, "&mut ") {
@@ -156,7 +156,7 @@ fn of_one<'a>(
     }
     match strip(text, "unsize ") {
         Some(rest) => unsize(alloc, heads, to, rest),
-        None => borrowed(alloc, to, text),
+        None => read_borrow(alloc, to, text),
     }
 }
 
@@ -188,7 +188,7 @@ fn of_parts<'a>(
 }
 
 /// What is stored at a place.
-fn assigned<'a>(
+fn read_rvalue<'a>(
     alloc: Global,
     heads: &Heads,
     to: Place,
@@ -243,7 +243,7 @@ pub fn read_stmt<'a>(
             let Some(rest) = strip(rest, " = ") else {
                 return Err(ReadError::Unreadable);
             };
-            assigned(alloc, heads, to, rest)
+            read_rvalue(alloc, heads, to, rest)
         }
         None => without_place(alloc, text),
     }

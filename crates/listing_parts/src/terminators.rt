@@ -1,6 +1,6 @@
 //! Terminators.
 ghost use Rattle.std.specs.Prelude.{◌≡◌};
-ghost use Rattle.mir_text.specs.Reading.Lines as reading;
+ghost use Rattle.listing_write.specs.Reading.Lines as reading;
 ghost use Rattle.listing_parts.specs.Found.{Finds, seen};
 ghost use Rattle.listing_parts.specs.Numbers.{adt_no, trait_no};
 
@@ -64,7 +64,7 @@ fn two_numbers(text: &[u8]) -> Option<((u32, u32), &[u8])>
     Some(((first, second), rest))
 }
 
-fn calculated(alloc: Global, to: Place, op: Math, text: &[u8]) -> Result<(Term, &[u8]), ReadError>
+fn read_math(alloc: Global, to: Place, op: Math, text: &[u8]) -> Result<(Term, &[u8]), ReadError>
     ensures { Finds result (reading.calculated to op text.now) }
 {
     let ((left, right), rest) = two_operands(alloc, text)?;
@@ -86,7 +86,7 @@ fn calculated(alloc: Global, to: Place, op: Math, text: &[u8]) -> Result<(Term, 
     ))
 }
 
-fn negated(alloc: Global, to: Place, text: &[u8]) -> Result<(Term, &[u8]), ReadError>
+fn read_negation(alloc: Global, to: Place, text: &[u8]) -> Result<(Term, &[u8]), ReadError>
     ensures { Finds result (reading.negated to text.now) }
 {
     let (of, rest) = read_operand(alloc, text)?;
@@ -162,7 +162,7 @@ fn ask(to: Place, text: &[u8]) -> Option<(Term, &[u8])>
 }
 
 /// What a call stores.
-fn called<'a>(
+fn read_call<'a>(
     alloc: Global,
     heads: &Heads,
     to: Place,
@@ -183,7 +183,7 @@ fn called<'a>(
 }
 
 /// What may panic and stores a result.
-fn returned<'a>(
+fn read_result<'a>(
     alloc: Global,
     heads: &Heads,
     to: Place,
@@ -192,11 +192,11 @@ fn returned<'a>(
     ensures { Finds result (reading.returned (adt_no heads.now) (trait_no heads.now) to text.now) }
 {
     if let Some((op, rest)) = math(text) {
-        return calculated(alloc, to, op, rest);
+        return read_math(alloc, to, op, rest);
     }
     match strip(text, "neg ") {
-        Some(rest) => negated(alloc, to, rest),
-        None => called(alloc, heads, to, text),
+        Some(rest) => read_negation(alloc, to, rest),
+        None => read_call(alloc, heads, to, text),
     }
 }
 
@@ -332,7 +332,7 @@ pub fn read_term<'a>(
             let Some(rest) = strip(rest, " = ") else {
                 return Err(ReadError::Unreadable);
             };
-            returned(alloc, heads, to, rest)
+            read_result(alloc, heads, to, rest)
         }
         None => without_result(alloc, text),
     }

@@ -1,8 +1,8 @@
 //! Types, read into the table of some items.
 ghost use Rattle.std.specs.Prelude.{◌≡◌, ◌<◌, Some, IfOk, length};
 ghost use Rattle.mir_ty.specs.AreItems.{AreTypes, HasParts};
-ghost use Rattle.mir_text.specs.Reading.Rows.{comma, many, row};
-ghost use Rattle.mir_text.specs.Types.{form_text};
+ghost use Rattle.listing_write.specs.Reading.Rows.{comma, many, row};
+ghost use Rattle.listing_write.specs.Types.{form_text};
 ghost use Rattle.listing_parts.specs.Leaves.{BeginsLeaf};
 ghost use Rattle.listing_parts.specs.Table.{AreRead, MayStand, text_under, under};
 ghost use Rattle.listing_parts.specs.TypeReading as reading;
@@ -16,7 +16,7 @@ use mir_ty::{Items, Ty, TyId};
 use std::alloc::Global;
 
 /// A type of the table, and what stands behind it.
-fn numbered<'a>(
+fn read_interned<'a>(
     heads: &Heads,
     items: &mut Items,
     ty: Ty,
@@ -79,7 +79,7 @@ fn read_rest<'a>(
     ensures { FindsType heads.now items.old items.new result (reading.rest_read (reading.type_within heads.now depth) heads.now (begin, text.now)) }
 {
     match begin {
-        Begin::Whole(ty) => numbered(heads, items, ty, text),
+        Begin::Whole(ty) => read_interned(heads, items, ty, text),
         Begin::Around(around) => read_around(alloc, heads, items, around, text, depth),
         Begin::Row => read_tuple(alloc, heads, items, text, depth),
     }
@@ -99,7 +99,7 @@ fn read_around<'a>(
 {
     match read_within(alloc, heads, items, text, depth) {
         Ok((inside, rest)) => match around_end(around, rest) {
-            Some((n, rest)) => numbered(heads, items, around_type(around, inside, n), rest),
+            Some((n, rest)) => read_interned(heads, items, around_type(around, inside, n), rest),
             None => Err(ReadError::Unreadable),
         },
         Err(error) => Err(error),
@@ -120,7 +120,7 @@ fn read_tuple<'a>(
     let mut parts = List::new(alloc);
     match read_row(alloc, heads, items, &mut parts, text, depth) {
         Ok(rest) => match row_end(parts.as_slice(), rest) {
-            Some(rest) => numbered(heads, items, tuple_type(parts), rest),
+            Some(rest) => read_interned(heads, items, tuple_type(parts), rest),
             None => Err(ReadError::Unreadable),
         },
         Err(NoMemory) => Err(ReadError::NoMemory),

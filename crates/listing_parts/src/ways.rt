@@ -1,6 +1,6 @@
 //! Ways out of what may panic.
 ghost use Rattle.std.specs.Prelude.{◌≡◌};
-ghost use Rattle.mir_text.specs.Reading.Parts as reading;
+ghost use Rattle.listing_write.specs.Reading.Parts as reading;
 ghost use Rattle.listing_parts.specs.Found.{seen};
 
 use crate::words::{number, strip};

@@ -5,7 +5,7 @@ ghost use Rattle.std.specs.Char.{digit_value};
 ghost use Rattle.std.specs.List.{list_any, list_all, prefix_len};
 ghost use Rattle.std.specs.Str.Parse.{digits_value};
 ghost use Rattle.cfg_graph.specs.WellFormed.NameFaults.{stands_in_names as byte_stands, marks};
-ghost use Rattle.mir_text.specs.Reading.Words as reading;
+ghost use Rattle.listing_write.specs.Reading.Words as reading;
 ghost use Rattle.listing_parts.specs.Found.{seen};
 
 /// The marks that end a name.
@@ -116,7 +116,7 @@ fn negative(value: u128) -> i128
 }
 
 /// A number of 128 bits with its sign, and what stands behind it.
-pub fn signed(text: &[u8]) -> Option<(i128, &[u8])>
+pub fn read_signed(text: &[u8]) -> Option<(i128, &[u8])>
     ensures { seen result ≡ reading.signed text.now }
 {
     match strip(text, "-") {

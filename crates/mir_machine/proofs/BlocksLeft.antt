@@ -18,11 +18,11 @@ use Rattle.mir_machine.specs.declared.tasks.Doing.{Doing}
 use Rattle.mir_machine.specs.declared.tasks.Task.{Task}
 use Rattle.mir_machine.specs.Left.{walks}
 use Rattle.mir_machine.specs.Tasks.{AreRanked, AtBlock, AtTerm, BeginsSo, DoesStmts, Keeps, Next, StmtsEnd, begun, lost_end}
-use Rattle.mir_steps.specs.Acting.{DoesAct}
-use Rattle.mir_steps.specs.declared.actions.Outcome.{Outcome}
-use Rattle.mir_steps.specs.declared.world.World.{World}
-use Rattle.mir_steps.specs.Steps.{seen, Goes, Panics, Halted}
-use Rattle.mir_steps.specs.Worlds.{state_of, run_setting}
+use Rattle.machine_steps.specs.Acting.{DoesAct}
+use Rattle.machine_steps.specs.declared.actions.Outcome.{Outcome}
+use Rattle.machine_steps.specs.declared.world.World.{World}
+use Rattle.machine_steps.specs.Steps.{seen, Goes, Panics, Halted}
+use Rattle.machine_steps.specs.Worlds.{state_of, run_setting}
 use Rattle.store_model.proofs.Concrete.Effects.{ticks_of, values_laws}
 use Rattle.store_model.proofs.Effects.Laws.{NoMore}
 use Rattle.store_model.specs.Concrete.Bodies.{ended}

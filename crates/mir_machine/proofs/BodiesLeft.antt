@@ -22,10 +22,10 @@ use Rattle.mir_machine.specs.declared.tasks.Post.{Post}
 use Rattle.mir_machine.specs.declared.tasks.Task.{Task}
 use Rattle.mir_machine.specs.Left.{goes_on, walks}
 use Rattle.mir_machine.specs.Tasks.{AtEntry, AtOutcome, AtTerm, DoingLeft, EndsByTerm, Keeps, Next, PostEnds, RunLeftFrom, chosen_doing, lost_end}
-use Rattle.mir_steps.specs.declared.actions.Outcome.{Outcome}
-use Rattle.mir_steps.specs.declared.world.World.{World}
-use Rattle.mir_steps.specs.Steps.{seen_choice, Chooses}
-use Rattle.mir_steps.specs.Worlds.{state_of, run_setting}
+use Rattle.machine_steps.specs.declared.actions.Outcome.{Outcome}
+use Rattle.machine_steps.specs.declared.world.World.{World}
+use Rattle.machine_steps.specs.Steps.{seen_choice, Chooses}
+use Rattle.machine_steps.specs.Worlds.{state_of, run_setting}
 use Rattle.store_model.proofs.Concrete.Effects.{ticks_of}
 use Rattle.store_model.specs.Concrete.Bodies.{cells_of_youngest, ended}
 use Rattle.store_model.specs.Concrete.Effects.{choose, evaluate_operand, give, whole_at}

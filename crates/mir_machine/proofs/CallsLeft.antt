@@ -22,9 +22,9 @@ use Rattle.mir_machine.specs.declared.tasks.Post.{Post}
 use Rattle.mir_machine.specs.declared.tasks.Task.{Task}
 use Rattle.mir_machine.specs.Left.{ForCall, goes_on, left, resumed, walks}
 use Rattle.mir_machine.specs.Tasks.{AtEntry, AtTerm, Keeps, Next, place_in, result_of}
-use Rattle.mir_steps.specs.declared.world.World.{World}
-use Rattle.mir_steps.specs.Worlds.{state_of, run_setting}
-use Rattle.mir_store.specs.Standing.{with_activations}
+use Rattle.machine_steps.specs.declared.world.World.{World}
+use Rattle.machine_steps.specs.Worlds.{state_of, run_setting}
+use Rattle.machine_store.specs.Standing.{with_activations}
 use Rattle.store_model.proofs.Concrete.Effects.{ticks_of}
 use Rattle.store_model.specs.Concrete.Bodies.{ended}
 use Rattle.store_model.specs.Concrete.Effects.{act, evaluate_operand, evaluate_operands, never_at, virtual_body, whole_at}

@@ -6,10 +6,10 @@ use Rattle.cfg_graph.specs.declared.terminator.Term.{Term}
 use Rattle.cfg_meaning.specs.Actions.{mode_of, site_of}
 use Rattle.cfg_meaning.specs.Laws.{bodies_of}
 use Rattle.cfg_meaning.specs.Programs.{setting_of}
-use Rattle.mir_steps.specs.declared.drops.Drops.{Drops}
-use Rattle.mir_steps.specs.declared.drops.Turn.{Turn}
-use Rattle.mir_steps.specs.Left.{finished}
-use Rattle.mir_steps.specs.Turns.{TurnLeft}
+use Rattle.machine_steps.specs.declared.drops.Drops.{Drops}
+use Rattle.machine_steps.specs.declared.drops.Turn.{Turn}
+use Rattle.machine_steps.specs.Left.{finished}
+use Rattle.machine_steps.specs.Turns.{TurnLeft}
 use Rattle.mir_base.specs.declared.trace.End.{End}
 use Rattle.mir_base.specs.declared.trace.Event.{Event}
 use Rattle.mir_base.specs.Trace.{Trace}
@@ -20,15 +20,15 @@ use Rattle.mir_machine.specs.declared.tasks.Post.{Post}
 use Rattle.mir_machine.specs.declared.tasks.Task.{Task}
 use Rattle.mir_machine.specs.Left.{ForDrop, goes_on, left}
 use Rattle.mir_machine.specs.Tasks.{AtEntry, AtOutcome, AtTerm, AtTurn, DoingLeft, DropsThat, Keeps, Next, PostEnds, drop_outcome, place_in}
-use Rattle.mir_steps.proofs.Operands.{whole_same}
-use Rattle.mir_steps.specs.declared.actions.Outcome.{Outcome}
-use Rattle.mir_steps.specs.declared.world.World.{World}
-use Rattle.mir_steps.specs.Steps.{seen, Halted}
-use Rattle.mir_steps.specs.Worlds.{state_of, run_setting}
-use Rattle.mir_store.proofs.SameReach.{reach_same}
-use Rattle.mir_store.specs.declared.location.Located.{Located}
-use Rattle.mir_store.specs.declared.types.Dynamic.{Dynamic}
-use Rattle.mir_store.specs.Standing.{located_of, with_activations}
+use Rattle.machine_steps.proofs.Operands.{whole_same}
+use Rattle.machine_steps.specs.declared.actions.Outcome.{Outcome}
+use Rattle.machine_steps.specs.declared.world.World.{World}
+use Rattle.machine_steps.specs.Steps.{seen, Halted}
+use Rattle.machine_steps.specs.Worlds.{state_of, run_setting}
+use Rattle.machine_store.proofs.SameReach.{reach_same}
+use Rattle.machine_store.specs.declared.location.Located.{Located}
+use Rattle.machine_store.specs.declared.types.Dynamic.{Dynamic}
+use Rattle.machine_store.specs.Standing.{located_of, with_activations}
 use Rattle.store_model.specs.Concrete.Effects.{drop, whole_at}
 use Rattle.store_model.specs.Concrete.Location as location
 use Rattle.store_model.specs.Concrete.Location.{Setting, reach}

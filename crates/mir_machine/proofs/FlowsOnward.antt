@@ -5,12 +5,12 @@ use Rattle.std.proofs.Math.ListN.{get_or}
 use Rattle.std.proofs.Math.Seq.{take-add, take-length, drop-length, drop-cons}
 use Rattle.mir_base.specs.Lines.{event_line, event_lines}
 use Rattle.mir_edge.specs.Faults.{HasRisen}
-use Rattle.mir_steps.specs.declared.told.ToldEvents.{ToldEvents}
-use Rattle.mir_steps.specs.Worlds.{event_of}
+use Rattle.machine_steps.specs.declared.told.ToldEvents.{ToldEvents}
+use Rattle.machine_steps.specs.Worlds.{event_of}
 use Rattle.mir_ty.specs.ItemTable.{ItemTable}
 use Rattle.mir_ty.specs.Named.{adt_name, body_name}
 use Rattle.mir_edge.specs.Told.{WhereTold}
-use Rattle.mir_machine.specs.declared.flowing.TextFlow.{TextFlow}
+use Rattle.mir_machine.specs.declared.trace_flow.TextFlow.{TextFlow}
 use Rattle.mir_machine.specs.declared.error.RunError.{RunError}
 use Rattle.mir_machine.specs.Flows.{Flows, CutOff, FlowsOn, StopsIn}
 use Rattle.mir_machine.specs.Errors.{TookPart}

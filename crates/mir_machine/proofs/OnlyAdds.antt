@@ -10,11 +10,11 @@ use Rattle.cfg_meaning.specs.Actions.{site_of}
 use Rattle.cfg_meaning.specs.Laws.{bodies_of, concrete_effects_of}
 use Rattle.cfg_meaning.specs.Programs.{setting_of, code_of}
 use Rattle.cfg_meaning.specs.Walk.{acts, renamed, stuck_in}
-use Rattle.mir_steps.specs.declared.drops.Drops.{Drops}
-use Rattle.mir_steps.specs.declared.drops.Turn.{Turn}
-use Rattle.mir_steps.specs.Left as dropping
-use Rattle.mir_steps.specs.Left.{Level, PartsOf, ContentOf, DropRest, AtEnd, after_by, HasLeft, IsAfter, Visits, AsRead, Again, Then, AwaitsLeft, finished, found_as, from_part, at_path}
-use Rattle.mir_steps.specs.Turns.{TurnLeft, levels_of, mode_by, stage_by}
+use Rattle.machine_steps.specs.declared.drops.Drops.{Drops}
+use Rattle.machine_steps.specs.declared.drops.Turn.{Turn}
+use Rattle.machine_steps.specs.Left as dropping
+use Rattle.machine_steps.specs.Left.{Level, PartsOf, ContentOf, DropRest, AtEnd, after_by, HasLeft, IsAfter, Visits, AsRead, Again, Then, AwaitsLeft, finished, found_as, from_part, at_path}
+use Rattle.machine_steps.specs.Turns.{TurnLeft, levels_of, mode_by, stage_by}
 use Rattle.mir_base.specs.declared.trace.End.{End}
 use Rattle.mir_base.specs.declared.trace.Event.{Event}
 use Rattle.mir_base.specs.Trace.{Trace}
@@ -23,8 +23,8 @@ use Rattle.mir_machine.specs.declared.tasks.Post.{Post}
 use Rattle.mir_machine.specs.declared.tasks.Task.{Task}
 use Rattle.mir_machine.specs.Left.{WaitingBody, Waiting, ForCall, ForDrop, walks, goes_on, resumed, left}
 use Rattle.mir_machine.specs.Tasks.{AllWait, BodyEnds, DoingLeft, DropWaits, CallWaits, PostEnds, RunLeftFrom, WaitsFor, place_in}
-use Rattle.mir_steps.specs.Steps.{Seen, Goes, Panics, Halted, seen}
-use Rattle.mir_store.specs.Standing.{dynamic_of}
+use Rattle.machine_steps.specs.Steps.{Seen, Goes, Panics, Halted, seen}
+use Rattle.machine_store.specs.Standing.{dynamic_of}
 use Rattle.store_model.proofs.Effects.Following.{FollowsOuts, ends}
 use Rattle.store_model.proofs.Concrete.MoreTicks.{Beside, OneMore, After, Begun, begun_further, More, both_go, both_unwind, both_halt, MoreAnswer, both_return, both_end, both_halt_in}
 use Rattle.store_model.proofs.Concrete.OneTickMore.{one_tick_more, FollowsWithin, bodies_more, follows_more, values_follow}

@@ -6,8 +6,8 @@ use Rattle.cfg_graph.specs.declared.place.Place.{Place}
 use Rattle.cfg_meaning.specs.Actions.{site_of}
 use Rattle.cfg_meaning.specs.Laws.{bodies_of}
 use Rattle.cfg_meaning.specs.Programs.{setting_of}
-use Rattle.mir_steps.specs.declared.drops.Drops.{Drops}
-use Rattle.mir_steps.specs.Turns.{TurnLeft}
+use Rattle.machine_steps.specs.declared.drops.Drops.{Drops}
+use Rattle.machine_steps.specs.Turns.{TurnLeft}
 use Rattle.mir_base.specs.declared.trace.End.{End}
 use Rattle.mir_machine.proofs.RunsLeft.{halts_end}
 use Rattle.mir_machine.proofs.TasksLeft.{tasks_halt, youngest_waits}
@@ -17,13 +17,13 @@ use Rattle.mir_machine.specs.declared.tasks.Post.{Post}
 use Rattle.mir_machine.specs.declared.tasks.Task.{Task}
 use Rattle.mir_machine.specs.Left.{Waiting, ForCall, ForDrop, goes_on, left, resumed}
 use Rattle.mir_machine.specs.Tasks.{AllWait, AtOutcome, AtResult, AtReturn, AtUnwound, Keeps, Next, PostEnds, ResumesSo, destination_in, place_in}
-use Rattle.mir_steps.proofs.ActsDone.{stops}
-use Rattle.mir_steps.specs.Acting.{stopped}
-use Rattle.mir_steps.specs.declared.actions.Outcome.{Outcome}
-use Rattle.mir_steps.specs.declared.world.World.{World}
-use Rattle.mir_steps.specs.Steps.{seen, Does}
-use Rattle.mir_steps.specs.Worlds.{state_of, run_setting}
-use Rattle.mir_store.specs.declared.types.Dynamic.{Dynamic}
+use Rattle.machine_steps.proofs.ActsDone.{stops}
+use Rattle.machine_steps.specs.Acting.{stopped}
+use Rattle.machine_steps.specs.declared.actions.Outcome.{Outcome}
+use Rattle.machine_steps.specs.declared.world.World.{World}
+use Rattle.machine_steps.specs.Steps.{seen, Does}
+use Rattle.machine_steps.specs.Worlds.{state_of, run_setting}
+use Rattle.machine_store.specs.declared.types.Dynamic.{Dynamic}
 use Rattle.store_model.proofs.Concrete.Effects.{ticks_of}
 use Rattle.store_model.proofs.Effects.Laws.{NoMore}
 use Rattle.store_model.specs.Concrete.Effects.{put}

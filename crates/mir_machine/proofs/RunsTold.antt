@@ -20,7 +20,7 @@ use Rattle.store_model.proofs.Concrete.Effects.{ticks_of}
 use Rattle.mir_edge.specs.Told.{WhereTold}
 use Rattle.mir_machine.proofs.FlowsOnward.{all_sent, flows_first, part_of}
 use Rattle.mir_machine.proofs.OnlyAdds.{told_first}
-use Rattle.mir_machine.specs.declared.flowing.TextFlow.{TextFlow}
+use Rattle.mir_machine.specs.declared.trace_flow.TextFlow.{TextFlow}
 use Rattle.mir_machine.specs.declared.error.RunError.{RunError}
 use Rattle.mir_machine.specs.Flows.{Flows, FlowsOn, StopsIn}
 use Rattle.mir_machine.specs.Runs.{ForRun, IsHandedOn, ended_by, events_of, lines_in, run_by, run_text}
@@ -28,10 +28,10 @@ use Rattle.mir_machine.specs.Errors.{TookPart}
 use Rattle.mir_base.specs.Lines.{end_line}
 use Rattle.mir_ty.specs.Named.{line_of}
 use Rattle.mir_machine.specs.Tasks.{AreRanked, AtEntry, DoingLeft, Keeps, Next, RunsGraph}
-use Rattle.mir_steps.specs.declared.told.ToldEvents.{ToldEvents}
-use Rattle.mir_steps.specs.declared.world.World.{World}
-use Rattle.mir_store.specs.Activations.{activations_of}
-use Rattle.mir_steps.specs.Worlds.{event_of, state_of, run_setting}
+use Rattle.machine_steps.specs.declared.told.ToldEvents.{ToldEvents}
+use Rattle.machine_steps.specs.declared.world.World.{World}
+use Rattle.machine_store.specs.Activations.{activations_of}
+use Rattle.machine_steps.specs.Worlds.{event_of, state_of, run_setting}
 use Rattle.mir_ty.specs.declared.def.Sig.{Sig}
 use Rattle.mir_ty.specs.ItemTable.{ItemTable}
 use Rattle.store_model.specs.Concrete.Bodies.{main_of}

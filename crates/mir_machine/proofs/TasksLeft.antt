@@ -5,10 +5,10 @@ use Rattle.cfg_graph.specs.declared.graph.Graph.{Graph}
 use Rattle.cfg_graph.specs.declared.terminator.Unwind.{Unwind}
 use Rattle.cfg_meaning.specs.Laws.{bodies_of}
 use Rattle.cfg_meaning.specs.Programs.{setting_of}
-use Rattle.mir_steps.specs.Left.{finished, found_as}
-use Rattle.mir_store.specs.Standing.{dynamic_of}
+use Rattle.machine_steps.specs.Left.{finished, found_as}
+use Rattle.machine_store.specs.Standing.{dynamic_of}
 use Rattle.store_model.specs.Values.Datum.{Gone}
-use Rattle.mir_steps.specs.Turns.{mode_by}
+use Rattle.machine_steps.specs.Turns.{mode_by}
 use Rattle.mir_base.specs.declared.trace.End.{End}
 use Rattle.mir_base.specs.Trace.{Trace}
 use Rattle.mir_machine.proofs.RunsLeft.{halts_end, stuck_ends}

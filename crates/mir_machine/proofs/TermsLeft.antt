@@ -8,9 +8,9 @@ use Rattle.cfg_meaning.specs.Actions.{mode_of}
 use Rattle.cfg_meaning.specs.Laws.{bodies_of, concrete_effects_of}
 use Rattle.cfg_meaning.specs.Programs.{code_of, setting_of}
 use Rattle.cfg_meaning.specs.Walk.{naming, stuck_in, term_does}
-use Rattle.mir_steps.specs.declared.drops.Turn.{Turn}
-use Rattle.mir_steps.specs.Left.{found_as}
-use Rattle.mir_steps.specs.Turns.{TurnLeft, mode_by}
+use Rattle.machine_steps.specs.declared.drops.Turn.{Turn}
+use Rattle.machine_steps.specs.Left.{found_as}
+use Rattle.machine_steps.specs.Turns.{TurnLeft, mode_by}
 use Rattle.mir_base.specs.declared.trace.End.{End}
 use Rattle.mir_base.specs.Trace.{Trace}
 use Rattle.mir_machine.proofs.TasksLeft.{ends_halted, moved}
@@ -19,13 +19,13 @@ use Rattle.mir_machine.specs.declared.tasks.Post.{Post}
 use Rattle.mir_machine.specs.declared.tasks.Task.{Task}
 use Rattle.mir_machine.specs.Left.{goes_on, walks}
 use Rattle.mir_machine.specs.Tasks.{AtOutcome, AtTerm, DoingLeft, DropsThat, EndsByTerm, Keeps, Next, PostEnds, RunLeft, chosen_doing, place_in}
-use Rattle.mir_steps.specs.Acting.{DoesAct}
-use Rattle.mir_steps.specs.declared.actions.Outcome.{Outcome}
-use Rattle.mir_steps.specs.declared.world.World.{World}
-use Rattle.mir_steps.specs.Steps.{seen, leaves, seen_choice, leaves_choice}
-use Rattle.mir_steps.specs.Worlds.{state_of, run_setting}
-use Rattle.mir_store.specs.declared.types.Dynamic.{Dynamic}
-use Rattle.mir_store.specs.Standing.{dynamic_of}
+use Rattle.machine_steps.specs.Acting.{DoesAct}
+use Rattle.machine_steps.specs.declared.actions.Outcome.{Outcome}
+use Rattle.machine_steps.specs.declared.world.World.{World}
+use Rattle.machine_steps.specs.Steps.{seen, leaves, seen_choice, leaves_choice}
+use Rattle.machine_steps.specs.Worlds.{state_of, run_setting}
+use Rattle.machine_store.specs.declared.types.Dynamic.{Dynamic}
+use Rattle.machine_store.specs.Standing.{dynamic_of}
 use Rattle.store_model.proofs.Concrete.Effects.{ticks_of, values_laws, body_thrifty}
 use Rattle.store_model.proofs.Effects.Laws.{Laws, NoMore, NoMoreOf}
 use Rattle.store_model.specs.Concrete.Bodies.{ended}

@@ -1,7 +1,7 @@
 -- How the text of a run flows to a sink: of what has been told the sink took so many bytes, and the rest waits.
 use Rattle.std.specs.Prelude.{◌≡◌, ◌≤◌, ℕ, List, ◌++◌, length, take, drop, Option, Some, string_bytes}
 use Rattle.mir_edge.specs.Told.{WhereTold}
-use Rattle.mir_machine.specs.declared.flowing.TextFlow.{TextFlow}
+use Rattle.mir_machine.specs.declared.trace_flow.TextFlow.{TextFlow}
 use Rattle.mir_machine.specs.declared.error.RunError.{RunError}
 
 -- what the sink took since the start are the first bytes of a text, and the others wait

@@ -4,12 +4,12 @@ use Rattle.cfg_graph.specs.declared.graph.Graph.{Graph}
 use Rattle.cfg_meaning.specs.Programs.{graph_run, raw_graph_run}
 use Rattle.mir_base.specs.declared.trace.End.{End}
 use Rattle.mir_base.specs.Trace.{Trace}
-use Rattle.mir_steps.specs.declared.told.ToldEvents.{ToldEvents}
+use Rattle.machine_steps.specs.declared.told.ToldEvents.{ToldEvents}
 use Rattle.mir_base.specs.declared.trace.Event.{Event}
 use Rattle.mir_machine.specs.declared.tasks.Doing.{Doing}
 use Rattle.mir_machine.specs.Tasks.{AreRanked, AtEntry, RunsGraph}
-use Rattle.mir_steps.specs.declared.world.World.{World}
-use Rattle.mir_steps.specs.Worlds.{event_of, run_setting, state_of}
+use Rattle.machine_steps.specs.declared.world.World.{World}
+use Rattle.machine_steps.specs.Worlds.{event_of, run_setting, state_of}
 use Rattle.store_model.specs.Concrete.Bodies.{main_of}
 use Rattle.mir_ty.specs.Named.{adt_name, body_name, text_of}
 use Rattle.mir_base.specs.Lines.{event_lines}

@@ -10,11 +10,11 @@ use Rattle.cfg_meaning.specs.Actions.{site_of}
 use Rattle.cfg_meaning.specs.Laws.{bodies_of, concrete_effects_of}
 use Rattle.cfg_meaning.specs.Programs.{setting_of}
 use Rattle.cfg_meaning.specs.Walk.{naming, stuck_in, term_does}
-use Rattle.mir_steps.specs.declared.drops.Drops.{Drops}
-use Rattle.mir_steps.specs.Left.{AwaitsLeft}
+use Rattle.machine_steps.specs.declared.drops.Drops.{Drops}
+use Rattle.machine_steps.specs.Left.{AwaitsLeft}
 use Rattle.cfg_meaning.specs.Actions.{mode_of}
-use Rattle.mir_steps.specs.Turns.{IsDropOf, IsResumedBy, TurnLeft, levels_of, mode_by}
-use Rattle.mir_store.specs.declared.types.Dynamic.{Dynamic}
+use Rattle.machine_steps.specs.Turns.{IsDropOf, IsResumedBy, TurnLeft, levels_of, mode_by}
+use Rattle.machine_store.specs.declared.types.Dynamic.{Dynamic}
 use Rattle.store_model.specs.declared.address.Addr.{Addr}
 use Rattle.mir_base.specs.declared.trace.End.{End}
 use Rattle.mir_base.specs.Trace.{Trace}
@@ -22,17 +22,17 @@ use Rattle.mir_machine.specs.declared.tasks.Doing.{Doing}
 use Rattle.mir_machine.specs.declared.tasks.Post.{Post}
 use Rattle.mir_machine.specs.declared.tasks.Task.{Task}
 use Rattle.mir_machine.specs.Left.{WaitingBody, Waiting, ForCall, ForDrop, walks, goes_on, left}
-use Rattle.mir_steps.specs.declared.actions.Outcome.{Outcome}
-use Rattle.mir_steps.specs.declared.world.World.{World}
+use Rattle.machine_steps.specs.declared.actions.Outcome.{Outcome}
+use Rattle.machine_steps.specs.declared.world.World.{World}
 use Rattle.cfg_graph.specs.declared.place.Operand.{Operand}
-use Rattle.mir_steps.specs.Worlds.{Evaluates, state_of, run_setting}
-use Rattle.mir_store.specs.Standing.{dynamic_of}
+use Rattle.machine_steps.specs.Worlds.{Evaluates, state_of, run_setting}
+use Rattle.machine_store.specs.Standing.{dynamic_of}
 use Rattle.store_model.specs.Concrete.Bodies.{ended}
 use Rattle.store_model.specs.Concrete.State.{Answer, Returns, Unwinds, State}
 use Rattle.cfg_graph.specs.declared.graph.Kind.{Kind}
 use Rattle.cfg_graph.specs.declared.statement.Stmt.{Stmt}
 use Rattle.cfg_meaning.specs.Walk.{stmts_do}
-use Rattle.mir_steps.specs.declared.drops.Turn.{Turn}
+use Rattle.machine_steps.specs.declared.drops.Turn.{Turn}
 use Rattle.mir_base.specs.declared.trace.Event.{Event}
 use Rattle.mir_ty.specs.ItemTable.{ItemTable, type_at}
 use Rattle.store_model.specs.Concrete.Effects.{concrete_effects, put}

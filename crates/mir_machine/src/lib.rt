@@ -1,20 +1,20 @@
 //! The machine that runs graphs, and the text of a run on its way to a sink.
 #![tactic(auto)]
 
-mod dropping;
-mod entering;
+mod calls;
+mod control;
+mod drops;
 mod error;
-mod flowing;
-mod going;
 mod laws;
 mod running;
+mod statements;
 mod tasks;
 mod text;
+mod trace_flow;
 mod turns;
-mod walking;
 mod whole;
 
 pub use error::RunError;
-pub use flowing::TextFlow;
 pub use laws::law_of_runs;
 pub use running::{run, run_raw};
+pub use trace_flow::TextFlow;

@@ -12,15 +12,15 @@ ghost use Rattle.mir_machine.specs.Runs.{ForRun, IsHandedOn, ended_by, events_of
 ghost use Rattle.mir_machine.specs.Errors.{IsWriteFault, TookPart};
 ghost use Rattle.store_model.specs.Concrete.Bodies.{main_of};
 
-use crate::entering::enter;
+use crate::calls::enter;
 use crate::tasks::Doing;
 use crate::turns::turn;
 use crate::{RunError, TextFlow};
 use cfg_graph::Graph;
+use machine_steps::World;
+use machine_store::Store;
 use mir_base::{End, Event, List, Name, NoMemory};
 use mir_edge::Sink;
-use mir_steps::World;
-use mir_store::Store;
 use mir_ty::Items;
 use std::alloc::Global;
 
@@ -147,7 +147,8 @@ fn turns<K: Sink>(
         }
     }
     drop(doing);
-    Err(RunError::cannot_be())
+    // Behind all turns that a `u64` counts: no run comes so far.
+    Err(RunError::Memory)
 }
 
 /// Runs `main`.

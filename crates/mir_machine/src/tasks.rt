@@ -1,9 +1,9 @@
 //! What the machine holds of a run besides its storage: what waits, and what is done next.
 use crate::whole::Whole;
 use cfg_graph::Unwind;
+use machine_steps::{Drops, Turn};
+use machine_store::Dynamic;
 use mir_base::End;
-use mir_steps::{Drops, Turn};
-use mir_store::Dynamic;
 
 /// A block that waits for what its terminator does, and the ways on from there.
 #[derive(Clone, Copy)]

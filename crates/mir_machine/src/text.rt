@@ -1,11 +1,11 @@
 //! The lines of what a run told.
 ghost use Rattle.std.specs.Prelude.{◌≡◌, ◌++◌, OnOk, IfOk, string_bytes};
 ghost use Rattle.mir_base.specs.Lines.{event_line, end_line};
-ghost use Rattle.mir_steps.specs.Worlds.{event_of};
+ghost use Rattle.machine_steps.specs.Worlds.{event_of};
 ghost use Rattle.mir_ty.specs.Named.{adt_name, body_name};
 
+use machine_steps::ToldEvents;
 use mir_base::{End, NoMemory};
-use mir_steps::ToldEvents;
 use mir_ty::{Items, put_event_line};
 use std::alloc::Global;
 

@@ -6,15 +6,15 @@ ghost use Rattle.store_model.specs.Values.Datum.{datum_of};
 ghost use Rattle.store_model.specs.Values.Wholeness.{IsWhole};
 ghost use Rattle.mir_machine.specs.Tasks.{AtResult, AtReturn, AtUnwound, Keeps, Next, ResumesSo, destination_in, result_of};
 
-use crate::dropping::drop_turn;
-use crate::going::{go_on, stuck};
+use crate::control::{go_on, stuck};
+use crate::drops::drop_turn;
+use crate::statements::walk;
 use crate::tasks::{Doing, Post, Task};
-use crate::walking::walk;
 use crate::whole::Whole;
 use cfg_graph::{Graph, Place, Term};
+use machine_steps::{Drops, Outcome, World, stop_if};
+use machine_store::Dynamic;
 use mir_base::{End, List, NoMemory};
-use mir_steps::{Drops, Outcome, World, stop_if};
-use mir_store::Dynamic;
 use std::alloc::Global;
 use store_model::Value;
 
@@ -68,7 +68,7 @@ fn resume_drop(post: Post, mut drops: Drops, dynamic: Dynamic, panicked: bool) -
 }
 
 /// The youngest body has returned.
-fn returned(
+fn return_from_body(
     alloc: Global,
     graph: &Graph,
     world: &mut World<'_>,
@@ -127,7 +127,7 @@ pub fn turn(
         Doing::Drops { post, drops, turn } => {
             drop_turn(alloc, graph, world, tasks, post, drops, turn)
         }
-        Doing::Returned(value) => returned(alloc, graph, world, tasks, value),
+        Doing::Returned(value) => return_from_body(alloc, graph, world, tasks, value),
         Doing::Unwound => unwound(world, tasks),
         Doing::Ended(end) => Ok(Doing::Ended(end)),
     }

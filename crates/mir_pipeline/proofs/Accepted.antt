@@ -3,11 +3,11 @@ use Rattle.std.proofs.Common.{◌≡◌, ◌∙◌, ℕ, List, Some, ap, sym, su
 use Rattle.std.specs.Prelude.{option_map, slice_get}
 use Rattle.std.proofs.lemmas.Option.{slice_get-map}
 use Rattle.move_errors.specs.Reaches.{MeetsNone}
-use Rattle.cfg_build.specs.Lower.{body_of, graph_of}
-use Rattle.cfg_build.specs.Laws.{AllNameTheirLoops}
+use Rattle.lower_rules.specs.Lower.{body_of, graph_of}
+use Rattle.lower_rules.specs.Laws.{AllNameTheirLoops}
 use Rattle.cfg_graph.specs.declared.graph.Graph.{Graph}
-use Rattle.cfg_lower.specs.declared.programs.Lowered.{Lowered}
-use Rattle.lowered_paths.proofs.Law.{lowered-paths-meet}
+use Rattle.cfg_build.specs.declared.programs.Lowered.{Lowered}
+use Rattle.lower_laws.proofs.Law.{lowered-paths-meet}
 use Rattle.src_meaning.specs.Programs.{IsAccepted}
 use Rattle.typed_tree.specs.Tree.{BodyTree, ProgramTree}
 use Rattle.mir_pipeline.specs.Graphs.{IsAcceptedOf, IsLoweredOf, IsNotAccepted, RefusesUses, UsesStand}

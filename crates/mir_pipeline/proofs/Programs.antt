@@ -1,10 +1,10 @@
 -- The typed program of a text is well typed, so its jumps name loops around them, the numbers of its nodes rise, and its
 -- graph has no fault.
 use Rattle.std.proofs.Common.{ℕ, List, Result, Ok, Err, IfOk}
-use Rattle.lowered_graphs.proofs.AcceptedWhole.{accepted_graphs_are_well_formed}
-use Rattle.cfg_build.proofs.Typed.{bodies_name_loops}
-use Rattle.cfg_build.specs.Laws.{AllNameTheirLoops}
-use Rattle.lowered_paths.proofs.Exact.{bodies_rise}
+use Rattle.lower_laws.proofs.AcceptedWhole.{accepted_graphs_are_well_formed}
+use Rattle.lower_rules.proofs.Typed.{bodies_name_loops}
+use Rattle.lower_rules.specs.Laws.{AllNameTheirLoops}
+use Rattle.lower_laws.proofs.Exact.{bodies_rise}
 use Rattle.typing_soundness.specs.Texts.{IsTypedProgram}
 use Rattle.typing_soundness.proofs.Texts.{read_is_typed}
 use Rattle.typed_tree.specs.Tree.{ProgramTree}

@@ -3,29 +3,29 @@ use Rattle.std.proofs.Common.{◌≡◌, ◌∙◌, ◌||◌, ℕ, Bool, true, f
 use Rattle.std.specs.Prelude.{find, is_some, option_and_then, option_map}
 use Rattle.std.proofs.lemmas.Option.{slice_get-map}
 use Rattle.std.specs.List.{list_any}
-use Rattle.cfg_build.proofs.Bodies.{lowered_runs_as_its_source, lowered_walks_as_it_runs_freely}
-use Rattle.cfg_build.specs.Laws.{AllNameTheirLoops}
-use Rattle.cfg_build.specs.Lower.{body_of, graph_of}
+use Rattle.lower_rules.proofs.Bodies.{lowered_runs_as_its_source, lowered_walks_as_it_runs_freely}
+use Rattle.lower_rules.specs.Laws.{AllNameTheirLoops}
+use Rattle.lower_rules.specs.Lower.{body_of, graph_of}
 use Rattle.cfg_graph.specs.declared.graph.Block.{Block}
 use Rattle.cfg_graph.specs.declared.graph.Body.{Body}
 use Rattle.cfg_graph.specs.declared.graph.Graph.{Graph}
 use Rattle.cfg_graph.specs.declared.terminator.Term.{Term}
 use Rattle.cfg_graph.specs.Moves.BadUses.{UseRule}
 use Rattle.cfg_graph.specs.WellFormed.Faults.{IsCounted, IsWellFormed}
-use Rattle.cfg_lower.specs.Claims.{EachBody, RunsAsItsSource, WalksAsItRunsFreely}
-use Rattle.cfg_lower.specs.declared.programs.Lowered.{Lowered}
-use Rattle.lowered_paths.specs.Refused.{MeetsExactly}
-use Rattle.lowered_paths.proofs.Exact.{lowered-paths-meet-exactly}
-use Rattle.lowered_paths.specs.Told as told
-use Rattle.lowered_paths.specs.Told.{LineOfBody, has_site}
-use Rattle.lowered_paths.proofs.UseLaw.{lowered_uses_have_sites}
+use Rattle.cfg_build.specs.Claims.{EachBody, RunsAsItsSource, WalksAsItRunsFreely}
+use Rattle.cfg_build.specs.declared.programs.Lowered.{Lowered}
+use Rattle.lower_laws.specs.Refused.{MeetsExactly}
+use Rattle.lower_laws.proofs.Exact.{lowered-paths-meet-exactly}
+use Rattle.lower_laws.specs.Told as told
+use Rattle.lower_laws.specs.Told.{LineOfBody, has_site}
+use Rattle.lower_laws.proofs.UseLaw.{lowered_uses_have_sites}
 use Rattle.move_errors.specs.Refusal.{named_use}
 use Rattle.move_errors.specs.declared.errors.BadUse.{BadUse}
 use Rattle.move_paths.specs.Uses.{use_of}
 use Rattle.move_paths.specs.declared.uses.Use.{Use}
 use Rattle.typed_tree.specs.Tree.{BodyTree, ProgramTree}
-use Rattle.use_sites.specs.Listed.{program_sites}
-use Rattle.use_sites.specs.declared.site.Site.{Site}
+use Rattle.lower_rules.specs.Listed.{program_sites}
+use Rattle.lower_rules.specs.declared.site.Site.{Site}
 use Rattle.mir_pipeline.specs.Building.{HasGraph}
 use Rattle.mir_pipeline.specs.Graphs.{AreSited, IsFirstBad, IsGraphOf, behind_drop, told_by, is_drop, block_of, line_told, stands_at}
 use Rattle.mir_pipeline.specs.declared.uses.LineOfUse.{LineOfUse}

@@ -4,17 +4,17 @@ use Rattle.std.specs.Prelude.{option_map, slice_get, is_some}
 use Rattle.std.proofs.lemmas.Bool.{false≢true}
 use Rattle.std.proofs.lemmas.Option.{none-some, same_Some, slice_get-map}
 use Rattle.move_errors.specs.Reaches.{Reaches, MeetsNone, IsLeast}
-use Rattle.cfg_build.specs.Lower.{body_of}
+use Rattle.lower_rules.specs.Lower.{body_of}
 use Rattle.cfg_graph.specs.declared.graph.Body.{Body}
 use Rattle.cfg_graph.specs.declared.graph.Graph.{Graph}
 use Rattle.cfg_graph.specs.Moves.BadUses.{UseRule}
-use Rattle.cfg_lower.specs.declared.programs.Lowered.{Lowered}
-use Rattle.lowered_paths.specs.Refused.{MeetsExactly}
+use Rattle.cfg_build.specs.declared.programs.Lowered.{Lowered}
+use Rattle.lower_laws.specs.Refused.{MeetsExactly}
 use Rattle.move_errors.specs.Refusal.{named_use}
 use Rattle.move_errors.specs.declared.errors.BadUse.{BadUse}
 use Rattle.src_meaning.specs.Programs.{IsAccepted, reached_by}
 use Rattle.typed_tree.specs.Tree.{BodyTree, ProgramTree}
-use Rattle.use_sites.specs.declared.site.Site.{Site}
+use Rattle.lower_rules.specs.declared.site.Site.{Site}
 use Rattle.mir_pipeline.specs.Graphs.{IsBadAt, IsFirstBad, IsGraphOf, IsRefusedAs, IsRefusedInSource}
 
 module _ (program : ProgramTree) (lowered : Lowered) (g : IsGraphOf program lowered) (rule : UseRule) (bad : BadUse) (first : IsFirstBad lowered.graph rule bad) where

@@ -1,7 +1,7 @@
 -- What has no tree has no typed program, and a broken rule is the reason of a text.
 use Rattle.std.proofs.Common.{ℕ, List}
 use Rattle.mir_base.specs.declared.rule.RuleError.{RuleError}
-use Rattle.item_heads.specs.Answers.{Refuses}
+use Rattle.typeck_heads.specs.Answers.{Refuses}
 use Rattle.src_tree.specs.declared.node.Tree.{Tree}
 use Rattle.mir_pipeline.specs.Programs.{program_in, HasNoProgram}
 use Rattle.mir_pipeline.specs.Trees.{IsTreeOf, IsRefused, of_rule}

@@ -1,11 +1,11 @@
 -- What is asked and found as a graph is made and looked at; no public contract speaks of these words.
 use Rattle.std.specs.Prelude.{⊤}
-use Rattle.cfg_build.specs.Laws.{AllNameTheirLoops}
-use Rattle.cfg_build.specs.Lower.{graph_of}
+use Rattle.lower_rules.specs.Laws.{AllNameTheirLoops}
+use Rattle.lower_rules.specs.Lower.{graph_of}
 use Rattle.cfg_graph.specs.declared.graph.Graph.{Graph}
 use Rattle.cfg_graph.specs.Moves.BadUses.{U1, U2}
 use Rattle.cfg_graph.specs.WellFormed.Faults.{IsWellFormed}
-use Rattle.lowered_paths.specs.Refused.{AllNumbersRise}
+use Rattle.lower_laws.specs.Refused.{AllNumbersRise}
 use Rattle.move_errors.specs.declared.errors.UseError.{UseError}
 use Rattle.mir_pipeline.specs.Graphs.{IsFirstBad}
 use Rattle.typed_tree.specs.Tree.{ProgramTree}

@@ -2,7 +2,7 @@
 use Rattle.std.specs.Prelude.{◌≡◌, ◌<◌, ◌==◌, ℕ, Bool, true, false, ◌&&◌, List, map, Option, Some, None, slice_get, ⊤, find, is_some, option_and_then}
 use Rattle.move_errors.specs.Reaches.{MeetsNone, IsLeast}
 use Rattle.move_errors.specs.Runs.{number_of}
-use Rattle.cfg_build.specs.Lower.{graph_of, node_of}
+use Rattle.lower_rules.specs.Lower.{graph_of, node_of}
 use Rattle.cfg_graph.specs.declared.graph.Block.{Block}
 use Rattle.cfg_graph.specs.declared.graph.Body.{Body}
 use Rattle.cfg_graph.specs.declared.graph.Graph.{Graph}
@@ -10,16 +10,16 @@ use Rattle.cfg_graph.specs.declared.terminator.Term.{Term}
 use Rattle.cfg_graph.specs.Moves.BadUses.{UseRule, U1, U2}
 use Rattle.cfg_graph.specs.Places.{named}
 use Rattle.cfg_graph.specs.WellFormed.Faults.{IsCounted, IsWellFormed}
-use Rattle.cfg_lower.specs.Claims.{EachBody, RunsAsItsSource, WalksAsItRunsFreely}
-use Rattle.cfg_lower.specs.declared.programs.Lowered.{Lowered}
-use Rattle.lowered_paths.specs.Refused.{MeetsExactly}
+use Rattle.cfg_build.specs.Claims.{EachBody, RunsAsItsSource, WalksAsItRunsFreely}
+use Rattle.cfg_build.specs.declared.programs.Lowered.{Lowered}
+use Rattle.lower_laws.specs.Refused.{MeetsExactly}
 use Rattle.move_errors.specs.Refusal.{IsRefused}
 use Rattle.move_errors.specs.declared.errors.BadUse.{BadUse}
 use Rattle.move_paths.specs.declared.uses.Use.{Use}
 use Rattle.src_meaning.specs.Programs.{IsAccepted, reached_by}
 use Rattle.typed_tree.specs.Tree.{BodyTree, ProgramTree}
-use Rattle.use_sites.specs.Listed.{program_sites}
-use Rattle.use_sites.specs.declared.site.Site.{Site}
+use Rattle.lower_rules.specs.Listed.{program_sites}
+use Rattle.lower_rules.specs.declared.site.Site.{Site}
 use Rattle.mir_pipeline.specs.Programs.{IsProgramOf, HasNoProgram}
 use Rattle.mir_pipeline.specs.declared.refusal.Refusal.{Refusal}
 use Rattle.mir_pipeline.specs.declared.refusal.Refusal.TheVariants as refusal

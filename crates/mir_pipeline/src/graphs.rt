@@ -10,8 +10,8 @@ ghost use Rattle.mir_pipeline.specs.Programs.{HasNoProgram};
 
 use crate::refusal::Refusal;
 use crate::typed::read_typed;
+use cfg_build::{Lowered, lower};
 use cfg_graph::{Block, Body, Graph};
-use cfg_lower::{Lowered, lower};
 use mir_base::NoMemory;
 use std::alloc::Global;
 use typed_tree::Typed;
@@ -58,7 +58,7 @@ fn is_counted(graph: &Graph) -> bool
 
 /// The graph, if its lists are short.
 #[tactic(auto, using(crate::proofs::Counted::is_counted))]
-fn counted(lowered: Lowered) -> Result<Lowered, NoMemory>
+fn check_counts(lowered: Lowered) -> Result<Lowered, NoMemory>
     ensures same { IfOk result (λ counted. (counted ≡ lowered) × IsCounted counted.graph) }
 {
     if is_counted(&lowered.graph) {
@@ -74,7 +74,7 @@ fn graph_of(alloc: Global, typed: &Typed) -> Result<Lowered, NoMemory>
     ensures graph { IfOk result (IsGraphOf (program_of typed.now)) }
 {
     match lower(alloc, typed) {
-        Ok(lowered) => counted(lowered),
+        Ok(lowered) => check_counts(lowered),
         Err(NoMemory) => Err(NoMemory),
     }
 }

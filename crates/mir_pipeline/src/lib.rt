@@ -2,13 +2,13 @@
 #![tactic(auto)]
 
 mod graphs;
-mod reading;
+mod read;
 mod refusal;
 mod typed;
 mod uses;
 
 pub use graphs::build_raw;
-pub use reading::read_tree;
+pub use read::read_tree;
 pub use refusal::Refusal;
 pub use typed::read_typed;
 pub use uses::{checked, checked_uses};

@@ -2,13 +2,13 @@ ghost use Rattle.std.specs.Prelude.{◌≡◌};
 ghost use Rattle.mir_pipeline.specs.declared.refusal.Refusal.{Refusal};
 ghost use Rattle.mir_pipeline.specs.Trees.{refusal_of, of_rule, of_tokens};
 
+use lower_rules::Site;
 use mir_base::{Pos, Rule, RuleError};
 use move_errors::BadUse;
 use src_parse::ParseError;
 use src_token::LexError;
 use std::error::Error;
 use std::fmt;
-use use_sites::Site;
 
 /// Why a text is refused. The first reason of the first layer that has one is answered.
 #[derive(Drop)]

@@ -7,7 +7,7 @@ ghost use Rattle.typing_rules.specs.Borrows as rules;
 ghost use Rattle.well_typed.specs.Program.{WellTyped};
 ghost use Rattle.mir_pipeline.specs.Programs.{HasNoProgram, IsProgramOf};
 
-use crate::reading::read_tree;
+use crate::read::read_tree;
 use crate::refusal::Refusal;
 use borrow_rules::borrow_check;
 use mir_base::RuleError;
@@ -18,7 +18,7 @@ use type_check::check;
 use typed_tree::Typed;
 
 /// A typed program that breaks no rule of borrows.
-fn borrowed(alloc: Global, typed: Typed) -> Result<Typed, RuleError>
+fn check_borrows(alloc: Global, typed: Typed) -> Result<Typed, RuleError>
     ensures { Checks (rules.unless_borrows (Ok (program_of typed))) result }
 {
     match borrow_check(alloc, &typed) {
@@ -36,7 +36,7 @@ fn of_tree(alloc: Global, tree: &Tree) -> Result<Typed, RuleError>
 {
     let items = collect(alloc, tree)?;
     let typed = check(alloc, tree, items)?;
-    borrowed(alloc, typed)
+    check_borrows(alloc, typed)
 }
 
 /// The typed program of a text, by the rules of items, bodies and borrows.

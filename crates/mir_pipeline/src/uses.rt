@@ -9,13 +9,13 @@ ghost use Rattle.cfg_graph.specs.Moves.BadUses.{U1, U2};
 
 use crate::graphs::build_raw;
 use crate::refusal::Refusal;
+use cfg_build::Lowered;
 use cfg_graph::{Block, Graph, Term};
-use cfg_lower::Lowered;
+use lower_rules::Site;
 use mir_base::NoMemory;
 use move_errors::{BadUse, UseError, check_uses};
 use move_paths::Use;
 use std::alloc::Global;
-use use_sites::Site;
 
 /// The first body with a bad use, in the order of numbers, and that use.
 fn first_bad(alloc: Global, graph: &Graph) -> Result<(), UseError>
@@ -147,7 +147,7 @@ fn of_store(alloc: Global, lowered: &Lowered, bad: BadUse) -> Refusal
     }
 }
 
-fn told(alloc: Global, lowered: &Lowered, error: UseError) -> Refusal
+fn refusal_of_use(alloc: Global, lowered: &Lowered, error: UseError) -> Refusal
     requires sited { AreSited lowered.now }
     requires first { HasFirstBad lowered.now.graph error }
     ensures { RefusesUses lowered.now result }
@@ -175,12 +175,12 @@ pub fn checked_uses(alloc: Global, lowered: &Lowered) -> Result<(), Refusal>
 {
     match first_bad(alloc, &lowered.graph) {
         Ok(()) => Ok(()),
-        Err(error) => Err(told(alloc, lowered, error)),
+        Err(error) => Err(refusal_of_use(alloc, lowered, error)),
     }
 }
 
 /// The graph, if all its uses stand.
-fn accepted(alloc: Global, lowered: Lowered) -> Result<Lowered, Refusal>
+fn accept_uses(alloc: Global, lowered: Lowered) -> Result<Lowered, Refusal>
     requires well_formed { IsWellFormed lowered.graph }
     requires counted { IsCounted lowered.graph }
     requires sited { AreSited lowered }
@@ -209,5 +209,5 @@ pub fn checked(alloc: Global, text: &[u8]) -> Result<Lowered, Refusal>
     ensures refused { IfErr result (λ refusal. IsNotAccepted text.now refusal) }
 {
     let lowered = build_raw(alloc, text)?;
-    accepted(alloc, lowered)
+    accept_uses(alloc, lowered)
 }

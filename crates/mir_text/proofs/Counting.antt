@@ -1,59 +1,65 @@
--- One more of things that are counted.
-use Rattle.std.proofs.Common.{◌≡◌, ℕ, suc, ◌+◌, ◌-◌, ◌<◌, List, [], ◌∷◌, ◌++◌, length, take, get_or, Some, None, ⊎_elim, ◌≤◌, ap, sym, ◌∙◌, arith, append_assoc}
-use Rattle.std.proofs.lemmas.List.{take_more, take_all, append-nil, length-take-le}
-use Rattle.std.specs.Prelude.{slice_get, flat_map}
-use Rattle.std.proofs.lemmas.List.Concat.{flat_map-append}
-use Rattle.std.proofs.lemmas.Option.{slice_get_within, get_or_from_slice_get, slice_get_cases}
-use Rattle.mir_text.specs.Items.{counted}
+-- Lines that are counted one thing after the other.
+use Rattle.std.proofs.Common.{◌≡◌, ℕ, zero, suc, ◌+◌, ◌-◌, ◌^◌, ◌<◌, ◌≤◌, List, [], ◌∷◌, take, length, get_or, ap, sym, ◌∙◌, arith, add-one}
+use Rattle.cfg_graph.specs.declared.graph.Block.{Block}
+use Rattle.cfg_graph.specs.declared.graph.Body.{Body}
+use Rattle.cfg_graph.specs.declared.graph.Graph.{Graph}
+use Rattle.cfg_graph.specs.WellFormed.Faults.{IsCounted, IsCountedBody}
+use Rattle.listing_write.specs.Listing.{IsShortGraph}
+use Rattle.listing_write.proofs.Reading.Basics.{Every}
+use Rattle.mir_text.specs.Answers.{blocks_lines, body_lines, bodies_lines, lines_count}
+use Rattle.mir_text.proofs.Told.{all_from_every}
 
-module _ {X : Type 0} (text : ℕ → X → List ℕ) where
-  pub counted-append : (n : ℕ) (xs ys : List X) → counted text n (xs ++ ys) ≡ counted text n xs ++ counted text (n + length xs) ys
-  counted-append n [] ys = ap (λ (k : ℕ). counted text k ys) (omega arith)
-  counted-append n (x ∷ xs) ys =
-      ap (λ (w : List ℕ). text n x ++ w) (counted-append (suc n) xs ys ∙ ap (λ (k : ℕ). counted text (suc n) xs ++ counted text k ys) (omega arith))
-      ∙ sym (append_assoc (text n x) (counted text (suc n) xs) (counted text (n + suc (length xs)) ys))
+next_block : (blocks : List Block) (i : ℕ) (x : Block) → i < length blocks → blocks_lines (take (suc i) blocks) ≡ blocks_lines (take i blocks) + 2 + length (get_or blocks i x).stmts
+next_block [] i x h = absurd (omega arith)
+next_block (b ∷ bs) zero x h = omega arith
+next_block (b ∷ bs) (suc i) x h = let deeper = next_block bs i x (omega (arith, h)) in omega (arith, deeper)
 
-  counted_more : (xs : List X) (n : ℕ) (x : X) → n < length xs → x ≡ get_or xs n x → counted text 0 (take (n + 1) xs) ≡ counted text 0 (take n xs) ++ text n x
-  counted_more xs n x within read =
-      let front : length (take n xs) ≡ n = length-take-le n xs (omega arith) in
-      let last : 0 + length (take n xs) ≡ n = omega arith in
-      ap (counted text 0) (take_more xs n x within ∙ ap (λ (y : X). take n xs ++ y ∷ []) (sym read))
-      ∙ counted-append 0 (take n xs) (x ∷ []) ∙ ap (λ (k : ℕ). counted text 0 (take n xs) ++ (text k x ++ [])) last
-      ∙ ap (λ (w : List ℕ). counted text 0 (take n xs) ++ w) (append-nil (text n x))
+pub one_block : (blocks : List Block) (i : ℕ) (x : Block) → i < length blocks → x ≡ get_or blocks i x → blocks_lines (take (i + 1) blocks) ≡ blocks_lines (take i blocks) + 2 + length x.stmts
+one_block blocks i x h is =
+    ap (λ (n : ℕ). blocks_lines (take n blocks)) (add-one i) ∙ next_block blocks i x h ∙ ap (λ (b : Block). blocks_lines (take i blocks) + 2 + length b.stmts) (sym is)
 
-  -- what was told, with one more
-  pub told_more : (before out new : List ℕ) (xs : List X) (n : ℕ) (x : X) → n < length xs → x ≡ get_or xs n x
-      → out ≡ before ++ counted text 0 (take n xs) → new ≡ out ++ text n x → new ≡ before ++ counted text 0 (take (n + 1) xs)
-  told_more before out new xs n x within read told more =
-      more ∙ ap (λ (w : List ℕ). w ++ text n x) told ∙ append_assoc before (counted text 0 (take n xs)) (text n x)
-      ∙ ap (λ (w : List ℕ). before ++ w) (sym (counted_more xs n x within read))
+next_body : (bodies : List Body) (i : ℕ) (x : Body) → i < length bodies → bodies_lines (take (suc i) bodies) ≡ bodies_lines (take i bodies) + body_lines (get_or bodies i x)
+next_body [] i x h = absurd (omega arith)
+next_body (b ∷ bs) zero x h = omega arith
+next_body (b ∷ bs) (suc i) x h = let deeper = next_body bs i x (omega (arith, h)) in omega (arith, deeper)
 
--- what a look-up by a number says of the number
-module _ {X : Type 0} (xs : List X) (n : ℕ) where
-  pub stands : (x : X) → Some x ≡ slice_get xs n → (n < length xs) × (x ≡ get_or xs n x)
-  stands x found = (slice_get_within xs n x (sym found), sym (get_or_from_slice_get xs n x x (sym found)))
+pub one_body : (bodies : List Body) (i : ℕ) (x : Body) → i < length bodies → x ≡ get_or bodies i x → bodies_lines (take (i + 1) bodies) ≡ bodies_lines (take i bodies) + body_lines x
+one_body bodies i x h is =
+    ap (λ (n : ℕ). bodies_lines (take n bodies)) (add-one i) ∙ next_body bodies i x h ∙ ap (λ (b : Body). bodies_lines (take i bodies) + body_lines b) (sym is)
 
-  -- with one that stands there, fewer are left behind it
-  pub fewer_left : (x : X) → Some x ≡ slice_get xs n → length xs - (n + 1) < length xs - n
-  fewer_left x found = let here : n < length xs = (stands x found).0 in omega arith
+-- a graph of few lines has few of all that has a line
+blocks_few : (blocks : List Block) → length blocks ≤ blocks_lines blocks
+blocks_few [] = omega arith
+blocks_few (b ∷ bs) = let deeper = blocks_few bs in omega (arith, deeper)
 
-  pub over : None ≡ slice_get xs n → length xs ≤ n
-  over missing =
-      ⊎_elim (λ (h : (x : X) × (n < length xs) × (slice_get xs n ≡ Some x) × (get_or xs n x ≡ x)). absurd (cc (h.2, missing))) (λ (h : (length xs ≤ n) × (slice_get xs n ≡ None)). h.0) (slice_get_cases xs n).1
+stmts_few : (blocks : List Block) → blocks_lines blocks < 2 ^ 32 - 1 → Every (λ block. length block.stmts < 2 ^ 32 - 1) blocks
+stmts_few [] h = tt
+stmts_few (b ∷ bs) h = (omega (arith, h), stmts_few bs (omega (arith, h)))
 
-  module _ (text : X → List ℕ) (before out new : List ℕ) where
-    pub told_each : (x : X) → Some x ≡ slice_get xs n → out ≡ before ++ flat_map text (take n xs) → new ≡ out ++ text x → new ≡ before ++ flat_map text (take (n + 1) xs)
-    told_each x found told more =
-        let (within, read) = stands x found in
-        let last : flat_map text (take (n + 1) xs) ≡ flat_map text (take n xs) ++ text x =
-        ap (flat_map text) (take_more xs n x within ∙ ap (λ (y : X). take n xs ++ y ∷ []) (sym read))
-        ∙ flat_map-append text (take n xs) (x ∷ []) ∙ ap (λ (w : List ℕ). flat_map text (take n xs) ++ w) (append-nil (text x)) in
-        more ∙ ap (λ (w : List ℕ). w ++ text x) told ∙ append_assoc before (flat_map text (take n xs)) (text x) ∙ ap (λ (w : List ℕ). before ++ w) (sym last)
+counted_body : (body : Body) → body_lines body < 2 ^ 32 - 1 → IsCountedBody body
+counted_body body h =
+    let few = blocks_few body.blocks in
+    record {
+      locals = omega (arith, h);
+      blocks = omega (arith, h, few);
+      stmts = all_from_every (λ (block : Block). length block.stmts < 2 ^ 32 - 1) body.blocks (stmts_few body.blocks (omega (arith, h)));
+    }
 
-  module _ (text : X → List ℕ) (before out : List ℕ) where
-    pub told_all : None ≡ slice_get xs n → out ≡ before ++ flat_map text (take n xs) → out ≡ before ++ flat_map text xs
-    told_all missing told = told ∙ ap (λ (ys : List X). before ++ flat_map text ys) (take_all n xs (over missing))
+bodies_few : (bodies : List Body) → length bodies ≤ bodies_lines bodies
+bodies_few [] = omega arith
+bodies_few (b ∷ bs) = let deeper = bodies_few bs in omega (arith, deeper)
 
-  module _ (text : ℕ → X → List ℕ) (before out : List ℕ) where
-    pub counted_all : None ≡ slice_get xs n → out ≡ before ++ counted text 0 (take n xs) → out ≡ before ++ counted text 0 xs
-    counted_all missing told = told ∙ ap (λ (ys : List X). before ++ counted text 0 ys) (take_all n xs (over missing))
+counted_each : (bodies : List Body) → bodies_lines bodies < 2 ^ 32 - 1 → Every IsCountedBody bodies
+counted_each [] h = tt
+counted_each (b ∷ bs) h = (counted_body b (omega (arith, h)), counted_each bs (omega (arith, h)))
+
+pub counted : (graph : Graph) → lines_count graph < 2 ^ 32 - 1 → IsCounted graph
+counted graph h =
+    let few = bodies_few graph.bodies in
+    record {
+      bodies = omega (arith, h, few);
+      each = all_from_every IsCountedBody graph.bodies (counted_each graph.bodies (omega (arith, h)));
+    }
+
+pub short : (graph : Graph) → IsCounted graph → IsShortGraph graph
+short graph c = record { bodies = c.bodies; each = λ k d less. let own = c.each k d less in record { locals = own.locals; blocks = own.blocks } }

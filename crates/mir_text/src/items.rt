@@ -1,232 +1,201 @@
-ghost use Rattle.std.specs.Prelude.{◌≡◌, ◌++◌, OnOk, codes, flat_map, map};
-ghost use Rattle.std.specs.Fmt.{decimal};
-ghost use Rattle.std.specs.String.{string_bytes};
-ghost use Rattle.std.specs.Prelude.{slice_get};
-ghost use Rattle.mir_ty.specs.Parts.{fields_of};
-ghost use Rattle.mir_text.specs.Items.{adt_line, trait_line, impl_line, closure_line, types_text, copy_text, counted, drop_text, items_text, method_text, shape_text, variant_text};
-ghost use Rattle.mir_text.specs.Lists.{behind_commas, in_braces};
+//! The sections of structs and enums, traits, impls and closures.
+ghost use Rattle.std.specs.Prelude.{◌≡◌, length, [], Some, None};
+ghost use Rattle.mir_text.specs.SectionReading as reading;
+ghost use Rattle.mir_text.specs.SectionsRead.{Drafted, FindsItem, FindsSection, items_seen};
 
-use crate::statements::{put_adt_name, put_trait_name};
-use crate::types::{put_type, put_types};
-use crate::words::{put, put_number};
-use mir_ty::{Adt, ClosureDef, ImplDef, Items, Sig, TraitDef, Variant};
-use std::alloc::AllocError;
+use listing_lines::{adt_line, closure_line, impl_line, trait_line};
+use listing_parts::{Heads, ReadError};
+use mir_base::NoMemory;
+use mir_ty::Items;
+use std::alloc::Global;
 
-fn put_variant(out: &mut String, items: &Items, variant: &Variant) -> Result<(), AllocError>
-    ensures { OnOk result (string_bytes out.new ≡ string_bytes out.old ++ variant_text items.now variant.now) }
+/// Adds a struct or enum whose line stands in front.
+fn add_adt<'a>(
+    alloc: Global,
+    heads: &Heads,
+    items: &mut Items,
+    text: &'a [u8],
+) -> Result<&'a [u8], ReadError>
+    requires { Drafted heads.now items.old }
+    ensures { FindsItem heads.now items.old items.new result (reading.one_adt heads.now (items_seen heads.now items.old) text.now) }
 {
-    put(out, variant.name.as_str())?;
-    put(out, " ")?;
-    put_types(out, items, variant.fields.as_slice())
-}
-
-fn put_more_variants(
-    out: &mut String,
-    items: &Items,
-    variants: &[Variant],
-) -> Result<(), AllocError>
-    ensures { OnOk result (string_bytes out.new ≡ string_bytes out.old ++ behind_commas (map (variant_text items.now) variants.now)) }
-{
-    for variant in variants {
-        put(out, ", ")?;
-        put_variant(out, items, variant)?;
+    match adt_line(alloc, heads, items, text) {
+        Ok((adt, rest)) => match items.add_adt(adt) {
+            Ok(_) => Ok(rest),
+            Err(NoMemory) => Err(ReadError::NoMemory),
+        },
+        Err(error) => Err(error),
     }
-    Ok(())
 }
 
-fn put_variants(out: &mut String, items: &Items, variants: &[Variant]) -> Result<(), AllocError>
-    ensures { OnOk result (string_bytes out.new ≡ string_bytes out.old ++ in_braces (map (variant_text items.now) variants.now)) }
+/// Adds the trait with number `n` whose line stands in front.
+fn add_trait<'a>(
+    alloc: Global,
+    heads: &Heads,
+    items: &mut Items,
+    n: u32,
+    text: &'a [u8],
+) -> Result<&'a [u8], ReadError>
+    requires drafted { Drafted heads.now items.old }
+    requires due { n ≡ length items.old.traits }
+    ensures { FindsItem heads.now items.old items.new result (reading.one_trait heads.now (items_seen heads.now items.old) text.now) }
 {
-    match variants {
-        [] => put(out, "{ }"),
-        [first, others @ ..] => {
-            put(out, "{ ")?;
-            put_variant(out, items, first)?;
-            put_more_variants(out, items, others)?;
-            put(out, " }")
+    match trait_line(alloc, heads, items, n, text) {
+        Ok((def, rest)) => match items.add_trait(def) {
+            Ok(_) => Ok(rest),
+            Err(NoMemory) => Err(ReadError::NoMemory),
+        },
+        Err(error) => Err(error),
+    }
+}
+
+/// Adds an impl whose line stands in front.
+fn add_impl<'a>(
+    alloc: Global,
+    heads: &Heads,
+    items: &mut Items,
+    text: &'a [u8],
+) -> Result<&'a [u8], ReadError>
+    requires { Drafted heads.now items.old }
+    ensures { FindsItem heads.now items.old items.new result (reading.one_impl heads.now (items_seen heads.now items.old) text.now) }
+{
+    match impl_line(alloc, heads, text) {
+        Ok((def, rest)) => match items.add_impl(def) {
+            Ok(_) => Ok(rest),
+            Err(NoMemory) => Err(ReadError::NoMemory),
+        },
+        Err(error) => Err(error),
+    }
+}
+
+/// Adds the closure with number `n` whose line stands in front.
+fn add_closure<'a>(
+    alloc: Global,
+    heads: &Heads,
+    items: &mut Items,
+    n: u32,
+    text: &'a [u8],
+) -> Result<&'a [u8], ReadError>
+    requires drafted { Drafted heads.now items.old }
+    requires due { n ≡ length items.old.closures }
+    ensures { FindsItem heads.now items.old items.new result (reading.one_closure heads.now (items_seen heads.now items.old) text.now) }
+{
+    match closure_line(alloc, heads, items, n, text) {
+        Ok((def, rest)) => match items.add_closure(def) {
+            Ok(_) => Ok(rest),
+            Err(NoMemory) => Err(ReadError::NoMemory),
+        },
+        Err(error) => Err(error),
+    }
+}
+
+/// As many structs and enums as there are.
+fn read_adts<'a>(
+    alloc: Global,
+    heads: &Heads,
+    items: &mut Items,
+    text: &'a [u8],
+) -> Result<&'a [u8], NoMemory>
+    requires { Drafted heads.now items.old }
+    ensures { FindsSection heads.now items.old items.new result (reading.as_long_as (reading.one_adt heads.now) (items_seen heads.now items.old) text.now) }
+{
+    let mut rest = text;
+    for _ in 0..text.len() {
+        match add_adt(alloc, heads, items, rest) {
+            Ok(behind) => rest = behind,
+            Err(ReadError::Unreadable) => return Ok(rest),
+            Err(ReadError::NoMemory) => return Err(NoMemory),
         }
     }
+    Ok(rest)
 }
 
-fn put_fields(out: &mut String, items: &Items, adt: &Adt) -> Result<(), AllocError>
-    ensures { OnOk result (string_bytes out.new ≡ string_bytes out.old ++ types_text items.now (fields_of (slice_get adt.now.variants 0))) }
+/// As many traits as there are.
+fn read_traits<'a>(
+    alloc: Global,
+    heads: &Heads,
+    items: &mut Items,
+    text: &'a [u8],
+) -> Result<&'a [u8], NoMemory>
+    requires drafted { Drafted heads.now items.old }
+    requires none { items.old.traits ≡ [] }
+    ensures { FindsSection heads.now items.old items.new result (reading.as_long_as (reading.one_trait heads.now) (items_seen heads.now items.old) text.now) }
 {
-    match adt.variants.get(0) {
-        Some(variant) => put_types(out, items, variant.fields.as_slice()),
-        None => put(out, "()"),
-    }
-}
-
-fn put_shape(out: &mut String, items: &Items, adt: &Adt) -> Result<(), AllocError>
-    ensures { OnOk result (string_bytes out.new ≡ string_bytes out.old ++ shape_text items.now adt.now.is_enum adt.now) }
-{
-    if adt.is_enum {
-        put(out, "enum ")?;
-        put(out, adt.name.as_str())?;
-        put(out, " ")?;
-        put_variants(out, items, adt.variants.as_slice())
-    } else {
-        put(out, "struct ")?;
-        put(out, adt.name.as_str())?;
-        put(out, " ")?;
-        put_fields(out, items, adt)
-    }
-}
-
-fn put_copy(out: &mut String, copy: bool) -> Result<(), AllocError>
-    ensures { OnOk result (string_bytes out.new ≡ string_bytes out.old ++ copy_text copy) }
-{
-    if copy { put(out, " copy") } else { Ok(()) }
-}
-
-fn put_drop(out: &mut String, body: Option<u32>) -> Result<(), AllocError>
-    ensures { OnOk result (string_bytes out.new ≡ string_bytes out.old ++ drop_text body) }
-{
-    match body {
-        Some(body) => {
-            put(out, " drop ")?;
-            put_number(out, body)
-        }
-        None => Ok(()),
-    }
-}
-
-fn put_adt(out: &mut String, items: &Items, adt: &Adt) -> Result<(), AllocError>
-    ensures { OnOk result (string_bytes out.new ≡ string_bytes out.old ++ adt_line items.now adt.now) }
-{
-    put_shape(out, items, adt)?;
-    put_copy(out, adt.copy)?;
-    put_drop(out, adt.drop_body)?;
-    put(out, "\n")
-}
-
-fn put_method(out: &mut String, items: &Items, sig: &Sig) -> Result<(), AllocError>
-    ensures { OnOk result (string_bytes out.new ≡ string_bytes out.old ++ method_text items.now sig.now) }
-{
-    put(out, sig.name.as_str())?;
-    put(out, " ")?;
-    put_types(out, items, sig.params.as_slice())?;
-    put(out, " ")?;
-    put_type(out, items, sig.result)
-}
-
-fn put_more_methods(out: &mut String, items: &Items, methods: &[Sig]) -> Result<(), AllocError>
-    ensures { OnOk result (string_bytes out.new ≡ string_bytes out.old ++ behind_commas (map (method_text items.now) methods.now)) }
-{
-    for method in methods {
-        put(out, ", ")?;
-        put_method(out, items, method)?;
-    }
-    Ok(())
-}
-
-fn put_methods(out: &mut String, items: &Items, methods: &[Sig]) -> Result<(), AllocError>
-    ensures { OnOk result (string_bytes out.new ≡ string_bytes out.old ++ in_braces (map (method_text items.now) methods.now)) }
-{
-    match methods {
-        [] => put(out, "{ }"),
-        [first, others @ ..] => {
-            put(out, "{ ")?;
-            put_method(out, items, first)?;
-            put_more_methods(out, items, others)?;
-            put(out, " }")
+    let mut rest = text;
+    for n in 0..text.len() {
+        let Ok(number) = u32::try_from(n) else {
+            return Err(NoMemory::past_32_bits());
+        };
+        match add_trait(alloc, heads, items, number, rest) {
+            Ok(behind) => rest = behind,
+            Err(ReadError::Unreadable) => return Ok(rest),
+            Err(ReadError::NoMemory) => return Err(NoMemory),
         }
     }
+    Ok(rest)
 }
 
-fn put_trait(out: &mut String, items: &Items, def: &TraitDef) -> Result<(), AllocError>
-    ensures { OnOk result (string_bytes out.new ≡ string_bytes out.old ++ trait_line items.now def.now) }
+/// As many impls as there are.
+fn read_impls<'a>(
+    alloc: Global,
+    heads: &Heads,
+    items: &mut Items,
+    text: &'a [u8],
+) -> Result<&'a [u8], NoMemory>
+    requires { Drafted heads.now items.old }
+    ensures { FindsSection heads.now items.old items.new result (reading.as_long_as (reading.one_impl heads.now) (items_seen heads.now items.old) text.now) }
 {
-    put(out, "trait ")?;
-    put(out, def.name.as_str())?;
-    put(out, " ")?;
-    put_methods(out, items, def.methods.as_slice())?;
-    put(out, "\n")
-}
-
-fn put_bodies(out: &mut String, bodies: &[u32]) -> Result<(), AllocError>
-    ensures { OnOk result (string_bytes out.new ≡ string_bytes out.old ++ flat_map (λ body. codes " " ++ decimal body) bodies.now) }
-{
-    for body in bodies {
-        put(out, " ")?;
-        put_number(out, *body)?;
+    let mut rest = text;
+    for _ in 0..text.len() {
+        match add_impl(alloc, heads, items, rest) {
+            Ok(behind) => rest = behind,
+            Err(ReadError::Unreadable) => return Ok(rest),
+            Err(ReadError::NoMemory) => return Err(NoMemory),
+        }
     }
-    Ok(())
+    Ok(rest)
 }
 
-fn put_impl(out: &mut String, items: &Items, def: &ImplDef) -> Result<(), AllocError>
-    ensures { OnOk result (string_bytes out.new ≡ string_bytes out.old ++ impl_line items.now def.now) }
+/// As many closures as there are.
+fn read_closures<'a>(
+    alloc: Global,
+    heads: &Heads,
+    items: &mut Items,
+    text: &'a [u8],
+) -> Result<&'a [u8], NoMemory>
+    requires drafted { Drafted heads.now items.old }
+    requires none { items.old.closures ≡ [] }
+    ensures { FindsSection heads.now items.old items.new result (reading.as_long_as (reading.one_closure heads.now) (items_seen heads.now items.old) text.now) }
 {
-    put(out, "impl ")?;
-    put_trait_name(out, items, def.trait_no)?;
-    put(out, " for ")?;
-    put_adt_name(out, items, def.adt)?;
-    put_bodies(out, def.bodies.as_slice())?;
-    put(out, "\n")
-}
-
-fn put_closure(out: &mut String, items: &Items, n: u32, def: &ClosureDef) -> Result<(), AllocError>
-    ensures { OnOk result (string_bytes out.new ≡ string_bytes out.old ++ closure_line items.now n def.now) }
-{
-    put(out, "closure ")?;
-    put_number(out, n)?;
-    put(out, " ")?;
-    put_types(out, items, def.captures.as_slice())?;
-    put(out, " ")?;
-    put_number(out, def.body)?;
-    put(out, "\n")
-}
-
-fn put_adts(out: &mut String, items: &Items) -> Result<(), AllocError>
-    ensures { OnOk result (string_bytes out.new ≡ string_bytes out.old ++ flat_map (adt_line items.now) items.now.adts) }
-{
-    let mut n: u32 = 0;
-    while let Some(adt) = items.adt(n) {
-        put_adt(out, items, adt)?;
-        n += 1;
+    let mut rest = text;
+    for n in 0..text.len() {
+        let Ok(number) = u32::try_from(n) else {
+            return Err(NoMemory::past_32_bits());
+        };
+        match add_closure(alloc, heads, items, number, rest) {
+            Ok(behind) => rest = behind,
+            Err(ReadError::Unreadable) => return Ok(rest),
+            Err(ReadError::NoMemory) => return Err(NoMemory),
+        }
     }
-    Ok(())
+    Ok(rest)
 }
 
-fn put_traits(out: &mut String, items: &Items) -> Result<(), AllocError>
-    ensures { OnOk result (string_bytes out.new ≡ string_bytes out.old ++ flat_map (trait_line items.now) items.now.traits) }
+/// Adds the items whose lines stand in front: structs and enums, then traits, impls and closures, each as long as such
+/// lines come. Behind them stands what is left of the text. Before the call there are no traits and no closures.
+pub fn read_items<'a>(
+    alloc: Global,
+    heads: &Heads,
+    items: &mut Items,
+    text: &'a [u8],
+) -> Result<&'a [u8], NoMemory>
+    requires drafted { Drafted heads.now items.old }
+    requires no_traits { items.old.traits ≡ [] }
+    requires no_closures { items.old.closures ≡ [] }
+    ensures { FindsSection heads.now items.old items.new result (reading.items_read heads.now (items_seen heads.now items.old) text.now) }
 {
-    let mut n: u32 = 0;
-    while let Some(def) = items.trait_def(n) {
-        put_trait(out, items, def)?;
-        n += 1;
-    }
-    Ok(())
-}
-
-fn put_impls(out: &mut String, items: &Items) -> Result<(), AllocError>
-    ensures { OnOk result (string_bytes out.new ≡ string_bytes out.old ++ flat_map (impl_line items.now) items.now.impls) }
-{
-    let mut n: u32 = 0;
-    while let Some(def) = items.impl_def(n) {
-        put_impl(out, items, def)?;
-        n += 1;
-    }
-    Ok(())
-}
-
-fn put_closures(out: &mut String, items: &Items) -> Result<(), AllocError>
-    ensures { OnOk result (string_bytes out.new ≡ string_bytes out.old ++ counted (closure_line items.now) 0 items.now.closures) }
-{
-    let mut n: u32 = 0;
-    while let Some(def) = items.closure_def(n) {
-        put_closure(out, items, n, def)?;
-        n += 1;
-    }
-    Ok(())
-}
-
-/// The lines of all structs, enums, traits, impls and closures.
-pub fn put_items(out: &mut String, items: &Items) -> Result<(), AllocError>
-    ensures { OnOk result (string_bytes out.new ≡ string_bytes out.old ++ items_text items.now) }
-{
-    put_adts(out, items)?;
-    put_traits(out, items)?;
-    put_impls(out, items)?;
-    put_closures(out, items)
+    let rest = read_adts(alloc, heads, items, text)?;
+    let rest = read_traits(alloc, heads, items, rest)?;
+    let rest = read_impls(alloc, heads, items, rest)?;
+    read_closures(alloc, heads, items, rest)
 }

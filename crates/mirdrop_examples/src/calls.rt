@@ -2,10 +2,10 @@
 ghost use Rattle.std.specs.Prelude.{◌≡◌, []};
 
 use cfg_graph::{Graph, Place, Steps};
-use listing_reader::read_listing;
+use init_flow::MaybeInit;
 use mir_base::{Key, NoMemory};
 use mir_pipeline::read_typed;
-use move_flow::MaybeInit;
+use mir_text::read_listing;
 use move_paths::paths;
 use scope_table::scopes;
 use std::alloc::Global;
@@ -100,7 +100,7 @@ fn has_exits(alloc: Global) -> bool {
 }
 
 /// The scopes of a body, what is present in one of a graph, and what exits of scopes drop.
-pub fn made(alloc: Global) -> Option<usize> {
+pub fn count_scopes_and_exits(alloc: Global) -> Option<usize> {
     if !is_scoped(alloc, b"fn main() {}") {
         return Some(0);
     }

@@ -1,17 +1,17 @@
 //! Values that are deep, at paths as long, and runs of graphs that are long or deep, over a sink that keeps nothing.
 ghost use Rattle.std.specs.Prelude.{None};
 
-use listing_reader::read_listing;
 use mir_base::{End, List, NoMemory};
 use mir_edge::{Fault, Sink};
 use mir_machine::run;
+use mir_text::read_listing;
 use std::alloc::Global;
 use store_model::{At, AtPath, Value, put, read, take};
 
 /// So many boxes in one another.
 const DEEP: u32 = 1_000_000;
 
-fn boxed(alloc: Global, inside: Value) -> Result<Value, NoMemory> {
+fn box_around(alloc: Global, inside: Value) -> Result<Value, NoMemory> {
     Ok(Value::Boxed {
         serial: 1,
         impl_no: None,
@@ -22,7 +22,7 @@ fn boxed(alloc: Global, inside: Value) -> Result<Value, NoMemory> {
 fn boxes(alloc: Global, first: Value) -> Result<Value, NoMemory> {
     let mut value = first;
     for _ in 0..DEEP {
-        value = boxed(alloc, value)?;
+        value = box_around(alloc, value)?;
     }
     Ok(value)
 }
@@ -31,7 +31,7 @@ fn boxes(alloc: Global, first: Value) -> Result<Value, NoMemory> {
 fn pairs(alloc: Global, last: bool) -> Result<Value, NoMemory> {
     let mut value = Value::Unit;
     for _ in 0..DEEP {
-        let inner = boxed(alloc, value)?;
+        let inner = box_around(alloc, value)?;
         let parts = if last {
             vec![in alloc; Value::Int(0), inner]?
         } else {
@@ -54,7 +54,7 @@ fn all_dropped(alloc: Global) -> Result<(), NoMemory> {
 }
 
 /// Values as deep are dropped.
-pub fn dropped(alloc: Global) -> Option<usize> {
+pub fn drop_deep_values(alloc: Global) -> Option<usize> {
     match all_dropped(alloc) {
         Ok(()) => None,
         Err(NoMemory) => Some(0),
@@ -85,7 +85,7 @@ fn is_content_walked(alloc: Global) -> Result<bool, NoMemory> {
 }
 
 /// The content of all boxes is read, taken and put again.
-pub fn walked(alloc: Global) -> Option<usize> {
+pub fn walk_deep_values(alloc: Global) -> Option<usize> {
     match is_content_walked(alloc) {
         Ok(true) => None,
         _ => Some(0),

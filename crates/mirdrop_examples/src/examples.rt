@@ -34,7 +34,7 @@ fn row_in(line: &str) -> Option<ExampleRow<'_>> {
 }
 
 /// What an example ends with.
-fn ended(rt: &(impl Files + AllocGlobal), row: &ExampleRow<'_>) -> io::Result<Ended> {
+fn end_of_example(rt: &(impl Files + AllocGlobal), row: &ExampleRow<'_>) -> io::Result<Ended> {
     let text = fs::read_to_string(rt, row.text)?;
     Ok(run(rt.alloc(), row.words, text.as_bytes())?)
 }
@@ -63,7 +63,7 @@ fn verdict_on(
 
 /// The verdict on one example.
 fn verdict(rt: &(impl Files + AllocGlobal), row: &ExampleRow<'_>) -> io::Result<&'static str> {
-    let ended = ended(rt, row)?;
+    let ended = end_of_example(rt, row)?;
     verdict_on(rt, row, &ended)
 }
 
@@ -73,7 +73,7 @@ fn row_told(rt: &(impl Files + Print + AllocGlobal), row: &ExampleRow<'_>) -> io
 }
 
 /// Writes the verdict on each example.
-pub fn told(rt: &(impl Files + Print + AllocGlobal)) -> io::Result<()> {
+pub fn write_examples(rt: &(impl Files + Print + AllocGlobal)) -> io::Result<()> {
     let table = fs::read_to_string(rt, "README.md")?;
     for line in table.lines() {
         if let Some(row) = row_in(line) {

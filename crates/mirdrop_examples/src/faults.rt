@@ -26,7 +26,7 @@ static FAULTS: [FaultRow; 8] = [
 ];
 
 /// Reads and writes that fail, over a sink that takes four bytes a call.
-pub fn listed(alloc: Global) -> Result<Option<usize>, AllocError> {
+pub fn list_over_faults(alloc: Global) -> Result<Option<usize>, AllocError> {
     for (step, (words, failing_reads, failing_writes, status, written)) in FAULTS
         .iter()
         .enumerate()

@@ -25,7 +25,11 @@ fn tell(rt: &impl Print, what: &str, wrong: Result<Option<usize>, AllocError>) -
 
 fn faults_told(rt: &(impl Print + AllocGlobal)) -> io::Result<()> {
     let alloc = rt.alloc();
-    tell(rt, "reads and writes that fail", faults::listed(alloc))?;
+    tell(
+        rt,
+        "reads and writes that fail",
+        faults::list_over_faults(alloc),
+    )?;
     tell(rt, "each read fails", faults::each_read(alloc))?;
     tell(rt, "each write fails", faults::each_write(alloc))?;
     tell(rt, "each prefix is refused", faults::each_prefix(alloc))?;
@@ -47,15 +51,27 @@ fn layers_told(rt: &(impl Print + AllocGlobal)) -> io::Result<()> {
     let alloc = rt.alloc();
     tell(rt, "readers of std", Ok(edges::readers(alloc)))?;
     tell(rt, "writers of std", Ok(edges::writers(alloc)))?;
-    tell(rt, "deep values are dropped", Ok(deep::dropped(alloc)))?;
-    tell(rt, "long paths are walked", Ok(deep::walked(alloc)))?;
+    tell(
+        rt,
+        "deep values are dropped",
+        Ok(deep::drop_deep_values(alloc)),
+    )?;
+    tell(
+        rt,
+        "long paths are walked",
+        Ok(deep::walk_deep_values(alloc)),
+    )?;
     tell(rt, "long and deep graphs", Ok(deep::graphs(alloc)))?;
-    tell(rt, "calls that no run makes", Ok(calls::made(alloc)))
+    tell(
+        rt,
+        "calls that no run makes",
+        Ok(calls::count_scopes_and_exits(alloc)),
+    )
 }
 
 fn main(rt: HostRuntime) -> io::Result<()> {
-    examples::told(&rt)?;
-    rows::told(&rt)?;
+    examples::write_examples(&rt)?;
+    rows::write_rows(&rt)?;
     faults_told(&rt)?;
     trees_told(&rt)?;
     layers_told(&rt)

@@ -41,7 +41,7 @@ fn first_line(written: &[u8]) -> &str {
     line.strip_prefix("refused: ").unwrap_or(line)
 }
 
-fn answered(alloc: Global, words: &str, text: &str) -> Result<String, AllocError> {
+fn answer_of_row(alloc: Global, words: &str, text: &str) -> Result<String, AllocError> {
     let ended = run(alloc, words, text.as_bytes())?;
     String::from_str(alloc, first_line(ended.written.bytes()))
 }
@@ -57,7 +57,7 @@ fn stands_or(alloc: Global, stands: bool, word: &str, text: &str) -> Result<Stri
     if stands {
         String::from_str(alloc, word)
     } else {
-        answered(alloc, "check", text)
+        answer_of_row(alloc, "check", text)
     }
 }
 
@@ -76,7 +76,7 @@ fn with_line(alloc: Global, text: &str, number: usize, line: &str) -> Result<Str
 fn answered_to_damage(alloc: Global, listing: &str, row: &str) -> Result<String, AllocError> {
     let (number, line) = row.split_once(" | ").unwrap_or((row, ""));
     let damaged = with_line(alloc, listing, number.parse::<usize>().unwrap_or(0), line)?;
-    answered(alloc, "exec", damaged.as_str())
+    answer_of_row(alloc, "exec", damaged.as_str())
 }
 
 fn answer(
@@ -86,7 +86,7 @@ fn answer(
     row: &str,
 ) -> Result<String, AllocError> {
     match asks {
-        RowQuestion::Check => answered(alloc, "check", row),
+        RowQuestion::Check => answer_of_row(alloc, "check", row),
         RowQuestion::Tree => stands_or(alloc, has_tree(alloc, row.as_bytes()), "tree", row),
         RowQuestion::Items => stands_or(alloc, has_items(alloc, row.as_bytes()), "items", row),
         RowQuestion::Words => answered_with_status(alloc, row),
@@ -141,7 +141,7 @@ fn file_told(
 }
 
 /// Writes of each file of rows whether all are answered as it says.
-pub fn told(rt: &(impl Files + Print + AllocGlobal)) -> io::Result<()> {
+pub fn write_rows(rt: &(impl Files + Print + AllocGlobal)) -> io::Result<()> {
     let listing = fs::read_to_string(rt, "listing_of_a_local.listing")?;
     for (file, asks) in FILES.iter() {
         file_told(rt, listing.as_str(), file, *asks)?;

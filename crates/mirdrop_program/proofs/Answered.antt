@@ -1,8 +1,8 @@
 -- No text is owed a status of failure.
 use Rattle.std.proofs.Common.{◌≡◌, ℕ, List, arith, ap, sym, ◌∙◌, subst}
 use Rattle.mir_base.specs.declared.trace.End.{End}
-use Rattle.program_text.specs.declared.request.Command.{Command}
-use Rattle.program_text.specs.declared.request.Request.{Request}
+use Rattle.mirdrop_program.specs.declared.request.Command.{Command}
+use Rattle.mirdrop_program.specs.declared.request.Request.{Request}
 use Rattle.mirdrop_program.specs.Owed.{Owed, owed_by, OwedByCheck, OwedByRaw, OwedByRun, OwedByExec, accepted, not_accepted, listed, listed_with_use, no_program, ran, not_run, executed, no_listing, end_status}
 
 -- the statuses of failures

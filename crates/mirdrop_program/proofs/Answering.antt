@@ -1,16 +1,16 @@
 -- What was done with the answer to a text.
 use Rattle.std.proofs.Common.{◌≡◌, ℕ, ℤ, Bool, true, List, Option, Result, Ok, Err, IfOk, refl, sym, subst}
 use Rattle.cfg_graph.specs.declared.graph.Graph.{Graph}
-use Rattle.cfg_lower.specs.declared.programs.Lowered.{Lowered}
+use Rattle.cfg_build.specs.declared.programs.Lowered.{Lowered}
 use Rattle.cfg_meaning.specs.Programs.{graph_run, raw_graph_run}
-use Rattle.listing_reader.specs.Answers.{IsText, Answers as AnswersListing}
-use Rattle.listing_reader.specs.declared.error.ListingError.{ListingError}
+use Rattle.mir_text.specs.Answers.{IsText, Answers as AnswersListing}
+use Rattle.mir_text.specs.declared.error.ListingError.{ListingError}
 use Rattle.mir_base.specs.declared.memory.NoMemory.{NoMemory}
 use Rattle.mir_machine.specs.Runs.{run_text}
 use Rattle.mir_pipeline.specs.Graphs.{IsAcceptedOf, IsNotAccepted}
 use Rattle.mir_pipeline.specs.declared.refusal.Refusal.{Refusal}
-use Rattle.program_text.specs.declared.request.Command.{Command}
-use Rattle.program_text.specs.declared.request.Request.{Request}
+use Rattle.mirdrop_program.specs.declared.request.Command.{Command}
+use Rattle.mirdrop_program.specs.declared.request.Request.{Request}
 use Rattle.mirdrop_program.specs.Owed.{Owed, owed_by, OwedByRun, OwedByExec, ran, not_run, executed, no_listing, end_status}
 use Rattle.mirdrop_program.specs.Refusals.{IsTold, IsToldError, error_line, refusal_lines}
 use Rattle.mirdrop_program.specs.TopCall.{Responded, owing, cut_short, wanting, writes_a_trace}

@@ -3,3 +3,7 @@ pub mod Answering
 pub mod Owing
 pub mod TopCall
 pub mod Traces
+pub mod CommandLine
+pub mod Limits
+pub mod Rows
+pub mod Behind

@@ -7,8 +7,8 @@ use Rattle.mir_pipeline.proofs.Accepted.{is_accepted, has_bad_use}
 use Rattle.mir_pipeline.specs.Graphs.{IsAcceptedOf, IsLoweredOf, IsNotAccepted, RefusesUses, UsesStand}
 use Rattle.mir_pipeline.specs.Programs.{HasNoProgram}
 use Rattle.mir_pipeline.specs.declared.refusal.Refusal.{Refusal}
-use Rattle.cfg_lower.specs.declared.programs.Lowered.{Lowered}
-use Rattle.mir_text.specs.Listing.{IsShortBody, IsShortGraph, listing}
+use Rattle.cfg_build.specs.declared.programs.Lowered.{Lowered}
+use Rattle.listing_write.specs.Listing.{IsShortBody, IsShortGraph, listing}
 use Rattle.mirdrop_program.specs.Owed.{OwedByCheck, OwedByRaw, accepted, not_accepted, listed, listed_with_use, no_program, accepted_line, IsOfUse}
 use Rattle.mirdrop_program.specs.Refusals.{IsTold, refusal_lines}
 

@@ -3,8 +3,8 @@ use Rattle.std.proofs.Common.{◌≡◌, ℕ, ◌≤◌, ◌<◌, true, false, B
 use Rattle.std.specs.Prelude.{◌⊎◌, ⊤}
 use Rattle.std.proofs.lemmas.List.{append-nil}
 use Rattle.std.proofs.lemmas.Option.{none-some, same_Some}
-use Rattle.program_text.specs.Words.{request_of}
-use Rattle.program_text.specs.declared.request.Request.{Request}
+use Rattle.mirdrop_program.specs.Words.{request_of}
+use Rattle.mirdrop_program.specs.declared.request.Request.{Request}
 use Rattle.mirdrop_program.specs.Owed.{Owed}
 use Rattle.mirdrop_program.specs.TopCall.{DueAnswer, wrong_words, not_read, too_long, answered, Answers, whole, part, no_memory, no_memory_for_trace, HasAnswered, IsComplete, Delivered, taken_whole, taken_part, Responded, owing, cut_short, wanting, answers_a_text, writes_a_trace}
 use Rattle.mirdrop_program.proofs.Answered.{IsAnswer, owed_is_answer}

@@ -1,10 +1,10 @@
 -- What a text is owed for each command: a status, and all that is written with it.
 use Rattle.std.specs.Prelude.{◌≡◌, ℕ, ℤ, List, ◌++◌, codes, Err, ⊤}
 use Rattle.cfg_graph.specs.declared.graph.Graph.{Graph}
-use Rattle.cfg_lower.specs.declared.programs.Lowered.{Lowered}
+use Rattle.cfg_build.specs.declared.programs.Lowered.{Lowered}
 use Rattle.cfg_meaning.specs.Programs.{graph_run, raw_graph_run}
-use Rattle.listing_reader.specs.Answers.{IsText, Answers as AnswersListing}
-use Rattle.listing_reader.specs.declared.error.ListingError.{ListingError}
+use Rattle.mir_text.specs.Answers.{IsText, Answers as AnswersListing}
+use Rattle.mir_text.specs.declared.error.ListingError.{ListingError}
 use Rattle.mir_base.specs.declared.trace.End.{End}
 use Rattle.mir_base.specs.Lines.{line}
 use Rattle.mir_machine.specs.Runs.{run_text}
@@ -12,9 +12,9 @@ use Rattle.mir_pipeline.specs.Graphs.{IsAcceptedOf, IsLoweredOf, IsNotAccepted, 
 use Rattle.mir_pipeline.specs.Programs.{HasNoProgram}
 use Rattle.mir_pipeline.specs.declared.refusal.Refusal.{Refusal}
 use Rattle.mir_pipeline.specs.declared.refusal.Refusal.TheVariants.{U1, U2}
-use Rattle.mir_text.specs.Listing.{listing}
-use Rattle.program_text.specs.declared.request.Command.{Command}
-use Rattle.program_text.specs.declared.request.Request.{Request}
+use Rattle.listing_write.specs.Listing.{listing}
+use Rattle.mirdrop_program.specs.declared.request.Command.{Command}
+use Rattle.mirdrop_program.specs.declared.request.Request.{Request}
 use Rattle.mirdrop_program.specs.Refusals.{IsTold, IsToldError, error_line, refusal_lines}
 
 -- the status of a run, by its end

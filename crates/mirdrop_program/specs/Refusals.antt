@@ -1,9 +1,9 @@
 -- The lines of a refusal.
 use Rattle.std.specs.Prelude.{ℕ, List, [], ◌++◌, ⊤, codes}
-use Rattle.listing_reader.specs.declared.error.ListingError.{ListingError}
+use Rattle.mir_text.specs.declared.error.ListingError.{ListingError}
 use Rattle.mir_pipeline.specs.declared.refusal.Refusal.{Refusal}
 use Rattle.mir_pipeline.specs.declared.refusal.Refusal.TheVariants as refusal
-use Rattle.program_text.specs.Lines.{graph_line, lex_words, listing_line, refused_at, rule_words, store_line, use_line, way_lines}
+use Rattle.mirdrop_program.specs.Lines.{graph_line, lex_words, listing_line, refused_at, rule_words, store_line, use_line, way_lines}
 
 abbrev pub refusal_lines : Refusal → List ℕ
 refusal_lines (refusal.Lex code at) = refused_at (lex_words code) at

@@ -1,9 +1,9 @@
 -- What is due for words and a text, and what the program may answer.
 use Rattle.std.specs.Prelude.{◌≡◌, ℕ, ◌<◌, ◌≤◌, ◌⊎◌, ◌==◌, ◌||◌, Bool, true, false, List, [], ◌++◌, length, take, Option, Some, None, codes}
 use Rattle.mir_base.specs.Lines.{line}
-use Rattle.program_text.specs.Words.{request_of}
-use Rattle.program_text.specs.declared.request.Command.{Command}
-use Rattle.program_text.specs.declared.request.Request.{Request}
+use Rattle.mirdrop_program.specs.Words.{request_of}
+use Rattle.mirdrop_program.specs.declared.request.Command.{Command}
+use Rattle.mirdrop_program.specs.declared.request.Request.{Request}
 use Rattle.mirdrop_program.specs.Owed.{Owed}
 
 abbrev pub words_line : List ℕ

@@ -2,13 +2,25 @@
 #![tactic(auto)]
 
 mod answers;
-mod checking;
+mod check;
+mod commands;
 mod deliver;
-mod executing;
-mod listed;
-mod refused;
-mod respond;
-mod running;
+mod exec;
+mod listings;
+mod number;
+mod parts;
+mod raw;
+mod refusals;
+mod request;
+mod rules;
+mod run;
 mod top;
+mod uses;
+mod words;
 
+pub use listings::{put_graph_line, put_listing_line};
+pub use request::{Command, Request, WordsError};
+pub use rules::{put_lex_line, put_refused_at, put_rule_line};
 pub use top::mirdrop;
+pub use uses::{put_store_line, put_use_line, put_way_lines};
+pub use words::request_of;

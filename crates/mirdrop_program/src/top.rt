@@ -2,14 +2,14 @@
 ghost use Rattle.std.specs.Prelude.{◌≡◌, ◌≤◌, ◌<◌, ◌⊎◌, ℕ, List, [], length, map, string_bytes, Some, None, true};
 ghost use Rattle.mir_edge.specs.Faults.{HasRisen};
 ghost use Rattle.mir_edge.specs.Told.{WhereTold};
-ghost use Rattle.program_text.specs.Words.{request_of as asked_by};
+ghost use Rattle.mirdrop_program.specs.Words.{request_of as asked_by};
 ghost use Rattle.mirdrop_program.specs.TopCall.{HasAnswered, IsComplete, answers_a_text};
 
+use crate::commands::respond;
 use crate::deliver::deliver;
-use crate::respond::respond;
+use crate::{Request, WordsError, request_of};
 use mir_base::limits::MAX_TEXT_BYTES;
 use mir_edge::{ReadAllError, Sink, Source, read_all};
-use program_text::{Request, WordsError, request_of};
 use std::alloc::Global;
 
 /// Does what is asked for with the text of the source.

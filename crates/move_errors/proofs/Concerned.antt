@@ -26,10 +26,10 @@ use Rattle.move_paths.proofs.Finding.{reached-none}
 use Rattle.move_paths.proofs.Growth.{same_places}
 use Rattle.move_paths.proofs.Naming.{either, left-or, right-or}
 use Rattle.move_paths.proofs.Watched.{whole-is}
-use Rattle.move_flow.specs.Concerns.{array_of, in_array, concerns_read, concerns_test, concerns_store}
-use Rattle.move_flow.proofs.Marking.{transitive, same_true, above-step, above-root, not-above-up}
-use Rattle.move_flow.proofs.Telling.{local-same, steps-first, above-upto, upto-above, upto-upto}
-use Rattle.move_flow.proofs.Following.{counted}
+use Rattle.init_flow.specs.Concerns.{array_of, in_array, concerns_read, concerns_test, concerns_store}
+use Rattle.init_flow.proofs.Marking.{transitive, same_true, above-step, above-root, not-above-up}
+use Rattle.init_flow.proofs.Telling.{local-same, steps-first, above-upto, upto-above, upto-upto}
+use Rattle.init_flow.proofs.Following.{counted}
 use Rattle.move_errors.specs.Rows.{some_on, above, place_at, depth_from, is_depth, by_depth, OnlyAbove, Asks, concerns}
 use Rattle.move_errors.proofs.OnRows.{some-same, some-or, some-if, some-none}
 

@@ -13,17 +13,17 @@ use Rattle.cfg_graph.specs.Uses.{PlaceUse}
 use Rattle.cfg_graph.specs.Moves.Gone.{PathAction, leaves_gone, is_at_or_above, counts, left_by}
 use Rattle.init_flow.specs.Carried.{Bits}
 use Rattle.move_paths.specs.Forest.{PathForest, IsForest}
-use Rattle.move_flow.specs.declared.switches.Switch.{Switch}
-use Rattle.move_flow.specs.Fits.{IsSwitch}
-use Rattle.move_flow.specs.Moved.{mask_of}
-use Rattle.move_flow.proofs.Following.{counted}
+use Rattle.init_flow.specs.declared.switches.Switch.{Switch}
+use Rattle.init_flow.specs.Fits.{IsSwitch}
+use Rattle.init_flow.specs.Moved.{mask_of}
+use Rattle.init_flow.proofs.Following.{counted}
 use Rattle.std.specs.Option.{option_map}
 use Rattle.std.proofs.lemmas.Option.{slice_get-map}
 use Rattle.std.proofs.Common.{subst}
 use Rattle.move_paths.specs.Uses.{use_of}
-use Rattle.move_flow.specs.Moved.{masks_of}
-use Rattle.move_flow.specs.Concerns.{AreOfBody}
-use Rattle.move_flow.proofs.Telling.{of-body}
+use Rattle.init_flow.specs.Moved.{masks_of}
+use Rattle.init_flow.specs.Concerns.{AreOfBody}
+use Rattle.init_flow.proofs.Telling.{of-body}
 use Rattle.move_errors.specs.declared.act.Act.{Act}
 use Rattle.move_errors.specs.Runs.{actions_of, action_of}
 use Rattle.move_errors.specs.Rows.{left, use_at, IsUsed, IsWatched}

@@ -16,8 +16,8 @@ use Rattle.cfg_graph.specs.Moves.Gone.{PathAction}
 use Rattle.cfg_graph.specs.Moves.Paths.{ways, IsPath}
 use Rattle.init_flow.specs.Carried.{Bits}
 use Rattle.init_flow.specs.Ways.{target}
-use Rattle.move_flow.specs.Concerns.{AreOfBody}
-use Rattle.move_flow.proofs.Along.{actions_between}
+use Rattle.init_flow.specs.Concerns.{AreOfBody}
+use Rattle.init_flow.proofs.Along.{actions_between}
 use Rattle.move_paths.specs.Forest.{PathForest}
 use Rattle.move_errors.specs.Reaches.{rule_of, first_bad, Reaches}
 use Rattle.move_errors.specs.Rows.{state, after, first_by, IsWatched}

@@ -8,7 +8,7 @@ use Rattle.bit_rows.specs.Words.{any_both}
 use Rattle.init_flow.specs.Carried.{Bits}
 use Rattle.move_paths.specs.Trie.{AreOnce}
 use Rattle.move_paths.specs.Forest.{IsRoot, IsStepBelow}
-use Rattle.move_flow.proofs.Marking.{above-step, above-root}
+use Rattle.init_flow.proofs.Marking.{above-step, above-root}
 use Rattle.move_errors.specs.Rows.{some_on, above, place_at}
 
 and-off : (a : Bool) → (a && false) ≡ false

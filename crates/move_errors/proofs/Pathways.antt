@@ -20,7 +20,7 @@ use Rattle.cfg_graph.specs.Moves.Gone.{PathAction}
 use Rattle.cfg_graph.specs.Moves.Paths.{PathWay, ways, IsPath}
 use Rattle.init_flow.specs.Carried.{last_of}
 use Rattle.init_flow.specs.Ways.{target, target_among, block_of}
-use Rattle.move_flow.proofs.Along.{actions_in, actions_between}
+use Rattle.init_flow.proofs.Along.{actions_in, actions_between}
 use Rattle.move_errors.specs.declared.point.Point.{Point}
 use Rattle.move_errors.specs.declared.point.Stage.{Stage}
 use Rattle.move_errors.specs.declared.point.Onward.{Onward}

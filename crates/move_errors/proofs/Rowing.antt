@@ -12,9 +12,9 @@ use Rattle.cfg_graph.specs.Moves.BadUses.{UseRule, U1, U2, BadUse, may_not_read,
 use Rattle.cfg_graph.specs.Moves.Gone.{PathAction, is_gone_after}
 use Rattle.init_flow.specs.Carried.{Bits}
 use Rattle.move_paths.specs.Forest.{PathForest}
-use Rattle.move_flow.specs.Concerns.{AreOfBody, some_gone, concerns_read, concerns_test, concerns_store}
-use Rattle.move_flow.proofs.Following.{gone-push}
-use Rattle.move_flow.proofs.Telling.{uses-are-told}
+use Rattle.init_flow.specs.Concerns.{AreOfBody, some_gone, concerns_read, concerns_test, concerns_store}
+use Rattle.init_flow.proofs.Following.{gone-push}
+use Rattle.init_flow.proofs.Telling.{uses-are-told}
 use Rattle.move_errors.specs.Reaches.{rule_of, is_bad, first_bad}
 use Rattle.move_errors.specs.Rows.{some_on, concerns, left, state, is_bad_by, after, first_by, IsWatched, IsUsed}
 use Rattle.move_errors.proofs.Leaving.{used-local}

@@ -14,7 +14,7 @@ use Rattle.cfg_graph.specs.Moves.Gone.{PathAction}
 use Rattle.cfg_graph.specs.Moves.Paths.{IsPath}
 use Rattle.init_flow.specs.Carried.{Bits, last_of}
 use Rattle.init_flow.specs.Ways.{target}
-use Rattle.move_flow.proofs.Along.{actions_in, actions_between}
+use Rattle.init_flow.proofs.Along.{actions_in, actions_between}
 use Rattle.move_paths.specs.Forest.{PathForest}
 use Rattle.move_errors.specs.Reaches.{first_bad, Reaches, MeetsNone}
 use Rattle.move_errors.specs.Rows.{first_by, IsWatched}

@@ -15,8 +15,8 @@ use Rattle.cfg_graph.specs.Moves.Paths.{IsPath}
 use Rattle.init_flow.specs.Carried.{Bits, AreCarried, last_of}
 use Rattle.init_flow.specs.Ways.{target}
 use Rattle.move_paths.specs.Forest.{PathForest}
-use Rattle.move_flow.specs.Moved.{Says}
-use Rattle.move_flow.proofs.OnPaths.{solved-says}
+use Rattle.init_flow.specs.Moved.{Says}
+use Rattle.init_flow.proofs.OnPaths.{solved-says}
 use Rattle.move_errors.specs.Rows.{IsWatched, place_at, first_by}
 use Rattle.move_errors.specs.Runs.{Problem, Trip, IsRun, begins, goes, Leads, problem, point, acts_at, stored_between, number_of, onward_from}
 use Rattle.move_errors.specs.Searching.{bit}

@@ -17,7 +17,7 @@ use Rattle.cfg_graph.specs.Moves.Actions.{actions_on}
 use Rattle.cfg_graph.specs.Moves.Gone.{PathAction}
 use Rattle.init_flow.specs.Ways.{target}
 use Rattle.move_paths.specs.Uses.{block_uses}
-use Rattle.move_flow.specs.Concerns.{AreOfBody}
+use Rattle.init_flow.specs.Concerns.{AreOfBody}
 use Rattle.move_errors.specs.declared.act.Act.{Act}
 use Rattle.move_errors.specs.declared.point.Stage.{Stage}
 use Rattle.move_errors.specs.Runs.{at_line, stmt_actions, stored_between, acts_at, number_of, action_of, actions_of}

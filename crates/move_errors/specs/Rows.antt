@@ -11,8 +11,8 @@ use Rattle.cfg_graph.specs.declared.place.Place.{Place as GraphPlace}
 use Rattle.move_paths.specs.declared.trie.Near.{Near}
 use Rattle.move_paths.specs.Forest.{PathForest, IsForest, IsRoot, IsStepBelow}
 use Rattle.move_paths.specs.Uses.{block_uses}
-use Rattle.move_flow.specs.Moved.{masks_of}
-use Rattle.move_flow.specs.Concerns.{concerns_read, concerns_test, concerns_store}
+use Rattle.init_flow.specs.Moved.{masks_of}
+use Rattle.init_flow.specs.Concerns.{concerns_read, concerns_test, concerns_store}
 
 -- a use concerns a path: it is bad where one of these is gone
 abbrev pub concerns : PlaceUse → (path place : Place) → Bool

@@ -5,7 +5,7 @@ use Rattle.store_model.specs.Places.Place.{Place}
 use Rattle.cfg_graph.specs.declared.graph.Body.{Body}
 use Rattle.init_flow.specs.Carried.{Bits, AreCarried}
 use Rattle.init_flow.specs.Ways.{target}
-use Rattle.move_flow.specs.Moved.{Says}
+use Rattle.init_flow.specs.Moved.{Says}
 use Rattle.move_errors.specs.Runs.{Problem, point}
 use Rattle.move_errors.specs.declared.point.Stage.{Stage}
 

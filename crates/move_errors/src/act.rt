@@ -78,7 +78,7 @@ fn block_acts<'a>(
 }
 
 /// Where a terminator stores its result on its way to a block.
-fn stored(term: &Term, next: u32) -> Option<&Place>
+fn stored_place(term: &Term, next: u32) -> Option<&Place>
     ensures { optional (option_copied result) ≡ runs.stored_towards term.now next }
 {
     match term {
@@ -99,7 +99,7 @@ fn store_acts<'a>(acts: &mut List<Act<'a>>, block: &'a Block, next: u32) -> Resu
         return Err(NoMemory::past_32_bits());
     };
     acts.truncate(0);
-    match stored(&block.term, next) {
+    match stored_place(&block.term, next) {
         Some(place) => acts.push(Act {
             line,
             how: Use::Stores,

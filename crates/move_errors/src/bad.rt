@@ -6,16 +6,16 @@ ghost use Rattle.cfg_graph.specs.Moves.Gone.{is_at_or_above};
 ghost use Rattle.std.specs.Prelude.{map, Some};
 ghost use Rattle.move_paths.specs.Trie.{AreOnce};
 ghost use Rattle.move_paths.specs.Uses.{use_of};
-ghost use Rattle.move_flow.specs.Concerns.{AreOfBody};
-ghost use Rattle.move_flow.specs.Moved.{masks_of};
+ghost use Rattle.init_flow.specs.Concerns.{AreOfBody};
+ghost use Rattle.init_flow.specs.Moved.{masks_of};
 ghost use Rattle.move_errors.specs.Rows.{some_on, above, place_at, depth_from, is_depth, OnlyAbove, Asks, concerns, left, after, first_by, use_at, IsUsed, IsWatched};
 ghost use Rattle.move_errors.specs.Runs.{actions_of, action_of};
 
 use crate::act::Act;
 use bit_rows::BitRow;
 use cfg_graph::{Body, Place, Step};
+use init_flow::{Masks, switch_of};
 use mir_ty::Items;
-use move_flow::{Masks, switch_of};
 use move_paths::{Forest, Near, Use};
 
 /// A body, its forest, and the masks of the paths of that.

@@ -17,9 +17,8 @@ use crate::search::{Trace, least_bad};
 use crate::trail::trail;
 use bit_rows::BitRow;
 use cfg_graph::{Graph, Place};
-use init_flow::{Solution, solve};
+use init_flow::{MaybeGone, Solution, solve};
 use mir_base::{List, NoMemory};
-use move_flow::MaybeGone;
 use move_paths::{Use, paths};
 use std::alloc::Global;
 
@@ -163,7 +162,7 @@ fn refusal(
 }
 
 /// The refusal of the bad use that a search finds, if it finds one.
-fn searched(
+fn search_error(
     alloc: Global,
     watch: &Watch<'_>,
     first: BitRow,
@@ -183,7 +182,7 @@ fn searched(
 }
 
 /// Why a body is refused, if it is. Only one whose rows show a bad use is searched.
-fn refused(alloc: Global, solved: Solved<'_>, body: u32) -> Result<Option<UseError>, NoMemory>
+fn refuse_body(alloc: Global, solved: Solved<'_>, body: u32) -> Result<Option<UseError>, NoMemory>
     requires watched { IsWatched solved.watch.items.now solved.watch.body.now solved.watch.forest solved.watch.below }
     requires first { solved.first ≡ state solved.watch.items.now solved.watch.body.now solved.watch.forest.paths [] }
     requires rows { AreSolved solved.watch.items.now solved.watch.body.now solved.watch.forest.paths solved.rows }
@@ -194,7 +193,7 @@ fn refused(alloc: Global, solved: Solved<'_>, body: u32) -> Result<Option<UseErr
         Ok(false) => {
             let Solved { watch, first, rows } = solved;
             drop(rows);
-            let error = searched(alloc, &watch, first, body);
+            let error = search_error(alloc, &watch, first, body);
             drop(watch);
             error
         }
@@ -218,7 +217,7 @@ pub fn check_body(alloc: Global, graph: &Graph, body: u32) -> Result<(), UseErro
     ensures refused { IfErr result (λ error. (found : GraphBody) → slice_get graph.now.bodies body ≡ Some found → IsRefusal graph.now.items found body error) }
 {
     let solved = solution(alloc, graph, body)?;
-    match refused(alloc, solved, body)? {
+    match refuse_body(alloc, solved, body)? {
         None => Ok(()),
         Some(error) => Err(error),
     }

@@ -73,7 +73,7 @@ fn is_silent(items: &Items, body: &Body, term: &Term) -> bool
 }
 
 /// From the entry to a block into it.
-fn entered(body: &Body, block: u32) -> Onward
+fn enter_block(body: &Body, block: u32) -> Onward
     ensures { result ≡ runs.entered block (slice_get body.now.blocks block) }
 {
     let inside = Point {
@@ -99,7 +99,7 @@ fn leaving(items: &Items, body: &Body, block: u32, way: bool) -> Option<Point>
 }
 
 /// From within a block out of it.
-fn left(items: &Items, body: &Body, block: u32) -> Onward
+fn leave_block(items: &Items, body: &Body, block: u32) -> Onward
     ensures { result ≡ runs.left_block items.now body.now block (slice_get body.now.blocks block) }
 {
     let Some(found) = body.blocks.get(block as usize) else {
@@ -118,7 +118,7 @@ fn left(items: &Items, body: &Body, block: u32) -> Onward
 }
 
 /// To the entry of the block to which a way out leads, if there is that block.
-fn arrived(body: &Body, to: Option<u32>) -> Onward
+fn arrive_at(body: &Body, to: Option<u32>) -> Onward
     ensures { result ≡ runs.arrived (length body.now.blocks) to }
 {
     match to {
@@ -135,8 +135,8 @@ pub fn goes_on(items: &Items, body: &Body, at: Point) -> Onward
     ensures { result ≡ runs.onward_from items.now body.now at.block at.stage }
 {
     match at.stage {
-        Stage::Entry => entered(body, at.block),
-        Stage::Inside => left(items, body, at.block),
-        Stage::Leaving(way) => { arrived(body, target(items, body, at.block, way as u32)) }
+        Stage::Entry => enter_block(body, at.block),
+        Stage::Inside => leave_block(items, body, at.block),
+        Stage::Leaving(way) => { arrive_at(body, target(items, body, at.block, way as u32)) }
     }
 }

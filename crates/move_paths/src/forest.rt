@@ -182,7 +182,7 @@ fn add_blocks(alloc: Global, trie: &mut Trie, items: &Items, body: &Body) -> Res
     Ok(())
 }
 
-fn copied(alloc: Global, tys: &[TyId]) -> Result<List<TyId>, NoMemory>
+fn copy_types(alloc: Global, tys: &[TyId]) -> Result<List<TyId>, NoMemory>
     ensures { IfOk result (λ copy. copy ≡ tys.now) }
 {
     let mut copy = List::new(alloc);
@@ -235,7 +235,7 @@ fn forest_of(alloc: Global, items: &Items, body: &Body) -> Result<Forest, NoMemo
     Ok(Forest {
         trie,
         children,
-        tys: copied(alloc, body.locals.as_slice())?,
+        tys: copy_types(alloc, body.locals.as_slice())?,
     })
 }
 

@@ -15,9 +15,9 @@ use Rattle.src_ast.specs.Syntax.{Syn}
 use Rattle.typing_rules.specs.Check.{Check, TypingState, Broken, and_then, obeys, pure, each_checked}
 use Rattle.typing_rules.specs.Collected.{adt_item, all_derive, all_finite, is_finite, may_derive}
 use Rattle.typing_rules.specs.Items.{items_of, item_syns}
-use Rattle.item_heads.specs.Answers.{Refuses}
-use Rattle.item_heads.specs.Forms.{listed}
-use Rattle.item_heads.proofs.Sequences.{stopped}
+use Rattle.typeck_heads.specs.Answers.{Refuses}
+use Rattle.typeck_heads.specs.Forms.{listed}
+use Rattle.typeck_heads.proofs.Sequences.{stopped}
 use Rattle.name_table.specs.Forms.{each_done, done_in, told_by, derives_by, finite_by, Adt_}
 use Rattle.name_table.proofs.ItemWalk.{told_at}
 

@@ -12,8 +12,8 @@ use Rattle.typing_rules.specs.Collected.{adt_item, item_head, impl_of, no_items,
 use Rattle.typing_rules.specs.Items.{adt_name, trait_name, impl_owner, own_name, path_in}
 use Rattle.mir_base.specs.declared.rule.RuleError.{RuleError}
 use Rattle.mir_ty.specs.ItemTable.{ItemTable}
-use Rattle.item_heads.specs.Answers.{Answers}
-use Rattle.item_heads.specs.Forms.{struct_by, enum_by}
+use Rattle.typeck_heads.specs.Answers.{Answers}
+use Rattle.typeck_heads.specs.Forms.{struct_by, enum_by}
 use Rattle.name_table.specs.Forms.{trait_at, adt_name_by, trait_name_by, owner_by, own_name_by, path_by, adt_item_by, head_by, impl_by}
 
 abbrev Outcome : Type 0

@@ -18,11 +18,11 @@ use Rattle.typing_rules.specs.Check.{TypingState, Broken, and_then, obeys, pure}
 use Rattle.typing_rules.specs.Collected.{item_name, names_differ}
 use Rattle.typing_rules.specs.Items.{items_of, item_syns}
 use Rattle.well_typed.specs.Names.{is_among, built_in}
-use Rattle.item_heads.specs.Answers.{Refuses}
+use Rattle.typeck_heads.specs.Answers.{Refuses}
 use Rattle.name_table.specs.Forms.{item_name_by, name_in_piece, with_name_by}
-use Rattle.item_heads.specs.Forms.{listed}
-use Rattle.item_heads.proofs.Sequences.{stopped}
-use Rattle.item_heads.proofs.Numbering.{position_any}
+use Rattle.typeck_heads.specs.Forms.{listed}
+use Rattle.typeck_heads.proofs.Sequences.{stopped}
+use Rattle.typeck_heads.proofs.Numbering.{position_any}
 use Rattle.std.specs.List.{position as position_of}
 use Rattle.std.specs.Prelude.{is_some}
 use Rattle.std.specs.Str.{bytes_eq}

@@ -16,11 +16,11 @@ use Rattle.typing_rules.specs.Check.{TypingState, Broken, and_then}
 use Rattle.typing_rules.specs.Collected as walk
 use Rattle.typing_rules.specs.Collected.{heads_collected, item_head, body_sigs}
 use Rattle.typing_rules.specs.Items.{ItemSyn, items_of, item_syns, bodies_in, bodies_among, is_body_row, with_body, impl_owner, body_path, body_paths}
-use Rattle.item_heads.specs.Answers.{Refuses}
-use Rattle.item_heads.specs.Forms.{listed}
-use Rattle.item_heads.specs.Forms.{bodies_in_piece}
-use Rattle.item_heads.proofs.Sequences.{stopped}
-use Rattle.item_heads.proofs.Walks.{among_at}
+use Rattle.typeck_heads.specs.Answers.{Refuses}
+use Rattle.typeck_heads.specs.Forms.{listed}
+use Rattle.typeck_heads.specs.Forms.{bodies_in_piece}
+use Rattle.typeck_heads.proofs.Sequences.{stopped}
+use Rattle.typeck_heads.proofs.Walks.{among_at}
 use Rattle.std.proofs.lemmas.List.{map-append}
 use Rattle.name_table.specs.Forms.{told_by, piece_added, item_added, paths_in_piece, own_paths}
 

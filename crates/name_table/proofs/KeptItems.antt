@@ -15,7 +15,7 @@ use Rattle.typing_rules.specs.Collected.{item_head, derives_known, is_derivable,
 use Rattle.typing_rules.specs.Items.{trait_name, impl_owner, full_name, closure_name, ItemSyn}
 use Rattle.typing_rules.specs.Places.{unit}
 use Rattle.typing_rules.specs.Written.{WrittenScope, written, or_unit, or_unit_in, number_of}
-use Rattle.item_heads.proofs.Kept.{Keeps, keeps_self, keeps_on, Kept, kept_bind, kept_pure, kept_breaks, kept_obeys, kept_known, kept_interned, kept_each, kept_written, state_in}
+use Rattle.typeck_heads.proofs.Kept.{Keeps, keeps_self, keeps_on, Kept, kept_bind, kept_pure, kept_breaks, kept_obeys, kept_known, kept_interned, kept_each, kept_written, state_in}
 use Rattle.name_table.specs.Forms.{one_more, item_added, trait_by}
 use Rattle.name_table.proofs.TraitHeads.{bound, kept_sig, kept_answer, kept_trait_head}
 

@@ -12,15 +12,15 @@ use Rattle.well_typed.specs.Items.{is_equal}
 use Rattle.typing_rules.specs.Check.{TypingState, Broken, and_then, obeys, pure, interned, interned_at}
 use Rattle.typing_rules.specs.Collected.{holds, is_finite, starting_with}
 use Rattle.typing_rules.specs.Items.{item_syns, items_of}
-use Rattle.item_heads.proofs.Kept.{state_in}
+use Rattle.typeck_heads.proofs.Kept.{state_in}
 use Rattle.name_table.specs.Forms.{Adt_, all_numbered, numbered_by}
 use Rattle.src_tree.specs.declared.node.NodePiece.{NodePiece}
 use Rattle.src_tree.specs.View.{parts_in, piece_of}
 use Rattle.typing_rules.specs.Collected.{adt_item}
-use Rattle.item_heads.specs.Answers.{Refuses}
+use Rattle.typeck_heads.specs.Answers.{Refuses}
 use Rattle.std.specs.Prelude.{IfSome}
 use Rattle.name_table.specs.AdtForms.{adt_seen}
-use Rattle.name_table.specs.declared.derived.AdtForm.{AdtForm}
+use Rattle.name_table.specs.declared.derives.AdtForm.{AdtForm}
 use Rattle.name_table.specs.Forms.{told_by, finite_by}
 use Rattle.name_table.specs.Holding.{IsOrderOf, IsOrderWith}
 use Rattle.name_table.proofs.EachItem.{IsStep, of_all, numbered_at, on_numbered, stopped_numbered}

@@ -4,7 +4,7 @@ use Rattle.std.specs.List.{filter_map}
 use Rattle.mir_base.specs.declared.place_in_text.Pos.{Pos}
 use Rattle.mir_base.specs.declared.rule.RuleError.{RuleError}
 use Rattle.mir_ty.specs.ItemTable as table
-use Rattle.item_heads.specs.Answers.{Answers, Refuses}
+use Rattle.typeck_heads.specs.Answers.{Answers, Refuses}
 use Rattle.src_tree.specs.Layout.{Parts}
 use Rattle.name_table.specs.Collects.{Collects, stages, declared, tested, scalars}
 use Rattle.name_table.specs.Forms.{each_done}

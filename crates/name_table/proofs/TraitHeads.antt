@@ -17,7 +17,7 @@ use Rattle.typing_rules.specs.Collected.{param_ty, answer_ty, sig_of, trait_head
 use Rattle.typing_rules.specs.Places.{unit}
 use Rattle.typing_rules.specs.Written.{WrittenScope}
 use Rattle.typing_rules.proofs.Sound.Interned.{found_at}
-use Rattle.item_heads.proofs.Kept.{Keeps, keeps_on, Kept, kept_bind, kept_pure, kept_breaks, kept_interned, kept_each, kept_written, kept_head_param, state_in}
+use Rattle.typeck_heads.proofs.Kept.{Keeps, keeps_on, Kept, kept_bind, kept_pure, kept_breaks, kept_interned, kept_each, kept_written, kept_head_param, state_in}
 
 abbrev value_in : {A : Type 0} → A → Result (A × TypingState) Broken → A
 value_in a (Ok b) = b.0

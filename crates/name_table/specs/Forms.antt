@@ -7,7 +7,7 @@ use Rattle.mir_ty.specs.ItemTable.{ItemTable, with_trait}
 use Rattle.mir_ty.specs.declared.adt.Adt.{Adt}
 use Rattle.std.specs.List.{list_all}
 use Rattle.mir_ty.specs.declared.ty.Ty.{Ty}
-use Rattle.item_heads.specs.Forms.{struct_by, enum_by}
+use Rattle.typeck_heads.specs.Forms.{struct_by, enum_by}
 use Rattle.src_ast.specs.Syntax.{StructItem, EnumItem, TraitItem, ImplItem, FnItem, Word, Named, Shape, Syn, Syns, list_of}
 use Rattle.src_ast.specs.View.{view, named}
 use Rattle.std.specs.Borrow.{Bor}

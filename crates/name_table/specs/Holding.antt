@@ -7,7 +7,7 @@ use Rattle.mir_ty.specs.Known.{known_by}
 use Rattle.mir_ty.specs.Parts.{held_by}
 use Rattle.mir_ty.specs.declared.ty.Ty.{Ty}
 use Rattle.mir_ty.specs.declared.ty.TyId.{TyId}
-use Rattle.name_table.specs.declared.holding.HoldingQuestion.{HoldingQuestion}
+use Rattle.name_table.specs.declared.containment.HoldingQuestion.{HoldingQuestion}
 use Rattle.name_table.specs.Forms.{Adt_, all_numbered}
 use Rattle.typing_rules.specs.Check.{TypingState, interned}
 use Rattle.typing_rules.specs.Collected.{starting_with}

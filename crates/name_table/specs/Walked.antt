@@ -1,6 +1,6 @@
 -- How far a walk over items has come.
 use Rattle.name_table.specs.declared.item_walk.Walked.{Walked}
-use Rattle.item_heads.specs.Counts.{count_of}
+use Rattle.typeck_heads.specs.Counts.{count_of}
 use Rattle.typing_rules.specs.Collected as walk
 
 abbrev pub count_in : Walked → walk.Count

@@ -2,8 +2,8 @@
 ghost use Rattle.std.specs.Prelude.{◌≡◌, ◌≤◌, [], length, is_some, codes, IfOk, IfErr};
 ghost use Rattle.mir_base.specs.declared.rule.Rule.{Rule};
 ghost use Rattle.mir_base.specs.declared.rule.RuleError.{RuleError};
-ghost use Rattle.item_heads.specs.Answers.{Answers};
-ghost use Rattle.item_heads.specs.Forms.{known_of};
+ghost use Rattle.typeck_heads.specs.Answers.{Answers};
+ghost use Rattle.typeck_heads.specs.Forms.{known_of};
 ghost use Rattle.name_table.specs.Collects.{Collects, declared as declared_by, int_scalars as ints_by, plain_scalars as plain_by, scalars as scalars_by, stages as stages_by, tested as tested_by};
 ghost use Rattle.src_tree.specs.View as view;
 ghost use Rattle.src_tree.specs.View.{parts_in};
@@ -13,35 +13,35 @@ ghost use Rattle.typing_rules.specs.Collected.{starting_with};
 ghost use Rattle.typing_rules.specs.Items.{items_of};
 ghost use Rattle.typing_rules.specs.Written.{number_of};
 
-use crate::derived::derive;
+use crate::derives::derive;
 use crate::finite_size::finite;
 use crate::impl_walk::impls;
 use crate::item_names::names_differ;
 use crate::item_walk::heads;
-use crate::known_names::known;
-use item_heads::{Known, interned, obeys};
+use crate::known_names::names_of_items;
 use mir_base::{IntKind, Pos, Rule, RuleError};
 use mir_ty::{Items, Ty};
 use src_tree::{NodePiece, Tree};
 use std::alloc::Global;
+use typeck_heads::{Known, intern, obeys};
 
 fn plain_scalars(items: &mut Items) -> Result<(), RuleError>
     ensures { Answers (plain_by (starting_with items.old)) result items.new }
 {
-    interned(items, Ty::Unit)?;
-    interned(items, Ty::Bool)?;
-    interned(items, Ty::Never)?;
+    intern(items, Ty::Unit)?;
+    intern(items, Ty::Bool)?;
+    intern(items, Ty::Never)?;
     Ok(())
 }
 
 fn int_scalars(items: &mut Items) -> Result<(), RuleError>
     ensures { Answers (ints_by (starting_with items.old)) result items.new }
 {
-    interned(items, Ty::Int(IntKind::I32))?;
-    interned(items, Ty::Int(IntKind::I64))?;
-    interned(items, Ty::Int(IntKind::U32))?;
-    interned(items, Ty::Int(IntKind::U64))?;
-    interned(items, Ty::Int(IntKind::Usize))?;
+    intern(items, Ty::Int(IntKind::I32))?;
+    intern(items, Ty::Int(IntKind::I64))?;
+    intern(items, Ty::Int(IntKind::U32))?;
+    intern(items, Ty::Int(IntKind::U64))?;
+    intern(items, Ty::Int(IntKind::Usize))?;
     Ok(())
 }
 
@@ -77,7 +77,7 @@ fn has_main(items: &Items, known: &Known, end: Pos) -> Result<(), RuleError>
 }
 
 /// Names, heads and impls.
-fn declared(items: &mut Items, known: &Known, pieces: &[NodePiece]) -> Result<(), RuleError>
+fn declare_items(items: &mut Items, known: &Known, pieces: &[NodePiece]) -> Result<(), RuleError>
     requires ready { 8 ≤ length items.old.types }
     requires first { items.old.traits ≡ [] }
     ensures { Answers (declared_by (known_of known.now) (items_of (parts_in pieces.now)) (starting_with items.old)) result items.new }
@@ -88,7 +88,12 @@ fn declared(items: &mut Items, known: &Known, pieces: &[NodePiece]) -> Result<()
 }
 
 /// What structs and enums hold and derive, and `main`.
-fn tested(items: &mut Items, known: &Known, pieces: &[NodePiece], end: Pos) -> Result<(), RuleError>
+fn check_items(
+    items: &mut Items,
+    known: &Known,
+    pieces: &[NodePiece],
+    end: Pos,
+) -> Result<(), RuleError>
     ensures { Answers (tested_by (known_of known.now) (items_of (parts_in pieces.now)) end (starting_with items.old)) result items.new }
 {
     finite(items, known.alloc, pieces)?;
@@ -107,11 +112,11 @@ fn in_stages(
     requires first { items.old.traits ≡ [] }
     ensures { Answers (stages_by (known_of known.now) (items_of (parts_in pieces.now)) end (starting_with items.old)) result items.new }
 {
-    declared(items, known, pieces)?;
-    tested(items, known, pieces, end)
+    declare_items(items, known, pieces)?;
+    check_items(items, known, pieces, end)
 }
 
-fn collected(
+fn collect_items(
     items: &mut Items,
     alloc: Global,
     pieces: &[NodePiece],
@@ -121,7 +126,7 @@ fn collected(
     requires first { items.old.traits ≡ [] }
     ensures { Answers (walk.collecting (items_of (parts_in pieces.now)) end (starting_with items.old)) result items.new }
 {
-    let known = known(alloc, pieces)?;
+    let known = names_of_items(alloc, pieces)?;
     let done = in_stages(items, &known, pieces, end);
     drop(known);
     done
@@ -132,7 +137,7 @@ fn tree_collected(items: &mut Items, alloc: Global, tree: &Tree) -> Result<(), R
     requires first { items.old.traits ≡ [] }
     ensures { Answers (walk.collecting (items_of (view.items_of tree.now)) tree.now.end (starting_with items.old)) result items.new }
 {
-    collected(items, alloc, tree.items.as_slice(), tree.end)
+    collect_items(items, alloc, tree.items.as_slice(), tree.end)
 }
 
 /// The items of a text by their names, or the first broken rule on items: T01, T02, T09 or T10, with its place.

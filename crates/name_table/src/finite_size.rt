@@ -3,7 +3,7 @@ ghost use Rattle.std.specs.Prelude.{◌≡◌, Some, IfErr, IfOk, IfSome};
 ghost use Rattle.std.specs.List.{filter_map};
 ghost use Rattle.mir_base.specs.declared.rule.RuleError.{RuleError};
 ghost use Rattle.mir_ty.specs.declared.ty.Ty.{Ty};
-ghost use Rattle.item_heads.specs.Answers.{Answers};
+ghost use Rattle.typeck_heads.specs.Answers.{Answers};
 ghost use Rattle.name_table.specs.AdtForms.{adt_seen};
 ghost use Rattle.name_table.specs.Forms.{all_numbered, finite_by, numbered_by};
 ghost use Rattle.name_table.specs.Holding.{IsOrderOf, IsOrderWith};
@@ -12,14 +12,14 @@ ghost use Rattle.typing_rules.specs.Collected as walk;
 ghost use Rattle.typing_rules.specs.Collected.{adt_item, starting_with};
 ghost use Rattle.typing_rules.specs.Items.{item_syns, items_of};
 
-use crate::derived::{AdtForm, adt_at, next_number};
-use crate::holding::holds_itself;
+use crate::containment::holds_itself;
+use crate::derives::{AdtForm, adt_at, next_number};
 use crate::order::order_of;
-use item_heads::{interned, obeys};
 use mir_base::{Pos, Rule, RuleError};
 use mir_ty::{Items, Ty};
 use src_tree::NodePiece;
 use std::alloc::Global;
+use typeck_heads::{intern, obeys};
 
 /// The struct or enum with this number does not hold itself.
 fn is_finite(
@@ -32,7 +32,7 @@ fn is_finite(
     requires { IsOrderWith items.old order.now (Ty.Adt number) }
     ensures { Answers (walk.is_finite number at (starting_with items.old)) result items.new }
 {
-    let ty = interned(items, Ty::Adt(number))?;
+    let ty = intern(items, Ty::Adt(number))?;
     let holds = holds_itself(items, alloc, order, ty)?;
     obeys(Rule::T09, at, !holds)
 }
@@ -78,7 +78,7 @@ fn numbered_at(items: &mut Items, number: u32, adt: Option<AdtForm>) -> Result<u
 {
     match adt {
         Some(_) => {
-            interned(items, Ty::Adt(number))?;
+            intern(items, Ty::Adt(number))?;
             next_number(number)
         }
         None => Ok(number),
@@ -86,7 +86,7 @@ fn numbered_at(items: &mut Items, number: u32, adt: Option<AdtForm>) -> Result<u
 }
 
 /// All structs and enums get numbers as types.
-fn numbered(items: &mut Items, pieces: &[NodePiece]) -> Result<(), RuleError>
+fn number_adts(items: &mut Items, pieces: &[NodePiece]) -> Result<(), RuleError>
     ensures { Answers (all_numbered 0 (filter_map adt_item (item_syns (items_of (parts_in pieces.now)))) (starting_with items.old)) result items.new }
 {
     let mut number = 0;
@@ -104,7 +104,7 @@ fn order_with_all(items: &Items, alloc: Global, pieces: &[NodePiece]) -> Result<
     let Ok(mut all) = items.copy(alloc) else {
         return Err(RuleError::Memory);
     };
-    let order = match numbered(&mut all, pieces) {
+    let order = match number_adts(&mut all, pieces) {
         Ok(()) => order_of(&all, alloc),
         Err(_) => Err(RuleError::Memory),
     };

@@ -1,7 +1,7 @@
 //! The impls of traits, added once all traits have their methods.
 ghost use Rattle.std.specs.Prelude.{◌≡◌, ◌≤◌, length};
-ghost use Rattle.item_heads.specs.Answers.{Answers};
-ghost use Rattle.item_heads.specs.Forms.{known_of};
+ghost use Rattle.typeck_heads.specs.Answers.{Answers};
+ghost use Rattle.typeck_heads.specs.Forms.{known_of};
 ghost use Rattle.name_table.specs.Forms.{done_in, each_done, impl_named, impl_of_names};
 ghost use Rattle.src_ast.specs.ItemForms.{name_seen};
 ghost use Rattle.src_ast.specs.Seen.{syn_of};
@@ -11,11 +11,11 @@ ghost use Rattle.typing_rules.specs.Collected as walk;
 ghost use Rattle.typing_rules.specs.Collected.{starting_with};
 ghost use Rattle.typing_rules.specs.Items.{item_syns, items_of};
 
-use item_heads::{Known, add_impl, broken};
 use mir_base::{Rule, RuleError};
 use mir_ty::Items;
 use src_ast::{ItemForm, item_form, name_of};
 use src_tree::{NodePiece, SyntaxNode};
+use typeck_heads::{Known, add_impl, broken_rule};
 
 fn is_drop(name: &str) -> bool
     ensures { result ≡ walk.is_drop name.now }
@@ -38,11 +38,11 @@ fn trait_impl(
         return Ok(());
     }
     let Some(trait_no) = known.traits.find(trait_name) else {
-        return Err(broken(Rule::T01, trait_.at));
+        return Err(broken_rule(Rule::T01, trait_.at));
     };
     let owner = name_of(name);
     let Some(adt) = known.adts.find(owner) else {
-        return Err(broken(Rule::T01, name.at));
+        return Err(broken_rule(Rule::T01, name.at));
     };
     add_impl(items, known, trait_no, adt, trait_name, owner)
 }

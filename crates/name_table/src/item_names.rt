@@ -1,7 +1,7 @@
 //! Names of items, which have to differ.
 ghost use Rattle.std.specs.Prelude.{◌≡◌, [], ◌||◌, Some};
 ghost use Rattle.std.specs.List.{filter_map};
-ghost use Rattle.item_heads.specs.Answers.{Answers};
+ghost use Rattle.typeck_heads.specs.Answers.{Answers};
 ghost use Rattle.name_table.specs.Forms.{with_name_by, name_in_piece};
 ghost use Rattle.src_ast.specs.ItemForms.{name_seen};
 ghost use Rattle.src_ast.specs.Seen.{syn_of};
@@ -12,12 +12,12 @@ ghost use Rattle.typing_rules.specs.Collected.{starting_with, item_name};
 ghost use Rattle.typing_rules.specs.Items.{items_of, item_syns};
 ghost use Rattle.well_typed.specs.Names.{is_among, built_in};
 
-use item_heads::{NameTable, broken};
 use mir_base::{NoMemory, Rule, RuleError};
 use mir_ty::Items;
 use src_ast::{ItemForm, item_form, name_of};
 use src_tree::{NodePiece, SyntaxNode};
 use std::alloc::Global;
+use typeck_heads::{NameTable, broken_rule};
 
 /// Whether a name is one of the language, which no item may have.
 fn is_built_in(name: &str) -> bool
@@ -101,7 +101,7 @@ fn with_one(
 {
     let word = name_of(name);
     if is_taken(&seen, word) {
-        return Err(broken(Rule::T02, name.at));
+        return Err(broken_rule(Rule::T02, name.at));
     }
     match seen.with(alloc, word) {
         Ok(more) => Ok(more),

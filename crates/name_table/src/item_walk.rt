@@ -1,9 +1,9 @@
 //! The heads of all items, in text order.
 ghost use Rattle.std.specs.Prelude.{◌≡◌, ◌≤◌, [], length, is_some, IfOk, IfErr};
 ghost use Rattle.mir_base.specs.declared.rule.RuleError.{RuleError};
-ghost use Rattle.item_heads.specs.Answers.{Answers};
-ghost use Rattle.item_heads.specs.Counts.{count_of};
-ghost use Rattle.item_heads.specs.Forms.{answered, known_of};
+ghost use Rattle.typeck_heads.specs.Answers.{Answers};
+ghost use Rattle.typeck_heads.specs.Counts.{count_of};
+ghost use Rattle.typeck_heads.specs.Forms.{answered, known_of};
 ghost use Rattle.name_table.specs.Forms.{item_added, item_of_node, one_more, piece_added as added_by};
 ghost use Rattle.name_table.specs.Walked.{count_in};
 ghost use Rattle.src_ast.specs.Seen.{syn_of, word_of};
@@ -13,11 +13,11 @@ ghost use Rattle.typing_rules.specs.Collected.{starting_with};
 ghost use Rattle.typing_rules.specs.Items.{impl_owner, items_of, trait_name};
 
 use crate::items::item;
-use item_heads::{Count, Known, name_from, node_bodies};
 use mir_base::RuleError;
 use mir_ty::Items;
 use src_ast::{ItemForm, item_form, name_of};
 use src_tree::{NodePiece, SyntaxNode};
+use typeck_heads::{Count, Known, name_from, node_bodies};
 
 /// How far a walk over items has come.
 #[derive(Drop)]

@@ -2,8 +2,8 @@
 ghost use Rattle.std.specs.Prelude.{◌≡◌, ◌<◌, ◌≤◌, All, None, length, IfOk};
 ghost use Rattle.mir_ty.specs.AreItems.{IsMethod, IsSig};
 ghost use Rattle.mir_ty.specs.ItemTable.{with_trait};
-ghost use Rattle.item_heads.specs.Answers.{Answers};
-ghost use Rattle.item_heads.specs.Forms.{known_of};
+ghost use Rattle.typeck_heads.specs.Answers.{Answers};
+ghost use Rattle.typeck_heads.specs.Forms.{known_of};
 ghost use Rattle.name_table.specs.Forms.{trait_at};
 ghost use Rattle.src_ast.specs.Seen.{nodes_of, syn_of};
 ghost use Rattle.src_ast.specs.Syntax.{list_of};
@@ -11,11 +11,11 @@ ghost use Rattle.typing_rules.specs.Check.{each_checked};
 ghost use Rattle.typing_rules.specs.Collected as walk;
 ghost use Rattle.typing_rules.specs.Collected.{names_alone, starting_with};
 
-use item_heads::{Known, enum_item, impl_head, interned, name_from, struct_item, trait_heads};
 use mir_base::{List, NoMemory, RuleError};
 use mir_ty::{Items, Sig, TraitDef, Ty, TyId};
 use src_ast::{ItemForm, Nodes, item_form, name_of};
 use src_tree::SyntaxNode;
+use typeck_heads::{Known, enum_item, impl_head, intern, name_from, struct_item, trait_heads};
 
 /// A trait with these methods, added.
 fn add_trait(
@@ -65,7 +65,7 @@ fn trait_item(
     ensures answers { Answers (trait_at (known_of known.now) number name.now (nodes_of heads.entry) (starting_with items.old)) result items.new }
     ensures grows { length items.old.types ≤ length items.new.types }
 {
-    let own = interned(items, Ty::Dyn(number))?;
+    let own = intern(items, Ty::Dyn(number))?;
     let methods = own_heads(items, known, own, heads)?;
     add_trait(items, known, name, methods)
 }

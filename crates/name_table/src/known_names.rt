@@ -3,7 +3,7 @@ ghost use Rattle.std.specs.Prelude.{◌≡◌, ◌∷◌, [], ◌++◌, IfOk, If
 ghost use Rattle.std.specs.List.{filter_map};
 ghost use Rattle.std.specs.String.{string_bytes};
 ghost use Rattle.mir_base.specs.declared.rule.RuleError.{RuleError};
-ghost use Rattle.item_heads.specs.Forms.{bodies_in_piece, known_of, listed};
+ghost use Rattle.typeck_heads.specs.Forms.{bodies_in_piece, known_of, listed};
 ghost use Rattle.name_table.specs.Forms.{own_paths, path_of_body, path_within, paths_in_piece, sought as sought_by, told_by, trait_named};
 ghost use Rattle.src_ast.specs.Seen.{syn_of, word_of};
 ghost use Rattle.src_tree.specs.View.{layout_of, parts_in, piece_of};
@@ -11,12 +11,12 @@ ghost use Rattle.typing_rules.specs.Collected as walk;
 ghost use Rattle.typing_rules.specs.Items as told;
 ghost use Rattle.typing_rules.specs.Items.{bodies_among, bodies_in, is_body_row, item_syns, items_of, path_in};
 
-use item_heads::{Known, NameTable, path_of_method};
 use mir_base::{NoMemory, RuleError};
 use src_ast::{ItemForm, item_form, name_of};
 use src_tree::{GrammarRow, NodePiece, SyntaxNode};
 use std::alloc::{AllocError, Global};
 use std::mem;
+use typeck_heads::{Known, NameTable, path_of_method};
 
 /// Of which items the names are.
 #[derive(Clone, Copy)]
@@ -326,7 +326,7 @@ fn body_paths(alloc: Global, pieces: &[NodePiece]) -> Result<NameTable, RuleErro
 }
 
 /// What is known of all items by their names alone.
-pub fn known(alloc: Global, pieces: &[NodePiece]) -> Result<Known, RuleError>
+pub fn names_of_items(alloc: Global, pieces: &[NodePiece]) -> Result<Known, RuleError>
     ensures known { IfOk result (λ known. known_of known ≡ walk.known_of (items_of (parts_in pieces.now))) }
     ensures short { IfErr result (λ e. e ≡ RuleError.Memory) }
 {

@@ -2,9 +2,9 @@
 #![tactic(auto)]
 
 mod collected;
-mod derived;
+mod containment;
+mod derives;
 mod finite_size;
-mod holding;
 mod impl_walk;
 mod item_names;
 mod item_walk;

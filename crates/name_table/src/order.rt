@@ -5,7 +5,7 @@ ghost use Rattle.std.specs.Prelude.{◌≡◌, ◌<◌, ◌^◌, IfErr, IfOk};
 ghost use Rattle.mir_base.specs.declared.rule.RuleError.{RuleError};
 ghost use Rattle.name_table.specs.Holding.{IsOrder};
 
-use crate::holding::{is_order, type_count};
+use crate::containment::{is_order, type_count};
 use mir_base::{List, RuleError};
 use mir_ty::{Items, Ty, TyId};
 use std::alloc::Global;

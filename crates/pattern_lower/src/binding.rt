@@ -6,7 +6,7 @@ ghost use Rattle.typed_tree.specs.View.{tree_of, field_of, nodes_from, fields_fr
 ghost use Rattle.pattern_lower.specs.Seen.{bound_of, to_field};
 
 use crate::Binding;
-use crate::part::{copied, next, part_of, step_to};
+use crate::part::{copy_place, next, part_of, step_to};
 use cfg_graph::{Place, Step};
 use mir_base::{Key, List, NoMemory};
 use std::alloc::Global;
@@ -55,7 +55,7 @@ fn add_bindings(
         Form::Binding(_) => found.push(Binding {
             key: Key(pattern.id.0),
             ty: pattern.ty,
-            from: copied(alloc, place)?,
+            from: copy_place(alloc, place)?,
             by: by_of(pattern.by),
         }),
         Form::StructPattern(fields) => add_of_fields(alloc, None, fields.as_slice(), place, found),

@@ -8,7 +8,7 @@ use mir_base::NoMemory;
 use std::alloc::Global;
 
 /// A place once more.
-pub fn copied(alloc: Global, place: &Place) -> Result<Place, NoMemory>
+pub fn copy_place(alloc: Global, place: &Place) -> Result<Place, NoMemory>
     ensures { IfOk result (λ copy. copy ≡ place.now) }
 {
     Ok(Place {
@@ -21,7 +21,7 @@ pub fn copied(alloc: Global, place: &Place) -> Result<Place, NoMemory>
 pub fn part_of(alloc: Global, place: &Place, step: Step) -> Result<Place, NoMemory>
     ensures { IfOk result (λ part. named part ≡ extended (named_step step) (named place.now)) }
 {
-    let mut part = copied(alloc, place)?;
+    let mut part = copy_place(alloc, place)?;
     part.steps.push(step)?;
     Ok(part)
 }

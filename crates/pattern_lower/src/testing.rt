@@ -5,7 +5,7 @@ ghost use Rattle.typed_tree.specs.View.{tree_of, field_of, nodes_from, fields_fr
 ghost use Rattle.pattern_lower.specs.Seen.{test_of, tests_in, listed, listed_alternatives, to_field};
 
 use crate::Test;
-use crate::part::{copied, next, part_of, step_to};
+use crate::part::{copy_place, next, part_of, step_to};
 use cfg_graph::{Place, Step};
 use mir_base::{IntKind, List, NoMemory};
 use mir_ty::{Items, Ty, TyId};
@@ -63,13 +63,13 @@ fn add_tests(
     match &pattern.form {
         Form::NumberPattern(value) => found.push(Test::Equal {
             node,
-            at: copied(alloc, place)?,
+            at: copy_place(alloc, place)?,
             value: *value,
             kind: kind_of_ty(items, pattern.ty),
         }),
         Form::TruthPattern(value) => found.push(Test::Truth {
             node,
-            at: copied(alloc, place)?,
+            at: copy_place(alloc, place)?,
             value: *value,
         }),
         Form::StructPattern(fields) => {
@@ -83,7 +83,7 @@ fn add_tests(
             if *is_test {
                 found.push(Test::Variant {
                     node,
-                    at: copied(alloc, place)?,
+                    at: copy_place(alloc, place)?,
                     number: *variant,
                 })?;
             }

@@ -107,7 +107,7 @@ pub(crate) fn while_of(pieces: &[NodePiece]) -> ExpressionForm<'_>
     }
 }
 
-fn guarded(nodes: Nodes<'_>) -> Option<ArmForm<'_>>
+fn guarded_arm(nodes: Nodes<'_>) -> Option<ArmForm<'_>>
     ensures { option_map arm_of result ≡ arm_part (arm_row true (nodes_of nodes.entry)) }
 {
     let one = nodes.split_first()?;
@@ -120,7 +120,7 @@ fn guarded(nodes: Nodes<'_>) -> Option<ArmForm<'_>>
     })
 }
 
-fn unguarded(nodes: Nodes<'_>) -> Option<ArmForm<'_>>
+fn unguarded_arm(nodes: Nodes<'_>) -> Option<ArmForm<'_>>
     ensures { option_map arm_of result ≡ arm_part (arm_row false (nodes_of nodes.entry)) }
 {
     let one = nodes.split_first()?;
@@ -137,9 +137,9 @@ fn arm(pieces: &[NodePiece]) -> Option<ArmForm<'_>>
 {
     let nodes = Nodes::among(pieces);
     if has(TokenKind::Word(Word::If), pieces) {
-        guarded(nodes)
+        guarded_arm(nodes)
     } else {
-        unguarded(nodes)
+        unguarded_arm(nodes)
     }
 }
 

@@ -6,3 +6,4 @@ pub mod Programs
 pub mod Scopes
 pub mod Shape
 pub mod Takes
+pub mod FieldKeys

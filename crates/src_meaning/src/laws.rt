@@ -15,8 +15,8 @@ pub fn law_of_tests()
     ensures { TestsHoldWhereTaken }
 {}
 
-/// One tick more changes nothing of what was done: a run that is not out of ticks is the same, and otherwise
+/// The second law: one tick more changes nothing of what a program did: a run that is not out of ticks is the same, and otherwise
 /// its trace is a prefix of the one with a tick more.
-pub fn law_of_ticks()
+pub fn law_l2()
     ensures { SourceRunGoesOn }
 {}

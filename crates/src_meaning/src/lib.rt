@@ -4,4 +4,4 @@
 
 mod laws;
 
-pub use laws::{law_of_runs, law_of_tests, law_of_ticks};
+pub use laws::{law_l2, law_of_runs, law_of_tests};

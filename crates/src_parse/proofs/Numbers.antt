@@ -10,7 +10,7 @@ use Rattle.src_tree.specs.Layout.{SyntaxNode, node, Parts, end, tok, sub, depth,
 use Rattle.src_tree.specs.Laws.{unplaced_parts}
 use Rattle.src_tree.specs.Reading.{or_else, and_then, only_if, opens, joins, with_tok, with_sub, frame, file_place}
 use Rattle.src_tree.proofs.Complete.{Held}
-use Rattle.src_parse.specs.declared.bound.DepthBound.{DepthBound}
+use Rattle.src_parse.specs.declared.depth_bound.DepthBound.{DepthBound}
 use Rattle.src_parse.specs.Bounds.{bound_of, value, bound, most, limit}
 use Rattle.src_parse.specs.Counting.{Counted, sat, reach_by, need_of, passes, taken, inside, began, with_node, goes_on, is_joined, act}
 use Rattle.src_parse.proofs.Alive.{at_once, and_behind, alive}

@@ -11,7 +11,7 @@ use Rattle.src_tree.specs.Grammar.{made, GrammarRest, ends, token, either, part,
 use Rattle.src_tree.specs.Layout.{end, tok, sub, depth, parts_depth, Follows}
 use Rattle.src_tree.proofs.Follow.{all_ends, is_known}
 use Rattle.src_tree.proofs.Complete.{Held}
-use Rattle.src_parse.specs.declared.bound.DepthBound.{DepthBound}
+use Rattle.src_parse.specs.declared.depth_bound.DepthBound.{DepthBound}
 use Rattle.src_parse.specs.Bounds.{least_place, value, ended_by, lesser, bound, most}
 use Rattle.src_parse.proofs.Alive.{sample, is_sample, leaf, leaf_places, leaf_from, all_leaves, leaf_block, way_arms, joinable, ender}
 use Rattle.src_parse.proofs.Depth.{total_heavy, settle_by, settle, settle_mono, possible, poss, total, pick, fit}

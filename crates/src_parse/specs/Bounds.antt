@@ -5,7 +5,7 @@ use Rattle.src_tree.specs.declared.row.GrammarRow.{GrammarRow}
 use Rattle.src_tree.specs.declared.row.Sort.{Sort}
 use Rattle.src_tree.specs.declared.place.GrammarPlace.{GrammarPlace}
 use Rattle.src_tree.specs.declared.place.Start.{Start}
-use Rattle.src_parse.specs.declared.bound.DepthBound.{DepthBound}
+use Rattle.src_parse.specs.declared.depth_bound.DepthBound.{DepthBound}
 use Rattle.src_tree.specs.Grammar.{GrammarRest, ends, token, either, part, maybe, list, more, many, items, alternatives, statements, arms, arm_body, after_break, allowed, place_of, counts}
 
 abbrev least_expr : Start → ℕ

@@ -9,7 +9,7 @@ use Rattle.src_tree.specs.declared.place.GrammarPlace.{GrammarPlace}
 use Rattle.src_tree.specs.Grammar.{counts, allowed, GrammarRest, items, move, behind, made}
 use Rattle.src_tree.specs.Layout.{node, Parts, end, tok, sub}
 use Rattle.src_tree.specs.Reading.{or_else, and_then, only_if, opens, joins, with_tok, with_sub, file_place}
-use Rattle.src_parse.specs.declared.bound.DepthBound.{DepthBound}
+use Rattle.src_parse.specs.declared.depth_bound.DepthBound.{DepthBound}
 use Rattle.src_parse.specs.Bounds.{bound_of, bound, most, limit}
 
 -- A node of which a part may still come. How deep its parts so far are; and of what stands around it, how deep the text

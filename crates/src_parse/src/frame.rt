@@ -6,7 +6,7 @@ ghost use Rattle.src_tree.specs.Layout.{tok, sub, end};
 ghost use Rattle.src_tree.specs.View.{layout_of, parts_in};
 ghost use Rattle.src_parse.specs.View.{frame_of};
 
-use crate::bound::{DepthBound, MOST, bound_at};
+use crate::depth_bound::{DepthBound, MOST, bound_at};
 use mir_base::limits::MAX_NESTING;
 use mir_base::{List, NoMemory, Pos};
 use src_token::Token;

@@ -9,8 +9,8 @@ use crate::frame::{ParserFrame, begin, hold, inside, take};
 use mir_base::{List, NoMemory, Pos};
 use src_token::Token;
 use src_tree::{
-    GrammarPlace, GrammarPoint, GrammarRow, advance, allowed, due, entry, joined, made, may_begin,
-    place_of, seen,
+    GrammarPlace, GrammarPoint, GrammarRow, advance, due, entry, is_allowed, join_beginning,
+    may_begin, place_of, row_at_end, seen,
 };
 use std::alloc::Global;
 use std::mem;
@@ -33,8 +33,8 @@ fn opens(head: bool, point: GrammarPoint, token: &Token) -> Option<(GrammarPlace
 fn joins(place: GrammarPlace, row: GrammarRow, token: &Token) -> Option<u16>
     ensures { option_map rest_at result ≡ joins_of place row token.now }
 {
-    let begun = joined(seen(place), token)?;
-    if may_begin(place, begun.row) && allowed(begun.place, row) {
+    let begun = join_beginning(seen(place), token)?;
+    if may_begin(place, begun.row) && is_allowed(begun.place, row) {
         Some(begun.at)
     } else {
         None
@@ -52,7 +52,7 @@ fn hand_on(
     ensures { IfOk result (λ went. handed (stack_of below.old) (frame_of top.old) row
         ≡ only_if went (Some (frame_of top.new ∷ stack_of below.new))) }
 {
-    if !allowed(top.place, row) {
+    if !is_allowed(top.place, row) {
         return Ok(false);
     }
     let Some(around) = below.pop() else {
@@ -86,7 +86,7 @@ pub(crate) fn step(
             below.push(mem::replace(top, part))?;
             return Ok(true);
         }
-        let Some(row) = made(top.point) else {
+        let Some(row) = row_at_end(top.point) else {
             drop(token);
             return Ok(false);
         };
@@ -115,7 +115,7 @@ pub(crate) fn close(below: &mut List<ParserFrame>, top: &mut ParserFrame) -> Res
         ≡ only_if ended (Some (frame_of top.new))) }
 {
     loop {
-        let Some(row) = made(top.point) else {
+        let Some(row) = row_at_end(top.point) else {
             return Ok(false);
         };
         if below.is_empty() {

@@ -156,7 +156,7 @@ fn field_pattern(token: &Token) -> Option<(GrammarRow, u16)>
 }
 
 #[tactic(auto, using(crate::proofs::Named::path_is, crate::proofs::Named::path_in_head_is, crate::proofs::Named::panic_is, crate::proofs::Named::panic_in_head_is))]
-fn named(head: bool, name: &Name) -> u16
+fn named_beginning(head: bool, name: &Name) -> u16
     ensures { rest_at result ≡ named_of (is_panic name.now) head }
 {
     match (is_text(name, "panic"), head) {
@@ -186,7 +186,7 @@ fn expression(head: bool, token: &Token) -> Option<(GrammarRow, u16)>
         Token::Word(Word::True) => (GrammarRow::Truth, TRUTH),
         Token::Word(Word::False) => (GrammarRow::Truth, TRUTH),
         Token::Word(Word::SelfValue) => (GrammarRow::SelfValue, SELF_VALUE),
-        Token::Name(name) => (GrammarRow::Path, named(head, name)),
+        Token::Name(name) => (GrammarRow::Path, named_beginning(head, name)),
         Token::Word(Word::SelfType) => (GrammarRow::Path, if head { PATH_IN_HEAD } else { PATH }),
         Token::Mark(Mark::OpenParenthesis) => (GrammarRow::Round, ROUND),
         Token::Mark(Mark::OpenBracket) => (GrammarRow::Square, SQUARE),
@@ -287,7 +287,7 @@ fn infix_pattern(seen: Seen, token: &Token) -> Option<JoinedBeginning>
 }
 
 /// How a token behind a node makes it the first part of another.
-pub fn joined(seen: Seen, token: &Token) -> Option<JoinedBeginning>
+pub fn join_beginning(seen: Seen, token: &Token) -> Option<JoinedBeginning>
     ensures { option_map joined_of result ≡ joined_is seen token.now }
 {
     match seen.sort {

@@ -254,7 +254,7 @@ fn belongs(sort: Sort, row: GrammarRow) -> bool
 }
 
 /// Whether a node of a row may stand at a place.
-pub fn allowed(place: GrammarPlace, row: GrammarRow) -> bool
+pub fn is_allowed(place: GrammarPlace, row: GrammarRow) -> bool
     ensures { result ≡ is_allowed place row }
 {
     belongs(place.sort, row) && place.least <= level(row) && may_be(place.start, row)

@@ -2,7 +2,7 @@
 //! this crate cites.
 ghost use Rattle.src_tree.specs.Laws.{SpelledOnce};
 
-/// Two levelled trees of one spelling are equal but for their positions.
-pub fn law_of_spelling()
+/// The first law: two levelled trees of one spelling are equal but for their positions.
+pub fn law_l1()
     ensures { SpelledOnce }
 {}

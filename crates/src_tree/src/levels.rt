@@ -6,11 +6,11 @@ ghost use Rattle.src_tree.specs.Layout.{ItemsLevelled};
 ghost use Rattle.src_tree.specs.Table.{rest_of};
 ghost use Rattle.src_tree.specs.View.{layout_of, piece_of, parts_in, items_of};
 
-use crate::grammar::{allowed, place_of, seen};
+use crate::grammar::{is_allowed, place_of, seen};
 use crate::table::ITEMS;
 use crate::{
     GrammarPlace, GrammarPoint, GrammarRow, NodePiece, Seen, SyntaxNode, Tree, advance, behind,
-    due, entry, joined, made,
+    due, entry, join_beginning, row_at_end,
 };
 
 /// The number of a row, by which rows are told apart.
@@ -30,13 +30,13 @@ fn is_row(row: GrammarRow, other: GrammarRow) -> bool
 fn node_levelled(place: GrammarPlace, node: &SyntaxNode) -> bool
     ensures { result ≡ levels (Some place) (layout_of node.now) }
 {
-    allowed(place, node.row) && begun(seen(place), node)
+    is_allowed(place, node.row) && makes_row(seen(place), node)
 }
 
 /// Whether the parts of a node make its row, where its parts see this of its place.
 #[cycle(levelled)]
 #[tactic(auto, using(crate::proofs::Tests::follows_none))]
-fn begun(seen: Seen, node: &SyntaxNode) -> bool
+fn makes_row(seen: Seen, node: &SyntaxNode) -> bool
     ensures { result ≡ begun_of seen node.now.row (parts_in node.now.parts) }
 {
     match node.parts.as_slice().split_first() {
@@ -45,7 +45,7 @@ fn begun(seen: Seen, node: &SyntaxNode) -> bool
             None => false,
         },
         Some((NodePiece::Node(first), rest)) => match rest.split_first() {
-            Some((NodePiece::Token(token), rest)) => match joined(seen, token) {
+            Some((NodePiece::Token(token), rest)) => match join_beginning(seen, token) {
                 Some(begun) => {
                     node_levelled(begun.place, first)
                         && follows(seen.head, GrammarPoint::At(begun.at), node.row, rest)
@@ -87,7 +87,7 @@ fn follows(head: bool, from: GrammarPoint, row: GrammarRow, pieces: &[NodePiece]
             None => return false,
         }
     }
-    match made(point) {
+    match row_at_end(point) {
         Some(made) => is_row(made, row),
         None => false,
     }

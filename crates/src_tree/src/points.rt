@@ -164,7 +164,7 @@ fn due_at(at: u16) -> Option<GrammarPart>
 }
 
 /// What the node is where it ends here.
-pub fn made(point: GrammarPoint) -> Option<GrammarRow>
+pub fn row_at_end(point: GrammarPoint) -> Option<GrammarRow>
     ensures { result ≡ made_of (rest_of point) }
 {
     match point {

@@ -7,7 +7,7 @@ use Rattle.std.proofs.lemmas.List.Sorted.{list_any-IsPermutation}
 use Rattle.std.specs.List.{list_any}
 use Rattle.std.specs.List.Sorted.{IsPermutation}
 use Rattle.mir_ty.specs.declared.adt.Adt.{Adt}
-use Rattle.type_env.proofs.ImplPairs.{with_next}
+use Rattle.typeck_env.proofs.ImplPairs.{with_next}
 use Rattle.type_check.specs.Drops.{is_of}
 
 turned : (a b : Bool) → (a || b) ≡ (b || a)

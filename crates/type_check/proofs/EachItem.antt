@@ -10,8 +10,8 @@ use Rattle.src_tree.proofs.Pieces.{node_seen, token_seen}
 use Rattle.src_ast.specs.Seen.{syn_of}
 use Rattle.src_ast.specs.Syntax.{Syn}
 use Rattle.src_ast.specs.View.{view}
-use Rattle.item_heads.specs.Answers.{Refuses}
-use Rattle.item_heads.proofs.Sequences.{stopped}
+use Rattle.typeck_heads.specs.Answers.{Refuses}
+use Rattle.typeck_heads.proofs.Sequences.{stopped}
 use Rattle.typing_rules.specs.Check.{Check, TypingState, Broken, and_then, pure, ◌>>=◌}
 use Rattle.typing_rules.specs.Items.{item_syns, items_of}
 use Rattle.typing_rules.specs.Program.{Before, all_items, bodies_of, item_rules}

@@ -1,6 +1,6 @@
 -- Where bodies of items stand.
 use Rattle.std.proofs.Common.{◌≡◌, [], sym}
-use Rattle.function_rows.specs.Aside.{alone}
+use Rattle.typeck_bodies.specs.Aside.{alone}
 use Rattle.typing_rules.specs.Scope.{Env}
 
 -- outside of all variables

@@ -2,11 +2,11 @@
 use Rattle.std.proofs.Common.{◌≡◌, ℕ, List, [], Option, None, map, reverse, ap, ◌∙◌}
 use Rattle.mir_ty.specs.declared.ty.TyId.{TyId}
 use Rattle.mir_ty.specs.ItemTable.{ItemTable}
-use Rattle.type_env.specs.Scope.{around_of}
-use Rattle.type_rows.specs.Stand.{env_in, stack_of}
-use Rattle.type_rows.specs.Tables.{AreTablesOf, all_kinds_of}
-use Rattle.type_rows.specs.declared.surroundings.Surroundings.{Surroundings}
-use Rattle.type_rows.specs.declared.tables.Tables.{Tables}
+use Rattle.typeck_env.specs.Scope.{around_of}
+use Rattle.typeck_checker.specs.Stand.{env_in, stack_of}
+use Rattle.typeck_checker.specs.Tables.{AreTablesOf, all_kinds_of}
+use Rattle.typeck_checker.specs.declared.body_scope.BodyScope.{BodyScope}
+use Rattle.typeck_checker.specs.declared.tables.Tables.{Tables}
 use Rattle.typed_tree.specs.declared.node.Node.{Node}
 use Rattle.typing_rules.specs.Items.{adt_names, all_kinds, trait_names}
 use Rattle.typing_rules.specs.Places.{unit}
@@ -58,7 +58,7 @@ made adts traits kinds self_adt variables loops answer =
       answer = answer;
     }
 
-pub begins : (items : List Syn) (t : Tables) (s : Surroundings) → t.adts ≡ adt_names items → t.traits ≡ trait_names items →
+pub begins : (items : List Syn) (t : Tables) (s : BodyScope) → t.adts ≡ adt_names items → t.traits ≡ trait_names items →
     all_kinds_of t.kinds ≡ all_kinds items → s.self_adt ≡ None → s.variables ≡ [] → s.loops ≡ [] → s.answer ≡ unit →
     env_in t s ≡ outermost items
 unfolding env_in

@@ -1,7 +1,7 @@
 -- What `check` answers.
 use Rattle.std.specs.Prelude.{◌≡◌, Result, Ok, Err}
 use Rattle.mir_base.specs.declared.rule.RuleError.{RuleError}
-use Rattle.item_heads.specs.Answers.{Refuses}
+use Rattle.typeck_heads.specs.Answers.{Refuses}
 use Rattle.typed_tree.specs.Tree.{ProgramTree}
 use Rattle.typed_tree.specs.View.{program_of}
 use Rattle.typed_tree.specs.declared.body.Typed.{Typed}

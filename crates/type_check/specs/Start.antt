@@ -6,9 +6,9 @@ use Rattle.name_table.specs.declared.known_names.NameSort.{NameSort}
 use Rattle.src_ast.specs.Syntax.{Word}
 use Rattle.src_tree.specs.declared.node.NodePiece.{NodePiece}
 use Rattle.src_tree.specs.View.{parts_in}
-use Rattle.type_env.specs.Coerced.{HasImpls}
-use Rattle.type_env.specs.Members.{all_names}
-use Rattle.type_rows.specs.Tables.{adt_words, body_words, method_words, trait_words, all_kinds_of}
+use Rattle.typeck_env.specs.Coerced.{HasImpls}
+use Rattle.typeck_env.specs.Members.{all_names}
+use Rattle.typeck_checker.specs.Tables.{adt_words, body_words, method_words, trait_words, all_kinds_of}
 use Rattle.typing_rules.specs.Items.{adt_names, all_kinds, item_syns, items_of, trait_names}
 use Rattle.well_typed.specs.Nodes.{is_drop_body}
 use Rattle.type_check.specs.declared.start.TextTables.{TextTables}

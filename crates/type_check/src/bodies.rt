@@ -2,18 +2,18 @@
 ghost use Rattle.std.specs.Prelude.{◌≡◌, [], OnOk};
 ghost use Rattle.src_ast.specs.Seen.{maybe_of, nodes_of, syn_of};
 ghost use Rattle.src_ast.specs.Syntax.{list_of};
-ghost use Rattle.type_rows.specs.Stand.{GivesValue, Same, env, state};
+ghost use Rattle.typeck_checker.specs.Stand.{GivesValue, Same, env, state};
 ghost use Rattle.typing_rules.specs.Program as rules;
 ghost use Rattle.typing_rules.specs.Scope.{adt_named};
 ghost use Rattle.type_check.specs.Forms.{fn_check};
 
 use crate::fn_body;
-use item_check::{enter_impl, leave_impl};
-use item_heads::broken;
 use mir_base::{Pos, Rule, RuleError};
 use src_ast::{Function, ItemForm, Nodes, item_form, name_of};
 use src_tree::SyntaxNode;
-use type_rows::Checker;
+use typeck_checker::Checker;
+use typeck_heads::broken_rule;
+use typeck_items::{enter_impl, leave_impl};
 
 /// The body of a function or a method.
 fn own_body(checker: &mut Checker, at: Pos, function: Function) -> Result<(), RuleError>
@@ -38,7 +38,7 @@ fn method_body(checker: &mut Checker, node: &SyntaxNode) -> Result<(), RuleError
 {
     match item_form(node) {
         ItemForm::Fn(function) => own_body(checker, node.at, function),
-        _ => Err(broken(Rule::T20, node.at)),
+        _ => Err(broken_rule(Rule::T20, node.at)),
     }
 }
 

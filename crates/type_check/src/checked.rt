@@ -2,7 +2,7 @@
 ghost use Rattle.std.specs.Prelude.{◌≡◌, []};
 ghost use Rattle.src_tree.specs.View as view;
 ghost use Rattle.src_tree.specs.View.{parts_in};
-ghost use Rattle.type_rows.specs.Stand.{env, state};
+ghost use Rattle.typeck_checker.specs.Stand.{env, state};
 ghost use Rattle.typed_tree.specs.View.{program_of};
 ghost use Rattle.typing_rules.specs.Items.{item_syns, items_of};
 ghost use Rattle.typing_rules.specs.Program as rules;
@@ -14,7 +14,7 @@ use mir_base::{NoMemory, RuleError};
 use mir_ty::Items;
 use src_tree::{NodePiece, Tree};
 use std::alloc::Global;
-use type_rows::Checker;
+use typeck_checker::Checker;
 use typed_tree::Typed;
 
 /// The program of a walk that is at its end.
@@ -26,7 +26,7 @@ fn typed_of(checker: Checker) -> Typed
 }
 
 /// The program that a checker gives that stands outside all items.
-fn walked(checker: Checker, pieces: &[NodePiece]) -> Result<Typed, RuleError>
+fn check_items(checker: Checker, pieces: &[NodePiece]) -> Result<Typed, RuleError>
     requires { (env checker).variables ≡ [] }
     ensures { Checks (rules.program_in (rules.all_items (env checker) (record { methods = []; impls = [] }) (item_syns (items_of (parts_in pieces.now))) (state checker))) result }
 {
@@ -49,7 +49,7 @@ pub fn check(alloc: Global, tree: &Tree, items: Items) -> Result<Typed, RuleErro
     ensures { Checks (rules.checked (view.items_of tree.now) items) result }
 {
     match checker_of(alloc, tree.items.as_slice(), items) {
-        Ok(checker) => walked(checker, tree.items.as_slice()),
+        Ok(checker) => check_items(checker, tree.items.as_slice()),
         Err(NoMemory) => Err(RuleError::Memory),
     }
 }

@@ -1,20 +1,20 @@
 //! Bodies of functions and methods (The Rust Reference, "Functions", "Methods").
 ghost use Rattle.std.specs.Prelude.{◌≡◌, OnOk, Some};
-ghost use Rattle.function_rows.specs.Aside.{alone};
-ghost use Rattle.function_rows.specs.Heads.{unvalued};
+ghost use Rattle.typeck_bodies.specs.Aside.{alone};
+ghost use Rattle.typeck_bodies.specs.Heads.{unvalued};
 ghost use Rattle.src_ast.specs.Seen.{maybe_of, nodes_of};
-ghost use Rattle.type_rows.specs.Stand.{Gives, GivesValue, Keeps, Same, env, stack, state};
+ghost use Rattle.typeck_checker.specs.Stand.{Gives, GivesValue, Keeps, Same, env, stack, state};
 ghost use Rattle.typing_rules.specs.Bodies as bodies;
 ghost use Rattle.typing_rules.specs.Program as program;
 
-use expression_check::typed;
-use function_rows::{body_end, fn_head};
-use item_heads::broken;
 use mir_base::{Pos, Rule, RuleError};
 use mir_ty::TyId;
 use src_ast::Nodes;
 use src_tree::SyntaxNode;
-use type_rows::Checker;
+use typeck_bodies::{body_end, fn_head};
+use typeck_checker::Checker;
+use typeck_heads::broken_rule;
+use typeck_walk::check_expr;
 
 /// The block of a function or a method, which has one.
 fn block_of(
@@ -27,8 +27,8 @@ fn block_of(
     ensures kept { Keeps (stack checker.old) checker.old result checker.new }
 {
     match block {
-        Some(block) => typed(checker, block, Some(answer)),
-        None => Err(broken(Rule::T20, at)),
+        Some(block) => check_expr(checker, block, Some(answer)),
+        None => Err(broken_rule(Rule::T20, at)),
     }
 }
 

@@ -1,11 +1,11 @@
 //! The names of structs and enums, of bodies, and of the methods of each trait, as the items have them.
 ghost use Rattle.std.specs.Prelude.{◌≡◌, IfOk, map};
-ghost use Rattle.type_rows.specs.Tables.{adt_words, body_words, method_words, trait_words};
+ghost use Rattle.typeck_checker.specs.Tables.{adt_words, body_words, method_words, trait_words};
 
-use item_heads::NameTable;
 use mir_base::{List, NoMemory};
 use mir_ty::{Items, TraitDef};
 use std::alloc::Global;
+use typeck_heads::NameTable;
 
 pub fn adt_names(alloc: Global, items: &Items) -> Result<NameTable, NoMemory>
     ensures { IfOk result (λ names. names ≡ adt_words items.now) }

@@ -4,7 +4,7 @@ ghost use Rattle.src_ast.specs.ItemForms.{kind_seen};
 ghost use Rattle.src_ast.specs.Seen.{nodes_of, syn_of};
 ghost use Rattle.src_tree.specs.View.{parts_in, piece_of};
 ghost use Rattle.typing_rules.specs.Items.{all_kinds, item_syns, items_of};
-ghost use Rattle.type_rows.specs.Tables.{all_kinds_of};
+ghost use Rattle.typeck_checker.specs.Tables.{all_kinds_of};
 ghost use Rattle.type_check.specs.Kinds.{kind_in, kinds_at, kinds_in};
 
 use mir_base::{List, NoMemory};

@@ -5,15 +5,14 @@ ghost use Rattle.typing_rules.specs.Collected.{starting_with};
 ghost use Rattle.typing_rules.specs.Items.{adt_names as names_of_adts, all_kinds, item_syns, items_of, trait_names as names_of_traits};
 ghost use Rattle.typing_rules.specs.Places.{unit};
 ghost use Rattle.typing_rules.specs.Program.{outermost};
-ghost use Rattle.type_env.specs.Walked.{state_of};
-ghost use Rattle.type_rows.specs.Stand.{env, stack, state};
-ghost use Rattle.type_rows.specs.Tables.{AreTablesOf, all_kinds_of};
+ghost use Rattle.typeck_env.specs.Walked.{state_of};
+ghost use Rattle.typeck_checker.specs.Stand.{env, stack, state};
+ghost use Rattle.typeck_checker.specs.Tables.{AreTablesOf, all_kinds_of};
 ghost use Rattle.type_check.specs.Start.{HasImplTables, HasItemTables, HasTextTables, HasNamesOf};
 
 use crate::drops::drop_bodies;
 use crate::items::{adt_names, body_names, method_names, trait_names};
 use crate::kinds::kinds;
-use item_heads::NameTable;
 use mir_base::{List, NoMemory};
 use mir_ty::{Items, UNIT};
 use name_table::{NameSort, names_of};
@@ -21,8 +20,9 @@ use src_ast::FieldKind;
 use src_tree::NodePiece;
 use std::alloc::Global;
 use std::collections::HashSet;
-use type_env::{AdtNames, ImplPair, Variables, Walk, impl_pairs, member_names};
-use type_rows::{Checker, Surroundings, Tables};
+use typeck_checker::{BodyScope, Checker, Tables};
+use typeck_env::{AdtNames, ImplPair, Variables, Walk, impl_pairs, member_names};
+use typeck_heads::NameTable;
 
 /// The tables of names as the text has them.
 #[derive(Drop)]
@@ -150,13 +150,13 @@ fn tables(alloc: Global, pieces: &[NodePiece], items: &Items) -> Result<Tables, 
 }
 
 /// Where the bodies of a text begin: no struct or enum is `Self`, and no variable or loop is around.
-fn outside(alloc: Global) -> Surroundings
+fn outside(alloc: Global) -> BodyScope
     ensures self_adt { result.self_adt ≡ None }
     ensures variables { result.variables ≡ [] }
     ensures loops { result.loops ≡ [] }
     ensures answer { result.answer ≡ unit }
 {
-    Surroundings {
+    BodyScope {
         self_adt: None,
         variables: Variables::new(alloc),
         loops: List::new(alloc),

@@ -2,17 +2,17 @@
 ghost use Rattle.std.specs.Prelude.{◌≡◌, [], OnOk};
 ghost use Rattle.src_ast.specs.Seen.{syn_of};
 ghost use Rattle.src_tree.specs.View.{parts_in, piece_of};
-ghost use Rattle.type_rows.specs.Stand.{GivesValue, Same, env, state};
+ghost use Rattle.typeck_checker.specs.Stand.{GivesValue, Same, env, state};
 ghost use Rattle.typing_rules.specs.Items.{item_syns, items_of};
 ghost use Rattle.typing_rules.specs.Program as rules;
-ghost use Rattle.item_check.specs.Had.{had};
+ghost use Rattle.typeck_items.specs.Had.{had};
 ghost use Rattle.type_check.specs.Forms.{item_and_bodies, piece_and_bodies};
 
 use crate::bodies::bodies_of;
-use item_check::{Before, NamePairs, item_rules};
 use mir_base::RuleError;
 use src_tree::{NodePiece, SyntaxNode};
-use type_rows::Checker;
+use typeck_checker::Checker;
+use typeck_items::{Before, NamePairs, item_rules};
 
 /// One item, and then its bodies.
 fn item(checker: &mut Checker, before: &mut Before, node: &SyntaxNode) -> Result<(), RuleError>

@@ -114,22 +114,22 @@ replaces BorrowsUniquely = true
 replaces _ = false
 
 -- What an expression does to places, and where it conflicts within itself.
-pub record ToldAccesses : Type 0 where
+pub record CollectedAccesses : Type 0 where
   pub accesses : List Accessed
   pub conflicts : List Pos
 
-abbrev pub quiet : ToldAccesses
+abbrev pub quiet : CollectedAccesses
 quiet = record { accesses = []; conflicts = [] }
 
 infixr 5 ◌⊕◌
-abbrev pub ◌⊕◌ : ToldAccesses → ToldAccesses → ToldAccesses
+abbrev pub ◌⊕◌ : CollectedAccesses → CollectedAccesses → CollectedAccesses
 a ⊕ b = record { accesses = a.accesses ++ b.accesses; conflicts = a.conflicts ++ b.conflicts }
 
-abbrev pub one : Access → Option AccessPlace → Option ℕ → Pos → ToldAccesses
+abbrev pub one : Access → Option AccessPlace → Option ℕ → Pos → CollectedAccesses
 one access place root at =
     record { accesses = record { access = access; place = place; root = root; at = at } ∷ []; conflicts = [] }
 
-abbrev pub conflicting : List Pos → ToldAccesses
+abbrev pub conflicting : List Pos → CollectedAccesses
 conflicting at = record { accesses = []; conflicts = at }
 
 abbrev pub access_by : Option Use → Option Access
@@ -139,7 +139,7 @@ access_by (Some Use.Borrow) = Some Borrows
 access_by (Some Use.BorrowMut) = Some BorrowsUniquely
 access_by _ = None
 
-abbrev pub own_access : Option Access → Option AccessPlace → Option ℕ → Pos → ToldAccesses
+abbrev pub own_access : Option Access → Option AccessPlace → Option ℕ → Pos → CollectedAccesses
 own_access None place root at = quiet
 own_access (Some access) place root at = one access place root at
 
@@ -154,7 +154,7 @@ pub record Argument : Type 0 where
   pub refers : Option Referring
   pub is_receiver : Bool
   pub at : Pos
-  pub told : ToldAccesses
+  pub told : CollectedAccesses
 
 abbrev pub refers_by : Aliases → Form → Option Referring
 refers_by aliases (Borrow unique base) = Some record { place = place_of aliases base; unique = unique }
@@ -189,11 +189,11 @@ abbrev pub conflicts_among : List Argument → List Pos
 conflicts_among [] = []
 conflicts_among (a ∷ as_) = against_all a.is_receiver a.refers as_ ++ conflicts_among as_
 
-abbrev pub all_told : List Argument → ToldAccesses
+abbrev pub all_told : List Argument → CollectedAccesses
 all_told [] = quiet
 all_told (a ∷ as_) = a.told ⊕ all_told as_
 
-abbrev pub passed_together : List Argument → ToldAccesses
+abbrev pub passed_together : List Argument → CollectedAccesses
 passed_together args = all_told args ⊕ conflicting (conflicts_among args)
 
 -- ---- patterns
@@ -226,7 +226,7 @@ abbrev mutual
   bound_parts place k (a_node first rest) =
       bound (option_map (with_step (ToPart k)) place) first ++ bound_parts place (suc k) rest
 
-abbrev pub accesses_of : List (ℕ × Accessed) → ToldAccesses
+abbrev pub accesses_of : List (ℕ × Accessed) → CollectedAccesses
 accesses_of bounds = record { accesses = map (λ (b : ℕ × Accessed). b.1) bounds; conflicts = [] }
 
 abbrev pub alias_of : ℕ × Accessed → ℕ × Option AccessPlace
@@ -251,7 +251,7 @@ against_guard scrutinee bounds a =
     Some a.at
     else None
 
-abbrev pub of_guard : Option AccessPlace → List (ℕ × Accessed) → ToldAccesses → ToldAccesses
+abbrev pub of_guard : Option AccessPlace → List (ℕ × Accessed) → CollectedAccesses → CollectedAccesses
 of_guard scrutinee bounds told = told ⊕ conflicting (filter_map (against_guard scrutinee bounds) told.accesses)
 
 abbrev pub is_one_name : Node → Bool
@@ -259,29 +259,29 @@ is_one_name (node id at ty by (Binding name)) = true
 is_one_name _ = false
 
 -- a pattern with parts takes them out of the initialiser's place
-abbrev pub of_let : Aliases → Node → Node → ToldAccesses
+abbrev pub of_let : Aliases → Node → Node → CollectedAccesses
 of_let aliases pattern value =
     if is_one_name pattern then quiet else accesses_of (bound (place_of aliases value) pattern)
 
-abbrev pub of_scrutinee : Aliases → Node → Node → ToldAccesses
+abbrev pub of_scrutinee : Aliases → Node → Node → CollectedAccesses
 of_scrutinee aliases pattern scrutinee = accesses_of (bound (place_of aliases scrutinee) pattern)
 
-abbrev pub receiver_of : Aliases → Node → ToldAccesses → Argument
+abbrev pub receiver_of : Aliases → Node → CollectedAccesses → Argument
 receiver_of aliases (node id at ty by form) told =
     record { refers = refers_by aliases form; is_receiver = true; at = at; told = told }
 
 abbrev mutual
   -- an expression with the use of its place
-  pub told : Aliases → Node → ToldAccesses
+  pub told : Aliases → Node → CollectedAccesses
   told aliases (node id at ty by form) =
       told_form aliases at form ⊕ own_access (access_by by) (place_of aliases (node id at ty by form)) (root_of_form
       form) at
 
   -- what is inside a place, without its own use
-  pub inside : Aliases → Node → ToldAccesses
+  pub inside : Aliases → Node → CollectedAccesses
   inside aliases (node id at ty by form) = told_form aliases at form
 
-  pub told_form : Aliases → Pos → Form → ToldAccesses
+  pub told_form : Aliases → Pos → Form → CollectedAccesses
   told_form aliases at (Field base part) = inside aliases base
   told_form aliases at (Index base index count) =
       inside aliases base ⊕ told aliases index ⊕ one Borrows (option_map with_end (place_of aliases base)) (root_of
@@ -331,15 +331,15 @@ abbrev mutual
   told_form aliases at (Return value) = told_maybe aliases value
   told_form aliases at _ = quiet
 
-  pub told_all : Aliases → Nodes → ToldAccesses
+  pub told_all : Aliases → Nodes → CollectedAccesses
   told_all aliases no_node = quiet
   told_all aliases (a_node first rest) = told aliases first ⊕ told_all aliases rest
 
-  pub told_fields : Aliases → Fields → ToldAccesses
+  pub told_fields : Aliases → Fields → CollectedAccesses
   told_fields aliases no_field = quiet
   told_fields aliases (a_field number value rest) = told aliases value ⊕ told_fields aliases rest
 
-  pub told_maybe : Aliases → MaybeNode → ToldAccesses
+  pub told_maybe : Aliases → MaybeNode → CollectedAccesses
   told_maybe aliases absent = quiet
   told_maybe aliases (present value) = told aliases value
 
@@ -357,17 +357,17 @@ abbrev mutual
         (root_of_form form) at;
   }
 
-  pub told_arms : Aliases → Option AccessPlace → Nodes → ToldAccesses
+  pub told_arms : Aliases → Option AccessPlace → Nodes → CollectedAccesses
   told_arms aliases scrutinee no_node = quiet
   told_arms aliases scrutinee (a_node first rest) = told_arm aliases scrutinee first ⊕ told_arms aliases scrutinee rest
 
-  pub told_arm : Aliases → Option AccessPlace → Node → ToldAccesses
+  pub told_arm : Aliases → Option AccessPlace → Node → CollectedAccesses
   told_arm aliases scrutinee (node id at ty by (Arm pattern guard body)) =
       told_guard aliases scrutinee (bound scrutinee pattern) guard ⊕ accesses_of (bound scrutinee pattern) ⊕ told
       aliases body
   told_arm aliases scrutinee _ = quiet
 
-  pub told_guard : Aliases → Option AccessPlace → List (ℕ × Accessed) → MaybeNode → ToldAccesses
+  pub told_guard : Aliases → Option AccessPlace → List (ℕ × Accessed) → MaybeNode → CollectedAccesses
   told_guard aliases scrutinee bounds absent = quiet
   told_guard aliases scrutinee bounds (present guard) =
       of_guard scrutinee bounds (told (aliases_with bounds aliases) guard)

@@ -3,10 +3,10 @@
 #![tactic(auto)]
 
 mod changes;
-mod completing;
 mod entries;
 mod exits;
 mod laws;
+mod pending;
 mod places;
 mod scheduled;
 mod scope;

@@ -9,7 +9,7 @@ use mir_base::{List, NoMemory};
 use std::alloc::Global;
 
 /// A place once more.
-fn copied(alloc: Global, place: &Place) -> Result<Place, NoMemory>
+fn copy_place(alloc: Global, place: &Place) -> Result<Place, NoMemory>
     ensures { IfOk result (λ copy. copy ≡ place.now) }
 {
     Ok(Place {
@@ -27,7 +27,7 @@ pub fn add_entries(
     ensures { OnOk result (places.new ≡ places.old ++ dropped entries.now) }
 {
     for number in (0..entries.len()).rev() {
-        places.push(copied(alloc, &entries[number].place)?)?;
+        places.push(copy_place(alloc, &entries[number].place)?)?;
     }
     Ok(())
 }
@@ -41,7 +41,7 @@ pub fn add_pending(
     ensures { OnOk result (places.new ≡ places.old ++ dropped (awaiting pending.now)) }
 {
     for number in (0..pending.len()).rev() {
-        places.push(copied(alloc, &pending[number].scheduled.place)?)?;
+        places.push(copy_place(alloc, &pending[number].scheduled.place)?)?;
     }
     Ok(())
 }

@@ -5,8 +5,8 @@ ghost use Rattle.unwind_tree.specs.declared.scope.Pending.{Pending as a_destinat
 
 use crate::Scheduled;
 use crate::changes::{add_entry, add_pending, fill, make_room};
-use crate::completing::take_pending;
 use crate::exits::{exit_places, from_number, panic_places};
+use crate::pending::take_pending;
 use crate::scope::{Pending, Scope, new_scope};
 use cfg_graph::Place;
 use mir_base::{Key, List, NoMemory};

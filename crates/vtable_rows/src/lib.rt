@@ -2,8 +2,8 @@
 //! development guide calls such a row a vtable.
 #![tactic(auto)]
 
-mod making;
+mod build_rows;
 mod table;
 
-pub use making::rows;
+pub use build_rows::rows;
 pub use table::{Row, Rows};

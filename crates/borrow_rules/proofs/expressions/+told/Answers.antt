@@ -9,7 +9,7 @@ use Rattle.typed_tree.specs.declared.node.Form.{the_lemmas}
 use Rattle.typed_tree.specs.declared.node.Node.{Node}
 use Rattle.typed_tree.specs.declared.node.NumberedField.{NumberedField}
 use Rattle.typing_rules.specs.Accesses as rules
-use Rattle.typing_rules.specs.Accesses.{◌⊕◌, Argument, AccessPlace, ToldAccesses, access_by, accesses_of, argument, arguments, bound, inside, of_scrutinee, of_let, own_access, passed_together, place_of, refers_by, root_of, told, told_all, told_arm, told_arms, told_fields, told_guard, told_maybe}
+use Rattle.typing_rules.specs.Accesses.{◌⊕◌, Argument, AccessPlace, CollectedAccesses, access_by, accesses_of, argument, arguments, bound, inside, of_scrutinee, of_let, own_access, passed_together, place_of, refers_by, root_of, told, told_all, told_arm, told_arms, told_fields, told_guard, told_maybe}
 use Rattle.borrow_rules.specs.Forms.{argument_told, arm_told, borrow_access, branch_told, call_told, parts_told, reaching_told}
 use Rattle.borrow_rules.specs.AccessView.{access_in, aliases_in, argument_in, bound_in, place_if_any, referring_if_any, told_in}
 use Rattle.borrow_rules.specs.declared.arguments.Argument as rust
@@ -193,7 +193,7 @@ tell_argument-returns t c =
     let n : Node = c.args.node.now in
     let refers = referring_if_any c.in_ok-refers.refers in
     let is_refers : refers ≡ refers_by A (form_of n.form) = c.in_ok-refers.ensures in
-    let own : told_in c.tell.new.out ≡ told A (tree_of n) = c.in_ok-tell.ensures ∙ ap (λ (t : ToldAccesses). t ⊕ told A (tree_of n)) c.quiet-own.ensures in
+    let own : told_in c.tell.new.out ≡ told A (tree_of n) = c.in_ok-tell.ensures ∙ ap (λ (t : CollectedAccesses). t ⊕ told A (tree_of n)) c.quiet-own.ensures in
     let is : record { refers = refers; is_receiver = c.args.is_receiver; at = n.at; told = told_in c.tell.new.out } ≡ argument_told A c.args.is_receiver (tree_of n) =
     argument_by_form A n c.args.is_receiver refers (told_in c.tell.new.out) is_refers own in
     on_ok_weaker c.push.result
@@ -251,7 +251,7 @@ tell_reaching-returns-in_ok-tell-in-Index t c =
     let A = aliases_in c.args.aliases.now in
     let base : tree.Node = tree_of c.deref-base.result.now in
     let index : tree.Node = tree_of c.deref.result.now in
-    let access : ToldAccesses = rules.one rules.Borrows (option_map rules.with_end (place_of A base)) (root_of base) c.args.at in
+    let access : CollectedAccesses = rules.one rules.Borrows (option_map rules.with_end (place_of A base)) (root_of base) c.args.at in
     let is : reaching_told A c.args.at (form_of c.args.form.now) ≡ (inside A base ⊕ (told A index ⊕ access)) =
     ap (reaching_told A c.args.at) (index_form _ _ _ c.deref-base.ensures _ _ c.deref.ensures _ c.in-Index.is) in
     on_ok_weaker c.tell_array.result
@@ -264,7 +264,7 @@ tell_reaching-returns-in_ok-tell_inside-in-Assign t c =
     let A = aliases_in c.args.aliases.now in
     let place : tree.Node = tree_of c.deref-place.result.now in
     let value : tree.Node = tree_of c.deref-in-Assign.result.now in
-    let access : ToldAccesses = rules.one rules.Stores (place_of A place) (root_of place) c.args.at in
+    let access : CollectedAccesses = rules.one rules.Stores (place_of A place) (root_of place) c.args.at in
     let is : reaching_told A c.args.at (form_of c.args.form.now) ≡ (told A value ⊕ (inside A place ⊕ access)) =
     ap (reaching_told A c.args.at) (assign_form _ _ _ c.deref-place.ensures _ _ c.deref-in-Assign.ensures c.in-Assign.is) in
     on_ok_weaker c.tell_place.result
@@ -276,7 +276,7 @@ pub tell_reaching-returns-in_ok-tell_inside-in-Borrow : goal.tell_reaching-retur
 tell_reaching-returns-in_ok-tell_inside-in-Borrow t c =
     let A = aliases_in c.args.aliases.now in
     let base : tree.Node = tree_of c.deref-base-in-Borrow.result.now in
-    let access : ToldAccesses = rules.one (borrow_access c.in-Borrow.unique) (place_of A base) (root_of base) c.args.at in
+    let access : CollectedAccesses = rules.one (borrow_access c.in-Borrow.unique) (place_of A base) (root_of base) c.args.at in
     let is : reaching_told A c.args.at (form_of c.args.form.now) ≡ (inside A base ⊕ access) =
     ap (reaching_told A c.args.at) (borrow_form _ _ _ c.deref-base-in-Borrow.ensures _ c.in-Borrow.is) in
     let by : rules.one (access_in c.borrowing.result) (place_of A base) (root_of base) c.args.at ≡ access =
@@ -284,5 +284,5 @@ tell_reaching-returns-in_ok-tell_inside-in-Borrow t c =
     on_ok_weaker c.tell_place-in-Borrow.result
     (λ made. two (told_in c.args.out.now) (told_in c.tell_inside-in-Borrow.new.out) (inside A base) access _
     c.in_ok-tell_inside-in-Borrow.ensures is (told_in c.tell_place-in-Borrow.new.out)
-    (made ∙ ap (λ (t : ToldAccesses). told_in c.tell_inside-in-Borrow.new.out ⊕ t) by))
+    (made ∙ ap (λ (t : CollectedAccesses). told_in c.tell_inside-in-Borrow.new.out ⊕ t) by))
     c.tell_place-in-Borrow.ensures

@@ -1,6 +1,6 @@
 use Rattle.std.proofs.Common.{rules, ◌≡◌, ◌∷◌, [], false, Some, map}
 use Rattle.mir_ty.specs.AreItems.{AreTypes}
-use Rattle.mir_text.specs.Compared.{AdtSeen}
+use Rattle.listing_write.specs.Compared.{AdtSeen}
 use Rattle.listing_parts.specs.Table.{text_under}
 use Rattle.listing_lines.specs.ItemReading.{struct_from}
 use Rattle.listing_lines.proofs.FoundVariants.{struct_found}

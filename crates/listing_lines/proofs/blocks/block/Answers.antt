@@ -3,8 +3,8 @@ use Rattle.std.proofs.Common.{rules, ◌≡◌, ℕ, Bool, List, Some, ap, sym, 
 use Rattle.cfg_graph.specs.declared.graph.Block.{Block}
 use Rattle.cfg_graph.specs.declared.graph.Kind.{Kind}
 use Rattle.cfg_graph.specs.declared.statement.Stmt.{Stmt}
-use Rattle.mir_text.specs.Reading.Rows.{many}
-use Rattle.mir_text.specs.Reading.Words.{FoundInText, bind}
+use Rattle.listing_write.specs.Reading.Rows.{many}
+use Rattle.listing_write.specs.Reading.Words.{FoundInText, bind}
 use Rattle.listing_lines.specs.LineReading.{block_read}
 use Rattle.listing_lines.specs.CodeReading.{statement_read, code_behind}
 use Rattle.listing_lines.proofs.blocks.block.Goals as goal

@@ -1,7 +1,7 @@
 -- One block more, a last one, and no more blocks.
 use Rattle.std.proofs.Common.{rules, ◌≡◌, ◌-◌, ◌+◌, Bool, List, [], ◌∷◌, ◌++◌, ℕ, length, Some, None, true, false, ap, sym, ◌∙◌, arith}
 use Rattle.cfg_graph.specs.declared.graph.Block.{Block}
-use Rattle.mir_text.specs.Reading.Words.{FoundInText}
+use Rattle.listing_write.specs.Reading.Words.{FoundInText}
 use Rattle.listing_lines.specs.CodeReading.{code_read}
 use Rattle.listing_lines.proofs.Until.{one_more, last_one, no_more, so_far}
 use Rattle.listing_lines.proofs.blocks.read_blocks.Goals as goal

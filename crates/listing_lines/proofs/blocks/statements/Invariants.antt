@@ -1,5 +1,5 @@
 use Rattle.std.proofs.Common.{◌≡◌, ◌-◌, length}
-use Rattle.mir_text.specs.Reading.Rows.{many}
+use Rattle.listing_write.specs.Reading.Rows.{many}
 use Rattle.listing_parts.proofs.Rows.{so_far}
 use Rattle.listing_lines.specs.CodeReading.{statement_read}
 use Rattle.listing_lines.proofs.blocks.statements.Given as goal

@@ -1,5 +1,5 @@
 use Rattle.std.proofs.Common.{◌≡◌, ◌-◌, length}
-use Rattle.mir_text.specs.Reading.Rows.{many}
+use Rattle.listing_write.specs.Reading.Rows.{many}
 use Rattle.listing_lines.specs.LineReading.{blank_number}
 use Rattle.listing_parts.proofs.Rows.{so_far}
 use Rattle.listing_lines.proofs.items.blank_numbers.Given as goal

@@ -3,8 +3,8 @@ use Rattle.std.proofs.Common.{rules, ◌≡◌, ◌-◌, ◌+◌, All, List, ref
 use Rattle.mir_ty.specs.AreItems.{IsMethod}
 use Rattle.mir_ty.specs.declared.def.Sig.{Sig}
 use Rattle.listing_lines.specs.TraitsRead.{FindsMore}
-use Rattle.mir_text.specs.Compared.{sig_seen}
-use Rattle.mir_text.specs.Reading.Rows.{comma, many}
+use Rattle.listing_write.specs.Compared.{sig_seen}
+use Rattle.listing_write.specs.Reading.Rows.{comma, many}
 use Rattle.listing_parts.specs.Table.{under}
 use Rattle.listing_parts.proofs.FoundRows.{then_grow}
 use Rattle.listing_lines.specs.TraitReading.{method_read}

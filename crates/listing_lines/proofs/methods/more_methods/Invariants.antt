@@ -1,7 +1,7 @@
 use Rattle.std.proofs.Common.{◌≡◌, ◌-◌, ◌++◌, List, ℕ, All, length, map}
 use Rattle.mir_ty.specs.AreItems.{IsMethod}
-use Rattle.mir_text.specs.Compared.{SigSeen, sig_seen}
-use Rattle.mir_text.specs.Reading.Rows.{comma, many, many_within}
+use Rattle.listing_write.specs.Compared.{SigSeen, sig_seen}
+use Rattle.listing_write.specs.Reading.Rows.{comma, many, many_within}
 use Rattle.listing_parts.specs.Table.{Grow, under}
 use Rattle.listing_lines.specs.TraitReading.{method_read}
 use Rattle.listing_lines.proofs.methods.more_methods.Given as goal

@@ -1,5 +1,5 @@
 use Rattle.std.proofs.Common.{rules, ◌≡◌, ◌<◌, List, ℕ, Some, length, map}
-use Rattle.mir_text.specs.Compared.{SigSeen}
+use Rattle.listing_write.specs.Compared.{SigSeen}
 use Rattle.listing_parts.specs.Table.{text_under}
 use Rattle.listing_lines.specs.TraitReading.{result_from}
 use Rattle.listing_lines.proofs.FoundMethods.{method_found}

@@ -1,7 +1,7 @@
 use Rattle.std.proofs.Common.{rules, ◌≡◌, ◌++◌, codes, Some}
 use Rattle.mir_ty.specs.declared.ty.Ty.{Ty}
 use Rattle.mir_ty.specs.ItemTable.{type_at}
-use Rattle.mir_text.specs.Types.{trait_name}
+use Rattle.listing_write.specs.Types.{trait_name}
 use Rattle.listing_parts.specs.Table.{text_under}
 use Rattle.listing_parts.specs.TypesRead.{GivesType}
 use Rattle.listing_lines.specs.TraitReading.{reference_to}

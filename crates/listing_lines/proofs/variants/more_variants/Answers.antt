@@ -1,8 +1,8 @@
 -- One variant more, and no more variants.
 use Rattle.std.proofs.Common.{rules, ◌≡◌, ◌-◌, ◌+◌, All, length, Some, None, sym, subst, arith}
 use Rattle.mir_ty.specs.AreItems.{IsVariant}
-use Rattle.mir_text.specs.Compared.{variant_seen}
-use Rattle.mir_text.specs.Reading.Rows.{comma, many}
+use Rattle.listing_write.specs.Compared.{variant_seen}
+use Rattle.listing_write.specs.Reading.Rows.{comma, many}
 use Rattle.listing_parts.specs.Table.{under}
 use Rattle.listing_parts.proofs.FoundRows.{then_grow}
 use Rattle.listing_lines.specs.ItemReading.{variant_read}

@@ -1,7 +1,7 @@
 use Rattle.std.proofs.Common.{◌≡◌, ◌-◌, ◌++◌, List, ℕ, All, length, map}
 use Rattle.mir_ty.specs.AreItems.{IsVariant}
-use Rattle.mir_text.specs.Compared.{VariantSeen, variant_seen}
-use Rattle.mir_text.specs.Reading.Rows.{comma, many, many_within}
+use Rattle.listing_write.specs.Compared.{VariantSeen, variant_seen}
+use Rattle.listing_write.specs.Reading.Rows.{comma, many, many_within}
 use Rattle.listing_parts.specs.Table.{Grow, under}
 use Rattle.listing_lines.specs.ItemReading.{variant_read}
 use Rattle.listing_lines.proofs.variants.more_variants.Given as goal

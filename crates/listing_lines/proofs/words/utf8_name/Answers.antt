@@ -1,5 +1,5 @@
 use Rattle.std.proofs.Common.{rules, ◌<◌, List, ℕ, Some, length, ap, sym, ◌∙◌}
-use Rattle.mir_text.specs.Reading.Words.{FoundInText}
+use Rattle.listing_write.specs.Reading.Words.{FoundInText}
 use Rattle.listing_lines.proofs.Names.{is_named, not_named}
 use Rattle.listing_lines.proofs.words.utf8_name.Goals as goal
 

@@ -1,5 +1,5 @@
 use Rattle.std.proofs.Common.{◌≤◌, ◌-◌, length, arith}
-use Rattle.mir_text.proofs.Counting.{over}
+use Rattle.listing_write.proofs.Counting.{over}
 use Rattle.listing_parts.proofs.NumberTables.{one_earlier}
 use Rattle.listing_parts.proofs.heads.adt_numbers.Goals as goal
 

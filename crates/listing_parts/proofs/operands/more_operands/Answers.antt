@@ -1,8 +1,8 @@
 -- One operand more, and no more operands.
 use Rattle.std.proofs.Common.{rules, ◌≡◌, ◌-◌, ◌+◌, List, ℕ, length, Some, None, ap, sym, ◌∙◌, arith}
 use Rattle.cfg_graph.specs.declared.place.Operand.{Operand}
-use Rattle.mir_text.specs.Reading.Parts.{operand_read}
-use Rattle.mir_text.specs.Reading.Rows.{comma}
+use Rattle.listing_write.specs.Reading.Parts.{operand_read}
+use Rattle.listing_write.specs.Reading.Rows.{comma}
 use Rattle.listing_parts.proofs.Rows.{one_more, no_more, so_far}
 use Rattle.listing_parts.proofs.operands.more_operands.Goals as goal
 

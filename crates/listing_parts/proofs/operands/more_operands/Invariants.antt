@@ -1,6 +1,6 @@
 use Rattle.std.proofs.Common.{◌≡◌, ◌-◌, length}
-use Rattle.mir_text.specs.Reading.Parts.{operand_read}
-use Rattle.mir_text.specs.Reading.Rows.{comma}
+use Rattle.listing_write.specs.Reading.Parts.{operand_read}
+use Rattle.listing_write.specs.Reading.Rows.{comma}
 use Rattle.listing_parts.proofs.Rows.{so_far}
 use Rattle.listing_parts.proofs.operands.more_operands.Given as goal
 

@@ -1,7 +1,7 @@
 -- One step more, and no more steps.
 use Rattle.std.proofs.Common.{rules, ◌≡◌, ◌-◌, ◌+◌, List, length, Some, ap, sym, ◌∙◌, arith}
 use Rattle.cfg_graph.specs.declared.place.Step.{Step}
-use Rattle.mir_text.specs.Reading.Parts.{step_read}
+use Rattle.listing_write.specs.Reading.Parts.{step_read}
 use Rattle.listing_parts.proofs.Rows.{one_more, no_more, so_far}
 use Rattle.listing_parts.proofs.places.steps.Goals as goal
 

@@ -1,6 +1,6 @@
 use Rattle.std.proofs.Common.{◌≡◌, ◌-◌, length}
-use Rattle.mir_text.specs.Reading.Parts.{step_read}
-use Rattle.mir_text.specs.Reading.Rows.{many}
+use Rattle.listing_write.specs.Reading.Parts.{step_read}
+use Rattle.listing_write.specs.Reading.Rows.{many}
 use Rattle.listing_parts.proofs.Rows.{so_far}
 use Rattle.listing_parts.proofs.places.steps.Given as goal
 

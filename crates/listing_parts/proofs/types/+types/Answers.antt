@@ -1,6 +1,6 @@
 use Rattle.std.proofs.Common.{rules, ◌≡◌, ◌-◌, ◌+◌, ◌<◌, length, Some, None, sym, subst, arith, suc}
 use Rattle.mir_ty.specs.AreItems.{AreTypes}
-use Rattle.mir_text.specs.Reading.Rows.{comma, many}
+use Rattle.listing_write.specs.Reading.Rows.{comma, many}
 use Rattle.listing_parts.specs.Leaves.{BeginsLeaf}
 use Rattle.listing_parts.specs.Table.{text_under}
 use Rattle.listing_parts.specs.TypeReading.{begin_read, type_within}
@@ -35,8 +35,8 @@ read_more-loop-preserved t c =
       grow = then_grow heads c.args.items.now c.loop.items new c.loop.invariant.grow grow;
     }
 
-pub read_rest-numbered-requires-clause-stands : goal.read_rest-numbered-requires-clause-stands
-read_rest-numbered-requires-clause-stands t c = (subst (BeginsLeaf c.args.heads.now) c.in-Whole.is c.requires.leaf).stands (length c.args.items.now.types)
+pub read_rest-read_interned-requires-clause-stands : goal.read_rest-read_interned-requires-clause-stands
+read_rest-read_interned-requires-clause-stands t c = (subst (BeginsLeaf c.args.heads.now) c.in-Whole.is c.requires.leaf).stands (length c.args.items.now.types)
 
 pub read_row-returns-in_ok-push-in-Ok : goal.read_row-returns-in_ok-push-in-Ok
 read_row-returns-in_ok-push-in-Ok t c =

@@ -1,6 +1,6 @@
 use Rattle.std.proofs.Common.{◌≡◌, ◌-◌, ◌+◌, ◌*◌, ◌++◌, List, ℕ, length, map}
 use Rattle.mir_ty.specs.AreItems.{AreTypes}
-use Rattle.mir_text.specs.Reading.Rows.{comma, many, many_within}
+use Rattle.listing_write.specs.Reading.Rows.{comma, many, many_within}
 use Rattle.listing_parts.specs.Table.{Grow, text_under}
 use Rattle.listing_parts.specs.TypeReading.{type_within}
 use Rattle.listing_parts.proofs.types.+types.Given as goal

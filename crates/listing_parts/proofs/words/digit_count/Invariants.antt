@@ -1,6 +1,6 @@
 use Rattle.std.proofs.Common.{◌≡◌, ◌+◌, drop}
 use Rattle.std.specs.List.{prefix_len}
-use Rattle.mir_text.specs.Reading.Words.{is_digit}
+use Rattle.listing_write.specs.Reading.Words.{is_digit}
 use Rattle.listing_parts.proofs.words.digit_count.Given as goal
 
 abbrev pub invariant-loop-i : goal.invariant-loop-i

@@ -1,5 +1,5 @@
 use Rattle.std.proofs.lemmas.List.Sums.{prefix_len-le-length}
-use Rattle.mir_text.specs.Reading.Words.{is_digit}
+use Rattle.listing_write.specs.Reading.Words.{is_digit}
 use Rattle.listing_parts.proofs.Spans.{span_is}
 use Rattle.listing_parts.proofs.words.digits.Goals as goal
 

@@ -1,5 +1,5 @@
 use Rattle.std.proofs.Common.{ℕ, List, ap}
-use Rattle.mir_text.specs.Reading.Words.{is_digit}
+use Rattle.listing_write.specs.Reading.Words.{is_digit}
 use Rattle.listing_parts.proofs.Spans.{span_all}
 use Rattle.listing_parts.proofs.words.number_below.Goals as goal
 

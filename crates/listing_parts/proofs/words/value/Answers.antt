@@ -1,6 +1,6 @@
 -- A value that grows too large.
 use Rattle.std.proofs.Common.{sym, ap, ◌∙◌, get_or, refl}
-use Rattle.mir_text.specs.Reading.Words.{limited}
+use Rattle.listing_write.specs.Reading.Words.{limited}
 use Rattle.listing_parts.proofs.Values.{from_none, too_large}
 use Rattle.listing_parts.proofs.words.value.Goals as goal
 

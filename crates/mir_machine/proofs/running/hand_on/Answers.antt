@@ -1,7 +1,7 @@
 use Rattle.std.proofs.Common.{List, ap}
 use Rattle.mir_machine.proofs.FlowsOnward.{flows_as, stops_as}
 use Rattle.mir_machine.specs.Runs.{events_of, lines_in}
-use Rattle.mir_steps.specs.declared.told.ToldEvents.{ToldEvents}
+use Rattle.machine_steps.specs.declared.told.ToldEvents.{ToldEvents}
 use Rattle.mir_machine.proofs.running.hand_on.Goals as goal
 
 pub returns-in-Err-clause-stops : goal.returns-in-Err-clause-stops

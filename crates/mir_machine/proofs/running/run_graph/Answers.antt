@@ -5,8 +5,8 @@ use Rattle.mir_edge.specs.Told.{WhereTold}
 use Rattle.mir_machine.proofs.RunsTold.{at_start, run_is_told}
 use Rattle.mir_machine.specs.Runs.{run_text}
 use Rattle.mir_machine.specs.Errors.{TookPart}
-use Rattle.mir_steps.specs.declared.world.World.{World}
-use Rattle.mir_steps.specs.Worlds.{state_of}
+use Rattle.machine_steps.specs.declared.world.World.{World}
+use Rattle.machine_steps.specs.Worlds.{state_of}
 use Rattle.store_model.specs.Concrete.State.{beginning}
 use Rattle.mir_machine.proofs.running.run_graph.Goals as goal
 

@@ -6,8 +6,8 @@ use Rattle.cfg_graph.specs.Moves.Gone.{is_at_or_above}
 use Rattle.bit_rows.specs.Words.{union, difference}
 use Rattle.init_flow.specs.Carried.{Bits}
 use Rattle.move_paths.specs.Uses.{use_of}
-use Rattle.move_flow.specs.Moved.{mask_of}
-use Rattle.move_flow.specs.Switches.{by_mask}
+use Rattle.init_flow.specs.Moved.{mask_of}
+use Rattle.init_flow.specs.Switches.{by_mask}
 use Rattle.move_errors.proofs.Leaving.{applied-nothing, applied-mask, applied}
 use Rattle.move_errors.proofs.bad.apply.Goals as goal
 

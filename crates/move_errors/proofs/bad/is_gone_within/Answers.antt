@@ -5,7 +5,7 @@ use Rattle.store_model.specs.Places.Place.{Place, whole_local}
 use Rattle.cfg_graph.specs.Moves.Gone.{is_at_or_above}
 use Rattle.bit_rows.specs.Words.{any_both}
 use Rattle.init_flow.specs.Carried.{Bits}
-use Rattle.move_flow.specs.Moved.{masks_of, mask_of}
+use Rattle.init_flow.specs.Moved.{masks_of, mask_of}
 use Rattle.move_errors.specs.Rows.{some_on, place_at}
 use Rattle.move_errors.proofs.OnRows.{both-some}
 use Rattle.move_errors.proofs.bad.is_gone_within.Goals as goal

@@ -1,5 +1,5 @@
 use Rattle.std.proofs.Common.{sym, ap, subst, ◌∙◌}
-use Rattle.move_flow.specs.Concerns.{AreOfBody}
+use Rattle.init_flow.specs.Concerns.{AreOfBody}
 use Rattle.move_errors.specs.Runs.{actions_of}
 use Rattle.move_errors.proofs.Using.{acts-used, used-anywhere}
 use Rattle.move_errors.proofs.decide.point_shows.Goals as goal

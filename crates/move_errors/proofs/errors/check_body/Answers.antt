@@ -13,4 +13,4 @@ returns-in-None-clause-accepted c = λ found at.
     let body : w.body.now ≡ found = same_Some w.body.now found (sym e.body ∙ at) in
     subst (λ (z : Body). MeetsNone c.args.graph.now.items z) body
     (subst (λ (z : ItemTable). MeetsNone z w.body.now) e.items
-    (accepts w.items.now w.body.now w.forest w.below e.watched (c.in_ok-refused.ensures.none c.in-None.is)))
+    (accepts w.items.now w.body.now w.forest w.below e.watched (c.in_ok-refuse_body.ensures.none c.in-None.is)))

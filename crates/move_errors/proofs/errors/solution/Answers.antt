@@ -3,7 +3,7 @@ use Rattle.std.proofs.lemmas.List.{append_cancel_right}
 use Rattle.std.proofs.lemmas.Option.{slice_get-get_or}
 use Rattle.cfg_graph.specs.declared.graph.Body.{Body}
 use Rattle.cfg_graph.specs.Moves.Actions.{actions_on}
-use Rattle.move_flow.specs.Switches.{passed_by}
+use Rattle.init_flow.specs.Switches.{passed_by}
 use Rattle.move_errors.specs.Rows.{state}
 use Rattle.move_errors.proofs.WellUsed.{block-there, locals-below}
 use Rattle.move_errors.proofs.errors.solution.Goals as goal

@@ -1,6 +1,6 @@
 use Rattle.std.proofs.Common.{◌≡◌, List, ap, subst, sym, ◌∙◌}
 use Rattle.cfg_graph.specs.Moves.Gone.{PathAction}
-use Rattle.move_flow.specs.Concerns.{AreOfBody}
+use Rattle.init_flow.specs.Concerns.{AreOfBody}
 use Rattle.move_errors.specs.Rows.{after, first_by}
 use Rattle.move_errors.specs.Runs.{acts_at, actions_of}
 use Rattle.move_errors.proofs.Using.{acts-used, used-anywhere}

@@ -3,7 +3,7 @@ use Rattle.std.specs.List.{filter_map}
 use Rattle.src_tree.specs.View.{parts_in}
 use Rattle.typing_rules.specs.Collected.{adt_item, all_finite, starting_with}
 use Rattle.typing_rules.specs.Items.{item_syns, items_of}
-use Rattle.item_heads.specs.Answers.{Refuses}
+use Rattle.typeck_heads.specs.Answers.{Refuses}
 use Rattle.name_table.specs.AdtForms.{adt_seen}
 use Rattle.name_table.proofs.EachItem.{on_finite, stopped_finite}
 use Rattle.name_table.proofs.Numbered.{order_here, order_next}

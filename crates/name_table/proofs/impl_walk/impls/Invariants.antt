@@ -2,7 +2,7 @@ use Rattle.std.proofs.Common.{◌≡◌, ◌≤◌, length, drop}
 use Rattle.src_tree.specs.View.{parts_in}
 use Rattle.typing_rules.specs.Collected.{impl_of, starting_with}
 use Rattle.typing_rules.specs.Items.{item_syns, items_of}
-use Rattle.item_heads.specs.Forms.{known_of}
+use Rattle.typeck_heads.specs.Forms.{known_of}
 use Rattle.name_table.specs.Forms.{each_done}
 use Rattle.name_table.proofs.impl_walk.impls.Given as goal
 

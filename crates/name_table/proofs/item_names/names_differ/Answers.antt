@@ -5,7 +5,7 @@ use Rattle.std.specs.List.{filter_map}
 use Rattle.src_tree.specs.View.{parts_in}
 use Rattle.typing_rules.specs.Collected.{item_name, names_differ}
 use Rattle.typing_rules.specs.Items.{items_of, item_syns}
-use Rattle.item_heads.specs.Answers.{Refuses}
+use Rattle.typeck_heads.specs.Answers.{Refuses}
 use Rattle.name_table.proofs.ItemNames.{on_names, stopped_name}
 use Rattle.name_table.proofs.item_names.names_differ.Goals as goal
 

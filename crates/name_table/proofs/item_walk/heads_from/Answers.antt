@@ -2,8 +2,8 @@ use Rattle.std.proofs.Common.{arith}
 use Rattle.src_tree.specs.View.{parts_in}
 use Rattle.typing_rules.specs.Collected.{heads_collected, starting_with}
 use Rattle.typing_rules.specs.Items.{items_of}
-use Rattle.item_heads.specs.Answers.{Refuses}
-use Rattle.item_heads.specs.Forms.{known_of}
+use Rattle.typeck_heads.specs.Answers.{Refuses}
+use Rattle.typeck_heads.specs.Forms.{known_of}
 use Rattle.name_table.specs.Walked.{count_in}
 use Rattle.name_table.proofs.ItemWalk.{on_items, stopped_item}
 use Rattle.name_table.proofs.item_walk.heads_from.Goals as goal

@@ -2,8 +2,8 @@ use Rattle.std.proofs.Common.{ap, sym, ◌∙◌}
 use Rattle.src_ast.specs.Seen.{syn_of}
 use Rattle.typing_rules.specs.Collected.{starting_with}
 use Rattle.typing_rules.specs.Items.{trait_name}
-use Rattle.item_heads.specs.Counts.{count_of}
-use Rattle.item_heads.specs.Forms.{known_of}
+use Rattle.typeck_heads.specs.Counts.{count_of}
+use Rattle.typeck_heads.specs.Forms.{known_of}
 use Rattle.name_table.specs.Forms.{item_of_node, one_more}
 use Rattle.name_table.proofs.KeptItems.{traits_after}
 use Rattle.name_table.proofs.item_walk.node_added.Goals as goal

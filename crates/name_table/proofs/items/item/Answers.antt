@@ -3,7 +3,7 @@ use Rattle.src_ast.specs.ItemForms.{kind_seen}
 use Rattle.src_ast.specs.Seen.{nodes_of, syn_of}
 use Rattle.src_ast.specs.View.{idents, named}
 use Rattle.typing_rules.specs.Collected.{starting_with}
-use Rattle.item_heads.specs.Forms.{known_of}
+use Rattle.typeck_heads.specs.Forms.{known_of}
 use Rattle.name_table.proofs.ItemForms.{struct_answers, enum_answers, trait_answers}
 use Rattle.name_table.proofs.items.item.Goals as goal
 

@@ -31,5 +31,5 @@ add_bindings-returns-in-TuplePattern t c =
     λ found items. found items ∙ ap (λ bounds. map bound_of c.args.found.now ++ bounds) (sym (at items)) in
     on_ok_weaker _ then_all c.add_of_parts.ensures
 
-pub add_bindings-returns-in_ok-copied-in-Binding : goal.add_bindings-returns-in_ok-copied-in-Binding
-add_bindings-returns-in_ok-copied-in-Binding t c = on_ok_weaker _ (one_pushed_for bound_of _ _ _ _ (λ items. search (rules, the_lemmas))) c.push.ensures.pushed
+pub add_bindings-returns-in_ok-copy_place-in-Binding : goal.add_bindings-returns-in_ok-copy_place-in-Binding
+add_bindings-returns-in_ok-copy_place-in-Binding t c = on_ok_weaker _ (one_pushed_for bound_of _ _ _ _ (λ items. search (rules, the_lemmas))) c.push.ensures.pushed

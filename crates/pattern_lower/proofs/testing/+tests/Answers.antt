@@ -12,7 +12,7 @@ use Rattle.pattern_lower.specs.Seen.{test_of, tests_from, alternatives_from, tes
 use Rattle.pattern_lower.specs.declared.found.Test.{Any}
 use Rattle.pattern_lower.proofs.Following.{one_more, listed_behind, from_listed, from_listed_alternatives, one_pushed, behind_pushed, behind_same, test_of-Any, test_of-Truth, test_of-Equal, test_of-Variant}
 use Rattle.pattern_lower.proofs.testing.+tests.Goals as goal
-use Rattle.pattern_lower.proofs.testing.+tests.Goals.{add_tests-then-is_test+in_ok-copied-in-VariantPattern+in_ok-push-in-VariantPattern, add_tests-else-is_test}
+use Rattle.pattern_lower.proofs.testing.+tests.Goals.{add_tests-then-is_test+in_ok-copy_place-in-VariantPattern+in_ok-push-in-VariantPattern, add_tests-else-is_test}
 
 pub add_of_fields-loop-field-preserved : goal.add_of_fields-loop-field-preserved
 add_of_fields-loop-field-preserved t c =
@@ -47,15 +47,15 @@ tests_of_each-loop-alternative-preserved t c =
     let is_new : map tests_in c.push.new.self ≡ map tests_in c.loop-alternative.any ++ part c.alternative-item.result = ap (map tests_in) c.in_ok-push.ensures.pushed ∙ map_push tests_in _ _ ∙ ap (λ t. map tests_in c.loop-alternative.any ++ t ∷ []) one in
     one_more F F part c.args.alternatives.now c.loop-alternative.alternative-index c.alternative-item.result _ _ _ (λ x rest. refl) c.loop-alternative-test.true c.alternative-item.is is_new c.loop-alternative.invariant
 
-pub add_tests-returns-in_ok-copied-in-NumberPattern : goal.add_tests-returns-in_ok-copied-in-NumberPattern
-add_tests-returns-in_ok-copied-in-NumberPattern t c = on_ok_weaker _ (one_pushed test_of _ _ _ _ (search (rules, the_lemmas, test_of-Equal))) c.push.ensures.pushed
+pub add_tests-returns-in_ok-copy_place-in-NumberPattern : goal.add_tests-returns-in_ok-copy_place-in-NumberPattern
+add_tests-returns-in_ok-copy_place-in-NumberPattern t c = on_ok_weaker _ (one_pushed test_of _ _ _ _ (search (rules, the_lemmas, test_of-Equal))) c.push.ensures.pushed
 
-pub add_tests-returns-in_ok-copied-in-TruthPattern : goal.add_tests-returns-in_ok-copied-in-TruthPattern
-add_tests-returns-in_ok-copied-in-TruthPattern t c = on_ok_weaker _ (one_pushed test_of _ _ _ _ (search (rules, the_lemmas, test_of-Truth))) c.push-in-TruthPattern.ensures.pushed
+pub add_tests-returns-in_ok-copy_place-in-TruthPattern : goal.add_tests-returns-in_ok-copy_place-in-TruthPattern
+add_tests-returns-in_ok-copy_place-in-TruthPattern t c = on_ok_weaker _ (one_pushed test_of _ _ _ _ (search (rules, the_lemmas, test_of-Truth))) c.push-in-TruthPattern.ensures.pushed
 
 pub add_tests-returns-after-is_test : goal.add_tests-returns-after-is_test
 add_tests-returns-after-is_test t c = elim c.if-is_test.branch [
-  | add_tests-then-is_test+in_ok-copied-in-VariantPattern+in_ok-push-in-VariantPattern w ↦
+  | add_tests-then-is_test+in_ok-copy_place-in-VariantPattern+in_ok-push-in-VariantPattern w ↦
       on_ok_weaker _ (behind_pushed test_of _ _ _ _ _ _ (search (rules, the_lemmas, test_of-Variant)) (w.found-is ∙ w.in_ok-push-in-VariantPattern.ensures.pushed)) c.add_of_fields-in-VariantPattern.ensures
   | add_tests-else-is_test w ↦
       on_ok_weaker _ (behind_same test_of _ _ _ _ _ (search (rules, the_lemmas)) w.found-is) c.add_of_fields-in-VariantPattern.ensures

@@ -6,7 +6,7 @@ use Rattle.src_parse.proofs.steps.close.Goals as goal
 
 pub loop-row-preserved : goal.loop-row-preserved
 loop-row-preserved c =
-    sym (close_hands (stack_of c.loop-row.below) (stack_of c.hand_on.new.below) (frame_of c.loop-row.top) (frame_of c.hand_on.new.top) c.in-Some.row (sym c.made.ensures ∙ c.in-Some.is)
+    sym (close_hands (stack_of c.loop-row.below) (stack_of c.hand_on.new.below) (frame_of c.loop-row.top) (frame_of c.hand_on.new.top) c.in-Some.row (sym c.row_at_end.ensures ∙ c.in-Some.is)
     (c.in_ok-hand_on.ensures ∙ ap (λ z. only_if z (Some (frame_of c.hand_on.new.top ∷ stack_of c.hand_on.new.below))) c.if-not-branch.false)) ∙ c.loop-row.invariant
 
 pub loop-row-smaller : goal.loop-row-smaller
@@ -16,5 +16,5 @@ loop-row-smaller c =
 
 pub returns-then-not-branch : goal.returns-then-not-branch
 returns-then-not-branch c =
-    sym c.loop-row.invariant ∙ close_refuses c.loop-row.below (frame_of c.loop-row.top) c.in-Some.row (λ e. sym c.if-is_empty.false ∙ c.is_empty.ensures.1 e) (sym c.made.ensures ∙ c.in-Some.is)
+    sym c.loop-row.invariant ∙ close_refuses c.loop-row.below (frame_of c.loop-row.top) c.in-Some.row (λ e. sym c.if-is_empty.false ∙ c.is_empty.ensures.1 e) (sym c.row_at_end.ensures ∙ c.in-Some.is)
     (c.in_ok-hand_on.ensures ∙ ap (λ z. only_if z (Some (frame_of c.hand_on.new.top ∷ stack_of c.hand_on.new.below))) c.if-not-branch.true)

@@ -20,34 +20,34 @@ two : (ps : List NodePiece.NodePiece) (g : SyntaxNode) (t : Token) (rest : List 
 two ps g t rest e =
     one ps g (NodePiece.Token t ∷ rest) e ∙ ap (λ z. sub (layout_of g) (parts_from (z ∷ map piece_of rest))) (token_seen t)
 
-pub begun-returns-then-node_levelled : goal.begun-returns-then-node_levelled
-begun-returns-then-node_levelled t c =
+pub makes_row-returns-then-node_levelled : goal.makes_row-returns-then-node_levelled
+makes_row-returns-then-node_levelled t c =
     let first = c.in-Some-Node-default.first in
     let token = c.in-Some-Token-default-split_first.token in
     let rest = c.in-Some-Token-default-split_first.rest.now in
     let e : c.args.node.now.parts ≡ NodePiece.Node first ∷ NodePiece.Token token ∷ rest = search rules in
-    let j : Some (joined_of c.in-Some-joined.begun) ≡ joined c.args.seen token = search rules in
-    let n : c.node_levelled.result ≡ levels (Some c.in-Some-joined.begun.place) (layout_of first) = search rules in
-    let f : c.follows-then-node_levelled.result ≡ follows_of c.args.seen.head (Some (rest_at c.in-Some-joined.begun.at)) c.args.node.now.row (parts_in rest) = search rules in
+    let j : Some (joined_of c.in-Some-join_beginning.begun) ≡ joined c.args.seen token = search rules in
+    let n : c.node_levelled.result ≡ levels (Some c.in-Some-join_beginning.begun.place) (layout_of first) = search rules in
+    let f : c.follows-then-node_levelled.result ≡ follows_of c.args.seen.head (Some (rest_at c.in-Some-join_beginning.begun.at)) c.args.node.now.row (parts_in rest) = search rules in
     ap (λ z. z && c.follows-then-node_levelled.result) (sym c.if-node_levelled.true)
-    ∙ joined_on c.args.seen c.args.node.now.row (layout_of first) token (parts_in rest) c.node_levelled.result c.follows-then-node_levelled.result c.in-Some-joined.begun j n f
+    ∙ joined_on c.args.seen c.args.node.now.row (layout_of first) token (parts_in rest) c.node_levelled.result c.follows-then-node_levelled.result c.in-Some-join_beginning.begun j n f
     ∙ ap (begun_of c.args.seen c.args.node.now.row) (sym (two c.args.node.now.parts first token rest e))
 
-pub begun-returns-else-node_levelled : goal.begun-returns-else-node_levelled
-begun-returns-else-node_levelled t c =
+pub makes_row-returns-else-node_levelled : goal.makes_row-returns-else-node_levelled
+makes_row-returns-else-node_levelled t c =
     let first = c.in-Some-Node-default.first in
     let token = c.in-Some-Token-default-split_first.token in
     let rest = c.in-Some-Token-default-split_first.rest.now in
     let e : c.args.node.now.parts ≡ NodePiece.Node first ∷ NodePiece.Token token ∷ rest = search rules in
-    let j : Some (joined_of c.in-Some-joined.begun) ≡ joined c.args.seen token = search rules in
-    let n : c.node_levelled.result ≡ levels (Some c.in-Some-joined.begun.place) (layout_of first) = search rules in
-    let b = follows_of c.args.seen.head (Some (rest_at c.in-Some-joined.begun.at)) c.args.node.now.row (parts_in rest) in
+    let j : Some (joined_of c.in-Some-join_beginning.begun) ≡ joined c.args.seen token = search rules in
+    let n : c.node_levelled.result ≡ levels (Some c.in-Some-join_beginning.begun.place) (layout_of first) = search rules in
+    let b = follows_of c.args.seen.head (Some (rest_at c.in-Some-join_beginning.begun.at)) c.args.node.now.row (parts_in rest) in
     c.if-node_levelled.false ∙ ap (λ z. z && b) (sym c.if-node_levelled.false)
-    ∙ joined_on c.args.seen c.args.node.now.row (layout_of first) token (parts_in rest) c.node_levelled.result b c.in-Some-joined.begun j n refl
+    ∙ joined_on c.args.seen c.args.node.now.row (layout_of first) token (parts_in rest) c.node_levelled.result b c.in-Some-join_beginning.begun j n refl
     ∙ ap (begun_of c.args.seen c.args.node.now.row) (sym (two c.args.node.now.parts first token rest e))
 
-pub begun-returns-in-None-joined : goal.begun-returns-in-None-joined
-begun-returns-in-None-joined t c =
+pub makes_row-returns-in-None-join_beginning : goal.makes_row-returns-in-None-join_beginning
+makes_row-returns-in-None-join_beginning t c =
     let first = c.in-Some-Node-default.first in
     let token = c.in-Some-Token-default-split_first.token in
     let rest = c.in-Some-Token-default-split_first.rest.now in
@@ -56,8 +56,8 @@ begun-returns-in-None-joined t c =
     not_joined c.args.seen c.args.node.now.row (layout_of first) token (parts_in rest) j
     ∙ ap (begun_of c.args.seen c.args.node.now.row) (sym (two c.args.node.now.parts first token rest e))
 
-pub begun-returns-in_default-2 : goal.begun-returns-in_default-2
-begun-returns-in_default-2 t c =
+pub makes_row-returns-in_default-2 : goal.makes_row-returns-in_default-2
+makes_row-returns-in_default-2 t c =
     let first = c.in-Some-Node-default.first in
     let zero_ : length c.in-Some-Node-default.rest.now ≡ 0 = search rules in
     let none : c.in-Some-Node-default.rest.now ≡ [] = nil_from_length c.in-Some-Node-default.rest.now zero_ in

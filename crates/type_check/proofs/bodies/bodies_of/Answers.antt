@@ -1,7 +1,7 @@
 use Rattle.std.proofs.Common.{ap, subst, sym, ◌∙◌}
 use Rattle.src_ast.specs.Seen.{nodes_of}
 use Rattle.src_ast.specs.Syntax.{Named, Word, list_of}
-use Rattle.type_rows.specs.Stand.{GivesValue, env, state}
+use Rattle.typeck_checker.specs.Stand.{GivesValue, env, state}
 use Rattle.typing_rules.specs.Program.{all_fn_rules, in_impl}
 use Rattle.typing_rules.specs.Scope.{adt_named}
 use Rattle.type_check.specs.Forms.{bodies_by}

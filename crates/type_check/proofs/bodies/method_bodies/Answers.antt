@@ -1,9 +1,9 @@
 use Rattle.std.proofs.Common.{ap, refl, sym, ◌∙◌}
 use Rattle.src_ast.specs.Seen.{nodes_of, syn_of}
-use Rattle.type_rows.specs.Stand.{env, state}
+use Rattle.typeck_checker.specs.Stand.{env, state}
 use Rattle.typing_rules.specs.Program as rules
 use Rattle.typing_rules.specs.Scope.{Env}
-use Rattle.item_check.proofs.Steps.{step_on}
+use Rattle.typeck_items.proofs.Steps.{step_on}
 use Rattle.type_check.proofs.bodies.method_bodies.Goals as goal
 
 pub method_body-requires : goal.method_body-requires

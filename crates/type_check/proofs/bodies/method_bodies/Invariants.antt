@@ -1,7 +1,7 @@
 use Rattle.std.proofs.Common.{◌≡◌}
 use Rattle.src_ast.specs.Seen.{nodes_of}
 use Rattle.src_ast.specs.Syntax.{list_of}
-use Rattle.type_rows.specs.Stand.{Same, env, state}
+use Rattle.typeck_checker.specs.Stand.{Same, env, state}
 use Rattle.typing_rules.specs.Patterns as sizes
 use Rattle.typing_rules.specs.Program as rules
 use Rattle.type_check.proofs.bodies.method_bodies.Given as goal

@@ -1,5 +1,5 @@
 use Rattle.std.proofs.Common.{ap, subst, sym, ◌∙◌}
-use Rattle.type_rows.specs.Stand.{GivesValue, env, state}
+use Rattle.typeck_checker.specs.Stand.{GivesValue, env, state}
 use Rattle.type_check.specs.Forms.{fn_by}
 use Rattle.type_check.proofs.BodyForms.{fn_seen}
 use Rattle.type_check.proofs.bodies.method_body.Goals as goal

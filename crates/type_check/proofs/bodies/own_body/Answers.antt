@@ -1,6 +1,6 @@
 use Rattle.std.proofs.Common.{subst}
 use Rattle.src_ast.specs.Seen.{maybe_of, nodes_of}
-use Rattle.type_rows.specs.Stand.{GivesValue, env, state}
+use Rattle.typeck_checker.specs.Stand.{GivesValue, env, state}
 use Rattle.typing_rules.specs.Scope.{Env}
 use Rattle.type_check.specs.Forms.{fn_check}
 use Rattle.type_check.proofs.Outside.{alone_is}

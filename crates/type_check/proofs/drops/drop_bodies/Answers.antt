@@ -1,7 +1,7 @@
 use Rattle.std.proofs.Common.{◌≡◌, Some, None, slice_get, rules, ap, ◌∙◌, arith}
 use Rattle.std.specs.List.{list_any}
 use Rattle.std.proofs.lemmas.Option.{slice_get_within}
-use Rattle.type_env.proofs.ImplPairs.{all_taken}
+use Rattle.typeck_env.proofs.ImplPairs.{all_taken}
 use Rattle.type_check.specs.Drops.{is_of}
 use Rattle.type_check.proofs.DropBodies.{one_more}
 use Rattle.type_check.proofs.drops.drop_bodies.Goals as goal

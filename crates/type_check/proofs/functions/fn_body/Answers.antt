@@ -1,16 +1,16 @@
 use Rattle.std.proofs.Common.{Option, Result, arith, subst, sym}
-use Rattle.item_heads.specs.Answers.{Refuses}
+use Rattle.typeck_heads.specs.Answers.{Refuses}
 use Rattle.mir_ty.specs.declared.ty.TyId.{TyId}
 use Rattle.src_ast.specs.Seen.{maybe_of, nodes_of}
-use Rattle.type_rows.specs.Stand.{GivesValue, env, stack, state}
+use Rattle.typeck_checker.specs.Stand.{GivesValue, env, stack, state}
 use Rattle.typed_tree.specs.Tree.{Node}
 use Rattle.typing_rules.specs.Bodies.{fn_body}
 use Rattle.typing_rules.specs.Check.{Broken, Check, TypingState}
 use Rattle.typing_rules.specs.Program.{block_of}
 use Rattle.typing_rules.specs.Scope.{Env}
-use Rattle.function_rows.specs.Aside.{alone}
-use Rattle.function_rows.specs.Heads.{unvalued}
-use Rattle.function_rows.proofs.Bodies.{block_given, block_refused, returned_if}
+use Rattle.typeck_bodies.specs.Aside.{alone}
+use Rattle.typeck_bodies.specs.Heads.{unvalued}
+use Rattle.typeck_bodies.proofs.Bodies.{block_given, block_refused, returned_if}
 use Rattle.type_check.proofs.functions.fn_body.Goals as goal
 
 pub returns-clause-gives : goal.returns-clause-gives

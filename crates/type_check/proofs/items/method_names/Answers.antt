@@ -1,8 +1,8 @@
 use Rattle.std.proofs.Common.{◌≡◌, ◌∷◌, [], ◌++◌, map, take, Some, None, slice_get, rules, ap, sym, ◌∙◌, arith}
 use Rattle.std.proofs.lemmas.List.{map_push}
 use Rattle.std.proofs.lemmas.Option.{slice_get_within}
-use Rattle.type_rows.specs.Tables.{method_words}
-use Rattle.type_env.proofs.ImplPairs.{all_taken, with_next}
+use Rattle.typeck_checker.specs.Tables.{method_words}
+use Rattle.typeck_env.proofs.ImplPairs.{all_taken, with_next}
 use Rattle.type_check.proofs.items.method_names.Goals as goal
 
 pub loop-def-preserved : goal.loop-def-preserved

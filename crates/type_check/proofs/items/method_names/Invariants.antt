@@ -1,5 +1,5 @@
 use Rattle.std.proofs.Common.{◌≡◌, ◌≤◌, ◌-◌, length, map, take}
-use Rattle.type_rows.specs.Tables.{method_words}
+use Rattle.typeck_checker.specs.Tables.{method_words}
 use Rattle.type_check.proofs.items.method_names.Given as goal
 
 abbrev pub invariant-loop-def : goal.invariant-loop-def

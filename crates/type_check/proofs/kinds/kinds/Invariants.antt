@@ -1,6 +1,6 @@
 use Rattle.std.proofs.Common.{◌≡◌, ◌++◌, drop}
 use Rattle.src_tree.specs.View.{parts_in}
-use Rattle.type_rows.specs.Tables.{all_kinds_of}
+use Rattle.typeck_checker.specs.Tables.{all_kinds_of}
 use Rattle.typing_rules.specs.Items.{all_kinds, item_syns, items_of}
 use Rattle.type_check.proofs.kinds.kinds.Given as goal
 

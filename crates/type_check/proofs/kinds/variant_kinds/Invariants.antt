@@ -1,7 +1,7 @@
 use Rattle.std.proofs.Common.{◌≡◌, ◌++◌, map}
 use Rattle.src_ast.specs.ItemForms.{kind_seen}
 use Rattle.src_ast.specs.Seen.{nodes_of}
-use Rattle.item_heads.specs.Sizes.{sizes}
+use Rattle.typeck_heads.specs.Sizes.{sizes}
 use Rattle.type_check.specs.Kinds.{kinds_in}
 use Rattle.type_check.proofs.kinds.variant_kinds.Given as goal
 

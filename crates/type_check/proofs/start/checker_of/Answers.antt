@@ -1,7 +1,7 @@
 use Rattle.std.proofs.Common.{sym, subst}
 use Rattle.src_tree.specs.View.{parts_in}
 use Rattle.typing_rules.specs.Items.{item_syns, items_of}
-use Rattle.type_rows.specs.Tables.{AreTablesOf}
+use Rattle.typeck_checker.specs.Tables.{AreTablesOf}
 use Rattle.type_check.proofs.Starting.{begins, none_made}
 use Rattle.type_check.proofs.start.checker_of.Goals as goal
 

@@ -1,5 +1,5 @@
 use Rattle.std.proofs.Common.{subst, sym}
-use Rattle.type_rows.specs.Tables.{AreTablesOf}
+use Rattle.typeck_checker.specs.Tables.{AreTablesOf}
 use Rattle.type_check.proofs.Starting.{ready}
 use Rattle.type_check.proofs.start.tables.Goals as goal
 

@@ -1,11 +1,11 @@
 use Rattle.std.proofs.Common.{[], ap, arith, sym, subst, ◌∙◌}
-use Rattle.item_heads.specs.Answers.{Refuses}
+use Rattle.typeck_heads.specs.Answers.{Refuses}
 use Rattle.src_tree.specs.View.{parts_in, piece_of}
-use Rattle.type_rows.specs.Stand.{env, state}
+use Rattle.typeck_checker.specs.Stand.{env, state}
 use Rattle.typing_rules.specs.Items.{item_syns, items_of}
 use Rattle.typing_rules.specs.Program.{all_items}
 use Rattle.typing_rules.specs.Scope.{Env}
-use Rattle.item_check.specs.Had.{had}
+use Rattle.typeck_items.specs.Had.{had}
 use Rattle.type_check.specs.Forms.{piece_and_bodies}
 use Rattle.type_check.proofs.EachItem.{on_items, stopped_item}
 use Rattle.type_check.proofs.walk.all_items.Goals as goal

@@ -1,9 +1,9 @@
 use Rattle.std.proofs.Common.{◌≡◌, [], drop}
 use Rattle.src_tree.specs.View.{parts_in}
-use Rattle.type_rows.specs.Stand.{Same, env, state}
+use Rattle.typeck_checker.specs.Stand.{Same, env, state}
 use Rattle.typing_rules.specs.Items.{item_syns, items_of}
 use Rattle.typing_rules.specs.Program as rules
-use Rattle.item_check.specs.Had.{had}
+use Rattle.typeck_items.specs.Had.{had}
 use Rattle.type_check.proofs.walk.all_items.Given as goal
 
 abbrev pub invariant-loop-piece : goal.invariant-loop-piece

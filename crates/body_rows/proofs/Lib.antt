@@ -1,5 +1,0 @@
-mod Limited
-mod Zipped
-mod Lists
-mod Placed
-mod Renumbered

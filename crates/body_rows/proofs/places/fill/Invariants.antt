@@ -1,6 +1,0 @@
-use Rattle.std.proofs.Common.{◌-◌, length}
-use Rattle.body_rows.specs.Places.{IsPlacedFrom}
-use Rattle.body_rows.proofs.places.fill.Given as goal
-
-abbrev pub invariant-loop-done : goal.invariant-loop-done
-invariant-loop-done l = IsPlacedFrom l.numbers l.count (length l.numbers - l.done) l.table

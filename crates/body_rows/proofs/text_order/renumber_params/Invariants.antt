@@ -1,9 +1,0 @@
-use Rattle.body_rows.specs.Places.{placed}
-use Rattle.typed_tree.specs.View.{param_tree}
-use Rattle.typing_rules.specs.Numbered.{param_renumbered}
-use Rattle.body_rows.proofs.Lists.{Written}
-use Rattle.body_rows.proofs.text_order.renumber_params.Given as goal
-
-abbrev pub invariant-loop-param : goal.invariant-loop-param
-invariant-loop-param l =
-    Written param_tree (param_renumbered (placed l.places)) l.param-index l.param-items l.initial.param-items

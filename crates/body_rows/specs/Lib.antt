@@ -1,4 +1,0 @@
-pub mod Around
-pub mod Whole
-pub mod Places
-pub mod Renumbered

@@ -1,6 +1,0 @@
-use Rattle.std.proofs.Common.{ap, ◌∙◌}
-use Rattle.callee_rows.specs.Closures.{closure_seen}
-use Rattle.callee_rows.proofs.closures.with_body.Goals as goal
-
-pub returns-in-None-clause-callee : goal.returns-in-None-clause-callee
-returns-in-None-clause-callee c = c.no_closure.ensures c.args.body ∙ ap (closure_seen c.args.body) c.in-None.ensures.value

@@ -1,4 +1,0 @@
-pub mod Callees
-pub mod Closures
-pub mod Numbers
-pub mod Rests

@@ -1,4 +1,0 @@
-pub mod Code
-pub mod Laws
-pub mod Rules
-pub mod Spots

@@ -1,2 +1,0 @@
-mod Claimed
-mod Whole

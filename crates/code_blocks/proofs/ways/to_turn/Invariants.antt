@@ -1,9 +1,0 @@
-use Rattle.std.proofs.Common.{◌≡◌, drop, map}
-use Rattle.cfg_code.specs.Spots.{loop_among}
-use Rattle.code_blocks.specs.Building.{loop_of, ways_of}
-use Rattle.code_blocks.proofs.ways.to_turn.Given as goal
-
-abbrev pub invariant-loop-around : goal.invariant-loop-around
-invariant-loop-around l =
-    loop_among l.id.0 (ways_of l.ways).nowhere (map loop_of l.loops)
-    ≡ loop_among l.id.0 (ways_of l.ways).nowhere (map loop_of (drop l.around-index l.loops))

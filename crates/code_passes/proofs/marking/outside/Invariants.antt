@@ -1,8 +1,0 @@
-use Rattle.std.proofs.Common.{◌≡◌, ◌++◌, map, drop}
-use Rattle.cfg_build.specs.Build.{outside}
-use Rattle.scope_code.specs.View.{exit_of}
-use Rattle.code_passes.proofs.marking.outside.Given as goal
-
-abbrev pub invariant-loop-exit : goal.invariant-loop-exit
-invariant-loop-exit l =
-    map exit_of l.others ++ outside l.id.0 (map exit_of (drop l.exit-index l.jumps)) ≡ outside l.id.0 (map exit_of l.jumps)

@@ -1,6 +1,0 @@
-use Rattle.src_ast.specs.Seen.{syn_of}
-use Rattle.expression_rows.specs.Sizes.{size}
-use Rattle.expression_rows.proofs.argument_forms.+argument_form.Given as goal
-
-abbrev pub decreases-argument_form : goal.decreases-argument_form
-decreases-argument_form l = size (syn_of l.node.now)

@@ -1,6 +1,0 @@
-use Rattle.src_ast.specs.Seen.{syn_of}
-use Rattle.expression_rows.specs.Sizes.{size}
-use Rattle.expression_rows.proofs.literals.+is_plain.Given as goal
-
-abbrev pub decreases-is_plain : goal.decreases-is_plain
-decreases-is_plain l = size (syn_of l.node.now)

@@ -1,8 +1,0 @@
-pub mod Places
-pub mod Bodies
-pub mod Answered
-pub mod Rows
-pub mod CaptureSequences
-mod Types
-pub mod ParamShapes
-pub mod ParamSequences

@@ -1,0 +1,204 @@
+//! The two analyses of moves.
+ghost use Rattle.std.specs.Prelude.{◌≡◌, ◌<◌, length, slice_get, Some, IfOk, true, false};
+ghost use Rattle.std.proofs.Common.{refl};
+ghost use Rattle.cfg_graph.specs.declared.graph.Body.{Body as GraphBody};
+ghost use Rattle.init_flow.specs.Ways.{target};
+ghost use Rattle.move_paths.specs.Forest.{IsForest};
+ghost use Rattle.init_flow.specs.Laws.{keeps as lengths, distributes as over_union};
+ghost use Rattle.init_flow.specs.Moved.{Says, masks_of};
+ghost use Rattle.init_flow.specs.Fits.{param_of, FirstBit, start_row, AreWays, AreSwitches};
+ghost use Rattle.init_flow.specs.Switches.{passed_by};
+
+use crate::Analysis;
+use crate::masks::{Masks, masks_of_paths};
+use crate::switch_ways::block_switches;
+use crate::switches::{BlockSwitches, Switches};
+use bit_rows::BitRow;
+use cfg_graph::{Body, Graph};
+use mir_base::{List, NoMemory};
+use move_paths::{Forest, add_inner_uses};
+use std::alloc::Global;
+
+/// Which paths are gone on some path of a body: the bit of a path says this of its own part.
+#[derive(Drop)]
+pub struct MaybeGone {
+    switches: Switches,
+}
+
+impl Analysis for MaybeGone {
+    ghost width = { λ a. length a.switches.first };
+
+    ghost first = { λ a. a.switches.first };
+
+    ghost passed = { λ a body block way row. passed_by a.switches block way row };
+
+    ghost IsFor = { λ a body. length a.switches.blocks ≡ length body.blocks };
+
+    fn bits(&self) -> u32 {
+        self.switches.first.len()
+    }
+
+    fn start(&self, row: &mut BitRow) {
+        self.switches.start(row);
+    }
+
+    fn pass(&self, body: &Body, block: u32, edge: u32, row: &mut BitRow) {
+        self.switches.pass(block, edge, row);
+    }
+
+    ghost first_width = { λ a. refl };
+
+    ghost keeps = { λ a body block way row long. lengths a.switches block way row long };
+
+    ghost distributes = { λ a body block way one other long same. over_union a.switches block way one other long same };
+}
+
+/// Which paths are present on some path of a body: the bit of a path says this of its own part.
+#[derive(Drop)]
+pub struct MaybeInit {
+    switches: Switches,
+}
+
+impl Analysis for MaybeInit {
+    ghost width = { λ a. length a.switches.first };
+
+    ghost first = { λ a. a.switches.first };
+
+    ghost passed = { λ a body block way row. passed_by a.switches block way row };
+
+    ghost IsFor = { λ a body. length a.switches.blocks ≡ length body.blocks };
+
+    fn bits(&self) -> u32 {
+        self.switches.first.len()
+    }
+
+    fn start(&self, row: &mut BitRow) {
+        self.switches.start(row);
+    }
+
+    fn pass(&self, body: &Body, block: u32, edge: u32, row: &mut BitRow) {
+        self.switches.pass(block, edge, row);
+    }
+
+    ghost first_width = { λ a. refl };
+
+    ghost keeps = { λ a body block way row long. lengths a.switches block way row long };
+
+    ghost distributes = { λ a body block way one other long same. over_union a.switches block way one other long same };
+}
+
+/// Whether a local is a parameter.
+fn is_param(body: &Body, local: u32) -> bool
+    ensures { result ≡ param_of body.now local }
+{
+    0 < local && local <= body.params
+}
+
+fn first_bit(body: &Body, forest: &Forest, row: &BitRow, path: u32, gone: bool) -> bool
+    requires path { path < length forest.now.paths }
+    requires row { length row.now ≡ length forest.now.paths }
+    ensures { FirstBit forest.now.paths body.now row.now path gone result }
+{
+    match forest.parent(path) {
+        Some(upper) => row.get(upper),
+        None => is_param(body, path) != gone,
+    }
+}
+
+/// What a row says before a body does anything: what is no parameter is gone.
+fn first_row(alloc: Global, body: &Body, forest: &Forest, gone: bool) -> Result<BitRow, NoMemory>
+    ensures { IfOk result (λ row. row ≡ start_row forest.now.paths body.now gone) }
+{
+    let count = forest.len();
+    let mut row = BitRow::new(alloc, count)?;
+    for path in 0..count {
+        let on = first_bit(body, forest, &row, path, gone);
+        row.set(path, on);
+    }
+    Ok(row)
+}
+
+fn all_blocks(
+    alloc: Global,
+    body: &Body,
+    forest: &Forest,
+    gone: bool,
+) -> Result<List<BlockSwitches>, NoMemory>
+    ensures { IfOk result (λ made. AreWays forest.now.paths gone made body.now.blocks) }
+{
+    let mut made = List::from_vec(Vec::with_capacity(alloc, body.blocks.len())?);
+    let mut uses = List::new(alloc);
+    for block in body.blocks.as_slice() {
+        uses.truncate(0);
+        add_inner_uses(&mut uses, block)?;
+        made.push(block_switches(alloc, forest, block, uses.as_slice(), gone)?)?;
+    }
+    Ok(made)
+}
+
+fn switches_of(
+    alloc: Global,
+    body: &Body,
+    forest: &Forest,
+    gone: bool,
+) -> Result<Switches, NoMemory>
+    ensures { IfOk result (λ switches. AreSwitches forest.now.paths gone switches body.now) }
+{
+    Ok(Switches {
+        first: first_row(alloc, body, forest, gone)?,
+        below: masks_of_paths(alloc, forest)?,
+        blocks: all_blocks(alloc, body, forest, gone)?,
+    })
+}
+
+impl MaybeGone {
+    /// The analysis of a body of a graph over the forest of the paths of that body. What a path of the body carries to a
+    /// block says of each path of the forest whether it is gone there.
+    pub fn new(
+        alloc: Global,
+        graph: &Graph,
+        body: u32,
+        forest: &Forest,
+    ) -> Result<MaybeGone, NoMemory>
+        requires body { body < length graph.now.bodies }
+        requires forest { (found : GraphBody) → slice_get graph.now.bodies body ≡ Some found → IsForest graph.now.items found forest.now }
+        ensures is_for { IfOk result (λ a. (found : GraphBody) → slice_get graph.now.bodies body ≡ Some found → length a.switches.blocks ≡ length found.blocks) }
+        ensures says { IfOk result (λ a. (found : GraphBody) → slice_get graph.now.bodies body ≡ Some found → Says graph.now.items found forest.now.paths true (target graph.now.items found) (λ block way row. passed_by a.switches block way row) a.switches.first) }
+        ensures masks { IfOk result (λ a. a.switches.below ≡ masks_of forest.now.paths) }
+    {
+        let body = &graph.bodies.as_slice()[body as usize];
+        Ok(MaybeGone {
+            switches: switches_of(alloc, body, forest, true)?,
+        })
+    }
+
+    /// What is gone before the body does anything, and the masks of the paths of the forest.
+    pub fn into_parts(self) -> (BitRow, Masks)
+        ensures first { result.0 ≡ self.switches.first }
+        ensures masks { result.1 ≡ self.switches.below }
+    {
+        let Switches { first, below, .. } = self.switches;
+        (first, below)
+    }
+}
+
+impl MaybeInit {
+    /// The analysis of a body of a graph over the forest of the paths of that body. What a path of the body carries to a
+    /// block says of each path of the forest whether it is present there.
+    pub fn new(
+        alloc: Global,
+        graph: &Graph,
+        body: u32,
+        forest: &Forest,
+    ) -> Result<MaybeInit, NoMemory>
+        requires body { body < length graph.now.bodies }
+        requires forest { (found : GraphBody) → slice_get graph.now.bodies body ≡ Some found → IsForest graph.now.items found forest.now }
+        ensures is_for { IfOk result (λ a. (found : GraphBody) → slice_get graph.now.bodies body ≡ Some found → length a.switches.blocks ≡ length found.blocks) }
+        ensures says { IfOk result (λ a. (found : GraphBody) → slice_get graph.now.bodies body ≡ Some found → Says graph.now.items found forest.now.paths false (target graph.now.items found) (λ block way row. passed_by a.switches block way row) a.switches.first) }
+    {
+        let body = &graph.bodies.as_slice()[body as usize];
+        Ok(MaybeInit {
+            switches: switches_of(alloc, body, forest, false)?,
+        })
+    }
+}

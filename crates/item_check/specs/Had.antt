@@ -1,6 +1,0 @@
--- What came before an item, in Rust as the rules of typing see it.
-use Rattle.typing_rules.specs.Program as rules
-use Rattle.item_check.specs.declared.before.Before.{Before}
-
-abbrev pub had : Before → rules.Before
-had b = record { methods = b.methods; impls = b.impls }

@@ -1,6 +1,0 @@
-use Rattle.std.proofs.Common.{◌-◌, length}
-use Rattle.listing_reader.proofs.Locals.{SoFar}
-use Rattle.listing_reader.proofs.bodies.read_locals.Given as goal
-
-abbrev pub invariant-loop-n : goal.invariant-loop-n
-invariant-loop-n l = SoFar l.heads l.initial.items l.items l.n (length l.text - l.n) l.locals l.text l.rest

@@ -1,0 +1,4 @@
+pub mod Counting
+mod Examples
+pub mod InLines
+pub mod Reading

@@ -1,0 +1,24 @@
+//! Blocks of a body, made of the words of its code from the last to the first (the rustc development guide, "MIR
+//! construction"): the rules for what is no tree of words, and over them the recursion along the words.
+#![tactic(auto, using(crate::proofs::Chained::chains_last, crate::proofs::Chained::lines_last))]
+
+mod arms;
+mod blocks;
+mod building;
+mod chains;
+mod context;
+mod drops;
+mod effects;
+mod exits;
+mod joins;
+mod testing;
+mod ways;
+mod words;
+
+pub use blocks::{Blocks, Chain, MadeBlock, NodeLine, Open};
+pub use building::build;
+pub use context::Setting;
+pub use effects::{act, drop_under, panic, replace};
+pub use exits::{exit, leave};
+pub use testing::{branch_by, if_true, tests};
+pub use ways::{LoopWay, Ways, in_loop};

@@ -1,0 +1,121 @@
+-- The law without a word of values of type `!`: the lines of a graph without a fault have their types, and the value of an
+-- assignment has a cell that is no parameter's.
+use Rattle.std.proofs.Common.{◌≡◌, inl, inr, ℕ, zero, suc, ◌+◌, ◌&&◌, Bool, true, List, [], ◌∷◌, ◌++◌, length, Some, slice_get, refl, sym, ap, subst, ◌∙◌}
+use Rattle.std.specs.Prelude.{option_map}
+use Rattle.std.specs.List.{list_all}
+use Rattle.std.proofs.lemmas.Bool.{false≢true}
+use Rattle.std.proofs.lemmas.Option.{none-some, same_Some, slice_get-map}
+use Rattle.mir_ty.specs.declared.def.Sig.{Sig}
+use Rattle.mir_ty.specs.ItemTable.{ItemTable}
+use Rattle.cfg_graph.specs.declared.graph.Block.{Block}
+use Rattle.cfg_graph.specs.declared.graph.Body.{Body}
+use Rattle.cfg_graph.specs.declared.graph.Graph.{Graph}
+use Rattle.cfg_graph.specs.declared.graph.Kind.{Kind}
+use Rattle.cfg_graph.specs.declared.statement.Stmt.{Stmt}
+use Rattle.cfg_graph.specs.Moves.BadUses.{BadUse}
+use Rattle.cfg_graph.specs.WellFormed.Faults.{at_line, of_each, item_faults, own_faults, locals_faults, stmts_faults, block_faults, faults_of_body, end_faults, IsWellFormed}
+use Rattle.cfg_graph.specs.WellFormed.LineFaults.{stmt_tests, stmt_faults, term_tests, term_faults}
+use Rattle.cfg_graph.specs.WellFormed.Typing.{stmt_is_typed, term_is_typed}
+use Rattle.cfg_graph.proofs.NoFaults.{first_empty, second_empty, map_empty, of_each-empty, broken-holds}
+use Rattle.move_errors.specs.Reaches.{Reaches}
+use Rattle.lower_laws.specs.Meets.{site_of, RunsReach, in_block, on_way}
+use Rattle.lower_laws.proofs.Elsewhere.{kept-elsewhere}
+use Rattle.typed_tree.specs.Nodes.{numbers_of}
+use Rattle.typed_tree.specs.Tree.{BodyTree, ProgramTree}
+use Rattle.src_meaning.specs.Programs.{reached_by}
+use Rattle.well_typed.specs.Claim.{Holds}
+use Rattle.well_typed.specs.Names.{do_rise}
+use Rattle.well_typed.specs.Program.{are_bodies, WellTyped}
+use Rattle.lower_rules.specs.Laws.{AllNameTheirLoops}
+use Rattle.lower_rules.specs.Lower.{body_of, graph_of, node_of, frame}
+use Rattle.lower_rules.proofs.Bodies.{lowered_returns, lowered_keeps_to_cleanup}
+use Rattle.lower_rules.proofs.FormSites.{lowered_stops}
+use Rattle.lower_laws.specs.Refused.{MeetsExactly, AllNumbersRise, LoweredPathsMeetExactly}
+use Rattle.lower_laws.proofs.Ends as ends
+use Rattle.lower_laws.proofs.Law.{lowered-paths-meet}
+use Rattle.lower_laws.proofs.Numbers.{IsNoParam, no_param_in}
+
+-- the numbers of the nodes of bodies that are well typed rise
+pub bodies_rise : (items : ItemTable) (n : ℕ) (sigs : List Sig) (bodies : List BodyTree) → Holds (are_bodies items n sigs bodies) → (i : ℕ) (tree : BodyTree) → slice_get bodies i ≡ Some tree → do_rise (numbers_of tree) ≡ true
+bodies_rise items n [] [] h i tree e = absurd (none-some tree e)
+bodies_rise items n [] (body ∷ bodies) h i tree e = absurd (false≢true h)
+bodies_rise items n (sig ∷ sigs) [] h i tree e = absurd (none-some tree e)
+bodies_rise items n (sig ∷ sigs) (body ∷ bodies) h zero tree e = subst (λ (t : BodyTree). do_rise (numbers_of t) ≡ true) (same_Some body tree e) h.0.1.1.1.0
+bodies_rise items n (sig ∷ sigs) (body ∷ bodies) h (suc i) tree e = bodies_rise items (suc n) sigs bodies h.1 i tree e
+
+pub well_typed_rise : (program : ProgramTree) → WellTyped program → AllNumbersRise program
+well_typed_rise program typed = bodies_rise program.items 0 program.items.bodies program.bodies typed.1
+
+-- ---- the lines of a graph without a fault
+all_pass : {X : Type 0} (test : X → Bool) (xs : List X) → ((n : ℕ) (x : X) → slice_get xs n ≡ Some x → test x ≡ true) → list_all test xs ≡ true
+all_pass test [] h = refl
+all_pass test (x ∷ xs) h = λ i. h 0 x refl i && all_pass test xs (λ n y e. h (suc n) y e) i
+
+module _ (graph : Graph) (formed : IsWellFormed graph) (number : ℕ) (body : Body) (found : slice_get graph.bodies number ≡ Some body) where
+  in_bodies : of_each (faults_of_body graph) 0 graph.bodies ≡ []
+  in_bodies = first_empty (of_each (faults_of_body graph) 0 graph.bodies) (end_faults graph) (second_empty (item_faults graph) (of_each (faults_of_body graph) 0 graph.bodies ++ end_faults graph) formed)
+
+  of_body : faults_of_body graph (0 + number) body ≡ []
+  of_body = of_each-empty (faults_of_body graph) 0 graph.bodies in_bodies number body found
+
+  in_blocks : of_each (block_faults graph (0 + number) body) 0 body.blocks ≡ []
+  in_blocks = second_empty (locals_faults graph (0 + number) body) (of_each (block_faults graph (0 + number) body) 0 body.blocks) (second_empty (own_faults graph (0 + number) body) (locals_faults graph (0 + number) body ++ of_each (block_faults graph (0 + number) body) 0 body.blocks) of_body)
+
+  typed_lines : (n : ℕ) (block : Block) → slice_get body.blocks n ≡ Some block → (list_all (stmt_is_typed graph.items body.locals) block.stmts ≡ true) × (term_is_typed graph.items body.locals block.term ≡ true)
+  typed_lines n block at = (all_pass (stmt_is_typed graph.items body.locals) block.stmts stmts, term)
+    where
+      of_block : block_faults graph (0 + number) body (0 + n) block ≡ []
+      of_block = of_each-empty (block_faults graph (0 + number) body) 0 body.blocks in_blocks n block at
+
+      stmts : (line : ℕ) (stmt : Stmt) → slice_get block.stmts line ≡ Some stmt → stmt_is_typed graph.items body.locals stmt ≡ true
+      stmts line stmt e =
+          let all = first_empty (stmts_faults graph (0 + number) body (0 + n) block) (at_line (0 + number) (0 + n) (length block.stmts) (term_faults graph.items (length graph.bodies) body block)) of_block in
+          let own = of_each-empty (λ line stmt. at_line (0 + number) (0 + n) line (stmt_faults graph.items (length graph.bodies) body stmt)) 0 block.stmts all line stmt e in
+          let none = map_empty (λ (k : ℕ). record { number = k; body = 0 + number; block = 0 + n; line = 0 + line }) (stmt_faults graph.items (length graph.bodies) body stmt) own in
+          broken-holds (stmt_tests graph.items (length graph.bodies) body stmt) none 2 (3, stmt_is_typed graph.items body.locals stmt) refl
+
+      term : term_is_typed graph.items body.locals block.term ≡ true
+      term =
+          let in_line = second_empty (stmts_faults graph (0 + number) body (0 + n) block) (at_line (0 + number) (0 + n) (length block.stmts) (term_faults graph.items (length graph.bodies) body block)) of_block in
+          let none = map_empty (λ (k : ℕ). record { number = k; body = 0 + number; block = 0 + n; line = length block.stmts }) (term_faults graph.items (length graph.bodies) body block) in_line in
+          broken-holds (term_tests graph.items (length graph.bodies) body block) none 2 (3, term_is_typed graph.items body.locals block.term) refl
+
+-- ---- bodies
+module _ (program : ProgramTree) (named : AllNameTheirLoops program) (rises : AllNumbersRise program) (formed : IsWellFormed (graph_of program)) (n : ℕ) (tree : BodyTree) (there : slice_get program.bodies n ≡ Some tree) where
+  abbrev items : ItemTable
+  items = program.items
+
+  abbrev body : Body
+  body = body_of items tree
+
+  found : slice_get (graph_of program).bodies n ≡ Some body
+  found = slice_get-map (body_of items) program.bodies n ∙ ap (option_map (body_of items)) there
+
+  runs : (path : List ℕ) (given : List Bool) (bad : BadUse) → Reaches items body path given bad → RunsReach items body path given bad
+  runs =
+      ends.runs_reach items body (frame items tree) (IsNoParam items tree) refl refl (λ key h. h)
+      (lowered_stops items tree (IsNoParam items tree) (no_param_in items tree (rises n tree there)))
+      (typed_lines (graph_of program) formed n body found)
+      (kept-elsewhere body (lowered_keeps_to_cleanup items tree (named n tree there))) 1 Kind.Plain (lowered_returns items tree (named n tree there))
+
+  reaches : (path : List ℕ) (given : List Bool) (bad : BadUse) → RunsReach items body path given bad → Reaches items body path given bad
+  reaches path given bad (in_block r before) = inl r
+  reaches path given bad (on_way r before) = inr r
+
+  refused : (path : List ℕ) (given : List Bool) (bad : BadUse) → Reaches items body path given bad → reached_by items tree given ≡ Some (site_of (node_of items tree) bad.action)
+  refused path given bad r = (lowered-paths-meet items tree (named n tree there)).refused path given bad (runs path given bad r)
+
+  meets_exactly : MeetsExactly items tree body
+  meets_exactly = record {
+    refused = refused;
+    reached = λ given site is.
+        let it = (lowered-paths-meet items tree (named n tree there)).reached given site is in
+        (it.0, it.1, reaches it.0 given it.1 it.2, it.3);
+    exact = (
+      (lowered-paths-meet items tree (named n tree there)).accepted,
+      λ none. ends.meets_none items body (λ path given bad r. none-some (site_of (node_of items tree) bad.action) (sym (none given) ∙ refused path given bad r)),
+    );
+  }
+
+pub lowered-paths-meet-exactly : LoweredPathsMeetExactly
+lowered-paths-meet-exactly program named rises formed n tree there = meets_exactly program named rises formed n tree there

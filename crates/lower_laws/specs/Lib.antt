@@ -1,0 +1,7 @@
+pub mod Lowerable
+pub mod Laws
+pub mod Lines
+pub mod Accepted
+pub mod Refused
+pub mod Told
+pub mod Meets

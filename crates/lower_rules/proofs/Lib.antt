@@ -1,0 +1,24 @@
+pub mod Bodies
+pub mod Codes
+mod Examples
+pub mod Forms
+pub mod FormSites
+pub mod FormSizes
+pub mod Jumps
+pub mod KnownTypes
+pub mod Lines
+pub mod Rules
+pub mod Scopes
+pub mod Sizes
+pub mod Stops
+pub mod Typed
+pub mod TypedLines
+pub mod TypedPlaces
+pub mod FreeWalks
+pub mod NodeNumbers
+pub mod PlacesOfHalts
+pub mod Runs
+pub mod Simulation
+pub mod StackOfBodies
+pub mod ValuesSettled
+pub mod WalksOfBodies

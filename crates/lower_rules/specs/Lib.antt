@@ -1,0 +1,11 @@
+pub mod Build
+pub mod Codes
+pub mod Laws
+pub mod Loops
+pub mod Lower
+pub mod Sites
+pub mod Listed
+pub mod Code
+pub mod CodeLaws
+pub mod Rules
+pub mod Spots

@@ -1,4 +1,0 @@
-pub mod Lowerable
-pub mod Laws
-pub mod Lines
-pub mod Accepted

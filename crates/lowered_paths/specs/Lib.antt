@@ -1,3 +1,0 @@
-pub mod Refused
-pub mod Told
-pub mod Meets

@@ -1,9 +1,0 @@
-pub mod Calls
-pub mod Fields
-pub mod Going
-pub mod Methods
-pub mod Rests
-pub mod StructFields
-pub mod Given
-pub mod StructRests
-pub mod Inits

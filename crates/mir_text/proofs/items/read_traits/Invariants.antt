@@ -1,0 +1,10 @@
+use Rattle.std.proofs.Common.{◌≡◌, ◌-◌, length}
+use Rattle.mir_text.specs.SectionReading.{one_trait}
+use Rattle.mir_text.proofs.Growing.{SoFar}
+use Rattle.mir_text.proofs.items.read_traits.Given as goal
+
+abbrev pub invariant-loop-n : goal.invariant-loop-n
+invariant-loop-n l = record {
+  so : SoFar l.heads (one_trait l.heads) l.initial.items l.items (length l.text - l.n) l.text l.rest;
+  due : l.n ≡ length l.items.traits;
+}

@@ -1,8 +1,0 @@
-use Rattle.std.proofs.Common.{◌≡◌, ◌++◌, take, map}
-use Rattle.std.specs.String.{string_bytes}
-use Rattle.mir_text.specs.Lists.{behind_commas}
-use Rattle.mir_text.specs.Parts.{operand_text}
-use Rattle.mir_text.proofs.parts.put_more_operands.Given as goal
-
-abbrev pub invariant-loop-operand : goal.invariant-loop-operand
-invariant-loop-operand l = string_bytes l.out ≡ string_bytes l.initial.out ++ behind_commas (map operand_text (take l.operand-index l.operands))

@@ -1,0 +1,48 @@
+//! What is answered to a text.
+ghost use Rattle.std.specs.Prelude.{◌≡◌, ◌≤◌, length};
+ghost use Rattle.mir_edge.specs.Faults.{HasRisen};
+ghost use Rattle.mirdrop_program.specs.TopCall.{Responded};
+ghost use Rattle.mirdrop_program.specs.declared.request.Command.{Command as a_command};
+ghost use Rattle.mirdrop_program.specs.declared.request.Request.{Request as a_request};
+
+use crate::check::check_answer;
+use crate::deliver::hand_on;
+use crate::exec::run_listing;
+use crate::raw::raw_answer;
+use crate::run::run_program;
+use crate::{Command, Request};
+use mir_edge::Sink;
+use std::alloc::Global;
+
+fn respond_to_check<K: Sink>(alloc: Global, text: &[u8], sink: &mut K) -> u8
+    requires short { length text.now ≤ 131072 }
+    ensures counts { K.faults sink.old ≤ K.faults sink.new }
+    ensures done { (request : a_request) → request.command ≡ a_command.Check →
+        Responded request text.now (K.taken sink.old) (K.taken sink.new) (HasRisen (K.faults sink.old) (K.faults sink.new)) result }
+{
+    hand_on(sink, check_answer(alloc, text))
+}
+
+fn respond_to_raw<K: Sink>(alloc: Global, text: &[u8], sink: &mut K) -> u8
+    requires short { length text.now ≤ 131072 }
+    ensures counts { K.faults sink.old ≤ K.faults sink.new }
+    ensures done { (request : a_request) → request.command ≡ a_command.Raw →
+        Responded request text.now (K.taken sink.old) (K.taken sink.new) (HasRisen (K.faults sink.old) (K.faults sink.new)) result }
+{
+    hand_on(sink, raw_answer(alloc, text))
+}
+
+/// Does what is asked for with a text.
+pub fn respond<K: Sink>(alloc: Global, request: &Request, text: &[u8], sink: &mut K) -> u8
+    requires short { length text.now ≤ 131072 }
+    requires ticks { request.now.ticks ≤ 1000000000 }
+    ensures counts { K.faults sink.old ≤ K.faults sink.new }
+    ensures done { Responded request.now text.now (K.taken sink.old) (K.taken sink.new) (HasRisen (K.faults sink.old) (K.faults sink.new)) result }
+{
+    match request.command {
+        Command::Check => respond_to_check(alloc, text, sink),
+        Command::Raw => respond_to_raw(alloc, text, sink),
+        Command::Run => run_program(alloc, request, text, sink),
+        Command::Exec => run_listing(alloc, request, text, sink),
+    }
+}

@@ -1,5 +1,0 @@
-use Rattle.std.proofs.Common.{◌≡◌, replicate, None}
-use Rattle.move_flow.proofs.masks.no_rows.Given as goal
-
-abbrev pub invariant-loop : goal.invariant-loop
-invariant-loop l = l.rows ≡ replicate l.counter None

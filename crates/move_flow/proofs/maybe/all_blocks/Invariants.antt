@@ -1,6 +1,0 @@
-use Rattle.std.proofs.Common.{take}
-use Rattle.move_flow.specs.Fits.{AreWays}
-use Rattle.move_flow.proofs.maybe.all_blocks.Given as goal
-
-abbrev pub invariant-loop-block : goal.invariant-loop-block
-invariant-loop-block l = AreWays l.forest.paths l.gone l.made (take l.block-index l.body.blocks)

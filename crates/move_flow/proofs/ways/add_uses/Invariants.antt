@@ -1,7 +1,0 @@
-use Rattle.std.proofs.Common.{take}
-use Rattle.move_paths.specs.Uses.{listed}
-use Rattle.move_flow.specs.Fits.{AreSwitched}
-use Rattle.move_flow.proofs.ways.add_uses.Given as goal
-
-abbrev pub invariant-loop-used : goal.invariant-loop-used
-invariant-loop-used l = AreSwitched l.forest.paths l.gone l.initial.switches l.switches (listed (take l.used-index l.uses))

@@ -1,8 +1,0 @@
--- A variable that was found by its name, in Rust as the rules of typing see it.
-use Rattle.src_ast.specs.Syntax.{Word}
-use Rattle.type_env.specs.Scope.{meaning_of}
-use Rattle.typing_rules.specs.Scope.{NamedEntry}
-use Rattle.name_rows.specs.declared.variables.FoundVariable.{FoundVariable}
-
-abbrev pub found_as : Word → FoundVariable → NamedEntry
-found_as name found = record { name = name; ty = found.ty; meaning = meaning_of found.meaning }

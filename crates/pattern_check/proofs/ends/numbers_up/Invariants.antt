@@ -1,6 +1,0 @@
-use Rattle.std.proofs.Common.{◌≡◌}
-use Rattle.pattern_check.specs.Numbers.{numbers_below}
-use Rattle.pattern_check.proofs.ends.numbers_up.Given as goal
-
-abbrev pub invariant-loop-number : goal.invariant-loop-number
-invariant-loop-number l = l.numbers ≡ numbers_below l.number

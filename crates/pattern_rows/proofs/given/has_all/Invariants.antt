@@ -1,6 +1,0 @@
-use Rattle.std.proofs.Common.{◌≡◌}
-use Rattle.pattern_rows.specs.Given.{has_all}
-use Rattle.pattern_rows.proofs.given.has_all.Given as goal
-
-abbrev pub invariant-loop-number : goal.invariant-loop-number
-invariant-loop-number l = l.all ≡ has_all l.number l.seen.keys

@@ -1,4 +1,0 @@
-pub mod CommandLine
-pub mod Limits
-pub mod Rows
-pub mod Behind

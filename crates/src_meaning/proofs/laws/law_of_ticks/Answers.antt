@@ -1,5 +1,0 @@
-use Rattle.src_meaning.proofs.TickLaws.{source_run_goes_on}
-use Rattle.src_meaning.proofs.laws.law_of_ticks.Goals as goal
-
-pub returns : goal.returns
-returns c = source_run_goes_on

@@ -1,5 +1,0 @@
-use Rattle.src_tree.proofs.Places.{spelled_once}
-use Rattle.src_tree.proofs.law.law_of_spelling.Goals as goal
-
-pub returns : goal.returns
-returns c = spelled_once

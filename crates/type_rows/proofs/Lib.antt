@@ -1,3 +1,0 @@
-pub mod Nodes
-pub mod Made
-pub mod Fixed

@@ -1,5 +1,0 @@
-pub mod Tables
-pub mod Surroundings
-pub mod Stand
-pub mod Forms
-pub mod Rests

@@ -1,0 +1,14 @@
+pub mod Around
+pub mod Whole
+pub mod Places
+pub mod Renumbered
+pub mod Aside
+pub mod Closures
+pub mod Heads
+pub mod Scoped
+pub mod CaptureAnswers
+pub mod Names
+pub mod CaptureRests
+pub mod ParamAnswers
+pub mod ParamRests
+pub mod ParamForms

@@ -1,0 +1,161 @@
+-- Receivers of methods, and what is called on them.
+use Rattle.std.proofs.Common.{◌≡◌, ℕ, ◌==◌, Bool, true, false, ◌&&◌, ◌||◌, not, if◌then◌else◌, List, [], ◌∷◌, drop, length, Option, Some, None, IsSome, Result, Ok, Err, refl, ap, sym, subst, ◌∙◌}
+use Rattle.std.specs.Option.{option_map_or}
+use Rattle.mir_base.specs.declared.place_in_text.Pos.{Pos}
+use Rattle.mir_base.specs.declared.rule.Rule.{Rule}
+use Rattle.mir_base.specs.declared.rule.RuleError.{RuleError}
+use Rattle.mir_ty.specs.ItemTable.{ItemTable}
+use Rattle.mir_ty.specs.declared.ty.TyId.{TyId}
+use Rattle.typeck_checker.specs.Lists.{behind_form}
+use Rattle.typeck_heads.specs.Answers.{Refuses}
+use Rattle.typeck_checker.specs.declared.checker.Checker.{Checker}
+use Rattle.typed_tree.specs.Tree.{Node, Nodes}
+use Rattle.typing_rules.specs.Check.{Broken, Check, TypingState, and_then, ◌>>=◌, ◌>>◌, pure, breaks, obeys, the_items}
+use Rattle.typing_rules.specs.Places.{Coerced, Differs, Fit, Fits, Member, a_node_of, fit, is_behind_shared, through}
+use Rattle.typing_rules.specs.Rows.{Method, fitted, fitted_by, head_of, is_drop_method, is_unique_borrow, method_form, received, takes_self, with_method, with_self}
+use Rattle.typing_rules.specs.Scope.{Env}
+use Rattle.well_typed.specs.Places.{form_of, ty_of}
+use Rattle.well_typed.specs.Types.{is_same, reference_of}
+use Rattle.typeck_calls.proofs.Steps.{items_in}
+use Rattle.typeck_calls.specs.Calls.{Arguments, GivesCall}
+use Rattle.typeck_calls.specs.Methods.{borrows_shared, self_of}
+use Rattle.typeck_calls.specs.Rests.{called_rest, method_rest, receiver_by, refused_rest}
+use Rattle.typeck_calls.specs.declared.receivers.Called.{Called}
+
+-- ---- the type of `self`
+
+takes : ItemTable → TyId → TyId → Bool
+takes items own self = is_same self own || option_map_or (λ r. is_same r.1 own) (reference_of items self) false
+
+some_by : (b : Bool) (first self : TyId) → (if b then Some first else None) ≡ Some self → (b ≡ true) × (first ≡ self)
+some_by true first self e = (refl, cc)
+some_by false first self e = absurd (cc)
+
+none_by : (b : Bool) (first : TyId) → (if b then Some first else None) ≡ None → b ≡ false
+none_by true first e = absurd (cc)
+none_by false first e = refl
+
+pub self_some : (items : ItemTable) (own self : TyId) (params : List TyId) → self_of items own params ≡ Some self → (takes_self items own params ≡ true) × (params ≡ self ∷ drop 1 params)
+self_some items own self [] e = absurd (cc)
+self_some items own self (first ∷ params) e =
+    let both = some_by _ first self e in (both.0, ap (λ ty. ty ∷ params) both.1)
+
+pub self_none : (items : ItemTable) (own : TyId) (params : List TyId) → self_of items own params ≡ None → takes_self items own params ≡ false
+self_none items own [] e = refl
+self_none items own (first ∷ params) e = none_by _ first e
+
+-- ---- what is behind `&`
+
+-- a node that is fitted to a type leaves the items as they were
+by_fit : (want : TyId) (n m : Node) (s t : TypingState) (f : Fit) → fitted_by want n f s ≡ Ok (m, t) → s.items ≡ t.items
+by_fit want n m s t Fits e = ap (items_in s.items) e
+by_fit want n m s t (Coerced trait_no) e = ap (items_in s.items) e
+by_fit want n m s t Differs e = absurd (cc)
+
+fitted_items : (want : Option TyId) (n m : Node) (s t : TypingState) → fitted want n s ≡ Ok (m, t) → s.items ≡ t.items
+fitted_items None n m s t e = ap (items_in s.items) e
+fitted_items (Some want) n m s t e = by_fit want n m s t (fit s.items want (ty_of n)) e
+
+module _ (id : ℕ) (at : Pos) (called : Called) (want : Option TyId) (receiver : Node) (given : Nodes) (s : TypingState) where
+  abbrev counted : Bool → Node → Check Node
+  counted is_count n = do
+    obeys Rule.T04 at is_count
+    pure n
+
+  abbrev asked : ItemTable → Node → Check Node
+  asked items n = do
+    obeys Rule.T08 at (not (called.is_unique && borrows_shared items receiver))
+    obeys Rule.T13 at (not called.is_drop)
+    pure n
+
+  abbrev all_asked : Bool → Node → Check Node
+  all_asked is_count n = do
+    items ← the_items
+    obeys Rule.T04 at is_count
+    obeys Rule.T08 at (not (called.is_unique && borrows_shared items receiver))
+    obeys Rule.T13 at (not called.is_drop)
+    pure n
+
+  same_asked : (is_count : Bool) (o : Result (Node × TypingState) Broken) → ((m : Node) (t : TypingState) → o ≡ Ok (m, t) → s.items ≡ t.items) →
+      and_then (and_then o (counted is_count)) (asked s.items) ≡ and_then o (all_asked is_count)
+  same_asked true (Ok x) same = ap (λ (items : ItemTable). asked items x.0 x.1) (same x.0 x.1 refl)
+  same_asked false (Ok x) same = refl
+  same_asked is_count (Err e) same = refl
+
+  pub refused_as : (is_count : Bool) → refused_rest id at called is_count (called.is_unique && borrows_shared s.items receiver) want receiver given s ≡ called_rest id at called is_count want receiver given s
+  refused_as is_count =
+      let n = a_node_of id at called.answer (behind_form called.behind receiver given) in
+      same_asked is_count (fitted want n s) (λ m t e. fitted_items want n m s t e)
+
+-- ---- what is called behind its receiver
+
+module _ (env : Env) (at : Pos) (id : ℕ) (base : Node) (f : Method) (count : ℕ) (args : Arguments) (want : Option TyId) (s : TypingState) where
+  -- the call where its method has `self`
+  chosen : Bool → Check Node
+  chosen b = if b then with_self env at id base f count args want (head_of f).params else (args [] >> breaks Rule.T12 at)
+
+  by_self : (b : Bool) → takes_self s.items (ty_of base) (head_of f).params ≡ b → with_method env at id base (Some f) count args want s ≡ chosen b s
+  unfolding chosen
+  by_self b e = ap (λ b. chosen b s) e
+
+  pub without_self : self_of s.items (ty_of base) (head_of f).params ≡ None → with_method env at id base (Some f) count args want s ≡ (args [] >>= (λ given. receiver_by id at None (count == 0) want base given)) s
+  unfolding chosen
+  without_self e = by_self false (self_none s.items (ty_of base) (head_of f).params e)
+
+  module _ (self : TyId) (is : self_of s.items (ty_of base) (head_of f).params ≡ Some self) where
+    begins : with_method env at id base (Some f) count args want s ≡ with_self env at id base f count args want (self ∷ drop 1 (head_of f).params) s
+    unfolding chosen
+    begins =
+        let both = self_some s.items (ty_of base) self (head_of f).params is in
+        by_self true both.0 ∙ ap (λ ps. with_self env at id base f count args want ps s) both.1
+
+    -- the rest behind the receiver
+    abbrev behind : Node → Check Node
+    behind receiver = do
+      given ← args (drop 1 (head_of f).params)
+      n ← fitted want (a_node_of id at (head_of f).result (method_form f receiver given))
+      items ← the_items
+      obeys Rule.T04 at (count == length (drop 1 (head_of f).params))
+      obeys Rule.T08 at (not (is_unique_borrow (form_of receiver) && is_behind_shared items base))
+      obeys Rule.T13 at (not (is_drop_method f))
+      pure n
+
+    pub refuses : (e : Broken) → received env at base self s ≡ Err e → with_method env at id base (Some f) count args want s ≡ Err e
+    refuses e h = begins ∙ ap (λ r. and_then r behind) h
+
+    pub given_behind : (called : Called) (params : List TyId) (r : Node) (t : TypingState) → received env at base self s ≡ Ok (r, t) →
+        ((items : ItemTable) → (called.is_unique && borrows_shared items r) ≡ (is_unique_borrow (form_of r) && is_behind_shared items base)) →
+        params ≡ drop 1 (head_of f).params → called.answer ≡ (head_of f).result → called.is_drop ≡ is_drop_method f →
+        ((given : Nodes) → behind_form called.behind r given ≡ method_form f r given) →
+        with_method env at id base (Some f) count args want s ≡ (args params >>= (λ given. receiver_by id at (Some called) (count == length params) want r given)) t
+    given_behind called params r t got shared same answer is_drop form =
+        begins
+        ∙ ap (λ o. and_then o behind) got
+        ∙ sym (λ i. (do
+          given ← args (same i)
+          n ← fitted want (a_node_of id at (answer i) (form given i))
+          items ← the_items
+          obeys Rule.T04 at (count == length (same i))
+          obeys Rule.T08 at (not (shared items i))
+          obeys Rule.T13 at (not (is_drop i))
+          pure n) t)
+
+-- ---- what is found of a receiver
+
+pub some_of : {A : Type 0} (o : Option A) → IsSome o → (x : A) × (o ≡ Some x)
+some_of None h = absurd (cc)
+some_of (Some x) h = (x, refl)
+
+pub receiver_as : (env env_after : Env) (id : ℕ) (at : Pos) (named : Member Method) (want : Option TyId) (base n : Node) (found : Option Method) (f : Method) (s t : TypingState) →
+    through named at base s ≡ Ok ((n, found), t) → found ≡ Some f → env_after ≡ env → (count : ℕ) (args : Arguments) →
+    method_rest env id at named want base count args s ≡ with_method env_after at id n (Some f) count args want t
+receiver_as env env_after id at named want base n found f s t e is same count args =
+    ap (λ r. and_then r (λ x. with_method env at id x.0 x.1 count args want)) e
+    ∙ ap (λ (m : Option Method). with_method env at id n m count args want t) is
+    ∙ sym (ap (λ (v : Env). with_method v at id n (Some f) count args want t) same)
+
+-- a check that gives the same
+pub gives_same : {B : Type 0} (check first : ℕ → Arguments → Check Node) (s t : TypingState) (params : B → List TyId) (rest : B → Node → ℕ → Nodes → Check Node) (r : Result B RuleError) (after : Checker) →
+    ((count : ℕ) (args : Arguments) → check count args s ≡ first count args t) → GivesCall first t params rest r after → GivesCall check s params rest r after
+gives_same check first s t params rest (Ok b) after same h = λ count args. same count args ∙ h count args
+gives_same check first s t params rest (Err e) after same h = λ count args. subst (λ (o : Result (Node × TypingState) Broken). Refuses o e) (sym (same count args)) (h count args)

@@ -1,0 +1,15 @@
+pub mod CalledMethods
+pub mod Heads
+pub mod Names
+pub mod Steps
+pub mod BegunCalls
+pub mod FieldTurns
+pub mod GivenOnes
+pub mod InitForms
+pub mod Tabled
+pub mod Turns
+pub mod Beginnings
+pub mod CalledClosures
+pub mod CalleeForms
+pub mod Joined
+pub mod Numbers

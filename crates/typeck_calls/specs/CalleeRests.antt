@@ -1,0 +1,63 @@
+-- The rest of a call, behind its arguments: each is by definition the end of a row.
+use Rattle.std.specs.Prelude.{ℕ, Bool, true, ◌==◌, not, length, Option, Some, None, option_and_then, slice_get}
+use Rattle.std.specs.Option.{option_map_or}
+use Rattle.mir_base.specs.declared.int_kind.IntKind.{IntKind}
+use Rattle.mir_base.specs.declared.place_in_text.Pos.{Pos}
+use Rattle.mir_base.specs.declared.rule.Rule.{Rule}
+use Rattle.mir_ty.specs.declared.ty.TyId.{TyId}
+use Rattle.typed_tree.specs.Tree as tree
+use Rattle.typed_tree.specs.Tree.{Node, Nodes, Form}
+use Rattle.typeck_exprs.specs.CallRests.{call_rest, counted_rest}
+use Rattle.typeck_calls.specs.Calls.{Arguments}
+use Rattle.typing_rules.specs.Check.{Check, ◌>>=◌, breaks, the_items}
+use Rattle.typing_rules.specs.Places.{int, unit}
+use Rattle.typing_rules.specs.Rows as rows
+use Rattle.typing_rules.specs.Rows.{box_by, first_node, with_closure}
+use Rattle.well_typed.specs.Places.{ty_of}
+use Rattle.well_typed.specs.Types.{closure_of}
+use Rattle.typeck_calls.specs.declared.resolve.ResolvedCall.{ResolvedCall}
+use Rattle.typeck_calls.specs.declared.resolve.CallEnding.{CallEnding}
+use Rattle.typeck_calls.specs.declared.closures.ClosureCallee.{ClosureCallee}
+use Rattle.typeck_calls.specs.declared.closures.CalledClosure.{CalledClosure}
+
+-- ---- functions, constructors and built-ins
+
+-- a call by how it ends, with its arguments, of which there are so many, and whether that is as many as parameters
+abbrev pub ending_rest : ℕ → Pos → Option TyId → CallEnding → Bool → ℕ → Nodes → Check Node
+ending_rest id at want (CallEnding.Function body answer is_drop) is_count count given =
+    call_rest id at answer (tree.Call body given) is_count (not is_drop) want
+ending_rest id at want (CallEnding.Make adt variant ty) is_count count given =
+    call_rest id at ty (rows.make adt variant given) is_count true want
+ending_rest id at want CallEnding.Print is_count count given =
+    counted_rest id at unit (rows.print_form given) Rule.T04 (count == 1) want
+ending_rest id at want CallEnding.Ask is_count count given =
+    counted_rest id at (int IntKind.I32) (rows.ask_form given) Rule.T04 (count == 0) want
+ending_rest id at want CallEnding.DropValue is_count count given =
+    counted_rest id at unit (rows.drop_form given) Rule.T04 (count == 1) want
+ending_rest id at want CallEnding.Forget is_count count given =
+    counted_rest id at unit (rows.forget_form given) Rule.T04 (count == 1) want
+ending_rest id at want (CallEnding.NewBox content) is_count count given =
+    box_by at id count want content (first_node given)
+ending_rest id at want CallEnding.Refused is_count count given = breaks Rule.T13 at
+
+abbrev pub begun_rest : Pos → Option TyId → ResolvedCall → Node → ℕ → Nodes → Check Node
+begun_rest at want b last count given = ending_rest b.id.0 at want b.ending (count == length b.params) count given
+
+-- ---- closures
+
+-- a closure that was checked, with what checks its arguments
+abbrev pub closure_rest : ℕ → Pos → Option TyId → Node → ℕ → Arguments → Check Node
+closure_rest id at want c count args = do
+  items ← the_items
+  let def = option_and_then (slice_get items.closures) (closure_of items (ty_of c))
+  let body = option_map_or (λ d. d.body) def 0
+  with_closure at id c count args want body (option_and_then (λ d. slice_get items.bodies d.body) def)
+
+abbrev pub closure_by : ℕ → Pos → Option TyId → Option CalledClosure → Bool → Node → Nodes → Check Node
+closure_by id at want None is_count c given = breaks Rule.T13 at
+closure_by id at want (Some called) is_count c given =
+    counted_rest id at called.answer (tree.ClosureCall called.body c given) Rule.T04 is_count want
+
+abbrev pub callee_rest : ℕ → Pos → Option TyId → ClosureCallee → Node → ℕ → Nodes → Check Node
+callee_rest id at want callee c count given = closure_by id at want callee.called (count == length callee.params) c
+    given

@@ -1,0 +1,11 @@
+pub mod Nodes
+pub mod Made
+pub mod Fixed
+pub mod LastOnes
+pub mod Entries
+pub mod NameTables
+pub mod Guards
+pub mod Left
+pub mod Innermost
+pub mod Local
+pub mod Standing

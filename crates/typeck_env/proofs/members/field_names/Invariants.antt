@@ -1,0 +1,6 @@
+use Rattle.std.proofs.Common.{◌≡◌, map, take}
+use Rattle.mir_ty.specs.declared.adt.Variant.{Variant}
+use Rattle.typeck_env.proofs.members.field_names.Given as goal
+
+abbrev pub invariant-loop-variant : goal.invariant-loop-variant
+invariant-loop-variant l = l.tables ≡ map (λ (v : Variant). v.field_names) (take l.variant-index l.variants)

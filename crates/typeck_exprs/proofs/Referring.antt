@@ -1,0 +1,218 @@
+-- Arguments for references by the forms that are borrowed from them.
+use Rattle.std.proofs.Common.{◌≡◌, Bool, true, false, if◌then◌else◌, Option, Some, None, refl, ap, sym, ◌∙◌, ◌≤◌, arith}
+use Rattle.std.specs.Borrow.{Bor}
+use Rattle.std.specs.Prelude.{option_map, is_some}
+use Rattle.mir_base.specs.declared.place_in_text.Pos.{Pos}
+use Rattle.mir_ty.specs.declared.ty.TyId.{TyId}
+use Rattle.src_tree.specs.declared.node.SyntaxNode.{SyntaxNode}
+use Rattle.src_ast.specs.declared.expression.ExpressionForm.{ExpressionForm}
+use Rattle.src_ast.specs.declared.path.PathForm.{PathForm}
+use Rattle.src_ast.specs.Expressions.{expression_of}
+use Rattle.src_ast.specs.Seen.{syn_of}
+use Rattle.src_ast.specs.Sorts.{expression_part}
+use Rattle.src_ast.specs.Syntax.{Word, Syn, syn, Shape, shape_of, Ident, LabelOf, Literal, TruthLiteral, Path, Minus, Bang, Star, Ampersand, Calculate, Compare, Both, Either, Store, CallOf, MethodOf, FieldOf, PartOf, ElementOf, StructOf, FieldInit, Parens, TupleOf, ArrayOf, Braces, IfElse, IfLetElse, MatchOn, ArmOf, LoopOf, WhileOf, WhileLetOf, BreakOf, ContinueOf, ReturnOf, MoveOf, PanicOf, LetOf, Empty, Semi, AnyPattern, BindPattern, LiteralPattern, TruthPattern, PathPattern, PartsPattern, FieldsPattern, FieldPattern, ParensPattern, TuplePattern, ArrayPattern, Alternatives, NamedType, GenericType, DynType, SelfType, ParensType, TupleType, ArrayType, NeverType, RefType, StructItem, EnumItem, FieldDecl, VariantDecl, TraitItem, ImplItem, FnItem, ParamOf, SelfParam, Odd}
+use Rattle.typed_tree.specs.Tree as tree
+use Rattle.well_typed.specs.Types.{is_reference}
+use Rattle.typing_rules.specs.Check.{Check, TypingState, ◌>>=◌}
+use Rattle.typing_rules.specs.Rows.{passed_on, taken}
+use Rattle.typing_rules.specs.Scope.{Env, NamedEntry}
+use Rattle.typing_rules.specs.Typed.{by_reference, may_refer, passed, path, path_alone, path_by, reference_form, typed, variable_base, variable_of}
+use Rattle.typeck_exprs.specs.Forms.{IsArgumentOf, argument_size, entry_named, may_refer_as, reference_among, referred_by}
+use Rattle.typeck_exprs.specs.Sizes.{size}
+use Rattle.typeck_exprs.proofs.Shapes.{is_expression, part_size}
+use Rattle.typeck_exprs.specs.declared.argument_forms.ArgumentForm.{ArgumentForm}
+use Rattle.typeck_exprs.specs.declared.place_forms.NamedVariable.{NamedVariable}
+
+-- ---- paths
+
+path_typed : (e : Env) (at : Pos) (f s : Option Word) (want : Option TyId) → path e at f s want ≡ typed e (syn at (Path f s)) want
+path_typed e at f s want = by (variable_of e f s)
+  where
+    by : (o : Option NamedEntry) →
+        path_by e at f s o want ≡ (if is_some o then variable_base e at f s o >>= taken e want else path_alone e at f s want)
+    by None = refl
+    by (Some x) = refl
+
+abbrev argument_of : Pos → Bor SyntaxNode → Option NamedVariable → ArgumentForm
+argument_of at node None = ArgumentForm.Value node
+argument_of at node (Some v) = ArgumentForm.Passed at v
+
+module _ (e : Env) (at : Pos) (f s : Option Word) (node : Bor SyntaxNode) (is : syn_of node.now ≡ syn at (Path f s)) (st : TypingState) where
+  as_value : (want : TyId) → path e at f s (Some want) st ≡ typed e (syn_of node.now) (Some want) st
+  as_value want = ap (λ (c : Check tree.Node). c st) (path_typed e at f s (Some want)) ∙ ap (λ (x : Syn). typed e x (Some want) st) (sym is)
+
+  by_entry : (v : NamedVariable) (b : Bool) (want : TyId) (unique : Bool) (to : TyId) →
+      (if b then passed_on at (entry_named v) want unique to else path e at f s (Some want)) st
+      ≡ referred_by e (argument_of at node (if b then Some v else None)) want unique to st
+  by_entry v true want unique to = refl
+  by_entry v false want unique to = as_value want
+
+  by_found : (v : Option NamedVariable) (want : TyId) (unique : Bool) (to : TyId) →
+      passed at (path e at f s) (option_map entry_named v) want unique to st
+      ≡ referred_by e (argument_of at node (reference_among st.items v)) want unique to st
+  by_found None want unique to = as_value want
+  by_found (Some v) want unique to = by_entry v (is_reference st.items v.found.ty) want unique to
+
+  small : (o : Option NamedVariable) → argument_size (argument_of at node o) ≤ size (syn_of node.now)
+  small None = omega arith
+  small (Some v) = omega arith
+
+  pub by_path : (v : Option NamedVariable) → option_map entry_named v ≡ variable_of e f s →
+      IsArgumentOf e (syn_of node.now) st (argument_of at node (reference_among st.items v))
+  by_path v h = (
+    λ want unique to. ap (λ (x : Syn). by_reference e x want unique to st) is
+        ∙ ap (λ o. passed at (path e at f s) o want unique to st) (sym h) ∙ by_found v want unique to,
+    small (reference_among st.items v),
+  )
+
+-- ---- values
+
+may_refer_form : (form : Shape) → may_refer form ≡ may_refer_as (expression_part form)
+may_refer_form (Ident a) = refl
+may_refer_form (LabelOf a) = refl
+may_refer_form (Literal a b) = refl
+may_refer_form (TruthLiteral a) = refl
+may_refer_form (Path a b) = refl
+may_refer_form (Minus a) = refl
+may_refer_form (Bang a) = refl
+may_refer_form (Star a) = refl
+may_refer_form (Ampersand a b) = refl
+may_refer_form (Calculate a b c) = refl
+may_refer_form (Compare a b c) = refl
+may_refer_form (Both a b) = refl
+may_refer_form (Either a b) = refl
+may_refer_form (Store a b) = refl
+may_refer_form (CallOf a b) = refl
+may_refer_form (MethodOf a b c) = refl
+may_refer_form (FieldOf a b) = refl
+may_refer_form (PartOf a b) = refl
+may_refer_form (ElementOf a b) = refl
+may_refer_form (StructOf a b c) = refl
+may_refer_form (FieldInit a b) = refl
+may_refer_form (Parens a) = refl
+may_refer_form (TupleOf a) = refl
+may_refer_form (ArrayOf a) = refl
+may_refer_form (Braces a b) = refl
+may_refer_form (IfElse a b c) = refl
+may_refer_form (IfLetElse a b c d) = refl
+may_refer_form (MatchOn a b) = refl
+may_refer_form (ArmOf a b c) = refl
+may_refer_form (LoopOf a b) = refl
+may_refer_form (WhileOf a b c) = refl
+may_refer_form (WhileLetOf a b c d) = refl
+may_refer_form (BreakOf a b) = refl
+may_refer_form (ContinueOf a) = refl
+may_refer_form (ReturnOf a) = refl
+may_refer_form (MoveOf a b c d) = refl
+may_refer_form PanicOf = refl
+may_refer_form (LetOf a b c) = refl
+may_refer_form Empty = refl
+may_refer_form (Semi a) = refl
+may_refer_form AnyPattern = refl
+may_refer_form (BindPattern a) = refl
+may_refer_form (LiteralPattern a b c) = refl
+may_refer_form (TruthPattern a) = refl
+may_refer_form (PathPattern a b) = refl
+may_refer_form (PartsPattern a b c d) = refl
+may_refer_form (FieldsPattern a b c d) = refl
+may_refer_form (FieldPattern a b) = refl
+may_refer_form (ParensPattern a) = refl
+may_refer_form (TuplePattern a b) = refl
+may_refer_form (ArrayPattern a b) = refl
+may_refer_form (Alternatives a) = refl
+may_refer_form (NamedType a) = refl
+may_refer_form (GenericType a b) = refl
+may_refer_form (DynType a b) = refl
+may_refer_form SelfType = refl
+may_refer_form (ParensType a) = refl
+may_refer_form (TupleType a) = refl
+may_refer_form (ArrayType a b c) = refl
+may_refer_form NeverType = refl
+may_refer_form (RefType a b) = refl
+may_refer_form (StructItem a b c d) = refl
+may_refer_form (EnumItem a b c) = refl
+may_refer_form (FieldDecl a b) = refl
+may_refer_form (VariantDecl a b c) = refl
+may_refer_form (TraitItem a b) = refl
+may_refer_form (ImplItem a b c) = refl
+may_refer_form (FnItem a b c d) = refl
+may_refer_form (ParamOf a b) = refl
+may_refer_form (SelfParam a) = refl
+may_refer_form Odd = refl
+
+pub refers_to_none : (f : ExpressionForm) →
+    ((a : Bool) (b : Bor SyntaxNode) → f ≡ ExpressionForm.Borrow a b → ⊥)
+    → ((a : PathForm) → f ≡ ExpressionForm.Path a → ⊥)
+    → (f ≡ ExpressionForm.SelfValue → ⊥)
+    → ((a : Bor SyntaxNode) → f ≡ ExpressionForm.Parens a → ⊥) →
+    may_refer_as (expression_of f) ≡ false
+refers_to_none (ExpressionForm.Number a b) hBorrow hPath hSelfValue hParens = refl
+refers_to_none (ExpressionForm.Truth a) hBorrow hPath hSelfValue hParens = refl
+refers_to_none (ExpressionForm.Path a) hBorrow hPath hSelfValue hParens = absurd (hPath a refl)
+refers_to_none ExpressionForm.SelfValue hBorrow hPath hSelfValue hParens = absurd (hSelfValue refl)
+refers_to_none (ExpressionForm.Negate a) hBorrow hPath hSelfValue hParens = refl
+refers_to_none (ExpressionForm.Not a) hBorrow hPath hSelfValue hParens = refl
+refers_to_none (ExpressionForm.Deref a) hBorrow hPath hSelfValue hParens = refl
+refers_to_none (ExpressionForm.Borrow a b) hBorrow hPath hSelfValue hParens = absurd (hBorrow a b refl)
+refers_to_none (ExpressionForm.Math a b c) hBorrow hPath hSelfValue hParens = refl
+refers_to_none (ExpressionForm.Compare a b c) hBorrow hPath hSelfValue hParens = refl
+refers_to_none (ExpressionForm.And a b) hBorrow hPath hSelfValue hParens = refl
+refers_to_none (ExpressionForm.Or a b) hBorrow hPath hSelfValue hParens = refl
+refers_to_none (ExpressionForm.Assign a b) hBorrow hPath hSelfValue hParens = refl
+refers_to_none (ExpressionForm.Call a b) hBorrow hPath hSelfValue hParens = refl
+refers_to_none (ExpressionForm.MethodCall a b c) hBorrow hPath hSelfValue hParens = refl
+refers_to_none (ExpressionForm.Field a b) hBorrow hPath hSelfValue hParens = refl
+refers_to_none (ExpressionForm.Part a b) hBorrow hPath hSelfValue hParens = refl
+refers_to_none (ExpressionForm.Index a b) hBorrow hPath hSelfValue hParens = refl
+refers_to_none (ExpressionForm.Struct a b) hBorrow hPath hSelfValue hParens = refl
+refers_to_none (ExpressionForm.Parens a) hBorrow hPath hSelfValue hParens = absurd (hParens a refl)
+refers_to_none (ExpressionForm.Tuple a) hBorrow hPath hSelfValue hParens = refl
+refers_to_none (ExpressionForm.Array a) hBorrow hPath hSelfValue hParens = refl
+refers_to_none (ExpressionForm.Block a b) hBorrow hPath hSelfValue hParens = refl
+refers_to_none (ExpressionForm.If a b c) hBorrow hPath hSelfValue hParens = refl
+refers_to_none (ExpressionForm.IfLet a b c d) hBorrow hPath hSelfValue hParens = refl
+refers_to_none (ExpressionForm.Match a b) hBorrow hPath hSelfValue hParens = refl
+refers_to_none (ExpressionForm.Loop a b) hBorrow hPath hSelfValue hParens = refl
+refers_to_none (ExpressionForm.While a b c) hBorrow hPath hSelfValue hParens = refl
+refers_to_none (ExpressionForm.WhileLet a b c d) hBorrow hPath hSelfValue hParens = refl
+refers_to_none (ExpressionForm.Break a b) hBorrow hPath hSelfValue hParens = refl
+refers_to_none (ExpressionForm.Continue a) hBorrow hPath hSelfValue hParens = refl
+refers_to_none (ExpressionForm.Return a) hBorrow hPath hSelfValue hParens = refl
+refers_to_none (ExpressionForm.Closure a b c d) hBorrow hPath hSelfValue hParens = refl
+refers_to_none ExpressionForm.Panic hBorrow hPath hSelfValue hParens = refl
+refers_to_none ExpressionForm.Other hBorrow hPath hSelfValue hParens = refl
+
+-- what may not refer is a value
+pub by_value : (e : Env) (x : Syn) (want : TyId) (unique : Bool) (to : TyId) → may_refer_as (expression_part (shape_of x)) ≡ false →
+    by_reference e x want unique to ≡ typed e x (Some want)
+by_value e (syn at form) want unique to h = by (may_refer form) (may_refer_form form ∙ h)
+  where
+    by : (b : Bool) → b ≡ false →
+        (if b then reference_form e at form want unique to else typed e (syn at form) (Some want)) ≡ typed e (syn at form) (Some want)
+    by true k = cc
+    by false k = refl
+
+-- ---- a node by its form
+
+module _ (e : Env) (n : SyntaxNode) (st : TypingState) where
+  pub as_borrow : (unique : Bool) (base : Bor SyntaxNode) → Some (Ampersand unique (syn_of base.now)) ≡ expression_part (shape_of (syn_of n)) →
+      IsArgumentOf e (syn_of n) st (ArgumentForm.Borrow n.at unique base)
+  as_borrow unique base h = (
+    λ want is_unique to. ap (λ (x : Syn). by_reference e x want is_unique to st) (is_expression n (Ampersand unique (syn_of base.now)) (sym h)),
+    omega (arith, part_size n (Ampersand unique (syn_of base.now)) (sym h)),
+  )
+
+  pub as_inside : (inside : Bor SyntaxNode) (form : ArgumentForm) → Some (Parens (syn_of inside.now)) ≡ expression_part (shape_of (syn_of n)) →
+      IsArgumentOf e (syn_of inside.now) st form → IsArgumentOf e (syn_of n) st form
+  as_inside inside form h (is, small) = (
+    λ want is_unique to. ap (λ (x : Syn). by_reference e x want is_unique to st) (is_expression n (Parens (syn_of inside.now)) (sym h)) ∙ is want is_unique to,
+    omega (arith, part_size n (Parens (syn_of inside.now)) (sym h), small),
+  )
+
+  pub as_other : (node : Bor SyntaxNode) (f : ExpressionForm) → node.now ≡ n → expression_of f ≡ expression_part (shape_of (syn_of n)) → may_refer_as (expression_of f) ≡ false →
+      IsArgumentOf e (syn_of n) st (ArgumentForm.Value node)
+  as_other node f at h none = (
+    λ want is_unique to. ap (λ (c : Check tree.Node). c st) (by_value e (syn_of n) want is_unique to (ap may_refer_as (sym h) ∙ none))
+        ∙ ap (λ (m : SyntaxNode). typed e (syn_of m) (Some want) st) (sym at),
+    omega (arith, ap (λ (m : SyntaxNode). size (syn_of m)) at),
+  )

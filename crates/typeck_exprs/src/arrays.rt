@@ -1,0 +1,80 @@
+//! How an array ends, once its elements are checked (The Rust Reference, "Array expressions").
+ghost use Rattle.std.specs.Prelude.{◌≡◌, ◌==◌, ◌||◌, not};
+ghost use Rattle.typeck_checker.specs.Lists.{below_all, last_nodes, last_types};
+ghost use Rattle.typeck_exprs.specs.CallRests.{array_rest};
+ghost use Rattle.typing_rules.specs.Rows as rows;
+ghost use Rattle.typeck_exprs.specs.ListRests.{counted_array_rest, elements_rest};
+ghost use Rattle.typeck_checker.specs.Stand.{Gives, Keeps, stack, state};
+
+use crate::array_end;
+use crate::counts::as_length;
+use mir_base::{NodeId, Pos, Rule, RuleError};
+use mir_ty::TyId;
+use typeck_checker::{Checker, one_type_of};
+use typeck_heads::{broken_rule, obeys};
+
+/// The type of the elements: the one that is required, else their own.
+fn element_ty(checker: &Checker, wanted: Option<TyId>, count: usize) -> Option<TyId>
+    ensures { result ≡ rows.element_ty checker.now.walk.items wanted (last_types count (stack checker.now)) }
+{
+    match wanted {
+        Some(ty) => Some(ty),
+        None => one_type_of(checker, count),
+    }
+}
+
+fn sized_array(
+    checker: &mut Checker,
+    id: NodeId,
+    at: Pos,
+    element: TyId,
+    count: usize,
+    want: Option<TyId>,
+) -> Result<(), RuleError>
+    ensures gives { Gives (array_rest id.0 at count element (last_nodes count (stack checker.old)) want (state checker.old)) result checker.new }
+    ensures kept { Keeps (below_all count (stack checker.old)) checker.old result checker.new }
+{
+    let length = as_length(count)?;
+    array_end(checker, id, at, element, length, want)
+}
+
+/// Whether the type of an array is known: it has elements, or one is required.
+fn is_known(has_type: bool, count: usize) -> bool
+    ensures { result ≡ (has_type || not (count == 0)) }
+{
+    has_type || count != 0
+}
+
+fn counted_array(
+    checker: &mut Checker,
+    id: NodeId,
+    at: Pos,
+    element: TyId,
+    has_type: bool,
+    count: usize,
+    want: Option<TyId>,
+) -> Result<(), RuleError>
+    ensures gives { Gives (counted_array_rest id.0 at count has_type element (last_nodes count (stack checker.old)) want (state checker.old)) result checker.new }
+    ensures kept { Keeps (below_all count (stack checker.old)) checker.old result checker.new }
+{
+    obeys(Rule::T16, at, is_known(has_type, count))?;
+    sized_array(checker, id, at, element, count, want)
+}
+
+/// `[a, b]`, whose elements are the last nodes, so many, each of the type that is required of it, if one is.
+pub fn elements_end(
+    checker: &mut Checker,
+    id: NodeId,
+    at: Pos,
+    wanted: Option<TyId>,
+    count: usize,
+    want: Option<TyId>,
+) -> Result<(), RuleError>
+    ensures gives { Gives (elements_rest id.0 at count wanted (last_nodes count (stack checker.old)) (last_types count (stack checker.old)) want (state checker.old)) result checker.new }
+    ensures kept { Keeps (below_all count (stack checker.old)) checker.old result checker.new }
+{
+    match element_ty(checker, wanted, count) {
+        Some(element) => counted_array(checker, id, at, element, wanted.is_some(), count, want),
+        None => Err(broken_rule(Rule::T03, at)),
+    }
+}

@@ -1,0 +1,41 @@
+//! Branches (The Rust Reference, "if and if let expressions").
+ghost use Rattle.typeck_exprs.specs.BranchRests.{if_else_rest, if_let_else_rest};
+ghost use Rattle.typeck_checker.specs.Stand.{Gives, Keeps, below, stack, state, top};
+
+use mir_base::{NodeId, Pos, Rule, RuleError};
+use mir_ty::TyId;
+use typeck_checker::{Checker, Four, Three};
+use typeck_env::one_of_two;
+use typeck_heads::broken_rule;
+
+/// `if` with `else`: its branches have one type.
+pub fn if_else_end(
+    checker: &mut Checker,
+    id: NodeId,
+    at: Pos,
+    want: Option<TyId>,
+) -> Result<(), RuleError>
+    ensures gives { Gives (if_else_rest id.0 at want (top (below (below (stack checker.old)))) (top (below (stack checker.old))) (top (stack checker.old)) (state checker.old)) result checker.new }
+    ensures kept { Keeps (below (below (below (stack checker.old)))) checker.old result checker.new }
+{
+    match one_of_two(&checker.walk.items, checker.second_ty(), checker.last_ty()) {
+        Some(ty) => checker.unify_three(id, at, ty, Three::If, want),
+        None => Err(broken_rule(Rule::T03, at)),
+    }
+}
+
+/// `if let` with `else`: its branches have one type.
+pub fn if_let_else_end(
+    checker: &mut Checker,
+    id: NodeId,
+    at: Pos,
+    want: Option<TyId>,
+) -> Result<(), RuleError>
+    ensures gives { Gives (if_let_else_rest id.0 at want (top (below (below (below (stack checker.old))))) (top (below (below (stack checker.old)))) (top (below (stack checker.old))) (top (stack checker.old)) (state checker.old)) result checker.new }
+    ensures kept { Keeps (below (below (below (below (stack checker.old))))) checker.old result checker.new }
+{
+    match one_of_two(&checker.walk.items, checker.second_ty(), checker.last_ty()) {
+        Some(ty) => checker.unify_four(id, at, ty, Four::IfLet, want),
+        None => Err(broken_rule(Rule::T03, at)),
+    }
+}

@@ -1,0 +1,12 @@
+use Rattle.std.proofs.Common.{◌≡◌}
+use Rattle.src_ast.specs.Seen.{nodes_of}
+use Rattle.src_ast.specs.View.{idents}
+use Rattle.typing_rules.specs.Collected.{derives}
+use Rattle.typeck_heads.specs.Sizes.{sizes}
+use Rattle.typeck_heads.proofs.adts.derives.Given as goal
+
+abbrev pub invariant-loop-split : goal.invariant-loop-split
+invariant-loop-split l = derives l.word (idents (nodes_of l.initial.rest)) ≡ derives l.word (idents (nodes_of l.rest))
+
+abbrev pub decreases-loop-split : goal.decreases-loop-split
+decreases-loop-split l = sizes (nodes_of l.rest)

@@ -1,0 +1,11 @@
+pub mod Lists
+pub mod Youngest
+pub mod Units
+pub mod Alone
+pub mod Numbers
+pub mod Variants
+pub mod Shapes
+pub mod PartLists
+pub mod Closings
+pub mod Entered
+pub mod OneName

@@ -1,0 +1,14 @@
+pub mod Expected
+pub mod Targets
+pub mod Parts
+pub mod Members
+pub mod Given
+pub mod Fields
+pub mod Rests
+pub mod Sizes
+pub mod Forms
+pub mod Answers
+pub mod Numbers
+pub mod EndRests
+pub mod BindingForms
+pub mod BindingRests

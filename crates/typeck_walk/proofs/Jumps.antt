@@ -1,0 +1,49 @@
+-- Labels, and what a jump asks of the loop that it leaves: not its label.
+use Rattle.std.proofs.Common.{◌≡◌, List, ℕ, suc, Option, Some, None, Result, Ok, Err, refl, ap, sym, ◌∙◌}
+use Rattle.std.specs.Borrow.{Bor}
+use Rattle.std.specs.Prelude.{option_map}
+use Rattle.mir_base.specs.declared.place_in_text.Pos.{Pos}
+use Rattle.mir_ty.specs.declared.ty.TyId.{TyId}
+use Rattle.typeck_exprs.specs.Jumps.{unlabelled}
+use Rattle.typeck_exprs.specs.BranchRests.{break_rest}
+use Rattle.src_ast.specs.Seen.{word_of}
+use Rattle.typeck_env.specs.Scope.{word_in}
+use Rattle.typed_tree.specs.Tree.{MaybeNode, Node, absent, present}
+use Rattle.typing_rules.specs.Check.{Check, TypingState, Broken, ◌>>=◌, and_then, number, pure}
+use Rattle.typing_rules.specs.Rows.{break_row, carried, continue_row}
+use Rattle.typing_rules.specs.Scope.{LabelledLoop, Env, jumps_to}
+use Rattle.typing_rules.specs.Typed.{typed, typed_maybe}
+use Rattle.src_ast.specs.Syntax.{Syn, just}
+
+pub words_are : (label : Option (Bor (List ℕ))) → word_of label ≡ word_in label
+words_are None = refl
+words_are (Some label) = refl
+
+pub break_unlabelled : (at : Pos) (to : Option LabelledLoop) (value : Option TyId → Check MaybeNode) (want : Option TyId) (s : TypingState) →
+    break_row at to value want s ≡ break_row at (option_map unlabelled to) value want s
+break_unlabelled at None value want s = refl
+break_unlabelled at (Some a) value want s = by (value a.want (record s { next_node = suc s.next_node }))
+  where
+    by : (o : Result (MaybeNode × TypingState) Broken) →
+        and_then o (λ v. break_rest s.next_node at want (Some a) v) ≡ and_then o (λ v. break_rest s.next_node at want (Some (unlabelled a)) v)
+    by (Ok (absent, t)) = refl
+    by (Ok (present n, t)) = refl
+    by (Err e) = refl
+
+pub continue_unlabelled : (at : Pos) (to : Option LabelledLoop) (want : Option TyId) →
+    continue_row at to want ≡ continue_row at (option_map unlabelled to) want
+continue_unlabelled at None want = refl
+continue_unlabelled at (Some a) want = refl
+
+-- `break` with a value that was checked
+pub broken_out : (e : Env) (at : Pos) (label : Option (Bor (List ℕ))) (x : Syn) (want w : Option TyId) (id : ℕ) (n : Node) (to : Option LabelledLoop)
+    (s s1 s2 : TypingState) → number s ≡ Ok (id, s1) → to ≡ option_map unlabelled (jumps_to e.loops (word_in label)) → w ≡ carried to →
+    typed e x w s1 ≡ Ok (n, s2) →
+    break_row at (jumps_to e.loops (word_of label)) (typed_maybe e (just x)) want s ≡ break_rest id at want to (present n) s2
+broken_out e at label x want w id n to s s1 s2 h1 is wanted here =
+    ap (λ l. break_row at (jumps_to e.loops l) (typed_maybe e (just x)) want s) (words_are label)
+    ∙ break_unlabelled at (jumps_to e.loops (word_in label)) (typed_maybe e (just x)) want s
+    ∙ ap (λ (j : Option LabelledLoop). break_row at j (typed_maybe e (just x)) want s) (sym is)
+    ∙ ap (λ o. and_then o (λ i. typed_maybe e (just x) (carried to) >>= (λ v. break_rest i at want to v))) h1
+    ∙ ap (λ (k : Option TyId). and_then (and_then (typed e x k s1) (λ a. pure (present a))) (λ v. break_rest id at want to v)) (sym wanted)
+    ∙ ap (λ o. and_then (and_then o (λ a. pure (present a))) (λ v. break_rest id at want to v)) here

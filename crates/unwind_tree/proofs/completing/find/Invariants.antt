@@ -1,5 +1,0 @@
-use Rattle.unwind_tree.specs.Rooms.{IsAbsentFrom}
-use Rattle.unwind_tree.proofs.completing.find.Given as goal
-
-abbrev pub invariant-loop-number : goal.invariant-loop-number
-invariant-loop-number l = IsAbsentFrom l.key l.number l.scopes

@@ -1,4 +1,0 @@
-pub mod Numbered
-mod Told
-mod Finding
-mod Rising

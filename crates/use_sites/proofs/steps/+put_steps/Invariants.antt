@@ -1,5 +1,0 @@
-use Rattle.std.proofs.Common.{length}
-use Rattle.use_sites.proofs.steps.+put_steps.Given as goal
-
-abbrev pub decreases-put_steps : goal.decreases-put_steps
-decreases-put_steps l = length l.steps.now

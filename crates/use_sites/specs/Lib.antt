@@ -1,4 +1,0 @@
-pub mod Lines
-pub mod Listed
-pub mod Told
-pub mod Words
