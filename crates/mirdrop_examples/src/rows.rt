@@ -20,7 +20,7 @@ enum RowQuestion {
     Listing,
 }
 
-static FILES: [(&str, RowQuestion); 11] = [
+static FILES: [(&str, RowQuestion); 12] = [
     ("grammar.rows", RowQuestion::Tree),
     ("item_rules.rows", RowQuestion::Items),
     ("items.rows", RowQuestion::Check),
@@ -30,6 +30,7 @@ static FILES: [(&str, RowQuestion); 11] = [
     ("uses.rows", RowQuestion::Check),
     ("borrows.rows", RowQuestion::Check),
     ("programs.rows", RowQuestion::Check),
+    ("writing.rows", RowQuestion::Check),
     ("words.rows", RowQuestion::Words),
     ("damaged_listing.rows", RowQuestion::Listing),
 ];
