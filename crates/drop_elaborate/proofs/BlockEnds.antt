@@ -1,0 +1,265 @@
+-- A block that is no turn and not the first, from its beginning up to those of the next ones: what the raw block does,
+-- the elaborated one does. What a drop does is a premise here.
+use Rattle.std.proofs.Common.{◌≡◌, ◌⊎◌, inl, inr, ℕ, zero, suc, ◌≤◌, ◌<◌, Bool, true, false, List, [], ◌∷◌, ◌++◌, map, length, Option, Some, None, slice_get, refl, ap, sym, ◌∙◌, subst, append_assoc, arith}
+use Rattle.mir_base.specs.declared.trace.Event.{Event}
+use Rattle.mir_ty.specs.declared.ty.Ty.{Ty}
+use Rattle.mir_ty.specs.declared.ty.TyId.{TyId}
+use Rattle.mir_ty.specs.ItemTable.{ItemTable, type_at}
+use Rattle.cfg_graph.specs.declared.graph.Block.{Block}
+use Rattle.cfg_graph.specs.declared.graph.Body.{Body}
+use Rattle.cfg_graph.specs.declared.graph.Kind.{Kind}
+use Rattle.cfg_graph.specs.declared.place.Place as graph
+use Rattle.cfg_graph.specs.declared.statement.Stmt.{Stmt}
+use Rattle.cfg_graph.specs.declared.terminator.Term.{Term}
+use Rattle.cfg_graph.specs.declared.terminator.Unwind.{Unwind}
+use Rattle.cfg_graph.specs.Edges.{is_turn, is_turn_kind}
+use Rattle.cfg_graph.specs.Moves.Actions.{at_line}
+use Rattle.cfg_graph.specs.Moves.Gone.{PathAction}
+use Rattle.cfg_graph.specs.Uses.{PlaceUse, Stores, stored_by_term, term_uses}
+use Rattle.cfg_meaning.specs.Actions.{site_of, operand_of, operands_of}
+use Rattle.mir_base.specs.declared.trace.Why.{Why}
+use Rattle.store_model.specs.Effects as effects
+use Rattle.cfg_meaning.specs.Walk.{Next, ◌>>=◌, fork, branch, renamed, renamed_choice, naming, unwinding, stmts_do, acts, term_does, block_does}
+use Rattle.store_model.specs.Concrete.Effects.{act, choose, concrete_effects}
+use Rattle.store_model.specs.Concrete.Location.{Setting}
+use Rattle.store_model.specs.Concrete.State.{State, Bodies, spend}
+use Rattle.store_model.proofs.Concrete.Effects.{ticks_of}
+use Rattle.store_model.specs.Effects.{Action, Test, Choice, Yes, No, Neither, Halt, Aborted, OutOfTicks, Stuck, StuckAt, BadUse, BadStore, NoChoice, Infeasible, Unreachable, Out, Go, Unwind as Unwinds, Halts, Effects}
+use Rattle.store_model.specs.Places.Place.{Place, whole_local}
+use Rattle.store_model.specs.Values.Datum.{Datum}
+use Rattle.drop_values.specs.Like.{body_at, Flags, Like, Same, SameBodies, IsStuck, raw_setting, strict_setting, Extends}
+use Rattle.drop_values.proofs.Actions.{ActionOk, MayCall, StoreTyped, Stays, ChoiceWay, act-Same}
+use Rattle.drop_elaborate.proofs.Walks.{unplaced, Walks}
+use Rattle.drop_elaborate.proofs.Statements.{Tell, After, uses-set, At}
+use Rattle.drop_elaborate.specs.Elaborated.{flag_at, flags_of_uses, BlockIs, EdgeTo, next_of, onward_to, result_flags}
+use Rattle.cfg_meaning.specs.Actions.{action_of}
+use Rattle.cfg_graph.specs.Moves.Actions.{stmt_actions}
+use Rattle.cfg_graph.specs.Uses.{stmt_uses}
+use Rattle.drop_values.proofs.Counting.{after}
+use Rattle.drop_elaborate.proofs.Statements.{ActionOwed, begin-sets, stmts-Same}
+use Rattle.drop_elaborate.proofs.Terminators.{TermOwed, used_at, stored_at_end, result-Ends}
+use Rattle.drop_elaborate.specs.Elaborated.{first_flags, is_drop, kind_after, at_start, with_flags, Ends, result, dead, plain, ladder, BlockDone}
+
+module _ (items : ItemTable) (local_ty local_ty' : (body local : ℕ) → Option TyId)
+    (extends : Extends local_ty local_ty') (number depth : ℕ) (body : Body) (flagged : List Place)
+    (flag_ty : TyId) (flag_is : type_at items flag_ty ≡ Some Ty.Bool)
+    (added : (n : ℕ) → n < length flagged → (local_ty number (flag_at items body flagged n) ≡ None)
+    × (local_ty' number (flag_at items body flagged n) ≡ Some flag_ty))
+    (run run' : Bodies) (bound most : ℕ) (good : ℕ → List Datum → State → Type 0)
+    (tie : SameBodies local_ty good most run run')
+    (stays : (flags : Flags) (event : Event) (callee : ℕ) (args : List Datum) (w : State) →
+    Stays items local_ty local_ty' extends flags depth number w (run event callee args w))
+    (Known : List PathAction → State → Type 0)
+    (body' : Body) (WalkE : Next State) (walks : Walks
+    (naming unplaced (concrete_effects (strict_setting items local_ty') run' bound)) ticks_of most body'
+    (λ block line. 0) WalkE) where
+  abbrev raw : Setting
+  raw = raw_setting items local_ty
+
+  abbrev strict : Setting
+  strict = strict_setting items local_ty'
+
+  abbrev q : Effects State
+  q = naming unplaced (concrete_effects strict run' bound)
+
+  abbrev p : Effects State
+  p = naming unplaced (concrete_effects raw run bound)
+
+  abbrev node : ℕ → ℕ
+  node line = 0
+
+  abbrev AtHere : List PathAction → State → State → Type 0
+  AtHere acts w w' = At items local_ty local_ty' extends number depth body flagged flag_ty flag_is
+      added run' bound run most good tie stays Known acts w w'
+
+  nil : (xs : List Stmt) → xs ++ [] ≡ xs
+  nil [] = refl
+  nil (x ∷ xs) = ap (λ r. x ∷ r) (nil xs)
+
+  no-drop : (term : Term) → is_drop items body flagged body' term ≡ false →
+      (place : graph.Place) (next : ℕ) (unwind : Unwind) → term ≡ Term.DropAt place next unwind → ⊥
+  no-drop term h place next unwind e = let x : true ≡ false = sym (ap (is_drop items body flagged body') e)
+      ∙ h in absurd (let never : ⊥ = cc in never)
+
+  no-turn : (kind : Kind) → is_turn_kind (kind_after items body flagged body' kind) ≡ false
+  no-turn Kind.Plain = refl
+  no-turn Kind.Turn = refl
+  no-turn Kind.Cleanup = refl
+
+  module _ (P : Out State → Out State → Type 0) (stuck : (halt : Halt) (w : State) (o : Out State) →
+      IsStuck halt → P (Halts halt w) o) (halts : (halt : Halt) (w w' : State) → w'.trace ≡ w.trace →
+      P (Halts halt w) (Halts halt w')) where
+    -- what is owed of a block, after some actions of a path that comes to it
+    pub record BlockOwed (n : ℕ) (block : Block) (before : List PathAction) (nextR : Next State) : Type 0 where
+      pub stmts : (k : ℕ) (stmt : Stmt) → slice_get block.stmts k ≡ Some stmt →
+          ActionOwed items local_ty local_ty' extends number depth body flagged flag_ty flag_is
+          added run' bound run most good tie stays Known (at_line n (after 0 k) (stmt_uses stmt)) (action_of 0 stmt)
+      pub term : (v : State) → TermOwed items local_ty local_ty' extends number depth body flagged
+          flag_ty flag_is added run run' bound most good tie stays Known body' WalkE walks P stuck halts n
+          (length block.stmts) block.term (before ++ stmt_actions n 0 block.stmts) v
+      pub goes : (m : ℕ) (v v' : State) → AtHere (((before ++ stmt_actions n 0 block.stmts)
+          ++ at_line n (length block.stmts) (term_uses block.term)) ++ at_line n (length block.stmts)
+          (map (λ place. (Stores, place)) (stored_by_term block.term))) v v' → P (nextR m v) (WalkE m v')
+      pub panics : (unwind : Unwind) (v v' : State) → AtHere ((before ++ stmt_actions n 0 block.stmts)
+          ++ at_line n (length block.stmts) (term_uses block.term)) v v' → P (unwinding unwind nextR v)
+          (unwinding unwind WalkE v')
+      pub gives : (v v' : State) → AtHere (before ++ stmt_actions n 0 block.stmts) v v' →
+          P (p.give (record { node = 0; place = whole_local 0 }) v)
+          (q.give (record { node = 0; place = whole_local 0 }) v')
+      pub drops : (ending : List Stmt) (term' : Term) (line' : ℕ) (v v' : State) →
+          is_drop items body flagged body' block.term ≡ true → Ends items body flagged body'
+          (kind_after items body flagged body' block.kind) block.term ending term' →
+          AtHere (before ++ stmt_actions n 0 block.stmts) v v' →
+          P (term_does p 0 block.term nextR v) (stmts_do q node line' ending (term_does q 0 term' WalkE) v')
+
+    term-Ends : (n : ℕ) (block : Block) (before : List PathAction) (nextR : Next State) →
+        BlockOwed n block before nextR → (ending : List Stmt) (term' : Term) → Ends items body flagged body'
+        (kind_after items body flagged body' block.kind) block.term ending term' →
+        (line' : ℕ) (v v' : State) → AtHere (before ++ stmt_actions n 0 block.stmts) v v' →
+        P (term_does p 0 block.term nextR v) (stmts_do q node line' ending (term_does q 0 term' WalkE) v')
+    term-Ends n block before nextR owed ending term' ends line' v v' at =
+        by (is_drop items body flagged body' block.term) refl
+      where
+        no-result : {term : Term} {ending : List Stmt} {term' : Term} → term ≡ block.term →
+            is_drop items body flagged body' block.term ≡ false → Ends items body flagged body'
+            (kind_after items body flagged body' block.kind) term ending term' → P (term_does p 0 block.term nextR v)
+            (stmts_do q node line' ending (term_does q 0 term' WalkE) v')
+        no-result e h (result term from is_none edge) =
+            subst (λ t. P (term_does p 0 block.term nextR v)
+            (stmts_do q node line' (flags_of_uses items body flagged (term_uses t))
+            (term_does q 0 (onward_to items body flagged body' from t) WalkE) v')) (sym e)
+            (subst (λ stmts. P (term_does p 0 block.term nextR v)
+            (stmts_do q node line' stmts (term_does q 0 (onward_to items body flagged body' from block.term) WalkE)
+            v')) (nil (flags_of_uses items body flagged (term_uses block.term)))
+            (result-Ends items local_ty local_ty' extends number depth body flagged flag_ty flag_is
+            added run run' bound most good tie stays Known body' WalkE walks P stuck halts n
+            (length block.stmts) block.term (kind_after items body flagged body' block.kind) from nextR line'
+            (before ++ stmt_actions n 0 block.stmts) v v' (no-turn block.kind)
+            (subst (λ t. EdgeTo items body flagged body' (kind_after items body flagged body' block.kind)
+            (result_flags items body flagged body' t) from (next_of items body flagged body' t)) e edge)
+            (owed.term v) at owed.goes owed.panics owed.gives (no-drop block.term h)))
+        no-result e h (dead place next unwind) = absurd (no-drop block.term h place next unwind (sym e))
+        no-result e h (plain place next unwind) = absurd (no-drop block.term h place next unwind (sym e))
+        no-result e h (ladder plan place next from unwind code) =
+            absurd (no-drop block.term h place next unwind (sym e))
+
+        by : (b : Bool) → is_drop items body flagged body' block.term ≡ b → P (term_does p 0 block.term nextR v)
+            (stmts_do q node line' ending (term_does q 0 term' WalkE) v')
+        by true h = owed.drops ending term' line' v v' h ends at
+        by false h = no-result refl h ends
+
+    -- from the beginning of a block
+    pub block-Ends : (n : ℕ) (block : Block) (before : List PathAction) (nextR : Next State) (w w' : State) →
+        BlockDone items body flagged body' (suc n) block → is_turn block ≡ false →
+        BlockOwed (suc n) block before nextR → AtHere before w w' →
+        P (block_does p (λ line. 0) block nextR w) (WalkE (suc n) w')
+    block-Ends n block before nextR w w' done flat owed at =
+        subst (P (block_does p (λ line. 0) block nextR w)) (sym there)
+        (stmts-Same items local_ty local_ty' extends number depth body flagged flag_ty flag_is added
+        run' bound run most good tie stays Known P stuck halts (suc n) 0 block.stmts before 0 done.ending
+        (term_does p 0 block.term nextR) (term_does q 0 done.term WalkE) w w' owed.stmts at
+        (λ line' v v' a. term-Ends (suc n) block before nextR owed done.ending done.term done.ends line' v v' a))
+      where
+        few' : w'.ticks ≤ most
+        few' = let t = at.like.ticks in let k = at.few in omega (arith, t, k)
+
+        there : WalkE (suc n) w' ≡ stmts_do q node 0 (with_flags items body flagged block.stmts ++ done.ending)
+            (term_does q 0 done.term WalkE) w'
+        there =
+            walks.plain (suc n) done.there.block done.there.there (ap is_turn_kind done.there.kind_is ∙ flat) w' few'
+            ∙ ap (λ stmts. stmts_do q node 0 stmts (term_does q 0 done.there.block.term WalkE) w') done.there.stmts_are
+            ∙ ap (λ term. stmts_do q node 0 (with_flags items body flagged block.stmts ++ done.ending)
+            (term_does q 0 term WalkE) w') done.there.term_is
+
+    -- from the beginning of a turn block, which spends a tick
+    pub turn-Ends : (n : ℕ) (block : Block) (before : List PathAction) (nextR : Next State) (w w' : State) →
+        BlockDone items body flagged body' (suc n) block → block.kind ≡ Kind.Turn →
+        ((t : ℕ) → suc t ≡ w.ticks → BlockOwed (suc n) block before nextR) →
+        ((t : ℕ) → suc t ≡ w.ticks → Known before (record w { ticks = t })) → AtHere before w w' →
+        P (◌>>=◌ (p.tick w) (block_does p (λ line. 0) block nextR)) (WalkE (suc n) w')
+    turn-Ends n block before nextR w w' done is_turn owed spent at =
+        subst (P (◌>>=◌ (p.tick w) (block_does p (λ line. 0) block nextR))) (sym there)
+        (subst (λ t. P (◌>>=◌ (p.tick w) (block_does p (λ line. 0) block nextR))
+        (◌>>=◌ (renamed unplaced (spend t w')) onward)) (sym at.like.ticks) (by w.ticks refl))
+      where
+        onward : State → Out State
+        onward v = stmts_do q node 0 (with_flags items body flagged block.stmts ++ done.ending)
+            (term_does q 0 done.term WalkE) v
+
+        few' : w'.ticks ≤ most
+        few' = let t = at.like.ticks in let k = at.few in omega (arith, t, k)
+
+        there : WalkE (suc n) w' ≡ ◌>>=◌ (renamed unplaced (spend w'.ticks w')) onward
+        there =
+            walks.turn (suc n) done.there.block done.there.there (done.there.kind_is ∙ is_turn) w' few'
+            ∙ ap (λ stmts. ◌>>=◌ (renamed unplaced (spend w'.ticks w'))
+            (λ v. stmts_do q node 0 stmts (term_does q 0 done.there.block.term WalkE) v)) done.there.stmts_are
+            ∙ ap (λ term. ◌>>=◌ (renamed unplaced (spend w'.ticks w'))
+            (λ v. stmts_do q node 0 (with_flags items body flagged block.stmts ++ done.ending)
+            (term_does q 0 term WalkE) v)) done.there.term_is
+
+        by : (t : ℕ) → w.ticks ≡ t → P (◌>>=◌ (renamed unplaced (spend t w)) (block_does p (λ line. 0) block nextR))
+            (◌>>=◌ (renamed unplaced (spend t w')) onward)
+        by zero e = halts OutOfTicks w w' at.like.trace
+        by (suc t) e =
+            stmts-Same items local_ty local_ty' extends number depth body flagged flag_ty flag_is
+            added run' bound run most good tie stays Known P stuck halts (suc n) 0 block.stmts before 0 done.ending
+            (term_does p 0 block.term nextR) (term_does q 0 done.term WalkE)
+            (record w { ticks = t }) (record w' { ticks = t }) (owed t (sym e)).stmts
+            (record {
+              flags = at.flags;
+              like = (let l = at.like in record {
+                asked = l.asked;
+                ticks = refl;
+                serial = l.serial;
+                trace =
+                    l.trace;
+                count = l.count;
+                bodies = l.bodies;
+                covers = l.covers;
+                flags_are = l.flags_are;
+              });
+              tell = at.tell;
+              deep = at.deep;
+              number_is = at.number_is;
+              few = (let k = at.few in omega (arith, e, k));
+              known = spent t (sym e);
+            })
+            (λ line' v v' a. term-Ends (suc n) block before nextR (owed t (sym e)) done.ending done.term
+            done.ends line' v v' a)
+
+    -- the first block, where the flags hold nothing yet
+    pub first-Ends : (block : Block) (nextR : Next State) (flags : Flags) (w w' : State) →
+        BlockDone items body flagged body' 0 block → is_turn block ≡ false → BlockOwed 0 block [] nextR →
+        Like local_ty flags w w' → length w.activations ≡ suc depth → body_at depth w ≡ Some number →
+        w.ticks ≤ most → Known [] w →
+        P (block_does p (λ line. 0) block nextR w) (WalkE 0 w')
+    first-Ends block nextR flags w w' done flat owed like deep is few known =
+        subst (P (block_does p (λ line. 0) block nextR w)) (sym (there ∙ a.does))
+        (stmts-Same items local_ty local_ty' extends number depth body flagged flag_ty flag_is added
+        run' bound run most good tie stays Known P stuck halts 0 0 block.stmts [] a.line' done.ending
+        (term_does p 0 block.term nextR) (term_does q 0 done.term WalkE) w a.v' owed.stmts
+        (record { flags = a.new; like = a.like; tell = a.tell; deep = deep; number_is = is; few = few; known = known })
+        (λ line' v v' z. term-Ends 0 block [] nextR owed done.ending done.term done.ends line' v v' z))
+      where
+        more : List Stmt
+        more = with_flags items body flagged block.stmts ++ done.ending
+
+        a : After items local_ty local_ty' extends number depth body flagged flag_ty flag_is added run' bound []
+            (first_flags items body flagged flagged 0) 0 (with_flags items body flagged block.stmts ++ done.ending)
+            (term_does q 0 done.term WalkE) w w'
+        a = begin-sets items local_ty local_ty' extends number depth body flagged flag_ty flag_is added run' bound 0
+            (with_flags items body flagged block.stmts ++ done.ending) (term_does q 0 done.term WalkE)
+            flags w w' like deep is
+
+        few' : w'.ticks ≤ most
+        few' = let t = like.ticks in omega (arith, t, few)
+
+        there : WalkE 0 w' ≡ stmts_do q node 0 (first_flags items body flagged flagged 0
+            ++ (with_flags items body flagged block.stmts ++ done.ending)) (term_does q 0 done.term WalkE) w'
+        there =
+            walks.plain 0 done.there.block done.there.there (ap is_turn_kind done.there.kind_is ∙ flat) w' few'
+            ∙ ap (λ stmts. stmts_do q node 0 stmts (term_does q 0 done.there.block.term WalkE) w') done.there.stmts_are
+            ∙ ap (λ term. stmts_do q node 0 (first_flags items body flagged flagged 0
+            ++ (with_flags items body flagged block.stmts ++ done.ending)) (term_does q 0 term WalkE) w')
+            done.there.term_is
