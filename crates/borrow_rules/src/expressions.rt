@@ -17,7 +17,7 @@ use std::alloc::Global;
 use typed_tree::{Form, Node, NumberedField};
 
 /// An access to the place that a node is, if it is one.
-fn tell_place(
+fn collect_place(
     alloc: Global,
     aliases: &[Alias],
     access: Access,
@@ -33,7 +33,7 @@ fn tell_place(
 }
 
 /// An index borrows the whole array.
-fn tell_array(
+fn collect_array(
     alloc: Global,
     aliases: &[Alias],
     array: &Node,
@@ -58,7 +58,7 @@ fn own_access(
         rules.own_access (rules.access_by node.now.by) (rules.place_of (aliases_in aliases.now) (tree_of node.now)) (rules.root_of (tree_of node.now)) node.now.at) }
 {
     match access_by(node.by) {
-        Some(access) => tell_place(alloc, aliases, access, node, node.at, out),
+        Some(access) => collect_place(alloc, aliases, access, node, node.at, out),
         None => Ok(()),
     }
 }
@@ -111,7 +111,7 @@ fn borrowing(is_unique: bool) -> Access
 /// What an expression does to places, and where it conflicts within itself, behind what was told before. Inside a
 /// guard, aliases say what its bindings stand for.
 #[cycle(told)]
-pub fn tell(
+pub fn collect_accesses(
     alloc: Global,
     aliases: &[Alias],
     node: &Node,
@@ -119,13 +119,13 @@ pub fn tell(
 ) -> Result<(), NoMemory>
     ensures { OnOk result (told_in out.new ≡ told_in out.old ⊕ rules.told (aliases_in aliases.now) (tree_of node.now)) }
 {
-    tell_inside(alloc, aliases, node, out)?;
+    collect_inside(alloc, aliases, node, out)?;
     own_access(alloc, aliases, node, out)
 }
 
 /// What is inside a place, without its own use.
 #[cycle(told)]
-fn tell_inside(
+fn collect_inside(
     alloc: Global,
     aliases: &[Alias],
     node: &Node,
@@ -133,11 +133,11 @@ fn tell_inside(
 ) -> Result<(), NoMemory>
     ensures { OnOk result (told_in out.new ≡ told_in out.old ⊕ rules.inside (aliases_in aliases.now) (tree_of node.now)) }
 {
-    tell_form(alloc, aliases, node.at, &node.form, out)
+    collect_form(alloc, aliases, node.at, &node.form, out)
 }
 
 #[cycle(told)]
-fn tell_form(
+fn collect_form(
     alloc: Global,
     aliases: &[Alias],
     at: Pos,
@@ -148,7 +148,7 @@ fn tell_form(
 {
     match form {
         Form::Field { base: place, .. } | Form::Deref(place) => {
-            tell_inside(alloc, aliases, place, out)
+            collect_inside(alloc, aliases, place, out)
         }
         Form::Not(one)
         | Form::Negate(one)
@@ -158,24 +158,26 @@ fn tell_form(
         | Form::Forget(one)
         | Form::Unsize { operand: one, .. }
         | Form::Evaluate(one)
-        | Form::Loop(one) => tell(alloc, aliases, one, out),
-        Form::Make { fields, .. } => tell_fields(alloc, aliases, fields.as_slice(), out),
+        | Form::Loop(one) => collect_accesses(alloc, aliases, one, out),
+        Form::Make { fields, .. } => collect_fields(alloc, aliases, fields.as_slice(), out),
         Form::Tuple(nodes)
         | Form::Array(nodes)
         | Form::Closure {
             captures: nodes,
             ..
-        } => tell_all(alloc, aliases, nodes.as_slice(), out),
-        Form::Break { value, .. } | Form::Return(value) => tell_if_any(alloc, aliases, value, out),
+        } => collect_all(alloc, aliases, nodes.as_slice(), out),
+        Form::Break { value, .. } | Form::Return(value) => collect_if_any(
+            alloc, aliases, value, out,
+        ),
         Form::Index { .. } | Form::Assign { .. } | Form::Borrow { .. } => {
-            tell_reaching(alloc, aliases, at, form, out)
+            collect_reaching(alloc, aliases, at, form, out)
         }
         Form::Call { .. }
         | Form::MethodCall { .. }
         | Form::VirtualCall { .. }
-        | Form::ClosureCall { .. } => tell_call(alloc, aliases, form, out),
+        | Form::ClosureCall { .. } => collect_call(alloc, aliases, form, out),
         Form::If { .. } | Form::IfLet { .. } | Form::WhileLet { .. } | Form::Match { .. } => {
-            tell_branches(alloc, aliases, form, out)
+            collect_branches(alloc, aliases, form, out)
         }
         Form::Arithmetic { .. }
         | Form::Comparison { .. }
@@ -183,7 +185,7 @@ fn tell_form(
         | Form::Or { .. }
         | Form::While { .. }
         | Form::Block { .. }
-        | Form::Let { .. } => tell_parts(alloc, aliases, at, form, out),
+        | Form::Let { .. } => collect_parts(alloc, aliases, at, form, out),
         Form::Number(_)
         | Form::Truth(_)
         | Form::UnitValue
@@ -207,7 +209,7 @@ fn tell_form(
 
 /// Of an element, whose index borrows the whole array; of an assignment; of a borrow.
 #[cycle(told)]
-fn tell_reaching(
+fn collect_reaching(
     alloc: Global,
     aliases: &[Alias],
     at: Pos,
@@ -219,20 +221,20 @@ fn tell_reaching(
     match form {
         Form::Index { base, index, .. } => {
             let base: &Node = base;
-            tell_inside(alloc, aliases, base, out)?;
-            tell(alloc, aliases, index, out)?;
-            tell_array(alloc, aliases, base, at, out)
+            collect_inside(alloc, aliases, base, out)?;
+            collect_accesses(alloc, aliases, index, out)?;
+            collect_array(alloc, aliases, base, at, out)
         }
         Form::Assign { place, value } => {
             let place: &Node = place;
-            tell(alloc, aliases, value, out)?;
-            tell_inside(alloc, aliases, place, out)?;
-            tell_place(alloc, aliases, Access::Stores, place, at, out)
+            collect_accesses(alloc, aliases, value, out)?;
+            collect_inside(alloc, aliases, place, out)?;
+            collect_place(alloc, aliases, Access::Stores, place, at, out)
         }
         Form::Borrow { unique, base } => {
             let base: &Node = base;
-            tell_inside(alloc, aliases, base, out)?;
-            tell_place(alloc, aliases, borrowing(*unique), base, at, out)
+            collect_inside(alloc, aliases, base, out)?;
+            collect_place(alloc, aliases, borrowing(*unique), base, at, out)
         }
         _ => Ok(()),
     }
@@ -240,7 +242,7 @@ fn tell_reaching(
 
 /// Of a call, whose arguments are passed together, a receiver among them.
 #[cycle(told)]
-fn tell_call(
+fn collect_call(
     alloc: Global,
     aliases: &[Alias],
     form: &Form,
@@ -252,7 +254,7 @@ fn tell_call(
     match form {
         Form::Call { args: nodes, .. } => {
             let nodes = nodes.as_slice();
-            tell_arguments(alloc, aliases, nodes, &mut args)?;
+            collect_arguments(alloc, aliases, nodes, &mut args)?;
             passed_together(alloc, args, out)
         }
         Form::MethodCall {
@@ -267,8 +269,8 @@ fn tell_call(
         } => {
             let receiver: &Node = receiver;
             let nodes = nodes.as_slice();
-            tell_argument(alloc, aliases, true, receiver, &mut args)?;
-            tell_arguments(alloc, aliases, nodes, &mut args)?;
+            collect_argument(alloc, aliases, true, receiver, &mut args)?;
+            collect_arguments(alloc, aliases, nodes, &mut args)?;
             passed_together(alloc, args, out)
         }
         Form::ClosureCall {
@@ -278,8 +280,8 @@ fn tell_call(
         } => {
             let callee: &Node = callee;
             let nodes = nodes.as_slice();
-            tell(alloc, aliases, callee, out)?;
-            tell_arguments(alloc, aliases, nodes, &mut args)?;
+            collect_accesses(alloc, aliases, callee, out)?;
+            collect_arguments(alloc, aliases, nodes, &mut args)?;
             passed_together(alloc, args, out)
         }
         _ => Ok(()),
@@ -288,7 +290,7 @@ fn tell_call(
 
 /// Of a branch or a loop on a pattern.
 #[cycle(told)]
-fn tell_branches(
+fn collect_branches(
     alloc: Global,
     aliases: &[Alias],
     form: &Form,
@@ -304,9 +306,9 @@ fn tell_branches(
         } => {
             let condition: &Node = condition;
             let then: &Node = then;
-            tell(alloc, aliases, condition, out)?;
-            tell(alloc, aliases, then, out)?;
-            tell_if_any(alloc, aliases, otherwise, out)
+            collect_accesses(alloc, aliases, condition, out)?;
+            collect_accesses(alloc, aliases, then, out)?;
+            collect_if_any(alloc, aliases, otherwise, out)
         }
         Form::IfLet {
             pattern,
@@ -317,10 +319,10 @@ fn tell_branches(
             let pattern: &Node = pattern;
             let scrutinee: &Node = scrutinee;
             let then: &Node = then;
-            tell(alloc, aliases, scrutinee, out)?;
+            collect_accesses(alloc, aliases, scrutinee, out)?;
             of_scrutinee(alloc, aliases, pattern, scrutinee, out)?;
-            tell(alloc, aliases, then, out)?;
-            tell_if_any(alloc, aliases, otherwise, out)
+            collect_accesses(alloc, aliases, then, out)?;
+            collect_if_any(alloc, aliases, otherwise, out)
         }
         Form::WhileLet {
             pattern,
@@ -330,16 +332,16 @@ fn tell_branches(
             let pattern: &Node = pattern;
             let scrutinee: &Node = scrutinee;
             let body: &Node = body;
-            tell(alloc, aliases, scrutinee, out)?;
+            collect_accesses(alloc, aliases, scrutinee, out)?;
             of_scrutinee(alloc, aliases, pattern, scrutinee, out)?;
-            tell(alloc, aliases, body, out)
+            collect_accesses(alloc, aliases, body, out)
         }
         Form::Match { scrutinee, arms } => {
             let scrutinee: &Node = scrutinee;
-            tell(alloc, aliases, scrutinee, out)?;
+            collect_accesses(alloc, aliases, scrutinee, out)?;
             let arms = arms.as_slice();
             let place = place_of(alloc, aliases, scrutinee)?;
-            tell_arms(alloc, aliases, &place, arms, out)
+            collect_arms(alloc, aliases, &place, arms, out)
         }
         _ => Ok(()),
     }
@@ -347,7 +349,7 @@ fn tell_branches(
 
 /// Of two operands, a loop with a condition, a block or a `let`: its parts in order.
 #[cycle(told)]
-fn tell_parts(
+fn collect_parts(
     alloc: Global,
     aliases: &[Alias],
     at: Pos,
@@ -367,12 +369,12 @@ fn tell_parts(
         } => {
             let left: &Node = left;
             let right: &Node = right;
-            tell(alloc, aliases, left, out)?;
-            tell(alloc, aliases, right, out)
+            collect_accesses(alloc, aliases, left, out)?;
+            collect_accesses(alloc, aliases, right, out)
         }
         Form::Block { statements, tail } => {
-            tell_all(alloc, aliases, statements.as_slice(), out)?;
-            tell_if_any(alloc, aliases, tail, out)
+            collect_all(alloc, aliases, statements.as_slice(), out)?;
+            collect_if_any(alloc, aliases, tail, out)
         }
         Form::Let {
             pattern,
@@ -380,7 +382,7 @@ fn tell_parts(
         } => {
             let pattern: &Node = pattern;
             let value: &Node = value;
-            tell(alloc, aliases, value, out)?;
+            collect_accesses(alloc, aliases, value, out)?;
             of_let(alloc, aliases, pattern, value, out)
         }
         _ => Ok(()),
@@ -388,7 +390,7 @@ fn tell_parts(
 }
 
 #[cycle(told)]
-fn tell_if_any(
+fn collect_if_any(
     alloc: Global,
     aliases: &[Alias],
     node: &Option<Box<Node, Global>>,
@@ -397,13 +399,13 @@ fn tell_if_any(
     ensures { OnOk result (told_in out.new ≡ told_in out.old ⊕ rules.told_maybe (aliases_in aliases.now) (maybe_of node.now)) }
 {
     match node {
-        Some(node) => tell(alloc, aliases, node, out),
+        Some(node) => collect_accesses(alloc, aliases, node, out),
         None => Ok(()),
     }
 }
 
 #[cycle(told)]
-fn tell_all(
+fn collect_all(
     alloc: Global,
     aliases: &[Alias],
     nodes: &[Node],
@@ -412,13 +414,13 @@ fn tell_all(
     ensures { OnOk result (told_in out.new ≡ told_in out.old ⊕ rules.told_all (aliases_in aliases.now) (nodes_from (map tree_of nodes.now))) }
 {
     for node in nodes {
-        tell(alloc, aliases, node, out)?;
+        collect_accesses(alloc, aliases, node, out)?;
     }
     Ok(())
 }
 
 #[cycle(told)]
-fn tell_fields(
+fn collect_fields(
     alloc: Global,
     aliases: &[Alias],
     fields: &[NumberedField],
@@ -427,14 +429,14 @@ fn tell_fields(
     ensures { OnOk result (told_in out.new ≡ told_in out.old ⊕ rules.told_fields (aliases_in aliases.now) (fields_from (map field_of fields.now))) }
 {
     for field in fields {
-        tell(alloc, aliases, &field.value, out)?;
+        collect_accesses(alloc, aliases, &field.value, out)?;
     }
     Ok(())
 }
 
 /// An argument by itself, behind those before it.
 #[cycle(told)]
-fn tell_argument(
+fn collect_argument(
     alloc: Global,
     aliases: &[Alias],
     is_receiver: bool,
@@ -446,7 +448,7 @@ fn tell_argument(
 {
     let refers = refers_by(alloc, aliases, &node.form)?;
     let mut own = CollectedAccesses::quiet(alloc);
-    tell(alloc, aliases, node, &mut own)?;
+    collect_accesses(alloc, aliases, node, &mut own)?;
     args.push(Argument {
         refers,
         is_receiver,
@@ -456,7 +458,7 @@ fn tell_argument(
 }
 
 #[cycle(told)]
-fn tell_arguments(
+fn collect_arguments(
     alloc: Global,
     aliases: &[Alias],
     nodes: &[Node],
@@ -466,13 +468,13 @@ fn tell_arguments(
         map argument_in args.old ++ rules.arguments (aliases_in aliases.now) (nodes_from (map tree_of nodes.now))) }
 {
     for node in nodes {
-        tell_argument(alloc, aliases, false, node, args)?;
+        collect_argument(alloc, aliases, false, node, args)?;
     }
     Ok(())
 }
 
 #[cycle(told)]
-fn tell_arms(
+fn collect_arms(
     alloc: Global,
     aliases: &[Alias],
     place: &Option<AccessPlace>,
@@ -483,14 +485,14 @@ fn tell_arms(
         rules.told_arms (aliases_in aliases.now) (place_if_any place.now) (nodes_from (map tree_of arms.now))) }
 {
     for arm in arms {
-        tell_arm(alloc, aliases, place, arm, out)?;
+        collect_arm(alloc, aliases, place, arm, out)?;
     }
     Ok(())
 }
 
 /// An arm of a match.
 #[cycle(told)]
-fn tell_arm(
+fn collect_arm(
     alloc: Global,
     aliases: &[Alias],
     place: &Option<AccessPlace>,
@@ -500,12 +502,12 @@ fn tell_arm(
     ensures { OnOk result (told_in out.new ≡ told_in out.old ⊕
         rules.told_arm (aliases_in aliases.now) (place_if_any place.now) (tree_of arm.now)) }
 {
-    tell_guarded(alloc, aliases, place, &arm.form, out)
+    collect_guarded(alloc, aliases, place, &arm.form, out)
 }
 
 /// Of an arm: its guard, what its bindings take, and its body.
 #[cycle(told)]
-fn tell_guarded(
+fn collect_guarded(
     alloc: Global,
     aliases: &[Alias],
     place: &Option<AccessPlace>,
@@ -526,16 +528,16 @@ fn tell_guarded(
             let mut bounds = List::new(alloc);
             add_bound(alloc, place, pattern, &mut bounds)?;
             let bounds = bounds.as_slice();
-            tell_guard(alloc, aliases, place, bounds, guard, out)?;
+            collect_guard(alloc, aliases, place, bounds, guard, out)?;
             out.append_bound(alloc, bounds)?;
-            tell(alloc, aliases, body, out)
+            collect_accesses(alloc, aliases, body, out)
         }
         _ => Ok(()),
     }
 }
 
 #[cycle(told)]
-fn tell_guard(
+fn collect_guard(
     alloc: Global,
     aliases: &[Alias],
     place: &Option<AccessPlace>,
@@ -551,7 +553,7 @@ fn tell_guard(
             let guard: &Node = guard;
             let aliases = aliases_with(alloc, bounds, aliases)?;
             let mut own = CollectedAccesses::quiet(alloc);
-            tell(alloc, aliases.as_slice(), guard, &mut own)?;
+            collect_accesses(alloc, aliases.as_slice(), guard, &mut own)?;
             of_guard(alloc, place, bounds, own, out)
         }
         None => Ok(()),

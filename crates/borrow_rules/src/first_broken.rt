@@ -11,7 +11,7 @@ use crate::drop_bodies::{drop_bodies, is_drop_body};
 use crate::facts::ParamNo;
 use crate::passings::{Passing, passings, stores};
 use crate::replaceable::{is_replaced, replaceable};
-use crate::{CollectedAccesses, tell};
+use crate::{CollectedAccesses, collect_accesses};
 use mir_base::{Key, NoMemory, Pos, Rule, RuleError};
 use mir_ty::Items;
 use std::alloc::Global;
@@ -42,7 +42,7 @@ fn add_overlaps(alloc: Global, body: &TBody, faults: &mut Vec<BrokenRule>) -> Re
         map fault_in faults.old.items ++ rules.overlaps (body_of body.now)) }
 {
     let mut told = CollectedAccesses::quiet(alloc);
-    tell(alloc, &[], &body.block, &mut told)?;
+    collect_accesses(alloc, &[], &body.block, &mut told)?;
     add_faults(Rule::T14, told.conflicts.as_slice(), faults)
 }
 

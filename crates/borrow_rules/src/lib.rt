@@ -17,6 +17,6 @@ mod place;
 mod replaceable;
 
 pub use access::{Access, Accessed, CollectedAccesses};
-pub use expressions::tell;
+pub use expressions::collect_accesses;
 pub use first_broken::borrow_check;
 pub use place::{AccessPlace, AccessStep, Alias};

@@ -15,7 +15,7 @@ ghost use Rattle.lower_rules.specs.Listed.{ids_of, nodes_of_body};
 use crate::parts::{add_parts, add_tys};
 use bumpalo::Bump;
 use cfg_graph::{Body, Kind, Term};
-use lower_blocks::{Blocks, MadeBlock, Setting, Ways, build};
+use lower_blocks::{Blocks, BuildContext, MadeBlock, Ways, build};
 use lower_code::{Change, Entry, ScopeAt};
 use lower_forms::body_code;
 use lower_locals::{Locals, locals};
@@ -77,7 +77,7 @@ fn build_entire<'a>(
 {
     start(alloc, body.block.id, blocks)?;
     let scopes = answer_scope(arena, body)?;
-    let at = Setting {
+    let at = BuildContext {
         frame,
         code,
         reaches,

@@ -23,38 +23,38 @@ use Rattle.lower_passes.specs.Scoped.{scopes_of}
 use Rattle.lower_passes.specs.Spans as spans
 use Rattle.lower_passes.specs.declared.marks.CodeMark.{CodeMark}
 use Rattle.lower_blocks.specs.declared.arms.ArmSpan.{ArmSpan}
-use Rattle.lower_blocks.specs.declared.context.Setting.{Setting}
+use Rattle.lower_blocks.specs.declared.context.BuildContext.{BuildContext}
 
-abbrev pub frame_at : Setting → LoweringFrame
+abbrev pub frame_at : BuildContext → LoweringFrame
 frame_at at = frame_of at.frame
 
 -- code stands among the words of the body
-abbrev pub StandsAt : Setting → Code → (start end : ℕ) → Type 0
+abbrev pub StandsAt : BuildContext → Code → (start end : ℕ) → Type 0
 StandsAt at = spans.Stands (frame_at at) (map op_of at.code.words.now) at.code.marks.now
 
-abbrev pub OneAt : Setting → Code → (start end : ℕ) → Type 0
+abbrev pub OneAt : BuildContext → Code → (start end : ℕ) → Type 0
 OneAt at c = spans.OneBefore (frame_at at) (map op_of at.code.words.now) at.code.marks.now (StandsAt at c)
 
-abbrev pub TwoAt : Setting → (one another : Code) → (start end : ℕ) → Type 0
+abbrev pub TwoAt : BuildContext → (one another : Code) → (start end : ℕ) → Type 0
 TwoAt at one another =
     spans.TwoBefore (frame_at at) (map op_of at.code.words.now) at.code.marks.now (StandsAt at one)
     (StandsAt at another)
 
 -- what is noted of the words, of how many scopes code may change, holds
-abbrev pub IsReached : Setting → Type 0
+abbrev pub IsReached : BuildContext → Type 0
 IsReached at = (f : LoweringFrame) → AreReaches f (map op_of at.code.words.now) at.code.marks.now at.reaches.now
 
 -- what is built before a rest
-abbrev pub IsBuiltBefore : Setting → Lowers → BlockRest → Building → (after : Blocks) → Type 0
+abbrev pub IsBuiltBefore : BuildContext → Lowers → BlockRest → Building → (after : Blocks) → Type 0
 IsBuiltBefore at P k s after = built_of after ≡ P.build (ways_of at.ways) (scopes_of at.scopes.now) k s
 
 -- and before what was open
-abbrev pub IsBuilt : Setting → Code → (before after : Blocks) → Type 0
+abbrev pub IsBuilt : BuildContext → Code → (before after : Blocks) → Type 0
 IsBuilt at c before after =
     IsBuiltBefore at (lowers (frame_at at) c) (rest_of before.rest) (building_of before) after
 
 -- what is built where a block is entered behind it
-abbrev pub IsBuiltToward : Setting → Code → (to node : ℕ) → (before after : Blocks) → Type 0
+abbrev pub IsBuiltToward : BuildContext → Code → (to node : ℕ) → (before after : Blocks) → Type 0
 IsBuiltToward at c to node before after =
     IsBuiltBefore at (lowers (frame_at at) c) (build.ending (Term.Goto to) node) (building_of before) after
 
@@ -63,19 +63,19 @@ abbrev pub behind : Bool → Lowers → Lowers → spots.Ways → Scopes → Blo
 behind true P Q c S k s = Q.build c (P.after S) k s
 behind false P Q c S k s = (k, s)
 
-abbrev pub IsBuiltBehind : Setting → Lowers → Lowers → (before after : Blocks) → Type 0
+abbrev pub IsBuiltBehind : BuildContext → Lowers → Lowers → (before after : Blocks) → Type 0
 IsBuiltBehind at P Q before after =
     built_of after
     ≡ behind P.has_end P Q (ways_of at.ways) (scopes_of at.scopes.now) (rest_of before.rest) (building_of before)
 
 -- the turn of a loop, whose turn block is given out already
-abbrev pub turn_at : Setting → LoopWay → Code → Building → BlockRest × Building
+abbrev pub turn_at : BuildContext → LoopWay → Code → Building → BlockRest × Building
 turn_at at way turn s =
     (lowers (frame_at at) turn).build
     (spots.ways_in_loop way.id.0 way.base way.exit way.turn way.is_left (ways_of at.ways)) (scopes_of at.scopes.now)
     (build.ending (Term.Goto way.turn) way.id.0) s
 
-abbrev pub IsTurnBuilt : Setting → LoopWay → Code → (before after : Blocks) → Type 0
+abbrev pub IsTurnBuilt : BuildContext → LoopWay → Code → (before after : Blocks) → Type 0
 IsTurnBuilt at way turn before after =
     built_of after ≡ (
       build.ending (Term.Goto way.turn) way.id.0,
@@ -117,32 +117,32 @@ module _ (f : LoweringFrame) (words : List ops.CodeWord) (marks : List CodeMark)
       × spans.TwoBefore f words marks (spans.Stands f words marks asked) (spans.Stands f words marks inner) start end
   TakenStands key asked inner start end = ⊥
 
-abbrev pub TakenStandsAt : Setting → Option Key → Guard → Code → (start end : ℕ) → Type 0
+abbrev pub TakenStandsAt : BuildContext → Option Key → Guard → Code → (start end : ℕ) → Type 0
 TakenStandsAt at = TakenStands (frame_at at) (map op_of at.code.words.now) at.code.marks.now
 
-abbrev pub ArmsStandAt : Setting → Arms → (begin end : ℕ) → Type 0
+abbrev pub ArmsStandAt : BuildContext → Arms → (begin end : ℕ) → Type 0
 ArmsStandAt at = ArmsStand (frame_at at) (map op_of at.code.words.now) at.code.marks.now
 
-abbrev pub ArmStandsAt : Setting → Arm → (start end : ℕ) → Type 0
+abbrev pub ArmStandsAt : BuildContext → Arm → (start end : ℕ) → Type 0
 ArmStandsAt at = spans.StandsArm (frame_at at) (map op_of at.code.words.now) at.code.marks.now
 
 -- before arms that are built already, others are
-abbrev pub arms_at : Setting → (node to : ℕ) → List LowersArm → Building → BlockRest × Building
+abbrev pub arms_at : BuildContext → (node to : ℕ) → List LowersArm → Building → BlockRest × Building
 arms_at at node to arms s =
     built_from (frame_at at) node arms (ways_of at.ways) (scopes_of at.scopes.now) (build.ending (Term.Goto to) node) s
 
-abbrev pub ArmsAreBuilt : Setting → (node to : ℕ) → List LowersArm → (before after : Blocks) → Type 0
+abbrev pub ArmsAreBuilt : BuildContext → (node to : ℕ) → List LowersArm → (before after : Blocks) → Type 0
 ArmsAreBuilt at node to arms before after =
     (others : List LowersArm) (s : Building) → built_of before ≡ arms_at at node to others s →
     built_of after ≡ arms_at at node to (arms ++ others) s
 
-abbrev pub ArmIsBuiltBefore : Setting → LowersArm → (otherwise : ℕ) → (before after : Blocks) → Type 0
+abbrev pub ArmIsBuiltBefore : BuildContext → LowersArm → (otherwise : ℕ) → (before after : Blocks) → Type 0
 ArmIsBuiltBefore at one otherwise before after =
     built_of after
     ≡ one.build (ways_of at.ways) (scopes_of at.scopes.now) otherwise (rest_of before.rest) (building_of before)
 
 -- an arm with a guard
-abbrev pub guarded_by : Setting → (key : ℕ) → (guard inner : Code) → LowersArm
+abbrev pub guarded_by : BuildContext → (key : ℕ) → (guard inner : Code) → LowersArm
 guarded_by at key guard inner =
     with_guard (frame_at at) key (lowers (frame_at at) guard) (lowers (frame_at at) inner)
 
@@ -154,7 +154,7 @@ behind_guard f true key P c S otherwise k s =
     let yes = build.closing (P.build c S k s) in build.if_true f (moved key key) key yes.0 otherwise yes.1
 behind_guard f false key P c S otherwise k s = (k, s)
 
-abbrev pub IsBuiltBehindGuard : Setting → (key : ℕ) → (guard inner : Code) → (otherwise : ℕ) → (before after : Blocks) →
+abbrev pub IsBuiltBehindGuard : BuildContext → (key : ℕ) → (guard inner : Code) → (otherwise : ℕ) → (before after : Blocks) →
     Type 0
 IsBuiltBehindGuard at key guard inner otherwise before after =
     built_of after

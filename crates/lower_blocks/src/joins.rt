@@ -7,14 +7,14 @@ ghost use Rattle.lower_code.specs.Code as plain;
 ghost use Rattle.lower_blocks.specs.Building.{rest_of, building_of};
 ghost use Rattle.lower_blocks.specs.Builds.{StandsAt, OneAt, IsBuiltBehind, IsReached, frame_at};
 
-use crate::{Blocks, Setting, leave};
+use crate::{Blocks, BuildContext, leave};
 use cfg_graph::Kind;
 use lower_passes::{TwoCodes, after, has_end};
 use mir_base::NoMemory;
 use std::alloc::Global;
 
 /// Whether a run comes behind one of two codes.
-pub fn one_has_end(at: &Setting, two: TwoCodes) -> bool
+pub fn one_has_end(at: &BuildContext, two: TwoCodes) -> bool
     ensures { (c d : plain.Code) (start : ℕ) →
         StandsAt at.entry.now c start two.one → StandsAt at.entry.now d (suc two.one) two.another →
         result ≡ ((lowers (frame_at at.entry.now) c).has_end || (lowers (frame_at at.entry.now) d).has_end) }
@@ -54,7 +54,7 @@ pub fn close_exit(alloc: Global, is_left: bool, blocks: &mut Blocks) -> Result<(
 /// The innermost scope is left behind the code before a word, if that has an end.
 pub fn leave_behind(
     alloc: Global,
-    at: &Setting,
+    at: &BuildContext,
     end: usize,
     blocks: &mut Blocks,
 ) -> Result<(), NoMemory>

@@ -4,21 +4,21 @@
 
 mod arms;
 mod blocks;
-mod building;
+mod builder;
 mod chains;
+mod conditions;
 mod context;
 mod drops;
 mod effects;
 mod exits;
 mod joins;
-mod testing;
 mod ways;
 mod words;
 
 pub use blocks::{Blocks, Chain, MadeBlock, NodeLine, Open};
-pub use building::build;
-pub use context::Setting;
+pub use builder::build;
+pub use conditions::{branch_by, if_true, tests};
+pub use context::BuildContext;
 pub use effects::{act, drop_under, panic, replace};
 pub use exits::{exit, leave};
-pub use testing::{branch_by, if_true, tests};
 pub use ways::{LoopWay, Ways, in_loop};

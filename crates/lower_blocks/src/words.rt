@@ -5,7 +5,7 @@ ghost use Rattle.lower_code.specs.View.{op_of};
 ghost use Rattle.lower_rules.specs.Codes.{lowers};
 ghost use Rattle.lower_blocks.specs.Builds.{IsBuilt, leaf_of, frame_at};
 
-use crate::{Blocks, Setting, act, drop_under, exit, leave, panic, replace};
+use crate::{Blocks, BuildContext, act, drop_under, exit, leave, panic, replace};
 use lower_code::CodeWord;
 use mir_base::NoMemory;
 use std::alloc::Global;
@@ -15,7 +15,7 @@ use std::alloc::Global;
 #[inline(never)]
 pub fn build_word(
     alloc: Global,
-    at: &Setting,
+    at: &BuildContext,
     word: &CodeWord,
     ends: bool,
     blocks: &mut Blocks,

@@ -4,7 +4,7 @@ use Rattle.mir_ty.specs.ItemTable.{ItemTable}
 use Rattle.mir_ty.specs.declared.ty.TyId.{TyId}
 use Rattle.store_model.specs.Effects as effects
 use Rattle.src_meaning.specs.Evaluation.{to_own_key}
-use Rattle.src_meaning.specs.Forms.{Around, is_never, entry_of}
+use Rattle.src_meaning.specs.Forms.{LoopsAndGuards, is_never, entry_of}
 use Rattle.src_meaning.specs.Scopes.{Entry}
 use Rattle.src_meaning.specs.Shape.{NodeHead, head, Shape, shape_of, operand_at}
 use Rattle.typed_tree.specs.Tree as tree
@@ -81,14 +81,14 @@ module _ (items : ItemTable) where
   place_by_form (tree.OrPattern alternatives) h s = refl
 
   -- where a node is made for what is wanted
-  abbrev pub there : FormCode → NodeHead → Category → Around → Code
+  abbrev pub there : FormCode → NodeHead → Category → LoopsAndGuards → Code
   there does h w around = done does around (own_in w) (to_own_key (is_never items h.ty) h.id (made_into w h.id))
 
   entry_made : (pends : Bool) (at : ScopeAt) (e : Entry) (c : Code) (before : List CodeWord) → made_entry_onto pends at e (onto c before) ≡ onto (made_entry pends at e c) before
   entry_made pends at e c before = sym (pending pends at e (code.Then c (code.Changes (code.Completes at e))) before)
 
   -- what is made, however it is taken
-  taken : (w : Category) (h : NodeHead) (s : Shape) (does : FormCode) (around : Around) (before : List CodeWord) → is_a_place does ≡ false → taken_onto w h s (onto (there does h w around) before) ≡ onto (code_for w (node_code items h s does) around) before
+  taken : (w : Category) (h : NodeHead) (s : Shape) (does : FormCode) (around : LoopsAndGuards) (before : List CodeWord) → is_a_place does ≡ false → taken_onto w h s (onto (there does h w around) before) ≡ onto (code_for w (node_code items h s does) around) before
   taken (Value own to) h s (Makes e) around before is_value = refl
   taken UnderOwnKey h s (Makes e) around before is_value = refl
   taken AsOperand h s (Makes e) around before is_value = entry_made s.in_destination Innermost (entry_of h) _ before
@@ -103,10 +103,10 @@ module _ (items : ItemTable) where
   taken AsPlace h s (IsArm arm) around before is_value = entry_made s.in_destination NearestTemporary (entry_of h) _ before
   taken w h s (IsPlace r) around before is_value = let never : true ≡ false = is_value in cc
 
-  used : (w : Category) (h : NodeHead) (s : Shape) (r : Reaches) (around : Around) (before : List CodeWord) → used_onto items w h s around (onto (r around) before) ≡ onto (use_of_place h s r around (own_in w) (to_own_key (is_never items h.ty) h.id (made_into w h.id))) before
+  used : (w : Category) (h : NodeHead) (s : Shape) (r : Reaches) (around : LoopsAndGuards) (before : List CodeWord) → used_onto items w h s around (onto (r around) before) ≡ onto (use_of_place h s r around (own_in w) (to_own_key (is_never items h.ty) h.id (made_into w h.id))) before
   used w h s r around before = sym (in_own h.id (own_in w) (code.Then (r around) (deliver h.id (λ site. effects.Put site (operand_at h (s.place around.aliases))) (to_own_key (is_never items h.ty) h.id (made_into w h.id)))) before)
 
-  place_taken : (w : Category) (h : NodeHead) (s : Shape) (r : Reaches) (around : Around) (before : List CodeWord) → finished_onto items w true h s around (onto (r around) before) ≡ onto (code_for w (node_code items h s (IsPlace r)) around) before
+  place_taken : (w : Category) (h : NodeHead) (s : Shape) (r : Reaches) (around : LoopsAndGuards) (before : List CodeWord) → finished_onto items w true h s around (onto (r around) before) ≡ onto (code_for w (node_code items h s (IsPlace r)) around) before
   place_taken (Value own to) h s r around before = used (Value own to) h s r around before
   place_taken UnderOwnKey h s r around before = used UnderOwnKey h s r around before
   place_taken AsOperand h s r around before =
@@ -117,7 +117,7 @@ module _ (items : ItemTable) where
       ap (λ inner. ops.BackIn ∷ inner) (used AloneUnderOwnKey h s r around before)
   place_taken AsPlace h s r around before = refl
 
-  value_taken : (w : Category) (h : NodeHead) (s : Shape) (around : Around) (before : List CodeWord) → finished_onto items w false h s around before ≡ taken_onto w h s before
+  value_taken : (w : Category) (h : NodeHead) (s : Shape) (around : LoopsAndGuards) (before : List CodeWord) → finished_onto items w false h s around before ≡ taken_onto w h s before
   value_taken (Value own to) h s around before = refl
   value_taken UnderOwnKey h s around before = refl
   value_taken AsOperand h s around before = refl
@@ -125,7 +125,7 @@ module _ (items : ItemTable) where
   value_taken AloneUnderOwnKey h s around before = refl
   value_taken AsPlace h s around before = refl
 
-  by_does : (w : Category) (h : NodeHead) (s : Shape) (does : FormCode) (around : Around) (before : List CodeWord) → finished_onto items w (is_a_place does) h s around (onto (there does h w around) before) ≡ onto (code_for w (node_code items h s does) around) before
+  by_does : (w : Category) (h : NodeHead) (s : Shape) (does : FormCode) (around : LoopsAndGuards) (before : List CodeWord) → finished_onto items w (is_a_place does) h s around (onto (there does h w around) before) ≡ onto (code_for w (node_code items h s does) around) before
   by_does w h s (Makes e) around before =
       value_taken w h s around (onto (there (Makes e) h w around) before) ∙ taken w h s (Makes e) around before refl
   by_does w h s (IsPlace r) around before = place_taken w h s r around before
@@ -133,7 +133,7 @@ module _ (items : ItemTable) where
       value_taken w h s around (onto (there (IsArm arm) h w around) before) ∙ taken w h s (IsArm arm) around before refl
 
   -- what comes behind the code of a form makes it the code of the node
-  pub of_node : (w : Category) (id : ℕ) (ty : TyId) (by : Option Use) (form : Form) (around : Around) (before : List CodeWord) → finished_onto items w (shape_of items form (head id ty by)).is_place (head id ty by) (shape_of items form (head id ty by)) around (onto (there (code_of_form items form (head id ty by) (shape_of items form (head id ty by))) (head id ty by) w around) before) ≡ onto (code_for w (node_code items (head id ty by) (shape_of items form (head id ty by)) (code_of_form items form (head id ty by) (shape_of items form (head id ty by)))) around) before
+  pub of_node : (w : Category) (id : ℕ) (ty : TyId) (by : Option Use) (form : Form) (around : LoopsAndGuards) (before : List CodeWord) → finished_onto items w (shape_of items form (head id ty by)).is_place (head id ty by) (shape_of items form (head id ty by)) around (onto (there (code_of_form items form (head id ty by) (shape_of items form (head id ty by))) (head id ty by) w around) before) ≡ onto (code_for w (node_code items (head id ty by) (shape_of items form (head id ty by)) (code_of_form items form (head id ty by) (shape_of items form (head id ty by)))) around) before
   of_node w id ty by form around before =
       let h = head id ty by in
       let s = shape_of items form h in

@@ -10,7 +10,7 @@ use Rattle.store_model.specs.Places.Place.{Place, whole_local, before_element}
 use Rattle.typed_tree.specs.Tree as tree
 use Rattle.typed_tree.specs.Tree.{Node, node, Form, Nodes, no_node, a_node, Fields, no_field, a_field, MaybeNode, absent, present, ParamTree, BodyTree}
 use Rattle.src_meaning.specs.Evaluation.{in_number_order, to_own_key}
-use Rattle.src_meaning.specs.Forms.{Destination, Into, Coerced, coerced, Around, in_loop, loop_destination, in_guard, entry_of, bound_entry, site_in, site_of_key, moved, is_never}
+use Rattle.src_meaning.specs.Forms.{Destination, Into, Coerced, coerced, LoopsAndGuards, in_loop, loop_destination, in_guard, entry_of, bound_entry, site_in, site_of_key, moved, is_never}
 use Rattle.src_meaning.specs.Locals.OfBody.{param_key, answer_key}
 use Rattle.src_meaning.specs.Scopes.{Entry, Breaks, Continues, Returns}
 use Rattle.src_meaning.specs.Shape.{NodeHead, head, Shape, PatternTests, BoundName, kind_of, shape, shape_of, site_at, operand_of_bound, operand_at}
@@ -18,17 +18,17 @@ use Rattle.src_meaning.specs.FieldKeys.{field_keys, moved_fields}
 use Rattle.lower_code.specs.Code.{ScopeAt, Innermost, AroundInnermost, NearestTemporary, NewScope, Pends, Completes, Enters, Names, Takes, IsTrue, Passes, Code, Nothing, Changes, From, Then, BackIn, Acts, InScope, Leaves, Branches, Loops, Exits, Panics, Replaces, Drops, Matches, Arms, no_arm, an_arm, Arm, Taken, Empty, Guard, no_guard, a_guard}
 
 abbrev pub Evaluates : Type 0
-Evaluates = Around → Bool → Destination → Code
+Evaluates = LoopsAndGuards → Bool → Destination → Code
 
 abbrev pub Reaches : Type 0
-Reaches = Around → Code
+Reaches = LoopsAndGuards → Code
 
 abbrev pub MakesInto : Type 0
-MakesInto = Around → Destination → Code
+MakesInto = LoopsAndGuards → Destination → Code
 
 -- an arm, given the place that is matched
 abbrev pub ArmOf : Type 0
-ArmOf = Place → Around → Destination → Arm
+ArmOf = Place → LoopsAndGuards → Destination → Arm
 
 -- a node: its code as it is evaluated, as its place is reached, as an arm
 pub record NodeWords : Type 0 where
@@ -49,10 +49,10 @@ keys_of (m ∷ ms) = m.head.id ∷ keys_of ms
 abbrev pub all_moved : ℕ → List NodeWords → List Operand
 all_moved number ms = map (moved number) (keys_of ms)
 
-abbrev pub place_in : NodeWords → Around → Place
+abbrev pub place_in : NodeWords → LoopsAndGuards → Place
 place_in m around = m.shape.place around.aliases
 
-abbrev pub site_of : NodeWords → Around → EffectSite
+abbrev pub site_of : NodeWords → LoopsAndGuards → EffectSite
 site_of m around = site_at m.head (place_in m around)
 
 -- Values and destinations.
@@ -86,7 +86,7 @@ abbrev pub in_own_scope : ℕ → Bool → Code → Code
 in_own_scope id true code = InScope id true code
 in_own_scope id false code = code
 
-abbrev pub alone : Around → NodeWords → Destination → Code
+abbrev pub alone : LoopsAndGuards → NodeWords → Destination → Code
 alone around m to = BackIn (m.evaluates around true to)
 
 -- code before which a destination is pending, if it is
@@ -98,11 +98,11 @@ from_pending false at e code = code
 abbrev pub made_entry : Bool → ScopeAt → Entry → Code → Code
 made_entry pends at e code = from_pending pends at e (Then code (Changes (Completes at e)))
 
-abbrev pub operand : Around → NodeWords → Code
+abbrev pub operand : LoopsAndGuards → NodeWords → Code
 operand around m =
     made_entry m.shape.in_destination Innermost (entry_of m.head) (m.evaluates around false (Into m.head.id))
 
-abbrev pub operands : Around → List NodeWords → Code
+abbrev pub operands : LoopsAndGuards → List NodeWords → Code
 operands around [] = Nothing
 operands around (m ∷ ms) = Then (operand around m) (operands around ms)
 
@@ -110,10 +110,10 @@ operands around (m ∷ ms) = Then (operand around m) (operands around ms)
 abbrev pub behind_operands : ℕ → Bool → Code → List ℕ → Code → Code
 behind_operands id own made keys code = InScope id own (Then made (From (Takes keys) code))
 
-abbrev pub acting : ℕ → Around → Bool → List NodeWords → Code → Code
+abbrev pub acting : ℕ → LoopsAndGuards → Bool → List NodeWords → Code → Code
 acting id around own ms code = behind_operands id own (operands around ms) (keys_of ms) code
 
-abbrev pub dropping : ℕ → Around → Bool → NodeWords → Code → Code
+abbrev pub dropping : ℕ → LoopsAndGuards → Bool → NodeWords → Code → Code
 dropping id around own m code = InScope id own (Then (operand around m) code)
 
 -- Places.
@@ -162,11 +162,11 @@ module _ (items : ItemTable) where
 
 -- Conditions, branches, patterns.
 
-abbrev pub condition : Around → NodeWords → Code → Code → Code
+abbrev pub condition : LoopsAndGuards → NodeWords → Code → Code → Code
 condition around m held otherwise =
     Then (alone around m (Into m.head.id)) (Branches m.head.id (IsTrue m.head.id) held otherwise)
 
-abbrev pub branch : Around → Destination → WordsIfAny → Code → Code
+abbrev pub branch : LoopsAndGuards → Destination → WordsIfAny → Code → Code
 branch around to no_code without = without
 branch around to (a_code m) without = alone around m to
 
@@ -182,7 +182,7 @@ abbrev pub touched : Bool → EffectSite → Code
 touched true site = Acts site.node (effects.Touch site)
 touched false site = Nothing
 
-abbrev pub scrutinised : Around → NodeWords → Code
+abbrev pub scrutinised : LoopsAndGuards → NodeWords → Code
 scrutinised around m = Then (m.reaches around) (touched m.shape.is_place (site_of m around))
 
 -- a scrutinee is reached, in the scope of the names that it gives to a pattern
@@ -191,15 +191,15 @@ taken_if id reached tests bounds held otherwise =
     From (NewScope id true) (Then reached
     (Branches id (Passes tests) (Then (Then (bind Innermost bounds) held) Leaves) (Then Leaves otherwise)))
 
-abbrev pub if_taken : NodeHead → Around → NodeWords → NodeWords → Code → Code → Code
+abbrev pub if_taken : NodeHead → LoopsAndGuards → NodeWords → NodeWords → Code → Code → Code
 if_taken h around pattern scrutinee held otherwise =
     taken_if h.id (scrutinised around scrutinee) (pattern.shape.tests (place_in scrutinee around))
     (pattern.shape.bindings (place_in scrutinee around)) held otherwise
 
-abbrev pub taken_arm : NodeHead → Around → List BoundName → NodeWords → Destination → Code
+abbrev pub taken_arm : NodeHead → LoopsAndGuards → List BoundName → NodeWords → Destination → Code
 taken_arm h around bounds m to = InScope h.id false (Then (bind Innermost bounds) (alone around m to))
 
-abbrev pub guard : Around → List BoundName → WordsIfAny → Guard
+abbrev pub guard : LoopsAndGuards → List BoundName → WordsIfAny → Guard
 guard around bounds no_code = no_guard
 guard around bounds (a_code m) = a_guard m.head.id (alone (in_guard bounds around) m (Into m.head.id))
 
@@ -208,7 +208,7 @@ arm h pattern guarded m matched around to =
     let bounds = pattern.shape.bindings matched in
     Taken (pattern.shape.tests matched) (guard around bounds guarded) (taken_arm h around bounds m to)
 
-abbrev pub arms : List NodeWords → Place → Around → Destination → Arms
+abbrev pub arms : List NodeWords → Place → LoopsAndGuards → Destination → Arms
 arms [] matched around to = no_arm
 arms (m ∷ ms) matched around to = an_arm (m.arm matched around to) (arms ms matched around to)
 
@@ -219,12 +219,12 @@ matching h scrutinee ms around own to =
 
 -- Blocks and statements.
 
-abbrev pub statements : Around → List NodeWords → Code
+abbrev pub statements : LoopsAndGuards → List NodeWords → Code
 statements around [] = Nothing
 statements around (m ∷ ms) = Then (m.evaluates around false (Into m.head.id)) (statements around ms)
 
 module _ (items : ItemTable) where
-  abbrev pub tail_of : NodeHead → WordsIfAny → Around → Destination → Code
+  abbrev pub tail_of : NodeHead → WordsIfAny → LoopsAndGuards → Destination → Code
   tail_of h no_code around to = put_unit_if (is_never items h.ty) h.id to
   tail_of h (a_code m) around to = alone around m to
 
@@ -267,14 +267,14 @@ module _ (items : ItemTable) where
 
 -- Jumps.
 
-abbrev pub value_of_jump : ℕ → WordsIfAny → Around → Destination → Code
+abbrev pub value_of_jump : ℕ → WordsIfAny → LoopsAndGuards → Destination → Code
 value_of_jump id no_code around to = put_unit id to
 value_of_jump id (a_code m) around to = m.evaluates around false to
 
 abbrev pub ends_loop : ℕ → Destination → Code
 ends_loop id to = Then (put_unit id to) (Exits id (Breaks id))
 
-abbrev pub body_in : NodeWords → Around → Code
+abbrev pub body_in : NodeWords → LoopsAndGuards → Code
 body_in m around = alone around m (Into m.head.id)
 
 -- The forms.
@@ -475,7 +475,7 @@ module _ (items : ItemTable) where
       ((shape items param.pattern).bindings (whole_local (param_key param))))
       (params_entered params))
 
-  abbrev pub around_body : BodyTree → Around
+  abbrev pub around_body : BodyTree → LoopsAndGuards
   around_body body = record { answer = Into (answer_key body); loops = []; aliases = [] }
 
   -- a body, with the scope of its entire function

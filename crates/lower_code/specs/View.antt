@@ -18,7 +18,7 @@ use Rattle.typed_tree.specs.declared.node.Node.{Node}
 use Rattle.lower_code.specs.Forms.{code_of_form, FormCode, Makes, IsPlace, IsArm}
 use Rattle.lower_code.specs.Wanted as wanted
 use Rattle.lower_code.specs.declared.loops_and_guards.Alias.{Alias}
-use Rattle.lower_code.specs.declared.loops_and_guards.Around.{Around}
+use Rattle.lower_code.specs.declared.loops_and_guards.LoopsAndGuards.{LoopsAndGuards}
 use Rattle.lower_code.specs.declared.loops_and_guards.LoopAround.{LoopAround}
 use Rattle.lower_code.specs.declared.context.Context.{Context}
 use Rattle.lower_code.specs.declared.context.NodeHead.{NodeHead}
@@ -115,7 +115,7 @@ loops_of = map (λ l. (l.id.0, destination_of l.to))
 abbrev pub aliases_of : List Alias → Aliases
 aliases_of = map (λ a. (a.key.0, named a.place))
 
-abbrev pub around_of : Around → source.Around
+abbrev pub around_of : LoopsAndGuards → source.LoopsAndGuards
 around_of around = record {
   answer = destination_of around.answer;
   loops = loops_of around.loops.now;
@@ -135,7 +135,7 @@ wanted_of Category.AloneUnderOwnKey = wanted.AloneUnderOwnKey
 wanted_of Category.AsPlace = wanted.AsPlace
 
 -- what a form does, in a context
-abbrev pub done : FormCode → source.Around → Bool → source.Destination → plain.Code
+abbrev pub done : FormCode → source.LoopsAndGuards → Bool → source.Destination → plain.Code
 done (Makes evaluates) around own to = evaluates around own to
 done (IsPlace reaches) around own to = reaches around
 done (IsArm arm) around own to = plain.Nothing
@@ -157,5 +157,5 @@ abbrev pub numbered : FieldNode → ℕ × ℕ
 numbered field = (field.number, field.node.0)
 
 -- the place of a node
-abbrev pub place_seen : ItemTable → Node → Around → Place
+abbrev pub place_seen : ItemTable → Node → LoopsAndGuards → Place
 place_seen items n around = (shape.shape items (tree_of n)).place (aliases_of around.aliases.now)

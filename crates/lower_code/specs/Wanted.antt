@@ -3,7 +3,7 @@ use Rattle.std.specs.Prelude.{ℕ, Bool, true, false, List, [], ◌∷◌}
 use Rattle.mir_ty.specs.ItemTable.{ItemTable}
 use Rattle.store_model.specs.Effects as effects
 use Rattle.src_meaning.specs.Evaluation.{to_own_key}
-use Rattle.src_meaning.specs.Forms.{Destination, Into, Around, entry_of, is_never}
+use Rattle.src_meaning.specs.Forms.{Destination, Into, LoopsAndGuards, entry_of, is_never}
 use Rattle.src_meaning.specs.Shape.{NodeHead, Shape, operand_at}
 use Rattle.lower_code.specs.Code.{Code, Nothing, Then, Innermost, NearestTemporary}
 use Rattle.lower_code.specs.Forms.{NodeWords, WordsIfAny, no_code, a_code, alone, operand, deliver}
@@ -20,7 +20,7 @@ pub data Category : Type 0 where
   AloneUnderOwnKey : Category
   AsPlace : Category
 
-abbrev pub code_for : Category → NodeWords → Around → Code
+abbrev pub code_for : Category → NodeWords → LoopsAndGuards → Code
 code_for (Value own to) m around = m.evaluates around own to
 code_for UnderOwnKey m around = m.evaluates around false (Into m.head.id)
 code_for AsOperand m around = operand around m
@@ -28,12 +28,12 @@ code_for (Alone to) m around = alone around m to
 code_for AloneUnderOwnKey m around = alone around m (Into m.head.id)
 code_for AsPlace m around = m.reaches around
 
-abbrev pub code_if_any_or : Category → WordsIfAny → Around → Code → Code
+abbrev pub code_if_any_or : Category → WordsIfAny → LoopsAndGuards → Code → Code
 code_if_any_or wanted no_code around without = without
 code_if_any_or wanted (a_code m) around without = code_for wanted m around
 
 -- nodes, one after the other
-abbrev pub codes_for : Category → List NodeWords → Around → Code
+abbrev pub codes_for : Category → List NodeWords → LoopsAndGuards → Code
 codes_for wanted [] around = Nothing
 codes_for wanted (m ∷ ms) around = Then (code_for wanted m around) (codes_for wanted ms around)
 
@@ -67,13 +67,13 @@ taken_onto AsPlace h s before = made_entry_onto s.in_destination NearestTemporar
 
 module _ (items : ItemTable) where
   -- the use of a place
-  abbrev pub used_onto : Category → NodeHead → Shape → Around → List CodeWord → List CodeWord
+  abbrev pub used_onto : Category → NodeHead → Shape → LoopsAndGuards → List CodeWord → List CodeWord
   used_onto wanted h s around before =
       own_scope_onto h.id (own_in wanted)
       (ops.Then ∷ onto (deliver h.id (λ site. effects.Put site (operand_at h (s.place around.aliases)))
       (to_own_key (is_never items h.ty) h.id (made_into wanted h.id))) before)
 
-  abbrev pub finished_onto : Category → (is_place : Bool) → NodeHead → Shape → Around → List CodeWord → List CodeWord
+  abbrev pub finished_onto : Category → (is_place : Bool) → NodeHead → Shape → LoopsAndGuards → List CodeWord → List CodeWord
   finished_onto AsPlace true h s around before = before
   finished_onto wanted true h s around before = taken_onto wanted h s (used_onto wanted h s around before)
   finished_onto wanted false h s around before = taken_onto wanted h s before

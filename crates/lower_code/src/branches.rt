@@ -15,7 +15,7 @@ use crate::context::{Context, result_place};
 use crate::loops_and_guards::copy_place;
 use crate::sequences::delivers;
 use crate::values::touch_place;
-use crate::{Action, Around, Change, Code, CodeWord, Condition, ScopeAt};
+use crate::{Action, Change, Code, CodeWord, Condition, LoopsAndGuards, ScopeAt};
 use cfg_graph::{Operand, Place, Stmt};
 use mir_base::{Key, NoMemory, NodeId};
 use mir_ty::Items;
@@ -67,7 +67,7 @@ pub fn names_taken(
     items: &Items,
     pattern: &Node,
     scrutinee: &Node,
-    around: Around,
+    around: LoopsAndGuards,
     code: &mut Code,
 ) -> Result<(), NoMemory>
     ensures { OnOk result (ops_of code.new ≡
@@ -100,7 +100,7 @@ fn passing(
     items: &Items,
     pattern: &Node,
     scrutinee: &Node,
-    around: Around,
+    around: LoopsAndGuards,
 ) -> Result<Condition, NoMemory>
     ensures { IfOk result (λ on. condition_of on ≡ plain.Passes
         ((shape items.now (tree_of pattern.now)).tests (place_seen items.now scrutinee.now around.entry))) }
@@ -116,7 +116,7 @@ pub fn taken_if(
     id: NodeId,
     pattern: &Node,
     scrutinee: &Node,
-    around: Around,
+    around: LoopsAndGuards,
     code: &mut Code,
 ) -> Result<(), NoMemory>
     ensures { OnOk result (ops_of code.new ≡ ops.From (plain.NewScope id.0 true) ∷ ops.Then

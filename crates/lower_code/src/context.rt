@@ -9,7 +9,7 @@ ghost use Rattle.lower_code.specs.Wanted.{own_in, made_into};
 
 use crate::loops_and_guards::whole;
 use crate::sequences::key_in;
-use crate::{Around, Destination};
+use crate::{Destination, LoopsAndGuards};
 use cfg_graph::Place;
 use mir_base::{Key, NodeId};
 use mir_ty::TyId;
@@ -46,7 +46,7 @@ pub enum Category {
 #[derive(Clone, Copy)]
 pub struct Context<'a> {
     pub head: NodeHead,
-    pub around: Around<'a>,
+    pub around: LoopsAndGuards<'a>,
     pub own: bool,
     pub to: Destination,
 }

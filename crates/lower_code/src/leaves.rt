@@ -11,7 +11,7 @@ use crate::context::{Category, Context, destination_in, is_own_scope, result_pla
 use crate::parts::{entry_at, own_destination};
 use crate::sequences::made_entry;
 use crate::values::{as_operand, effect, jump, leaf, use_of_place};
-use crate::{Action, Around, Code, CodeWord, Exit, ScopeAt};
+use crate::{Action, Code, CodeWord, Exit, LoopsAndGuards, ScopeAt};
 use cfg_graph::Operand;
 use mir_base::{IntKind, NoMemory, Why};
 use mir_ty::{Items, Ty, TyId};
@@ -68,7 +68,7 @@ fn use_place(
     alloc: Global,
     items: &Items,
     node: &Node,
-    around: Around,
+    around: LoopsAndGuards,
     wanted: Category,
     code: &mut Code,
 ) -> Result<(), NoMemory>
@@ -102,7 +102,7 @@ pub fn finish_node(
     alloc: Global,
     items: &Items,
     node: &Node,
-    around: Around,
+    around: LoopsAndGuards,
     wanted: Category,
     code: &mut Code,
 ) -> Result<(), NoMemory>

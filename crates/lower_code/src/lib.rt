@@ -33,7 +33,7 @@ pub use context::{
 };
 pub use leaves::{finish_node, leaf_code};
 pub use loops_and_guards::{
-    Alias, Around, LoopAround, destination_of_loop, in_guard, in_loop, place_under,
+    Alias, LoopAround, LoopsAndGuards, destination_of_loop, in_guard, in_loop, place_under,
 };
 pub use operations::{
     Built, built_of_keys, call_body, called_virtual, comparing, computing, dropping, keys_behind,

@@ -30,7 +30,7 @@ pub struct Alias {
 /// What a node is in: where the result of its body is made, the loops around it, the innermost first, and the names
 /// that stand for parts.
 #[derive(Clone, Copy)]
-pub struct Around<'a> {
+pub struct LoopsAndGuards<'a> {
     pub answer: Destination,
     pub loops: &'a [LoopAround],
     pub aliases: &'a [Alias],

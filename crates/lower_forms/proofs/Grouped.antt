@@ -1,7 +1,7 @@
 -- A form that is in no group does nothing.
 use Rattle.std.proofs.Common.{◌≡◌, refl, subst, true, false, Bool}
 use Rattle.mir_ty.specs.ItemTable.{ItemTable}
-use Rattle.src_meaning.specs.Forms.{Around, Destination}
+use Rattle.src_meaning.specs.Forms.{LoopsAndGuards, Destination}
 use Rattle.src_meaning.specs.Shape.{NodeHead, Shape}
 use Rattle.typed_tree.specs.Tree as tree
 use Rattle.typed_tree.specs.Tree.{Form}
@@ -14,7 +14,7 @@ use Rattle.lower_code.specs.View.{done}
 use Rattle.lower_code.specs.declared.code.Code.{Code}
 use Rattle.lower_code.specs.declared.context.Context.{Context}
 
-module _ (items : ItemTable) (h : NodeHead) (s : Shape) (around : Around) (own : Bool) (to : Destination) where
+module _ (items : ItemTable) (h : NodeHead) (s : Shape) (around : LoopsAndGuards) (own : Bool) (to : Destination) where
   pub does_nothing : (form : Form) → is_leaf form ≡ false → reaches_any form ≡ false → is_any_operator form ≡ false → takes_any form ≡ false → may_be_scope form ≡ false → is_statement form ≡ false → done (code_of_form items form h s) around own to ≡ Nothing
   does_nothing (tree.Number value) in_leaf in_place in_operator in_call in_scoped in_statement = let never : true ≡ false = in_leaf in cc
   does_nothing (tree.Truth value) in_leaf in_place in_operator in_call in_scoped in_statement = let never : true ≡ false = in_leaf in cc

@@ -3,7 +3,7 @@ use Rattle.std.proofs.Common.{◌≡◌, ◌∙◌, ◌∷◌, ◌++◌, ◌+◌
 use Rattle.std.proofs.lemmas.List.{at_drop_more}
 use Rattle.std.specs.Prelude.{get_or}
 use Rattle.mir_ty.specs.ItemTable.{ItemTable}
-use Rattle.src_meaning.specs.Forms.{Destination, Into, Around}
+use Rattle.src_meaning.specs.Forms.{Destination, Into, LoopsAndGuards}
 use Rattle.src_meaning.specs.FieldKeys.{field_keys}
 use Rattle.typed_tree.specs.declared.node.Node.{Node}
 use Rattle.typed_tree.specs.declared.node.NumberedField.{NumberedField}
@@ -18,19 +18,19 @@ use Rattle.lower_code.specs.Ops as ops
 use Rattle.lower_code.specs.Ops.{CodeWord, onto, thens, Then}
 use Rattle.lower_code.specs.Wanted.{Category, AsOperand, UnderOwnKey, Alone, Value, code_for, codes_for, code_if_any_or}
 
-abbrev pub each_onto : Category → Around → List NodeWords → List CodeWord → List CodeWord
+abbrev pub each_onto : Category → LoopsAndGuards → List NodeWords → List CodeWord → List CodeWord
 each_onto wanted around [] before = before
 each_onto wanted around (m ∷ ms) before = each_onto wanted around ms (onto (code_for wanted m around) before)
 
-pub codes_onto : (wanted : Category) (around : Around) (ms : List NodeWords) (before : List CodeWord) → thens (length ms) (ops.Nothing ∷ each_onto wanted around ms before) ≡ onto (codes_for wanted ms around) before
+pub codes_onto : (wanted : Category) (around : LoopsAndGuards) (ms : List NodeWords) (before : List CodeWord) → thens (length ms) (ops.Nothing ∷ each_onto wanted around ms before) ≡ onto (codes_for wanted ms around) before
 codes_onto wanted around [] before = refl
 codes_onto wanted around (m ∷ ms) before = ap (λ inner. Then ∷ inner) (codes_onto wanted around ms (onto (code_for wanted m around) before))
 
-pub as_operands : (ms : List NodeWords) (around : Around) → codes_for AsOperand ms around ≡ operands around ms
+pub as_operands : (ms : List NodeWords) (around : LoopsAndGuards) → codes_for AsOperand ms around ≡ operands around ms
 as_operands [] around = refl
 as_operands (m ∷ ms) around = ap (Rattle.lower_code.specs.Code.Then (operand around m)) (as_operands ms around)
 
-pub as_statements : (ms : List NodeWords) (around : Around) → codes_for UnderOwnKey ms around ≡ statements around ms
+pub as_statements : (ms : List NodeWords) (around : LoopsAndGuards) → codes_for UnderOwnKey ms around ≡ statements around ms
 as_statements [] around = refl
 as_statements (m ∷ ms) around =
     ap (Rattle.lower_code.specs.Code.Then (m.evaluates around false (Into m.head.id))) (as_statements ms around)
@@ -58,11 +58,11 @@ field_keys_are items no_field = refl
 field_keys_are items (a_field number value rest) = λ i. number_is items value i ∷ field_keys_are items rest i
 
 -- a part that may be missing
-pub branch_is : (m : WordsIfAny) (around : Around) (to : Destination) (without : Code) → code_if_any_or (Alone to) m around without ≡ branch around to m without
+pub branch_is : (m : WordsIfAny) (around : LoopsAndGuards) (to : Destination) (without : Code) → code_if_any_or (Alone to) m around without ≡ branch around to m without
 branch_is no_code around to without = refl
 branch_is (a_code m) around to without = refl
 
-pub jump_is : (id : ℕ) (m : WordsIfAny) (around : Around) (to : Destination) → code_if_any_or (Value false to) m around (put_unit id to) ≡ value_of_jump id m around to
+pub jump_is : (id : ℕ) (m : WordsIfAny) (around : LoopsAndGuards) (to : Destination) → code_if_any_or (Value false to) m around (put_unit id to) ≡ value_of_jump id m around to
 jump_is id no_code around to = refl
 jump_is id (a_code m) around to = refl
 

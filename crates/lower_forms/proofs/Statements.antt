@@ -1,7 +1,7 @@
 -- The code of blocks, of `let`, and of matches.
 use Rattle.std.proofs.Common.{◌≡◌, ◌∙◌, ◌∷◌, ◌||◌, not, ℕ, Bool, true, false, List, ap, sym}
 use Rattle.mir_ty.specs.ItemTable.{ItemTable}
-use Rattle.src_meaning.specs.Forms.{Around, Destination, entry_of}
+use Rattle.src_meaning.specs.Forms.{LoopsAndGuards, Destination, entry_of}
 use Rattle.src_meaning.specs.Shape.{NodeHead, BoundName, shape}
 use Rattle.store_model.specs.Places.Place.{Place, whole_local}
 use Rattle.typed_tree.specs.Tree as tree
@@ -14,17 +14,17 @@ use Rattle.lower_forms.proofs.Ways.{in_own, pending}
 use Rattle.lower_forms.proofs.Nodes.{as_statements}
 
 -- statements are made one after the other, and then a tail
-pub of_block : (id : ℕ) (own : Bool) (around : Around) (ms : List NodeWords) (tail : Code) (before made all after : List CodeWord) → after ≡ InScope id own ∷ Then ∷ all → all ≡ onto tail made → made ≡ onto (codes_for UnderOwnKey ms around) before → after ≡ onto (plain.InScope id own (plain.Then (statements around ms) tail)) before
+pub of_block : (id : ℕ) (own : Bool) (around : LoopsAndGuards) (ms : List NodeWords) (tail : Code) (before made all after : List CodeWord) → after ≡ InScope id own ∷ Then ∷ all → all ≡ onto tail made → made ≡ onto (codes_for UnderOwnKey ms around) before → after ≡ onto (plain.InScope id own (plain.Then (statements around ms) tail)) before
 of_block id own around ms tail before made all after scoped behind is =
     scoped ∙ ap (λ (rest : List CodeWord). InScope id own ∷ Then ∷ rest)
     (behind ∙ ap (onto tail) (is ∙ ap (λ (c : Code). onto c before) (as_statements ms around)))
 
-module _ (items : ItemTable) (h : NodeHead) (around : Around) (bounds : List BoundName) (before : List CodeWord) where
+module _ (items : ItemTable) (h : NodeHead) (around : LoopsAndGuards) (bounds : List BoundName) (before : List CodeWord) where
   pub of_declared : (pattern : tree.Node) (after : List CodeWord) → after ≡ onto (declared items bounds) before → bounds ≡ (shape items pattern).bindings (whole_local 0) → after ≡ onto (letting items h (code items pattern) no_code around) before
   of_declared (tree.node id at ty by form) after made are =
       made ∙ ap (λ (names : List BoundName). onto (declared items names) before) are
 
-module _ (items : ItemTable) (h : NodeHead) (around : Around) (before : List CodeWord) where
+module _ (items : ItemTable) (h : NodeHead) (around : LoopsAndGuards) (before : List CodeWord) where
   -- what stands there once a pattern has taken the parts of a value that is reached
   abbrev pub parted : tree.Node → NodeHead → List BoundName → List CodeWord → List CodeWord
   parted value head bounds reached =
@@ -46,7 +46,7 @@ module _ (items : ItemTable) (h : NodeHead) (around : Around) (before : List Cod
       ∙ sym (ap (λ (rest : List CodeWord). InScope h.id true ∷ rest) (pending pends Innermost (entry_of (code items value).head) all before))
       ∙ sym (ap (λ (b : Bool). onto (let_value items b h (code items pattern) (code items value) around) before) is_parts)
 
-module _ (items : ItemTable) (h : NodeHead) (around : Around) (own : Bool) (to : Destination) (ms : List NodeWords) (place : Place) (before : List CodeWord) where
+module _ (items : ItemTable) (h : NodeHead) (around : LoopsAndGuards) (own : Bool) (to : Destination) (ms : List NodeWords) (place : Place) (before : List CodeWord) where
   -- a scrutinee is reached and looked at, and then come its arms
   pub of_match : (scrutinee : tree.Node) (reached looked made all : List CodeWord) → all ≡ Then ∷ Matches h.id ∷ made → made ≡ arms_onto (arms ms place around to) (BeforeArms ∷ looked) → looked ≡ Then ∷ onto (touched (shape items scrutinee).is_place (record { node = (code items scrutinee).head.id; place = place })) reached → reached ≡ onto ((code items scrutinee).reaches around) before → place ≡ (shape items scrutinee).place around.aliases → own_scope_onto h.id own all ≡ onto (matching h (code items scrutinee) ms around own to) before
   of_match (tree.node id at ty by form) reached looked made all is armed looks reaches stands =

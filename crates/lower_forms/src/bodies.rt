@@ -10,8 +10,8 @@ ghost use Rattle.lower_code.specs.View.{ops_of};
 
 use crate::forms::node_code;
 use lower_code::{
-    Around, Category, Change, Code, CodeWord, Destination, Entry, ScopeAt, bind, is_one_name,
-    place_under, scope_behind,
+    Category, Change, Code, CodeWord, Destination, Entry, LoopsAndGuards, ScopeAt, bind,
+    is_one_name, place_under, scope_behind,
 };
 use mir_base::{Key, List, NoMemory};
 use mir_ty::Items;
@@ -86,7 +86,7 @@ fn params_entered(
 pub fn body_code(alloc: Global, items: &Items, body: &TBody, room: usize) -> Result<Code, NoMemory>
     ensures code { IfOk result (λ made. ops_of made ≡ onto (forms.entire_function items.now (body_of body.now)) []) }
 {
-    let around = Around {
+    let around = LoopsAndGuards {
         answer: Destination::Into(Key(body.block.id.0)),
         loops: &[],
         aliases: &[],

@@ -14,14 +14,14 @@ ghost use Rattle.lower_code.specs.Wanted.{code_for, codes_for};
 use crate::arrays::array_around;
 use cfg_graph::{Place, Stmt};
 use lower_code::{
-    Action, Around, Built, Category, Code, CodeWord, Context, Destination, Exit, NodeHead, ScopeAt,
-    assigning, bind, borrow_scrutinee, borrowing, built_of_keys, call_body, called_virtual,
-    coerced_to, comparing, computing, conditional, declare_bindings, destination_in,
-    destination_of_loop, dropping, element, ends_loop, enter_statement_value, finish_node, head_at,
-    in_guard, in_loop, in_own_scope, is_one_name, is_own_scope, join_codes, jump, keys_behind,
-    keys_of, leaf_code, let_name, let_parts, make_adt, moved_from, names_taken, on_one, on_two,
-    one_gives_unit, otherwise_leaves, own_destination, place_of, place_under, put_unit,
-    result_place, shortcut, taken_arm, taken_if, unit_unless_never,
+    Action, Built, Category, Code, CodeWord, Context, Destination, Exit, LoopsAndGuards, NodeHead,
+    ScopeAt, assigning, bind, borrow_scrutinee, borrowing, built_of_keys, call_body,
+    called_virtual, coerced_to, comparing, computing, conditional, declare_bindings,
+    destination_in, destination_of_loop, dropping, element, ends_loop, enter_statement_value,
+    finish_node, head_at, in_guard, in_loop, in_own_scope, is_one_name, is_own_scope, join_codes,
+    jump, keys_behind, keys_of, leaf_code, let_name, let_parts, make_adt, moved_from, names_taken,
+    on_one, on_two, one_gives_unit, otherwise_leaves, own_destination, place_of, place_under,
+    put_unit, result_place, shortcut, taken_arm, taken_if, unit_unless_never,
 };
 use mir_base::{Key, NoMemory};
 use mir_ty::Items;
@@ -35,7 +35,7 @@ pub fn node_code(
     alloc: Global,
     items: &Items,
     node: &Node,
-    around: Around,
+    around: LoopsAndGuards,
     wanted: Category,
     code: &mut Code,
 ) -> Result<(), NoMemory>
@@ -534,7 +534,7 @@ fn loop_code(
     match form {
         Form::Loop(body) => {
             let loops = in_loop(alloc, id, at.to, at.around.loops)?;
-            let inner = Around {
+            let inner = LoopsAndGuards {
                 loops: loops.as_slice(),
                 ..at.around
             };
@@ -543,7 +543,7 @@ fn loop_code(
         }
         Form::While { condition, body } => {
             let loops = in_loop(alloc, id, at.to, at.around.loops)?;
-            let inner = Around {
+            let inner = LoopsAndGuards {
                 loops: loops.as_slice(),
                 ..at.around
             };
@@ -585,7 +585,7 @@ fn while_let_code(
             body,
         } => {
             let loops = in_loop(alloc, id, at.to, at.around.loops)?;
-            let inner = Around {
+            let inner = LoopsAndGuards {
                 loops: loops.as_slice(),
                 ..at.around
             };
@@ -786,7 +786,7 @@ fn nodes_code(
     alloc: Global,
     items: &Items,
     nodes: &[Node],
-    around: Around,
+    around: LoopsAndGuards,
     wanted: Category,
     code: &mut Code,
 ) -> Result<(), NoMemory>
@@ -806,7 +806,7 @@ fn fields_code(
     alloc: Global,
     items: &Items,
     fields: &[NumberedField],
-    around: Around,
+    around: LoopsAndGuards,
     code: &mut Code,
 ) -> Result<(), NoMemory>
     ensures { OnOk result (ops_of code.new ≡ onto
@@ -833,7 +833,7 @@ fn arms_code(
     items: &Items,
     arms: &[Node],
     matched: &Place,
-    around: Around,
+    around: LoopsAndGuards,
     to: Destination,
     code: &mut Code,
 ) -> Result<(), NoMemory>
@@ -864,7 +864,7 @@ fn arm_code(
     form: &Form,
     head: NodeHead,
     matched: &Place,
-    around: Around,
+    around: LoopsAndGuards,
     to: Destination,
     code: &mut Code,
 ) -> Result<(), NoMemory>
@@ -883,7 +883,7 @@ fn arm_code(
             let key = match guard {
                 Some(guard) => {
                     let aliases = in_guard(alloc, names.as_slice(), around.aliases)?;
-                    let inner = Around {
+                    let inner = LoopsAndGuards {
                         aliases: aliases.as_slice(),
                         ..around
                     };

@@ -21,7 +21,7 @@ use Rattle.store_model.specs.Places.TypeForms as forms
 use Rattle.typed_tree.specs.Nodes.{number_of}
 use Rattle.typed_tree.specs.Tree as tree
 use Rattle.src_meaning.specs.Forms as source
-use Rattle.src_meaning.specs.Forms.{Destination, Into, Coerced, Around, loop_destination, entry_of, site_in, site_of_key, moved}
+use Rattle.src_meaning.specs.Forms.{Destination, Into, Coerced, LoopsAndGuards, loop_destination, entry_of, site_in, site_of_key, moved}
 use Rattle.src_meaning.specs.Scopes.{Entry, Exit, Breaks, entry_site}
 use Rattle.src_meaning.specs.Shape.{NodeHead, BoundName, Aliases, place_of_key}
 use Rattle.well_typed.specs.Claim.{Claim, Holds, some}
@@ -230,7 +230,7 @@ module _ (g : Ground) where
   DestIf to id = Made id → Dest to id
 
   -- ---- what is around a node
-  pub record AroundOk (x : Context) (a : Around) : Type 0 where
+  pub record AroundOk (x : Context) (a : LoopsAndGuards) : Type 0 where
     pub names : (key : ℕ) (e : InScope) → entry_with key x.entries ≡ Some e → Typed (place_of_key key a.aliases) e.ty
     pub self : (e : InScope) → x.closure ≡ Some e → Typed (place_of_key e.key a.aliases) e.ty
     pub captures : (e : InScope) (ty : Ty) → x.closure ≡ Some e → type_at g.items e.ty ≡ Some ty → is_enum g.items ty ≡ false
@@ -296,15 +296,15 @@ module _ (g : Ground) where
   self_second (Some e) xs ys h = over_second e.key xs ys h
 
   -- around these nodes all is typed, and no name around them has a number that one of them has
-  pub record Fine (x : Context) (a : Around) (ns : List tree.Node) : Type 0 where
+  pub record Fine (x : Context) (a : LoopsAndGuards) (ns : List tree.Node) : Type 0 where
     pub around : AroundOk x a
     pub fresh : AliasesOver a.aliases ns
     pub apart : SelfOver x.closure ns
 
-  pub fine_first : (x : Context) (a : Around) (xs ys : List tree.Node) → Fine x a (xs ++ ys) → Fine x a xs
+  pub fine_first : (x : Context) (a : LoopsAndGuards) (xs ys : List tree.Node) → Fine x a (xs ++ ys) → Fine x a xs
   fine_first x a xs ys f = record { around = f.around; fresh = aliases_first a.aliases xs ys f.fresh; apart = self_first x.closure xs ys f.apart }
 
-  pub fine_second : (x : Context) (a : Around) (xs ys : List tree.Node) → Fine x a (xs ++ ys) → Fine x a ys
+  pub fine_second : (x : Context) (a : LoopsAndGuards) (xs ys : List tree.Node) → Fine x a (xs ++ ys) → Fine x a ys
   fine_second x a xs ys f = record { around = f.around; fresh = aliases_second a.aliases xs ys f.fresh; apart = self_second x.closure xs ys f.apart }
 
   -- ---- jumps: none leaves a loop of type `!` with a value

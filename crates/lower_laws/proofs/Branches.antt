@@ -10,7 +10,7 @@ use Rattle.store_model.specs.Effects.{EffectSite, Action}
 use Rattle.store_model.specs.Places.Place.{Place}
 use Rattle.typed_tree.specs.Nodes.{nodes_of}
 use Rattle.typed_tree.specs.Tree as tree
-use Rattle.src_meaning.specs.Forms.{Destination, Into, Around, in_guard, entry_of, bound_entry, site_of_key, moved}
+use Rattle.src_meaning.specs.Forms.{Destination, Into, LoopsAndGuards, in_guard, entry_of, bound_entry, site_of_key, moved}
 use Rattle.src_meaning.specs.Locals.OfBody.{cells, reached_cells}
 use Rattle.src_meaning.specs.Scopes.{Exit, Value, Breaks, Continues, Returns, Panics, Entry, Scopes, with_scope, innermost, with_entry, with_pending, without_pending}
 use Rattle.src_meaning.specs.Shape.{NodeHead, BoundName, PatternTests}
@@ -46,14 +46,14 @@ module _ (g : Ground) where
   TestsOk = lines.TestsOk F (base.wanted g)
 
   -- ---- scrutinees
-  pub scrutinised_sound : (x : Context) (n : tree.Node) (m : NodeLower) → Good x n m → Cells (reached_cells g.items n) → (a : Around) → base.Fine g x a (nodes_of n) → Sound (lower.scrutinised F a m)
+  pub scrutinised_sound : (x : Context) (n : tree.Node) (m : NodeLower) → Good x n m → Cells (reached_cells g.items n) → (a : LoopsAndGuards) → base.Fine g x a (nodes_of n) → Sound (lower.scrutinised F a m)
   scrutinised_sound x n m k c a f = base.and_then g _ _ (k.reaches c a f) (λ e. touched m.shape.is_place (k.place c a f e))
     where
       touched : (b : Bool) → base.Typed g (lower.place_in m a) m.head.ty → Sound (lower.touched F b (lower.site_of m a))
       touched true t = base.acts g m.head.id (effects.Touch (lower.site_of m a)) (typed_lines.touched g.items g.bodies (base.B g) _ m.head.ty t.0 t.1)
       touched false t = base.nothing_done g
 
-  pub scrutinised_leaves : (x : Context) (n : tree.Node) (m : NodeLower) → Good x n m → Cells (reached_cells g.items n) → (a : Around) → Leaves x.loops (lower.scrutinised F a m)
+  pub scrutinised_leaves : (x : Context) (n : tree.Node) (m : NodeLower) → Good x n m → Cells (reached_cells g.items n) → (a : LoopsAndGuards) → Leaves x.loops (lower.scrutinised F a m)
   scrutinised_leaves x n m k c a = base.leaves_then g x.loops _ _ (k.reach_leaves c a) (λ e. touched m.shape.is_place)
     where
       touched : (b : Bool) → Leaves x.loops (lower.touched F b (lower.site_of m a))
@@ -61,11 +61,11 @@ module _ (g : Ground) where
       touched false = record { spares = tt }
 
   -- the place of a scrutinee, where its code has an end
-  pub scrutinee_place : (x : Context) (n : tree.Node) (m : NodeLower) → Good x n m → Cells (reached_cells g.items n) → (a : Around) → base.Fine g x a (nodes_of n) → (lower.scrutinised F a m).has_end ≡ true → base.Typed g (lower.place_in m a) m.head.ty
+  pub scrutinee_place : (x : Context) (n : tree.Node) (m : NodeLower) → Good x n m → Cells (reached_cells g.items n) → (a : LoopsAndGuards) → base.Fine g x a (nodes_of n) → (lower.scrutinised F a m).has_end ≡ true → base.Typed g (lower.place_in m a) m.head.ty
   scrutinee_place x n m k c a f e = k.place c a f (and_first (m.reaches a).has_end _ e)
 
   -- ---- `if let` and `while let`
-  pub if_taken_sound : (x : Context) (h : NodeHead) (a : Around) (p : NodeLower) (n : tree.Node) (m : NodeLower) → Good x n m → Cells (reached_cells g.items n) → base.Fine g x a (nodes_of n) →
+  pub if_taken_sound : (x : Context) (h : NodeHead) (a : LoopsAndGuards) (p : NodeLower) (n : tree.Node) (m : NodeLower) → Good x n m → Cells (reached_cells g.items n) → base.Fine g x a (nodes_of n) →
       ((place : Place) → base.Typed g place m.head.ty → TestsOk (p.shape.tests place) × rules.BoundsOk g (p.shape.bindings place)) → (P Q : Lowers) → Sound P → Sound Q → Sound (lower.if_taken F h a p m P Q)
   if_taken_sound x h a p n m k c f shaped P Q sp sq =
       let place = lower.place_in m a in
@@ -75,7 +75,7 @@ module _ (g : Ground) where
       (base.and_then g _ _ (base.and_then g _ P (rules.bind_sound g innermost (rules.inner g) (p.shape.bindings place) s.1) (λ e. sp)) (λ e. lines.leave_sound F (base.wanted g)))
       (base.and_then g _ Q (lines.leave_sound F (base.wanted g)) (λ e. sq))))
 
-  pub if_taken_leaves : (x : Context) (h : NodeHead) (a : Around) (p : NodeLower) (n : tree.Node) (m : NodeLower) → Good x n m → Cells (reached_cells g.items n) → (P Q : Lowers) → Leaves x.loops P → Leaves x.loops Q → Leaves x.loops (lower.if_taken F h a p m P Q)
+  pub if_taken_leaves : (x : Context) (h : NodeHead) (a : LoopsAndGuards) (p : NodeLower) (n : tree.Node) (m : NodeLower) → Good x n m → Cells (reached_cells g.items n) → (P Q : Lowers) → Leaves x.loops P → Leaves x.loops Q → Leaves x.loops (lower.if_taken F h a p m P Q)
   if_taken_leaves x h a p n m k c P Q lp lq =
       let place = lower.place_in m a in
       rules.leaves_changed g x.loops (with_scope h.id true) _ (base.leaves_then g x.loops _ _ (scrutinised_leaves x n m k c a)
@@ -83,7 +83,7 @@ module _ (g : Ground) where
       (base.leaves_then g x.loops _ (leave F) (base.leaves_then g x.loops _ P (rules.bind_leaves g x.loops innermost (p.shape.bindings place)) (λ e. lp)) (λ e. record { spares = tt }))
       (base.leaves_then g x.loops (leave F) Q (record { spares = tt }) (λ e. lq))))
 
-  pub if_taken_ended : (h : NodeHead) (a : Around) (p m : NodeLower) (P Q : Lowers) → P.has_end ≡ false → Q.has_end ≡ false → (lower.if_taken F h a p m P Q).has_end ≡ false
+  pub if_taken_ended : (h : NodeHead) (a : LoopsAndGuards) (p m : NodeLower) (P Q : Lowers) → P.has_end ≡ false → Q.has_end ≡ false → (lower.if_taken F h a p m P Q).has_end ≡ false
   if_taken_ended h a p m P Q e d =
       let place = lower.place_in m a in
       let one = then_lower (then_lower (lower.bind F innermost (p.shape.bindings place)) P) (leave F) in
@@ -101,7 +101,7 @@ module _ (g : Ground) where
     without : GuardOk y ns no_lower
     with_one : (n : tree.Node) (m : NodeLower) → Good y n m → Cells (cells g.items true n) → rules.IsBool g (ty_of n) → ns ≡ nodes_of n → GuardOk y ns (a_lower m)
 
-  guarded_sound : (y : Context) (a : Around) (bounds : List BoundName) (ns : List tree.Node) (q : LowerIfAny) → GuardOk y ns q → base.Fine g y (in_guard bounds a) ns → (P : Lowers) → Sound P → ArmSound (lower.guarded F a bounds q P)
+  guarded_sound : (y : Context) (a : LoopsAndGuards) (bounds : List BoundName) (ns : List tree.Node) (q : LowerIfAny) → GuardOk y ns q → base.Fine g y (in_guard bounds a) ns → (P : Lowers) → Sound P → ArmSound (lower.guarded F a bounds q P)
   guarded_sound y a bounds ns _ without f P p c w S r k s o h l = p.lines c w S k s o h l
   guarded_sound y a bounds ns _ (with_one n m good cs is same) f P p c w S r k s o h l = by asked.has_end refl
     where
@@ -122,7 +122,7 @@ module _ (g : Ground) where
           asks.lines c w S t.0 t.1 o i.0 i.1
       by false e = asks.lines c w S k s o h l
 
-  pub arm_sound : (x y : Context) (h : NodeHead) (p : NodeLower) (q : LowerIfAny) (ns : List tree.Node) (n : tree.Node) (m : NodeLower) (matched : Place) (a : Around) (to : Destination) →
+  pub arm_sound : (x y : Context) (h : NodeHead) (p : NodeLower) (q : LowerIfAny) (ns : List tree.Node) (n : tree.Node) (m : NodeLower) (matched : Place) (a : LoopsAndGuards) (to : Destination) →
       TestsOk (p.shape.tests matched) → rules.BoundsOk g (p.shape.bindings matched) → GuardOk y ns q → base.Fine g y (in_guard (p.shape.bindings matched) a) ns → Good x n m → Cells (cells g.items false n) → base.Fine g x a (nodes_of n) → base.DestIf g to m.head.ty → ArmSound (lower.arm F h p q m matched a to)
   arm_sound x y h p q ns n m matched a to ts bs guard gf good cs f d c w S r k s o hs l =
       let bounds = p.shape.bindings matched in
@@ -132,7 +132,7 @@ module _ (g : Ground) where
       let b = code.build c S r k s in
       lines.tests_ok F (base.wanted g) (p.shape.tests matched) ts (length b.1.blocks) r (closed Kind.Plain b.0 b.1) (lines.closed_ok F (base.wanted g) Kind.Plain b.0 b.1 i.0 i.1)
 
-  guarded_leaves : (y : Context) (a : Around) (bounds : List BoundName) (ns : List tree.Node) (q : LowerIfAny) → GuardOk y ns q → (P : Lowers) → Leaves y.loops P → base.Spares g y.loops (lower.guarded F a bounds q P).jumps
+  guarded_leaves : (y : Context) (a : LoopsAndGuards) (bounds : List BoundName) (ns : List tree.Node) (q : LowerIfAny) → GuardOk y ns q → (P : Lowers) → Leaves y.loops P → base.Spares g y.loops (lower.guarded F a bounds q P).jumps
   guarded_leaves y a bounds ns _ without P p = p.spares
   guarded_leaves y a bounds ns _ (with_one n m good cs is same) P p = by (back_in (m.evaluates (in_guard bounds a) true (Into m.head.id))).has_end
     where
@@ -140,15 +140,15 @@ module _ (g : Ground) where
       by true = base.spares_append g y.loops _ P.jumps (good.leaves true cs (in_guard bounds a) true (Into m.head.id)).spares p.spares
       by false = base.spares_append g y.loops _ [] (good.leaves true cs (in_guard bounds a) true (Into m.head.id)).spares tt
 
-  taken_leaves : (x : Context) (h : NodeHead) (a : Around) (bounds : List BoundName) (n : tree.Node) (m : NodeLower) → Good x n m → Cells (cells g.items false n) → (to : Destination) → Leaves x.loops (lower.taken_arm F h a bounds m to)
+  taken_leaves : (x : Context) (h : NodeHead) (a : LoopsAndGuards) (bounds : List BoundName) (n : tree.Node) (m : NodeLower) → Good x n m → Cells (cells g.items false n) → (to : Destination) → Leaves x.loops (lower.taken_arm F h a bounds m to)
   taken_leaves x h a bounds n m good cs to = rules.leaves_scope g x.loops h.id false _ (base.leaves_then g x.loops _ _ (rules.bind_leaves g x.loops innermost bounds) (λ e. rules.leaves_back g x.loops _ (good.leaves false cs a true to)))
 
-  pub arm_leaves : (x y : Context) (h : NodeHead) (p : NodeLower) (q : LowerIfAny) (ns : List tree.Node) (n : tree.Node) (m : NodeLower) (matched : Place) (a : Around) (to : Destination) → GuardOk y ns q → Good x n m → Cells (cells g.items false n) → x.loops ≡ y.loops →
+  pub arm_leaves : (x y : Context) (h : NodeHead) (p : NodeLower) (q : LowerIfAny) (ns : List tree.Node) (n : tree.Node) (m : NodeLower) (matched : Place) (a : LoopsAndGuards) (to : Destination) → GuardOk y ns q → Good x n m → Cells (cells g.items false n) → x.loops ≡ y.loops →
       base.Spares g y.loops (lower.arm F h p q m matched a to).jumps
   arm_leaves x y h p q ns n m matched a to guard good cs same =
       guarded_leaves y a (p.shape.bindings matched) ns q guard _ (subst (λ (z : List LoopAround). Leaves z (lower.taken_arm F h a (p.shape.bindings matched) m to)) same (taken_leaves x h a (p.shape.bindings matched) n m good cs to))
 
-  pub arm_ended : (h : NodeHead) (p : NodeLower) (q : LowerIfAny) (m : NodeLower) (matched : Place) (a : Around) (to : Destination) → (m.evaluates a true to).has_end ≡ false → (lower.arm F h p q m matched a to).has_end ≡ false
+  pub arm_ended : (h : NodeHead) (p : NodeLower) (q : LowerIfAny) (m : NodeLower) (matched : Place) (a : LoopsAndGuards) (to : Destination) → (m.evaluates a true to).has_end ≡ false → (lower.arm F h p q m matched a to).has_end ≡ false
   arm_ended h p q m matched a to e = by q
     where
       taken : (lower.taken_arm F h a (p.shape.bindings matched) m to).has_end ≡ false
@@ -160,9 +160,9 @@ module _ (g : Ground) where
 
   -- what an arm is for the `match` around it: where a value of the arm's type may go
   pub record ArmGood (x : Context) (n : tree.Node) (m : NodeLower) (scrutinee : TyId) : Type 0 where
-    pub ended : base.Never g (ty_of n) → (matched : Place) (a : Around) (to : Destination) → (m.arm matched a to).has_end ≡ false
-    pub leaves : (matched : Place) (a : Around) (to : Destination) → base.Spares g x.loops (m.arm matched a to).jumps
-    pub sound : (matched : Place) → base.Typed g matched scrutinee → (a : Around) → base.Fine g x a (nodes_of n) → (to : Destination) → base.DestIf g to (ty_of n) → ArmSound (m.arm matched a to)
+    pub ended : base.Never g (ty_of n) → (matched : Place) (a : LoopsAndGuards) (to : Destination) → (m.arm matched a to).has_end ≡ false
+    pub leaves : (matched : Place) (a : LoopsAndGuards) (to : Destination) → base.Spares g x.loops (m.arm matched a to).jumps
+    pub sound : (matched : Place) → base.Typed g matched scrutinee → (a : LoopsAndGuards) → base.Fine g x a (nodes_of n) → (to : Destination) → base.DestIf g to (ty_of n) → ArmSound (m.arm matched a to)
 
   pub data Arms (x : Context) (scrutinee want : TyId) : List tree.Node → List NodeLower → Type 0 where
     no_arm : Arms x scrutinee want [] []
@@ -174,7 +174,7 @@ module _ (g : Ground) where
     | inr never ↦ absurd (base.never_and_made g ty never m)
   ]
 
-  arms_from : (x : Context) (number : ℕ) (scrutinee want : TyId) (ns : List tree.Node) (ms : List NodeLower) → Arms x scrutinee want ns ms → (matched : Place) → base.Typed g matched scrutinee → (a : Around) → base.Fine g x a ns → (to : Destination) → base.DestIf g to want → (c : Ways) → c.returns.block ≡ 1 → (S : Scopes) (k : BlockRest) (s : Building) →
+  arms_from : (x : Context) (number : ℕ) (scrutinee want : TyId) (ns : List tree.Node) (ms : List NodeLower) → Arms x scrutinee want ns ms → (matched : Place) → base.Typed g matched scrutinee → (a : LoopsAndGuards) → base.Fine g x a ns → (to : Destination) → base.DestIf g to want → (c : Ways) → c.returns.block ≡ 1 → (S : Scopes) (k : BlockRest) (s : Building) →
       lines.ScopesOk F (base.wanted g) S → lines.Ok F (base.wanted g) s → lines.RestOk F (base.wanted g) k → lines.Both F (base.wanted g) (lower.arms_from F number ms matched a to c S k s)
   arms_from x number scrutinee want _ _ no_arm matched t a f to d c w S k s o h l = lines.panic_both F (base.wanted g) (Term.Panic Why.Match) number (λ u. (typed_lines.panic_ok g.items g.bodies (base.B g) u).1) S o s h
   arms_from x number scrutinee want _ _ (an_arm n others m ms one fit rest) matched t a f to d c w S k s o h l =
@@ -182,7 +182,7 @@ module _ (g : Ground) where
       let i = arms_from x number scrutinee want others ms rest matched t a (base.fine_second g x a (nodes_of n) others f) to d c w S k s o h l in
       one.sound matched t a (base.fine_first g x a (nodes_of n) others f) to (dest_fits to want (ty_of n) fit d) c w S (length b.1.blocks) k (closed Kind.Plain b.0 b.1) o (lines.closed_ok F (base.wanted g) Kind.Plain b.0 b.1 i.0 i.1) l
 
-  pub arms_sound : (x : Context) (number : ℕ) (scrutinee want : TyId) (ns : List tree.Node) (ms : List NodeLower) → Arms x scrutinee want ns ms → (matched : Place) → base.Typed g matched scrutinee → (a : Around) → base.Fine g x a ns → (to : Destination) → base.DestIf g to want → Sound (lower.arms_in_order F number ms matched a to)
+  pub arms_sound : (x : Context) (number : ℕ) (scrutinee want : TyId) (ns : List tree.Node) (ms : List NodeLower) → Arms x scrutinee want ns ms → (matched : Place) → base.Typed g matched scrutinee → (a : LoopsAndGuards) → base.Fine g x a ns → (to : Destination) → base.DestIf g to want → Sound (lower.arms_in_order F number ms matched a to)
   arms_sound x number scrutinee want ns ms arms matched t a f to d = record {
     after = λ e S o. o;
     lines = λ c w S k s o h l.
@@ -192,11 +192,11 @@ module _ (g : Ground) where
         arms_from x number scrutinee want ns ms arms matched t a f to d c w S j.0 j.1 o jo.0 jo.1;
   }
 
-  pub arms_leave : (x : Context) (scrutinee want : TyId) (ns : List tree.Node) (ms : List NodeLower) → Arms x scrutinee want ns ms → (matched : Place) (a : Around) (to : Destination) → base.Spares g x.loops (lower.arm_jumps F ms matched a to)
+  pub arms_leave : (x : Context) (scrutinee want : TyId) (ns : List tree.Node) (ms : List NodeLower) → Arms x scrutinee want ns ms → (matched : Place) (a : LoopsAndGuards) (to : Destination) → base.Spares g x.loops (lower.arm_jumps F ms matched a to)
   arms_leave x scrutinee want _ _ no_arm matched a to = tt
   arms_leave x scrutinee want _ _ (an_arm n others m ms one fit rest) matched a to = base.spares_append g x.loops _ _ (one.leaves matched a to) (arms_leave x scrutinee want others ms rest matched a to)
 
-  pub arms_ended : (x : Context) (scrutinee want : TyId) (ns : List tree.Node) (ms : List NodeLower) → Arms x scrutinee want ns ms → base.Never g want → (matched : Place) (a : Around) (to : Destination) → lower.arms_end F ms matched a to ≡ false
+  pub arms_ended : (x : Context) (scrutinee want : TyId) (ns : List tree.Node) (ms : List NodeLower) → Arms x scrutinee want ns ms → base.Never g want → (matched : Place) (a : LoopsAndGuards) (to : Destination) → lower.arms_end F ms matched a to ≡ false
   arms_ended x scrutinee want _ _ no_arm v matched a to = refl
   arms_ended x scrutinee want _ _ (an_arm n others m ms one fit rest) v matched a to =
       base.both_false _ _ (one.ended (elim fit [ inl same ↦ subst (base.Never g) (sym same) v | inr never ↦ never ]) matched a to) (arms_ended x scrutinee want others ms rest v matched a to)

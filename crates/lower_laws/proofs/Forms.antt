@@ -33,7 +33,7 @@ use Rattle.typed_tree.specs.Tree as tree
 use Rattle.typed_tree.specs.Tree.{Node, Form, Nodes, no_node, a_node, Fields, no_field, a_field, MaybeNode, absent, present}
 use Rattle.src_meaning.specs.Evaluation.{in_number_order}
 use Rattle.src_meaning.specs.Forms as source
-use Rattle.src_meaning.specs.Forms.{Destination, Into, Coerced, coerced, Around, in_loop, loop_destination, in_guard, entry_of, site_in, site_of_key, moved}
+use Rattle.src_meaning.specs.Forms.{Destination, Into, Coerced, coerced, LoopsAndGuards, in_loop, loop_destination, in_guard, entry_of, site_in, site_of_key, moved}
 use Rattle.src_meaning.specs.Locals.OfBody.{cells, reached_cells, cells_in, all_cells, cells_of_fields, cells_if_any, initial_cells, is_place_form}
 use Rattle.src_meaning.specs.Scopes.{Entry, Breaks, Continues, Returns, innermost, around_innermost}
 use Rattle.src_meaning.specs.Shape.{NodeHead, head, Shape, Aliases, kind_of, shape, shape_of, extended, place_of_key, site_at}
@@ -155,9 +155,9 @@ module _ (g : Ground) where
     pub reached_so : Cells (reached_cells g.items n) → Cells (cells g.items true n)
     pub cell : Cells (cells g.items true n) → base.Made g h.ty → base.KeyIs g h.id h.ty
 
-  value : (x : Context) (n : Node) (h : NodeHead) (s : Shape) (e : lower.Evaluates) → Plain n h s → ((o : Bool) → Cells (cells g.items o n) → base.Never g h.ty → (a : Around) (own : Bool) → (e a own (Into h.id)).has_end ≡ false) →
-      ((o : Bool) → Cells (cells g.items o n) → (a : Around) (own : Bool) (to : Destination) → base.Leaves g x.loops (e a own to)) →
-      ((o : Bool) → Cells (cells g.items o n) → (a : Around) → base.Fine g x a (nodes_of n) → (own : Bool) (to : Destination) → rules.Arrives g h to → Sound (e a own to)) → Good x n (lower.a_value F h s e)
+  value : (x : Context) (n : Node) (h : NodeHead) (s : Shape) (e : lower.Evaluates) → Plain n h s → ((o : Bool) → Cells (cells g.items o n) → base.Never g h.ty → (a : LoopsAndGuards) (own : Bool) → (e a own (Into h.id)).has_end ≡ false) →
+      ((o : Bool) → Cells (cells g.items o n) → (a : LoopsAndGuards) (own : Bool) (to : Destination) → base.Leaves g x.loops (e a own to)) →
+      ((o : Bool) → Cells (cells g.items o n) → (a : LoopsAndGuards) → base.Fine g x a (nodes_of n) → (own : Bool) (to : Destination) → rules.Arrives g h to → Sound (e a own to)) → Good x n (lower.a_value F h s e)
   value x n h s e p ended leaves sound = rules.value_good g x n h s e (record {
     id_is = p.id_is;
     ty_is = p.ty_is;
@@ -171,9 +171,9 @@ module _ (g : Ground) where
   })
 
   -- a form that is a scope of its own
-  scoped_value : (x : Context) (n : Node) (h : NodeHead) (s : Shape) (does : lower.MakesInto) → Plain n h s → ((o : Bool) → Cells (cells g.items o n) → base.Never g h.ty → (a : Around) → (does a (Into h.id)).has_end ≡ false) →
-      ((o : Bool) → Cells (cells g.items o n) → (a : Around) (to : Destination) → base.Leaves g x.loops (does a to)) →
-      ((o : Bool) → Cells (cells g.items o n) → (a : Around) → base.Fine g x a (nodes_of n) → (to : Destination) → rules.Arrives g h to → Sound (does a to)) → Good x n (lower.a_scope F h s does)
+  scoped_value : (x : Context) (n : Node) (h : NodeHead) (s : Shape) (does : lower.MakesInto) → Plain n h s → ((o : Bool) → Cells (cells g.items o n) → base.Never g h.ty → (a : LoopsAndGuards) → (does a (Into h.id)).has_end ≡ false) →
+      ((o : Bool) → Cells (cells g.items o n) → (a : LoopsAndGuards) (to : Destination) → base.Leaves g x.loops (does a to)) →
+      ((o : Bool) → Cells (cells g.items o n) → (a : LoopsAndGuards) → base.Fine g x a (nodes_of n) → (to : Destination) → rules.Arrives g h to → Sound (does a to)) → Good x n (lower.a_scope F h s does)
   scoped_value x n h s does p ended leaves sound = value x n h s _ p (λ o c v a own. rules.no_end_owned g h own (does a (Into h.id)) (ended o c v a))
       (λ o c a own to. rules.leaves_owned g x.loops h own (does a to) (leaves o c a to)) (λ o c a f own to ar. base.owned g h own (does a to) (sound o c a f to ar))
 
@@ -184,7 +184,7 @@ module _ (g : Ground) where
   effect_value x n h s action p made ok = scoped_value x n h s (λ a. lower.deliver F h action) p (λ o c v a. absurd (made v)) (λ o c a to. rules.leaves_deliver g x.loops h.id h action to)
       (λ o c a f to ar. rules.answered g h.id h action to ar (rules.no_own g h made) ok)
 
-  fine_in : (x : Context) (a : Around) (n : Node) (ns : List Node) → base.Fine g x a (n ∷ ns) → base.Fine g x a ns
+  fine_in : (x : Context) (a : LoopsAndGuards) (n : Node) (ns : List Node) → base.Fine g x a (n ∷ ns) → base.Fine g x a ns
   fine_in x a n ns f = base.fine_second g x a (n ∷ []) ns f
 
   -- a form with operands; where it may be of type `!`, its answer has a cell, and its effect no end
@@ -199,7 +199,7 @@ module _ (g : Ground) where
       (λ o c a f own to ar. rules.acting_sound g x (head id ty by) a own (nodes_in form) ms wants (inner o c) (fine_in x a (tree.node id at ty by form) (nodes_in form) f) _
       (λ given. rules.answered g id (head id ty by) action to ar (λ v. (last o c v).0) (ok given)))
 
-  none_behind : (x : Context) (a : Around) (ns : List Node) → base.Fine g x a ns → base.Fine g x a (ns ++ [])
+  none_behind : (x : Context) (a : LoopsAndGuards) (ns : List Node) → base.Fine g x a ns → base.Fine g x a (ns ++ [])
   none_behind x a ns f = subst (base.Fine g x a) (sym (append-nil ns)) f
 
   -- a form with one operand, which gives `()`
@@ -218,22 +218,22 @@ module _ (g : Ground) where
       one : (o : Bool) → Cells (cells g.items o (tree.node id at ty by form)) → rules.Operands g x (nodes_of n ++ []) (L n ∷ []) (ty_of n ∷ [])
       one o c = rules.an_operand (nodes_of n) [] (L n) [] (ty_of n) [] (rules.operand_of g x n (L n) good (inner o c) (ty_of n) (fits_itself (ty_of n))) rules.no_operand
 
-      alone : (a : Around) → base.Fine g x a (nodes_of (tree.node id at ty by form)) → base.Fine g x a (nodes_of n ++ [])
+      alone : (a : LoopsAndGuards) → base.Fine g x a (nodes_of (tree.node id at ty by form)) → base.Fine g x a (nodes_of n ++ [])
       alone a f = none_behind x a (nodes_of n) (subst (base.Fine g x a) same (fine_in x a (tree.node id at ty by form) (nodes_in form) f))
 
   -- ---- places
-  reached_place : (x : Context) (n : Node) → Good x n (L n) → Cells (reached_cells g.items n) → (a : Around) → base.Fine g x a (nodes_of n) → ((L n).reaches a).has_end ≡ true → base.Typed g ((shape g.items n).place a.aliases) (ty_of n)
+  reached_place : (x : Context) (n : Node) → Good x n (L n) → Cells (reached_cells g.items n) → (a : LoopsAndGuards) → base.Fine g x a (nodes_of n) → ((L n).reaches a).has_end ≡ true → base.Typed g ((shape g.items n).place a.aliases) (ty_of n)
   reached_place x n k c a f e = subst (λ (z : Shape). base.Typed g (z.place a.aliases) (ty_of n)) k.shape_is (subst (λ (z : TyId). base.Typed g ((L n).shape.place a.aliases) z) k.ty_is (k.place c a f e))
 
   at_type : (place : Place) (id : TyId) (ty : Ty) → base.Typed g place id → type_at g.items id ≡ Some ty → base.At g place id ty
   at_type place id ty t e = subst (λ (z : Ty). base.At g place id z) (same_Some t.0 ty (sym t.1.known ∙ e)) t.1
 
-  variable_place : (x : Context) (key : ℕ) (ty : TyId) → Holds (typing.row (K x) 0 ty (tree.Variable key)) → (a : Around) → base.AroundOk g x a → base.Typed g (place_of_key key a.aliases) ty
+  variable_place : (x : Context) (key : ℕ) (ty : TyId) → Holds (typing.row (K x) 0 ty (tree.Variable key)) → (a : LoopsAndGuards) → base.AroundOk g x a → base.Typed g (place_of_key key a.aliases) ty
   variable_place x key ty h a ok =
       let e = found (entry_with key x.entries) _ h in
       subst (base.Typed g (place_of_key key a.aliases)) (sym (same_id ty e.0.ty e.2)) (ok.names key e.0 e.1)
 
-  captured_place : (x : Context) (closure part : ℕ) (name : List ℕ) (ty : TyId) → Holds (typing.row (K x) 0 ty (tree.Captured closure part name)) → (a : Around) → base.AroundOk g x a → base.Typed g (extended (ToPart part) (place_of_key closure a.aliases)) ty
+  captured_place : (x : Context) (closure part : ℕ) (name : List ℕ) (ty : TyId) → Holds (typing.row (K x) 0 ty (tree.Captured closure part name)) → (a : LoopsAndGuards) → base.AroundOk g x a → base.Typed g (extended (ToPart part) (place_of_key closure a.aliases)) ty
   captured_place x closure part name ty h a ok =
       let e = found x.closure _ h in
       let t = found (field_ty g.items e.0.ty 0 part) _ e.2.1 in
@@ -368,34 +368,34 @@ module _ (g : Ground) where
     of_index : Reached → Cells (cells g.items true index)
     of_index c = base.cells_second g (reached_cells g.items inner) (cells g.items true index) c
 
-    abbrev Asks : Around → Lowers
+    abbrev Asks : LoopsAndGuards → Lowers
     Asks a = (L index).evaluates a false (Into (L index).head.id)
 
-    index_made : Reached → (a : Around) → (Asks a).has_end ≡ true → base.Made g (L index).head.ty
+    index_made : Reached → (a : LoopsAndGuards) → (Asks a).has_end ≡ true → base.Made g (L index).head.ty
     index_made c a e = rules.ends_made g x index (L index) i true (of_index c) a false (Into (L index).head.id) e
 
-    index_usize : Reached → (a : Around) → (Asks a).has_end ≡ true → type_at g.items (L index).head.ty ≡ Some (Ty.Int IntKind.Usize)
+    index_usize : Reached → (a : LoopsAndGuards) → (Asks a).has_end ≡ true → type_at g.items (L index).head.ty ≡ Some (Ty.Int IntKind.Usize)
     index_usize c a e = subst (λ (z : TyId). type_at g.items z ≡ Some (Ty.Int IntKind.Usize)) (sym i.ty_is)
         (elim (either (types.is_usize g.items (ty_of index)) (types.is_never g.items (ty_of index)) is) [ inl u ↦ usize_known g.items (ty_of index) u | inr v ↦ absurd (made_not (ty_of index) (subst (base.Made g) i.ty_is (index_made c a e)) v) ])
 
-    fine_base : (a : Around) → base.Fine g x a (nodes_of N) → base.Fine g x a (nodes_of inner)
+    fine_base : (a : LoopsAndGuards) → base.Fine g x a (nodes_of N) → base.Fine g x a (nodes_of inner)
     fine_base a f = base.fine_first g x a (nodes_of inner) (nodes_of index) (fine_in x a N (nodes_of inner ++ nodes_of index) f)
 
-    fine_index : (a : Around) → base.Fine g x a (nodes_of N) → base.Fine g x a (nodes_of index)
+    fine_index : (a : LoopsAndGuards) → base.Fine g x a (nodes_of N) → base.Fine g x a (nodes_of index)
     fine_index a f = base.fine_second g x a (nodes_of inner) (nodes_of index) (fine_in x a N (nodes_of inner ++ nodes_of index) f)
 
-    element : (c : Reached) (a : Around) → base.Fine g x a (nodes_of N) → ((L inner).reaches a).has_end ≡ true → (Asks a).has_end ≡ true → base.Typed g ((S_of (tree.Index inner index count) (head id ty by)).place a.aliases) ty
+    element : (c : Reached) (a : LoopsAndGuards) → base.Fine g x a (nodes_of N) → ((L inner).reaches a).has_end ≡ true → (Asks a).has_end ≡ true → base.Typed g ((S_of (tree.Index inner index count) (head id ty by)).place a.aliases) ty
     element c a f e d =
         element_place ((shape g.items inner).place a.aliases) (ty_of inner) ty (number_of index) (L index).head.ty count (reached_place x inner b (of_base c) a (fine_base a f) e)
         (subst (λ (z : ℕ). base.KeyIs g z (L index).head.ty) i.id_is (i.cell (of_index c) (index_made c a d))) (index_usize c a d) array
 
-    abbrev touch : Around → Action
+    abbrev touch : LoopsAndGuards → Action
     touch a = effects.Touch (site_at (head id ty by) (lower.array_around F ((S_of (tree.Index inner index count) (head id ty by)).place a.aliases)))
 
     abbrev bounds : Action
     bounds = effects.Bounds (effects.Copied (site_of_key (L index).head.id)) count
 
-    touch_ok : (a : Around) → base.Typed g ((S_of (tree.Index inner index count) (head id ty by)).place a.aliases) ty → ActOk id (touch a)
+    touch_ok : (a : LoopsAndGuards) → base.Typed g ((S_of (tree.Index inner index count) (head id ty by)).place a.aliases) ty → ActOk id (touch a)
     touch_ok a t = let whole = typed_places.array_at F g.bodies ((S_of (tree.Index inner index count) (head id ty by)).place a.aliases) ty t.0 t.1 in typed_lines.touched g.items g.bodies B _ whole.0 whole.1 whole.2
 
     index_good : ((o : Bool) → Cells (cells g.items o N) → Reached) → (Cells (cells g.items true N) → base.Made g ty → base.KeyIs g id ty) → ((o : Bool) → Cells (cells g.items o N) → base.Never g ty → base.KeyIs g id ty) →
@@ -518,9 +518,9 @@ module _ (g : Ground) where
 
   -- what a block's tail does
   record TailGood (y : Context) (tail : MaybeNode) (id : ℕ) (ty : TyId) (by : Option Use) : Type 0 where
-    pub ended : TailSame ty tail ≡ true → base.Never g ty → (a : Around) (to : Destination) → (lower.tail_of F (head id ty by) (lower.lower_if_any F tail) a to).has_end ≡ false
-    pub leaves : (a : Around) (to : Destination) → base.Leaves g y.loops (lower.tail_of F (head id ty by) (lower.lower_if_any F tail) a to)
-    pub sound : (a : Around) → base.Fine g y a (nodes_if_any tail) → (to : Destination) → TailType ty tail → rules.Arrives g (head id ty by) to → Sound (lower.tail_of F (head id ty by) (lower.lower_if_any F tail) a to)
+    pub ended : TailSame ty tail ≡ true → base.Never g ty → (a : LoopsAndGuards) (to : Destination) → (lower.tail_of F (head id ty by) (lower.lower_if_any F tail) a to).has_end ≡ false
+    pub leaves : (a : LoopsAndGuards) (to : Destination) → base.Leaves g y.loops (lower.tail_of F (head id ty by) (lower.lower_if_any F tail) a to)
+    pub sound : (a : LoopsAndGuards) → base.Fine g y a (nodes_if_any tail) → (to : Destination) → TailType ty tail → rules.Arrives g (head id ty by) to → Sound (lower.tail_of F (head id ty by) (lower.lower_if_any F tail) a to)
 
   no_tail : (y : Context) (id : ℕ) (ty : TyId) (by : Option Use) → TailGood y absent id ty by
   no_tail y id ty by = record {
@@ -539,14 +539,14 @@ module _ (g : Ground) where
 
   -- ---- statements
   record StmtGood (x : Context) (n : Node) : Type 0 where
-    pub ended : typing.ends_by g.items (form_of n) ≡ true → (a : Around) (own : Bool) (to : Destination) → ((L n).evaluates a own to).has_end ≡ false
-    pub leaves : (a : Around) (own : Bool) (to : Destination) → base.Leaves g x.loops ((L n).evaluates a own to)
-    pub sound : (a : Around) → base.Fine g x a (nodes_of n) → (own : Bool) (to : Destination) → Sound ((L n).evaluates a own to)
+    pub ended : typing.ends_by g.items (form_of n) ≡ true → (a : LoopsAndGuards) (own : Bool) (to : Destination) → ((L n).evaluates a own to).has_end ≡ false
+    pub leaves : (a : LoopsAndGuards) (own : Bool) (to : Destination) → base.Leaves g x.loops ((L n).evaluates a own to)
+    pub sound : (a : LoopsAndGuards) → base.Fine g x a (nodes_of n) → (own : Bool) (to : Destination) → Sound ((L n).evaluates a own to)
 
   record StmtsGood (x : Context) (ns : Nodes) : Type 0 where
-    pub ended : typing.ends_in g.items ns ≡ true → (a : Around) → (lower.statements F a (lower.lower_all F ns)).has_end ≡ false
-    pub leaves : (a : Around) → base.Leaves g x.loops (lower.statements F a (lower.lower_all F ns))
-    pub sound : (a : Around) → base.Fine g x a (nodes_among ns) → Sound (lower.statements F a (lower.lower_all F ns))
+    pub ended : typing.ends_in g.items ns ≡ true → (a : LoopsAndGuards) → (lower.statements F a (lower.lower_all F ns)).has_end ≡ false
+    pub leaves : (a : LoopsAndGuards) → base.Leaves g x.loops (lower.statements F a (lower.lower_all F ns))
+    pub sound : (a : LoopsAndGuards) → base.Fine g x a (nodes_among ns) → Sound (lower.statements F a (lower.lower_all F ns))
 
   statement_keyed : (x : Context) (form : Form) (id : ℕ) (at : Pos) (ty : TyId) (by : Option Use) → Holds (typing.statement (K x) form) → Cells (cells g.items true (tree.node id at ty by form)) → names.Keyed g (typing.entries_in form)
   statement_keyed x (tree.Let p absent) id at ty by h c = names.keyed g p typing.whole (ty_of p) h.1.0 (base.cells_first g (cells g.items true p) (initial_cells g.items p absent) (base.cells_second g _ (cells_in g.items (tree.Let p absent)) c))
@@ -604,7 +604,7 @@ module _ (g : Ground) where
   statement_keyed x (tree.ArrayPattern elements) id at ty by h c = absurd (untrue h)
   statement_keyed x (tree.OrPattern alternatives) id at ty by h c = absurd (untrue h)
 
-  fine_statement : (x : Context) (form : Form) (a : Around) (id : ℕ) (at : Pos) (ty : TyId) (by : Option Use) → names.Keyed g (typing.entries_in form) → (later : List Node) → base.Fine g x a (nodes_of (tree.node id at ty by form)) → base.Fine g x a later → base.Fine g (with_entries (typing.entries_in form) x) a later
+  fine_statement : (x : Context) (form : Form) (a : LoopsAndGuards) (id : ℕ) (at : Pos) (ty : TyId) (by : Option Use) → names.Keyed g (typing.entries_in form) → (later : List Node) → base.Fine g x a (nodes_of (tree.node id at ty by form)) → base.Fine g x a later → base.Fine g (with_entries (typing.entries_in form) x) a later
   fine_statement x (tree.Let p v) a id at ty by keyed later f k = names.fine_more g x a p later (base.fine_first g x a (nodes_of p) (nodes_if_any v) (fine_in x a (tree.node id at ty by (tree.Let p v)) (nodes_of p ++ nodes_if_any v) f)) k keyed
   fine_statement x (tree.Number value) a id at ty by keyed later f k = k
   fine_statement x (tree.Truth value) a id at ty by keyed later f k = k
@@ -661,7 +661,7 @@ module _ (g : Ground) where
 
   -- what stands behind statements, in the context that they leave
   behind_context : (x : Context) (ns : Nodes) (behind : Context → Claim) → Holds (typing.statements (K x) ns behind) → Cells (all_cells g.items ns) →
-      (y : Context) × Holds (behind (K y)) × (y.loops ≡ x.loops) × ((a : Around) (later : List Node) → base.Fine g x a (nodes_among ns) → base.Fine g x a later → base.Fine g y a later)
+      (y : Context) × Holds (behind (K y)) × (y.loops ≡ x.loops) × ((a : LoopsAndGuards) (later : List Node) → base.Fine g x a (nodes_among ns) → base.Fine g x a later → base.Fine g y a later)
   behind_context x no_node behind h c = (x, h, refl, λ a later f k. k)
   behind_context x (a_node (tree.node id at ty by form) rest) behind h c =
       let y = with_entries (typing.entries_in form) x in
@@ -807,7 +807,7 @@ module _ (g : Ground) where
       replaces_leave true site = record { spares = tt }
       replaces_leave false site = rules.leaves_changed g x.loops (taken F ((L value_).head.id ∷ [])) _ (base.leaves_none g x.loops site.node (effects.Put site (moved site.node (L value_).head.id)))
 
-      stored : (a : Around) → base.KeyIs g (L value_).head.id (ty_of target) → base.Typed g (lower.place_in (L target) a) (L target).head.ty → Sound (build.replaces F (needs_drop g.items (L target).head.ty) (lower.site_of (L target) a) (L value_).head.id)
+      stored : (a : LoopsAndGuards) → base.KeyIs g (L value_).head.id (ty_of target) → base.Typed g (lower.place_in (L target) a) (L target).head.ty → Sound (build.replaces F (needs_drop g.items (L target).head.ty) (lower.site_of (L target) a) (L value_).head.id)
       stored a key t =
           let own : base.KeyIs g (L value_).head.id (L target).head.ty = subst (base.KeyIs g (L value_).head.id) (sym p.ty_is) key in
           lines.replaces_sound F (base.wanted g) (needs_drop g.items (L target).head.ty) (lower.site_of (L target) a) (L value_).head.id
@@ -829,7 +829,7 @@ module _ (g : Ground) where
       n : Node
       n = tree.node id at ty by (tree.Borrow unique inner)
 
-      action : Around → EffectSite → Action
+      action : LoopsAndGuards → EffectSite → Action
       action a site = effects.Borrow (record site { node = (L inner).head.id }) unique (lower.site_of (L inner) a)
 
       r : (r : Bool × TyId) × (types.reference_of g.items ty ≡ Some r) × Holds (fact (types.is_same (ty_of inner) r.1) & fact (if unique then r.0 else not r.0))
@@ -866,7 +866,7 @@ module _ (g : Ground) where
               not_never (Ty.Unique to) b f = refl
               not_never (Ty.Closure n) b f = refl
 
-      borrowed : (a : Around) (key : ℕ) → base.KeyIs g key ty → base.Typed g (lower.place_in (L inner) a) (L inner).head.ty → ActOk (L inner).head.id (action a (site_in id key))
+      borrowed : (a : LoopsAndGuards) (key : ℕ) → base.KeyIs g key ty → base.Typed g (lower.place_in (L inner) a) (L inner).head.ty → ActOk (L inner).head.id (action a (site_in id key))
       borrowed a key l p = typed_lines.borrowed g.items g.bodies B _ _ unique ty (L inner).head.ty t.0 p.0 (base.key_at g key ty t.0 l t.1) p.1
           (subst (λ (z : Bool). forms.referent z (Some t.0) ≡ Some (L inner).head.ty) way (t.2 ∙ ap (λ (z : TyId). Some z) (sym (k.ty_is ∙ same_id (ty_of inner) r.0.1 r.2.0)))) t.3
 
@@ -911,9 +911,9 @@ module _ (g : Ground) where
       with_true false = refl
 
   record PartsGood (x : Context) (p v : Node) (h : NodeHead) : Type 0 where
-    pub ended : (types.is_never g.items (ty_of v) && not (typing.is_unused_place v)) ≡ true → (a : Around) → (lower.let_parts F h (L p) (L v) a).has_end ≡ false
-    pub leaves : (a : Around) → base.Leaves g x.loops (lower.let_parts F h (L p) (L v) a)
-    pub sound : (a : Around) → base.Fine g x a (nodes_of v) → Sound (lower.let_parts F h (L p) (L v) a)
+    pub ended : (types.is_never g.items (ty_of v) && not (typing.is_unused_place v)) ≡ true → (a : LoopsAndGuards) → (lower.let_parts F h (L p) (L v) a).has_end ≡ false
+    pub leaves : (a : LoopsAndGuards) → base.Leaves g x.loops (lower.let_parts F h (L p) (L v) a)
+    pub sound : (a : LoopsAndGuards) → base.Fine g x a (nodes_of v) → Sound (lower.let_parts F h (L p) (L v) a)
 
   parts_let : (x : Context) (p v : Node) (h : NodeHead) → Good x v (L v) → Holds (typing.typed (K x) Base v) → (m : Matched) → Holds (patterns.pattern g.items m (ty_of p) p) → types.fits g.items (ty_of p) (ty_of v) ≡ true → (not (scopes.is_place (form_of v)) || types.is_same (ty_of v) (ty_of p)) ≡ true →
       Cells (cells g.items true p) → Cells (reached_cells g.items v) → PartsGood x p v h
@@ -928,7 +928,7 @@ module _ (g : Ground) where
       pends : NodeLower → Bool
       pends m = not (m.shape.is_place || m.shape.in_destination)
 
-      binds : Around → Lowers
+      binds : LoopsAndGuards → Lowers
       binds a = lower.bind F around_innermost ((L p).shape.bindings (lower.place_in (L v) a))
 
       no_place : not (typing.is_unused_place v) ≡ true → is_place_form (form_of v) ≡ false
@@ -938,7 +938,7 @@ module _ (g : Ground) where
       of_pending true d e = absurd (untrue e)
       of_pending false d e = refl
 
-      typed_place : (a : Around) → base.Fine g x a (nodes_of v) → ((L v).reaches a).has_end ≡ true → base.Typed g (lower.place_in (L v) a) (ty_of p)
+      typed_place : (a : LoopsAndGuards) → base.Fine g x a (nodes_of v) → ((L v).reaches a).has_end ≡ true → base.Typed g (lower.place_in (L v) a) (ty_of p)
       typed_place a f e = by_place (is_place_form (form_of v)) refl same
         where
           here : base.Typed g (lower.place_in (L v) a) (ty_of v)

@@ -11,7 +11,7 @@ use Rattle.store_model.specs.Places.Place.{Step, ToPart, ToField, Place, whole_l
 use Rattle.typed_tree.specs.Nodes.{number_of, nodes_of, nodes_in, nodes_among, nodes_of_fields}
 use Rattle.typed_tree.specs.Tree as tree
 use Rattle.typed_tree.specs.Tree.{Node, Form, Nodes, no_node, a_node, Fields, no_field, a_field}
-use Rattle.src_meaning.specs.Forms.{Destination, Around, in_guard, in_loop, loop_destination, aliases_with}
+use Rattle.src_meaning.specs.Forms.{Destination, LoopsAndGuards, in_guard, in_loop, loop_destination, aliases_with}
 use Rattle.src_meaning.specs.Locals.OfBody.{cells, all_cells, cells_of_fields}
 use Rattle.src_meaning.specs.Shape.{head, BoundName, Aliases, shape, shape_of, in_fields, in_parts, extended, place_of_key}
 use Rattle.well_typed.specs.Claim.{Holds}
@@ -384,7 +384,7 @@ module _ (g : Ground) where
           (subst (λ (z : Place). base.Typed g z d.ty) (sym w.0 ∙ ap (λ (k : ℕ). place_of_key k aliases) at) typed)
       by again false q h = again h
 
-  pub around_more : (x : Context) (a : Around) (p : Node) → base.AroundOk g x a → Keyed (entries_of p) → base.AliasesOver g a.aliases (nodes_of p) → base.AroundOk g (with_entries (entries_of p) x) a
+  pub around_more : (x : Context) (a : LoopsAndGuards) (p : Node) → base.AroundOk g x a → Keyed (entries_of p) → base.AliasesOver g a.aliases (nodes_of p) → base.AroundOk g (with_entries (entries_of p) x) a
   around_more x a p ok keyed over = record {
     names = λ key e is. in_scope key e a.aliases x.entries (ok.names key e) (entries_of p) keyed (of_entries (Whole a.aliases) (nodes_of p) (wholes a.aliases (nodes_of p) over)) is;
     self = ok.self;
@@ -422,7 +422,7 @@ module _ (g : Ground) where
   self_under None e ns h q = absurd (none-some e q)
   self_under (Some d) e ns h q = subst (λ (z : InScope). base.Over g z.key ns) (same_Some d e q) h
 
-  pub around_guard : (x : Context) (a : Around) (p : Node) (bounds : List BoundName) → base.AroundOk g x a → Matches bounds (entries_of p) → rules.BoundsOk g bounds → base.SelfOver g x.closure (nodes_of p) → base.AroundOk g (with_entries (scopes.in_guard (entries_of p)) x) (in_guard bounds a)
+  pub around_guard : (x : Context) (a : LoopsAndGuards) (p : Node) (bounds : List BoundName) → base.AroundOk g x a → Matches bounds (entries_of p) → rules.BoundsOk g bounds → base.SelfOver g x.closure (nodes_of p) → base.AroundOk g (with_entries (scopes.in_guard (entries_of p)) x) (in_guard bounds a)
   around_guard x a p bounds ok m b over = record {
     names = λ key e is. in_guard_so key e a.aliases x.entries (ok.names key e) bounds (entries_of p) m b is;
     self = λ e is. subst (λ (z : Place). base.Typed g z e.ty)
@@ -440,10 +440,10 @@ module _ (g : Ground) where
   guard_fresh aliases ns (b ∷ bounds) (d ∷ es) m h over = (subst (λ (k : ℕ). base.Over g k ns) (sym m.0) h.0, guard_fresh aliases ns bounds es m.2 h.1 over)
 
   -- what is around the nodes behind a pattern, and around those of a guard
-  pub fine_more : (x : Context) (a : Around) (p : Node) (ns : List Node) → base.Fine g x a (nodes_of p) → base.Fine g x a ns → Keyed (entries_of p) → base.Fine g (with_entries (entries_of p) x) a ns
+  pub fine_more : (x : Context) (a : LoopsAndGuards) (p : Node) (ns : List Node) → base.Fine g x a (nodes_of p) → base.Fine g x a ns → Keyed (entries_of p) → base.Fine g (with_entries (entries_of p) x) a ns
   fine_more x a p ns here behind keyed = record { around = around_more x a p here.around keyed here.fresh; fresh = behind.fresh; apart = behind.apart }
 
-  pub fine_guard : (x : Context) (a : Around) (p : Node) (ns : List Node) (bounds : List BoundName) → base.Rise g (nodes_of p ++ ns) → base.Fine g x a (nodes_of p ++ ns) → Matches bounds (entries_of p) → rules.BoundsOk g bounds → base.Fine g (with_entries (scopes.in_guard (entries_of p)) x) (in_guard bounds a) ns
+  pub fine_guard : (x : Context) (a : LoopsAndGuards) (p : Node) (ns : List Node) (bounds : List BoundName) → base.Rise g (nodes_of p ++ ns) → base.Fine g x a (nodes_of p ++ ns) → Matches bounds (entries_of p) → rules.BoundsOk g bounds → base.Fine g (with_entries (scopes.in_guard (entries_of p)) x) (in_guard bounds a) ns
   fine_guard x a p ns bounds rise f m b =
       let here = base.fine_first g x a (nodes_of p) ns f in
       let behind = base.fine_second g x a (nodes_of p) ns f in
@@ -454,7 +454,7 @@ module _ (g : Ground) where
       }
 
   -- ---- in a loop
-  pub fine_loop : (x : Context) (a : Around) (ns : List Node) (l : LoopAround) (to : Destination) → base.Fine g x a ns → base.DestIf g to l.ty → base.Fine g (within l x) (in_loop l.loop to a) ns
+  pub fine_loop : (x : Context) (a : LoopsAndGuards) (ns : List Node) (l : LoopAround) (to : Destination) → base.Fine g x a ns → base.DestIf g to l.ty → base.Fine g (within l x) (in_loop l.loop to a) ns
   fine_loop x a ns l to f d = record {
     around = record {
       names = f.around.names;

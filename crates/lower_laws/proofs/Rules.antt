@@ -13,7 +13,7 @@ use Rattle.typed_tree.specs.Nodes.{number_of, nodes_of}
 use Rattle.typed_tree.specs.Tree as tree
 use Rattle.src_meaning.specs.Evaluation.{to_own_key}
 use Rattle.src_meaning.specs.Forms as source
-use Rattle.src_meaning.specs.Forms.{Destination, Into, Coerced, Around, in_loop, in_guard, entry_of, bound_entry, site_in, site_of_key, moved}
+use Rattle.src_meaning.specs.Forms.{Destination, Into, Coerced, LoopsAndGuards, in_loop, in_guard, entry_of, bound_entry, site_in, site_of_key, moved}
 use Rattle.src_meaning.specs.Locals.OfBody.{cells, reached_cells, is_place_form}
 use Rattle.src_meaning.specs.Scopes.{Entry, Scope, Scopes, innermost, nearest_temporary, with_entry, with_pending, becomes_entry}
 use Rattle.src_meaning.specs.Shape.{NodeHead, Shape, BoundName, shape, Aliases, site_at, operand_at, operand_of_bound, moves, copied_or_moved}
@@ -51,7 +51,7 @@ module _ (g : Ground) where
   abbrev Made : TyId → Type 0
   Made = base.Made g
 
-  abbrev Fine : Context → Around → List tree.Node → Type 0
+  abbrev Fine : Context → LoopsAndGuards → List tree.Node → Type 0
   Fine = base.Fine g
 
   abbrev Typed : Place → TyId → Type 0
@@ -151,13 +151,13 @@ module _ (g : Ground) where
     pub ty_is : m.head.ty ≡ ty_of n
     pub shape_is : m.shape ≡ shape g.items n
     pub cell : CellsOk (cells g.items true n) → Made m.head.ty → KeyIs m.head.id m.head.ty
-    pub ended : (o : Bool) → CellsOk (cells g.items o n) → Never m.head.ty → (a : Around) (own : Bool) (to : Destination) → (m.evaluates a own to).has_end ≡ false
-    pub leaves : (o : Bool) → CellsOk (cells g.items o n) → (a : Around) (own : Bool) (to : Destination) → Leaves x.loops (m.evaluates a own to)
-    pub evaluates : (o : Bool) → CellsOk (cells g.items o n) → (a : Around) → Fine x a (nodes_of n) → (own : Bool) (to : Destination) → DestIf to m.head.ty → Sound (m.evaluates a own to)
-    pub reach_ended : CellsOk (reached_cells g.items n) → is_place_form (form_of n) ≡ false → Never m.head.ty → (a : Around) → (m.reaches a).has_end ≡ false
-    pub reach_leaves : CellsOk (reached_cells g.items n) → (a : Around) → Leaves x.loops (m.reaches a)
-    pub reaches : CellsOk (reached_cells g.items n) → (a : Around) → Fine x a (nodes_of n) → Sound (m.reaches a)
-    pub place : CellsOk (reached_cells g.items n) → (a : Around) → Fine x a (nodes_of n) → (m.reaches a).has_end ≡ true → Typed (m.shape.place a.aliases) m.head.ty
+    pub ended : (o : Bool) → CellsOk (cells g.items o n) → Never m.head.ty → (a : LoopsAndGuards) (own : Bool) (to : Destination) → (m.evaluates a own to).has_end ≡ false
+    pub leaves : (o : Bool) → CellsOk (cells g.items o n) → (a : LoopsAndGuards) (own : Bool) (to : Destination) → Leaves x.loops (m.evaluates a own to)
+    pub evaluates : (o : Bool) → CellsOk (cells g.items o n) → (a : LoopsAndGuards) → Fine x a (nodes_of n) → (own : Bool) (to : Destination) → DestIf to m.head.ty → Sound (m.evaluates a own to)
+    pub reach_ended : CellsOk (reached_cells g.items n) → is_place_form (form_of n) ≡ false → Never m.head.ty → (a : LoopsAndGuards) → (m.reaches a).has_end ≡ false
+    pub reach_leaves : CellsOk (reached_cells g.items n) → (a : LoopsAndGuards) → Leaves x.loops (m.reaches a)
+    pub reaches : CellsOk (reached_cells g.items n) → (a : LoopsAndGuards) → Fine x a (nodes_of n) → Sound (m.reaches a)
+    pub place : CellsOk (reached_cells g.items n) → (a : LoopsAndGuards) → Fine x a (nodes_of n) → (m.reaches a).has_end ≡ true → Typed (m.shape.place a.aliases) m.head.ty
     pub reach_entry : CellsOk (reached_cells g.items n) → m.shape.is_place ≡ false → base.EntryOk g (entry_of m.head)
 
   abbrev InThat : ((Scope → Scope) → Scopes → Scopes) → Type 0
@@ -197,9 +197,9 @@ module _ (g : Ground) where
     pub whole : (a : Aliases) → s.place a ≡ whole_local h.id
     pub reached_so : CellsOk (reached_cells g.items n) → CellsOk (cells g.items true n)
     pub cell : CellsOk (cells g.items true n) → Made h.ty → KeyIs h.id h.ty
-    pub ended : (o : Bool) → CellsOk (cells g.items o n) → Never h.ty → (a : Around) (own : Bool) → (e a own (Into h.id)).has_end ≡ false
-    pub leaves : (o : Bool) → CellsOk (cells g.items o n) → (a : Around) (own : Bool) (to : Destination) → Leaves x.loops (e a own to)
-    pub sound : (o : Bool) → CellsOk (cells g.items o n) → (a : Around) → Fine x a (nodes_of n) → (own : Bool) (to : Destination) → Arrives h to → Sound (e a own to)
+    pub ended : (o : Bool) → CellsOk (cells g.items o n) → Never h.ty → (a : LoopsAndGuards) (own : Bool) → (e a own (Into h.id)).has_end ≡ false
+    pub leaves : (o : Bool) → CellsOk (cells g.items o n) → (a : LoopsAndGuards) (own : Bool) (to : Destination) → Leaves x.loops (e a own to)
+    pub sound : (o : Bool) → CellsOk (cells g.items o n) → (a : LoopsAndGuards) → Fine x a (nodes_of n) → (own : Bool) (to : Destination) → Arrives h to → Sound (e a own to)
 
   pub value_good : (x : Context) (n : tree.Node) (h : NodeHead) (s : Shape) (e : Evaluates) → ValueIs x n h s e → Good x n (lower.a_value F h s e)
   value_good x n h s e v = record {
@@ -219,10 +219,10 @@ module _ (g : Ground) where
     reach_entry = λ c p d. v.cell (v.reached_so c) (made_by_drop h.ty d);
   }
     where
-      ended : (o : Bool) → CellsOk (cells g.items o n) → Never h.ty → (a : Around) (own : Bool) (to : Destination) → (lower.made_in F h e a own to).has_end ≡ false
+      ended : (o : Bool) → CellsOk (cells g.items o n) → Never h.ty → (a : LoopsAndGuards) (own : Bool) (to : Destination) → (lower.made_in F h e a own to).has_end ≡ false
       ended o c w a own to = ap (λ (z : Destination). (e a own z).has_end) (own_key h to w) ∙ v.ended o c w a own
 
-      evaluates : (o : Bool) → CellsOk (cells g.items o n) → (a : Around) → Fine x a (nodes_of n) → (own : Bool) (to : Destination) → DestIf to h.ty → Sound (lower.made_in F h e a own to)
+      evaluates : (o : Bool) → CellsOk (cells g.items o n) → (a : LoopsAndGuards) → Fine x a (nodes_of n) → (own : Bool) (to : Destination) → DestIf to h.ty → Sound (lower.made_in F h e a own to)
       evaluates o c a f own to d = v.sound o c a f own (to_own_key (source.is_never g.items h.ty) h.id to) (arrives h to d)
 
   -- what a place's node is
@@ -235,9 +235,9 @@ module _ (g : Ground) where
     pub reached_so : (o : Bool) → CellsOk (cells g.items o n) → CellsOk (reached_cells g.items n)
     pub cell : CellsOk (cells g.items true n) → Made h.ty → KeyIs h.id h.ty
     pub never : (o : Bool) → CellsOk (cells g.items o n) → Never h.ty → KeyIs h.id h.ty
-    pub leaves : CellsOk (reached_cells g.items n) → (a : Around) → Leaves x.loops (r a)
-    pub sound : CellsOk (reached_cells g.items n) → (a : Around) → Fine x a (nodes_of n) → Sound (r a)
-    pub place : CellsOk (reached_cells g.items n) → (a : Around) → Fine x a (nodes_of n) → (r a).has_end ≡ true → Typed (s.place a.aliases) h.ty
+    pub leaves : CellsOk (reached_cells g.items n) → (a : LoopsAndGuards) → Leaves x.loops (r a)
+    pub sound : CellsOk (reached_cells g.items n) → (a : LoopsAndGuards) → Fine x a (nodes_of n) → Sound (r a)
+    pub place : CellsOk (reached_cells g.items n) → (a : LoopsAndGuards) → Fine x a (nodes_of n) → (r a).has_end ≡ true → Typed (s.place a.aliases) h.ty
 
   put_part : (h : NodeHead) (place : Place) (key : ℕ) → Typed place h.ty → KeyIs key h.ty → lines.ActOk F (base.wanted g) h.id (effects.Put (site_in h.id key) (operand_at h place))
   put_part h place key t k = by (moves h.by)
@@ -272,21 +272,21 @@ module _ (g : Ground) where
     reach_entry = λ c p. absurd (untrue (sym p ∙ v.marked));
   }
     where
-      put : Around → EffectSite → Action
+      put : LoopsAndGuards → EffectSite → Action
       put a site = effects.Put site (operand_at h (s.place a.aliases))
 
   -- ---- operands
   pub record Operand (x : Context) (ns : List tree.Node) (m : NodeLower) (want : TyId) : Type 0 where
-    pub leaves : (a : Around) → Leaves x.loops (m.evaluates a false (Into m.head.id))
-    pub sound : (a : Around) → Fine x a ns → Sound (m.evaluates a false (Into m.head.id))
+    pub leaves : (a : LoopsAndGuards) → Leaves x.loops (m.evaluates a false (Into m.head.id))
+    pub sound : (a : LoopsAndGuards) → Fine x a ns → Sound (m.evaluates a false (Into m.head.id))
     pub entry : base.EntryOk g (entry_of m.head)
-    pub given : (a : Around) → (m.evaluates a false (Into m.head.id)).has_end ≡ true → KeyIs m.head.id want × Made want
+    pub given : (a : LoopsAndGuards) → (m.evaluates a false (Into m.head.id)).has_end ≡ true → KeyIs m.head.id want × Made want
 
   -- a value of the wanted type, unless it is of type `!`
   abbrev pub Fits : TyId → TyId → Type 0
   Fits want ty = (ty ≡ want) ⊎ Never ty
 
-  pub ends_made : (x : Context) (n : tree.Node) (m : NodeLower) → Good x n m → (o : Bool) → CellsOk (cells g.items o n) → (a : Around) (own : Bool) (to : Destination) → (m.evaluates a own to).has_end ≡ true → Made m.head.ty
+  pub ends_made : (x : Context) (n : tree.Node) (m : NodeLower) → Good x n m → (o : Bool) → CellsOk (cells g.items o n) → (a : LoopsAndGuards) (own : Bool) (to : Destination) → (m.evaluates a own to).has_end ≡ true → Made m.head.ty
   ends_made x n m k o c a own to e = base.by_never g m.head.ty (λ w. absurd (untrue (sym (k.ended o c w a own to) ∙ e))) (λ v. v)
 
   pub operand_of : (x : Context) (n : tree.Node) (m : NodeLower) → Good x n m → CellsOk (cells g.items true n) → (want : TyId) → Fits want (ty_of n) → Operand x (nodes_of n) m want
@@ -311,38 +311,38 @@ module _ (g : Ground) where
   Given (m ∷ ms) (id ∷ ids) = (KeyIs m.head.id id × Made id) × Given ms ids
   Given _ _ = ⊥
 
-  pub operand_sound : (x : Context) (ns : List tree.Node) (m : NodeLower) (want : TyId) → Operand x ns m want → (a : Around) → Fine x a ns → Sound (lower.operand F a m)
+  pub operand_sound : (x : Context) (ns : List tree.Node) (m : NodeLower) (want : TyId) → Operand x ns m want → (a : LoopsAndGuards) → Fine x a ns → Sound (lower.operand F a m)
   operand_sound x ns m want o a f = pended m.shape.in_destination innermost m.head _ inner o.entry (o.sound a f)
 
-  pub operand_leaves : (x : Context) (ns : List tree.Node) (m : NodeLower) (want : TyId) → Operand x ns m want → (a : Around) → Leaves x.loops (lower.operand F a m)
+  pub operand_leaves : (x : Context) (ns : List tree.Node) (m : NodeLower) (want : TyId) → Operand x ns m want → (a : LoopsAndGuards) → Leaves x.loops (lower.operand F a m)
   operand_leaves x ns m want o a = pended_leaves x.loops m.shape.in_destination innermost m.head _ (o.leaves a)
 
-  pub operand_given : (x : Context) (ns : List tree.Node) (m : NodeLower) (want : TyId) → Operand x ns m want → (a : Around) → (lower.operand F a m).has_end ≡ true → KeyIs m.head.id want × Made want
+  pub operand_given : (x : Context) (ns : List tree.Node) (m : NodeLower) (want : TyId) → Operand x ns m want → (a : LoopsAndGuards) → (lower.operand F a m).has_end ≡ true → KeyIs m.head.id want × Made want
   operand_given x ns m want o a e = o.given a (and_first (m.evaluates a false (Into m.head.id)).has_end true e)
 
-  operands_sound : (x : Context) (ns : List tree.Node) (ms : List NodeLower) (wants : List TyId) → Operands x ns ms wants → (a : Around) → Fine x a ns → Sound (lower.operands F a ms)
+  operands_sound : (x : Context) (ns : List tree.Node) (ms : List NodeLower) (wants : List TyId) → Operands x ns ms wants → (a : LoopsAndGuards) → Fine x a ns → Sound (lower.operands F a ms)
   operands_sound x _ _ _ no_operand a f = base.nothing_done g
   operands_sound x _ _ _ (an_operand ns others m ms want wants o os) a f =
       base.and_then g _ _ (operand_sound x ns m want o a (base.fine_first g x a ns others f)) (λ e. operands_sound x others ms wants os a (base.fine_second g x a ns others f))
 
-  operands_leave : (x : Context) (ns : List tree.Node) (ms : List NodeLower) (wants : List TyId) → Operands x ns ms wants → (a : Around) → Leaves x.loops (lower.operands F a ms)
+  operands_leave : (x : Context) (ns : List tree.Node) (ms : List NodeLower) (wants : List TyId) → Operands x ns ms wants → (a : LoopsAndGuards) → Leaves x.loops (lower.operands F a ms)
   operands_leave x _ _ _ no_operand a = record { spares = tt }
   operands_leave x _ _ _ (an_operand ns others m ms want wants o os) a = base.leaves_then g x.loops _ _ (operand_leaves x ns m want o a) (λ e. operands_leave x others ms wants os a)
 
-  operands_given : (x : Context) (ns : List tree.Node) (ms : List NodeLower) (wants : List TyId) → Operands x ns ms wants → (a : Around) → (lower.operands F a ms).has_end ≡ true → Given ms wants
+  operands_given : (x : Context) (ns : List tree.Node) (ms : List NodeLower) (wants : List TyId) → Operands x ns ms wants → (a : LoopsAndGuards) → (lower.operands F a ms).has_end ≡ true → Given ms wants
   operands_given x _ _ _ no_operand a e = tt
   operands_given x _ _ _ (an_operand ns others m ms want wants o os) a e =
       (operand_given x ns m want o a (and_first (lower.operand F a m).has_end _ e), operands_given x others ms wants os a (and_second (lower.operand F a m).has_end _ e))
 
-  pub acting_sound : (x : Context) (h : NodeHead) (a : Around) (own : Bool) (ns : List tree.Node) (ms : List NodeLower) (wants : List TyId) → Operands x ns ms wants → Fine x a ns → (P : Lowers) → (Given ms wants → Sound P) → Sound (lower.acting F h a own ms P)
+  pub acting_sound : (x : Context) (h : NodeHead) (a : LoopsAndGuards) (own : Bool) (ns : List tree.Node) (ms : List NodeLower) (wants : List TyId) → Operands x ns ms wants → Fine x a ns → (P : Lowers) → (Given ms wants → Sound P) → Sound (lower.acting F h a own ms P)
   acting_sound x h a own ns ms wants os f P p =
       base.scoped g h.id own _ (base.and_then g _ _ (operands_sound x ns ms wants os a f)
       (λ e. lines.changed_sound F (base.wanted g) (taken F (lower.keys_of ms)) P (lines.taken_ok F (base.wanted g) (lower.keys_of ms)) (p (operands_given x ns ms wants os a e))))
 
-  pub acting_leaves : (x : Context) (h : NodeHead) (a : Around) (own : Bool) (ns : List tree.Node) (ms : List NodeLower) (wants : List TyId) → Operands x ns ms wants → (P : Lowers) → Leaves x.loops P → Leaves x.loops (lower.acting F h a own ms P)
+  pub acting_leaves : (x : Context) (h : NodeHead) (a : LoopsAndGuards) (own : Bool) (ns : List tree.Node) (ms : List NodeLower) (wants : List TyId) → Operands x ns ms wants → (P : Lowers) → Leaves x.loops P → Leaves x.loops (lower.acting F h a own ms P)
   acting_leaves x h a own ns ms wants os P p = leaves_scope x.loops h.id own _ (base.leaves_then g x.loops _ _ (operands_leave x ns ms wants os a) (λ e. leaves_changed x.loops (taken F (lower.keys_of ms)) P p))
 
-  pub acting_ended : (h : NodeHead) (a : Around) (own : Bool) (ms : List NodeLower) (P : Lowers) → P.has_end ≡ false → (lower.acting F h a own ms P).has_end ≡ false
+  pub acting_ended : (h : NodeHead) (a : LoopsAndGuards) (own : Bool) (ms : List NodeLower) (P : Lowers) → P.has_end ≡ false → (lower.acting F h a own ms P).has_end ≡ false
   acting_ended h a own ms P e =
       no_end_scope h.id own (then_lower (lower.operands F a ms) (from_changed (taken F (lower.keys_of ms)) P)) (no_end_second (lower.operands F a ms) (from_changed (taken F (lower.keys_of ms)) P) e)
 
@@ -355,7 +355,7 @@ module _ (g : Ground) where
       unit_made id is v = let e = unit_known g.items id is in untrue (rw e at v)
 
   -- ---- tests and branches
-  pub alone_sound : (x : Context) (n : tree.Node) (m : NodeLower) → Good x n m → (o : Bool) → CellsOk (cells g.items o n) → (a : Around) → Fine x a (nodes_of n) → (to : Destination) → DestIf to m.head.ty → Sound (lower.alone F a m to)
+  pub alone_sound : (x : Context) (n : tree.Node) (m : NodeLower) → Good x n m → (o : Bool) → CellsOk (cells g.items o n) → (a : LoopsAndGuards) → Fine x a (nodes_of n) → (to : Destination) → DestIf to m.head.ty → Sound (lower.alone F a m to)
   alone_sound x n m k o c a f to d = lines.back_sound F (base.wanted g) _ (k.evaluates o c a f true to d)
 
   pub if_ok : (key : ℕ) (id : TyId) → KeyIs key id → type_at g.items id ≡ Some Ty.Bool → lines.TestOk F (base.wanted g) (if_true F (moved key key) key)
@@ -368,14 +368,14 @@ module _ (g : Ground) where
   pub bool_if_made : (ty : TyId) → IsBool ty → Made ty → type_at g.items ty ≡ Some Ty.Bool
   bool_if_made ty is m = elim is [ inl so ↦ bool_known g.items ty so | inr v ↦ absurd (base.never_and_made g ty v m) ]
 
-  pub condition_sound : (x : Context) (n : tree.Node) (m : NodeLower) → Good x n m → CellsOk (cells g.items true n) → IsBool (ty_of n) → (a : Around) → Fine x a (nodes_of n) → (P Q : Lowers) → Sound P → Sound Q → Sound (lower.condition F a m P Q)
+  pub condition_sound : (x : Context) (n : tree.Node) (m : NodeLower) → Good x n m → CellsOk (cells g.items true n) → IsBool (ty_of n) → (a : LoopsAndGuards) → Fine x a (nodes_of n) → (P Q : Lowers) → Sound P → Sound Q → Sound (lower.condition F a m P Q)
   condition_sound x n m k c is a f P Q p q =
       base.and_then g _ _ (alone_sound x n m k true c a f (Into m.head.id) (λ v. k.cell c v))
       (λ e. let v = ends_made x n m k true c a true (Into m.head.id) e in
       lines.branches_sound F (base.wanted g) m.head.id (if_true F (moved m.head.id m.head.id) m.head.id) P Q
       (if_ok m.head.id m.head.ty (k.cell c v) (bool_if_made m.head.ty (subst IsBool (sym k.ty_is) is) v)) p q)
 
-  pub condition_leaves : (x : Context) (n : tree.Node) (m : NodeLower) → Good x n m → CellsOk (cells g.items true n) → (a : Around) → (P Q : Lowers) → Leaves x.loops P → Leaves x.loops Q → Leaves x.loops (lower.condition F a m P Q)
+  pub condition_leaves : (x : Context) (n : tree.Node) (m : NodeLower) → Good x n m → CellsOk (cells g.items true n) → (a : LoopsAndGuards) → (P Q : Lowers) → Leaves x.loops P → Leaves x.loops Q → Leaves x.loops (lower.condition F a m P Q)
   condition_leaves x n m k c a P Q p q =
       base.leaves_then g x.loops _ _ (leaves_back x.loops _ (k.leaves true c a true (Into m.head.id))) (λ e. leaves_branches x.loops m.head.id (if_true F (moved m.head.id m.head.id) m.head.id) P Q p q)
 

@@ -23,7 +23,7 @@ use Rattle.store_model.specs.Places.Place.{whole_local, is_enum}
 use Rattle.typed_tree.specs.Nodes.{number_of, nodes_of, param_nodes, body_nodes}
 use Rattle.typed_tree.specs.Tree as tree
 use Rattle.typed_tree.specs.Tree.{Node, Form, ParamTree, BodyTree, ProgramTree}
-use Rattle.src_meaning.specs.Forms.{Around, Into}
+use Rattle.src_meaning.specs.Forms.{LoopsAndGuards, Into}
 use Rattle.src_meaning.specs.Locals.OfBody.{cells, cells_in, locals, local_of, local_tys, param_key, answer_key}
 use Rattle.src_meaning.specs.Scopes.{Entry, innermost, with_entry}
 use Rattle.src_meaning.specs.Shape.{shape}
@@ -315,7 +315,7 @@ module _ (p : ProgramTree) (w : WellTyped p) (n : ℕ) (body : BodyTree) (at_n :
   abbrev context : Option InScope → List ParamTree → Context
   context closure params = record { items = p.items; entries = entries_of_params params; closure = closure; loops = []; answer = body.answer }
 
-  abbrev around : Around
+  abbrev around : LoopsAndGuards
   around = lower.around_body F body
 
   -- what is known of a closure's value

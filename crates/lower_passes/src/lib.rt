@@ -4,7 +4,7 @@
 #![tactic(auto)]
 
 mod divergence;
-mod dropping;
+mod drops;
 mod effects;
 mod entries;
 mod frames;
@@ -18,7 +18,7 @@ mod scopes_after;
 mod spans;
 
 pub use divergence::is_last;
-pub use dropping::{drops_none, panic_drops};
+pub use drops::{drops_none, panic_drops};
 pub use effects::{statement, terminator};
 pub use entries::copied_entries;
 pub use frames::{LoweringFrame, local};

@@ -8,7 +8,7 @@ use Rattle.store_model.specs.Places.Place.{Place, whole_local}
 use Rattle.typed_tree.specs.Tree as tree
 use Rattle.typed_tree.specs.Tree.{Node, node, Form, Nodes, no_node, a_node, Fields, no_field, a_field, MaybeNode, absent, present, ParamTree, BodyTree}
 use Rattle.src_meaning.specs.Evaluation.{in_number_order}
-use Rattle.src_meaning.specs.Forms.{Destination, Into, Coerced, coerced, Around, in_loop, loop_destination, entry_of, bound_entry, site_of_key, moved, is_never}
+use Rattle.src_meaning.specs.Forms.{Destination, Into, Coerced, coerced, LoopsAndGuards, in_loop, loop_destination, entry_of, bound_entry, site_of_key, moved, is_never}
 use Rattle.src_meaning.specs.Locals.OfBody.{param_key, answer_key}
 use Rattle.src_meaning.specs.Scopes.{innermost, nearest_temporary, with_scope, with_entry, Breaks, Continues, Returns}
 use Rattle.src_meaning.specs.Shape.{NodeHead, head, Shape, BoundName, kind_of, shape, shape_of, operand_at, operand_of_bound}
@@ -67,10 +67,10 @@ module _ (f : LoweringFrame) where
   pending true at h c = refl
   pending false at h c = refl
 
-  an_operand : (around : Around) (m : NodeWords) → lowers f (code.operand around m) ≡ low.operand f around (lowered m)
+  an_operand : (around : LoopsAndGuards) (m : NodeWords) → lowers f (code.operand around m) ≡ low.operand f around (lowered m)
   an_operand around m = pending m.shape.in_destination Innermost m.head (Then (m.evaluates around false (Into m.head.id)) (Changes (Completes Innermost (entry_of m.head))))
 
-  all_operands : (around : Around) (ms : List NodeWords) → lowers f (code.operands around ms) ≡ low.operands f around (all_lowered ms)
+  all_operands : (around : LoopsAndGuards) (ms : List NodeWords) → lowers f (code.operands around ms) ≡ low.operands f around (all_lowered ms)
   all_operands around [] = refl
   all_operands around (m ∷ ms) = λ i. then_lower (an_operand around m i) (all_operands around ms i)
 
@@ -78,25 +78,25 @@ module _ (f : LoweringFrame) where
   keys [] = refl
   keys (m ∷ ms) = ap (λ rest. m.head.id ∷ rest) (keys ms)
 
-  acts_on : (h : NodeHead) (around : Around) (own : Bool) (ms : List NodeWords) (c : Code) (P : Lowers) → lowers f c ≡ P → lowers f (code.acting h.id around own ms c) ≡ low.acting f h around own (all_lowered ms) P
+  acts_on : (h : NodeHead) (around : LoopsAndGuards) (own : Bool) (ms : List NodeWords) (c : Code) (P : Lowers) → lowers f c ≡ P → lowers f (code.acting h.id around own ms c) ≡ low.acting f h around own (all_lowered ms) P
   acts_on h around own ms c P same = λ i. in_scope f h.id own (then_lower (all_operands around ms i) (from_changed (build.taken f (keys ms i)) (same i)))
 
-  drops_one : (h : NodeHead) (around : Around) (own : Bool) (m : NodeWords) (c : Code) (P : Lowers) → lowers f c ≡ P → lowers f (code.dropping h.id around own m c) ≡ low.dropping f h around own (lowered m) P
+  drops_one : (h : NodeHead) (around : LoopsAndGuards) (own : Bool) (m : NodeWords) (c : Code) (P : Lowers) → lowers f c ≡ P → lowers f (code.dropping h.id around own m c) ≡ low.dropping f h around own (lowered m) P
   drops_one h around own m c P same = λ i. in_scope f h.id own (then_lower (an_operand around m i) (same i))
 
   -- Places.
 
-  a_temporary : (h : NodeHead) (s : Shape) (e : code.Evaluates) (e' : low.Evaluates) → ((around : Around) (own : Bool) (to : Destination) → lowers f (e around own to) ≡ e' around own to) → (around : Around) → lowers f (code.temporary h s e around) ≡ low.temporary f h s e' around
+  a_temporary : (h : NodeHead) (s : Shape) (e : code.Evaluates) (e' : low.Evaluates) → ((around : LoopsAndGuards) (own : Bool) (to : Destination) → lowers f (e around own to) ≡ e' around own to) → (around : LoopsAndGuards) → lowers f (code.temporary h s e around) ≡ low.temporary f h s e' around
   a_temporary h s e e' same around =
       pending s.in_destination NearestTemporary h (Then (e around false (Into h.id)) (Changes (Completes NearestTemporary (entry_of h))))
       ∙ ap (λ P. from_changed (low.pending_if f s.in_destination nearest_temporary h) (then_lower P (change (low.completed f nearest_temporary h)))) (same around false (Into h.id))
 
-  uses_place : (h : NodeHead) (s : Shape) (r : code.Reaches) (around : Around) (own : Bool) (to : Destination) → lowers f (code.use_of_place h s r around own to) ≡ low.use_of_place f h s (λ around. lowers f (r around)) around own to
+  uses_place : (h : NodeHead) (s : Shape) (r : code.Reaches) (around : LoopsAndGuards) (own : Bool) (to : Destination) → lowers f (code.use_of_place h s r around own to) ≡ low.use_of_place f h s (λ around. lowers f (r around)) around own to
   uses_place h s r around own to =
       in_own_by h own (Then (r around) (code.deliver h.id (λ site. effects.Put site (operand_at h (s.place around.aliases))) to)) (then_lower (lowers f (r around)) (low.deliver f h (λ site. effects.Put site (operand_at h (s.place around.aliases))) to))
       (ap (then_lower (lowers f (r around))) (delivered h (λ site. effects.Put site (operand_at h (s.place around.aliases))) to))
 
-  borrows : (h : NodeHead) (unique : Bool) (base : NodeWords) (around : Around) (own : Bool) (to : Destination) → lowers f (code.borrowing h unique base around own to) ≡ low.borrowing f h unique (lowered base) around own to
+  borrows : (h : NodeHead) (unique : Bool) (base : NodeWords) (around : LoopsAndGuards) (own : Bool) (to : Destination) → lowers f (code.borrowing h unique base around own to) ≡ low.borrowing f h unique (lowered base) around own to
   borrows h unique base around own to =
       let action = λ (site : EffectSite). effects.Borrow (record site { node = base.head.id }) unique (code.site_of base around) in
       in_own_by h own (Then (base.reaches around) (code.deliver_at base.head.id h.id action to)) (then_lower (lowers f (base.reaches around)) (low.deliver_at f base.head.id h action to))
@@ -109,7 +109,7 @@ module _ (f : LoweringFrame) where
   replaced true site key = refl
   replaced false site key = refl
 
-  assigns : (h : NodeHead) (place value : NodeWords) (around : Around) (own : Bool) (to : Destination) → lowers f (code.assigning f.items h place value around own to) ≡ low.assigning f h (lowered place) (lowered value) around own to
+  assigns : (h : NodeHead) (place value : NodeWords) (around : LoopsAndGuards) (own : Bool) (to : Destination) → lowers f (code.assigning f.items h place value around own to) ≡ low.assigning f h (lowered place) (lowered value) around own to
   assigns h place value around own to = λ i.
       in_scope f h.id own (then_lower (an_operand around value i)
       (then_lower (lowers f (place.reaches around))
@@ -117,7 +117,7 @@ module _ (f : LoweringFrame) where
 
   -- Conditions, branches, patterns.
 
-  branched : (around : Around) (to : Destination) (m : WordsIfAny) (c : Code) → lowers f (code.branch around to m c) ≡ low.branch f around to (lowered_if m) (lowers f c)
+  branched : (around : LoopsAndGuards) (to : Destination) (m : WordsIfAny) (c : Code) → lowers f (code.branch around to m c) ≡ low.branch f around to (lowered_if m) (lowers f c)
   branched around to no_code c = refl
   branched around to (a_code m) c = refl
 
@@ -129,43 +129,43 @@ module _ (f : LoweringFrame) where
   touches true site = refl
   touches false site = refl
 
-  scrutinises : (around : Around) (m : NodeWords) → lowers f (code.scrutinised around m) ≡ low.scrutinised f around (lowered m)
+  scrutinises : (around : LoopsAndGuards) (m : NodeWords) → lowers f (code.scrutinised around m) ≡ low.scrutinised f around (lowered m)
   scrutinises around m = ap (then_lower (lowers f (m.reaches around))) (touches m.shape.is_place (code.site_of m around))
 
-  takes_if : (h : NodeHead) (around : Around) (pattern scrutinee : NodeWords) (held otherwise : Code) → lowers f (code.if_taken h around pattern scrutinee held otherwise) ≡ low.if_taken f h around (lowered pattern) (lowered scrutinee) (lowers f held) (lowers f otherwise)
+  takes_if : (h : NodeHead) (around : LoopsAndGuards) (pattern scrutinee : NodeWords) (held otherwise : Code) → lowers f (code.if_taken h around pattern scrutinee held otherwise) ≡ low.if_taken f h around (lowered pattern) (lowered scrutinee) (lowers f held) (lowers f otherwise)
   takes_if h around pattern scrutinee held otherwise = λ i.
       from_changed (with_scope h.id true) (then_lower (scrutinises around scrutinee i)
       (branches h.id (tests f (pattern.shape.tests (code.place_in scrutinee around))) (then_lower (then_lower (binds Innermost (pattern.shape.bindings (code.place_in scrutinee around)) i) (lowers f held)) (leave f))
       (then_lower (leave f) (lowers f otherwise))))
 
-  takes_arm : (h : NodeHead) (around : Around) (bounds : List BoundName) (m : NodeWords) (to : Destination) → lowers f (code.taken_arm h around bounds m to) ≡ low.taken_arm f h around bounds (lowered m) to
+  takes_arm : (h : NodeHead) (around : LoopsAndGuards) (bounds : List BoundName) (m : NodeWords) (to : Destination) → lowers f (code.taken_arm h around bounds m to) ≡ low.taken_arm f h around bounds (lowered m) to
   takes_arm h around bounds m to = λ i. in_scope f h.id false (then_lower (binds Innermost bounds i) (low.alone f around (lowered m) to))
 
-  guards : (around : Around) (bounds : List BoundName) (m : WordsIfAny) (P : Lowers) → Rattle.lower_rules.specs.Codes.guarded f (code.guard around bounds m) P ≡ low.guarded f around bounds (lowered_if m) P
+  guards : (around : LoopsAndGuards) (bounds : List BoundName) (m : WordsIfAny) (P : Lowers) → Rattle.lower_rules.specs.Codes.guarded f (code.guard around bounds m) P ≡ low.guarded f around bounds (lowered_if m) P
   guards around bounds no_code P = refl
   guards around bounds (a_code m) P = refl
 
-  an_arm : (h : NodeHead) (pattern : NodeWords) (guard : WordsIfAny) (m : NodeWords) (matched : Place) (around : Around) (to : Destination) → lowers_arm f (code.arm h pattern guard m matched around to) ≡ low.arm f h (lowered pattern) (lowered_if guard) (lowered m) matched around to
+  an_arm : (h : NodeHead) (pattern : NodeWords) (guard : WordsIfAny) (m : NodeWords) (matched : Place) (around : LoopsAndGuards) (to : Destination) → lowers_arm f (code.arm h pattern guard m matched around to) ≡ low.arm f h (lowered pattern) (lowered_if guard) (lowered m) matched around to
   an_arm h pattern guard m matched around to =
       ap (Rattle.lower_rules.specs.Codes.behind_tests f (pattern.shape.tests matched))
       (guards around (pattern.shape.bindings matched) guard (lowers f (code.taken_arm h around (pattern.shape.bindings matched) m to))
       ∙ ap (low.guarded f around (pattern.shape.bindings matched) (lowered_if guard)) (takes_arm h around (pattern.shape.bindings matched) m to))
 
-  arms_end : (ms : List NodeWords) (matched : Place) (around : Around) (to : Destination) → some_end f (lowers_arms f (code.arms ms matched around to)) ≡ low.arms_end f (all_lowered ms) matched around to
+  arms_end : (ms : List NodeWords) (matched : Place) (around : LoopsAndGuards) (to : Destination) → some_end f (lowers_arms f (code.arms ms matched around to)) ≡ low.arms_end f (all_lowered ms) matched around to
   arms_end [] matched around to = refl
   arms_end (m ∷ ms) matched around to = ap (λ b. (lowers_arm f (m.arm matched around to)).has_end || b) (arms_end ms matched around to)
 
-  arms_jump : (ms : List NodeWords) (matched : Place) (around : Around) (to : Destination) → all_jumps f (lowers_arms f (code.arms ms matched around to)) ≡ low.arm_jumps f (all_lowered ms) matched around to
+  arms_jump : (ms : List NodeWords) (matched : Place) (around : LoopsAndGuards) (to : Destination) → all_jumps f (lowers_arms f (code.arms ms matched around to)) ≡ low.arm_jumps f (all_lowered ms) matched around to
   arms_jump [] matched around to = refl
   arms_jump (m ∷ ms) matched around to = ap (λ jumps. (lowers_arm f (m.arm matched around to)).jumps ++ jumps) (arms_jump ms matched around to)
 
-  arms_built : (number : ℕ) (ms : List NodeWords) (matched : Place) (around : Around) (to : Destination) → built_from f number (lowers_arms f (code.arms ms matched around to)) ≡ low.arms_from f number (all_lowered ms) matched around to
+  arms_built : (number : ℕ) (ms : List NodeWords) (matched : Place) (around : LoopsAndGuards) (to : Destination) → built_from f number (lowers_arms f (code.arms ms matched around to)) ≡ low.arms_from f number (all_lowered ms) matched around to
   arms_built number [] matched around to = refl
   arms_built number (m ∷ ms) matched around to = λ i c S k s.
       let otherwise = build.closing (arms_built number ms matched around to i c S k s) in
       (lowers_arm f (m.arm matched around to)).build c S otherwise.0 k otherwise.1
 
-  all_arms : (number : ℕ) (ms : List NodeWords) (matched : Place) (around : Around) (to : Destination) → matches f number (lowers_arms f (code.arms ms matched around to)) ≡ low.arms_in_order f number (all_lowered ms) matched around to
+  all_arms : (number : ℕ) (ms : List NodeWords) (matched : Place) (around : LoopsAndGuards) (to : Destination) → matches f number (lowers_arms f (code.arms ms matched around to)) ≡ low.arms_in_order f number (all_lowered ms) matched around to
   all_arms number ms matched around to = λ i. record {
     has_end = arms_end ms matched around to i;
     jumps = arms_jump ms matched around to i;
@@ -175,25 +175,25 @@ module _ (f : LoweringFrame) where
         arms_built number ms matched around to i c S join.0 join.1;
   }
 
-  matched_by : (h : NodeHead) (scrutinee : NodeWords) (ms : List NodeWords) (around : Around) (own : Bool) (to : Destination) → lowers f (code.matching h scrutinee ms around own to) ≡ low.matching f h (lowered scrutinee) (all_lowered ms) around own to
+  matched_by : (h : NodeHead) (scrutinee : NodeWords) (ms : List NodeWords) (around : LoopsAndGuards) (own : Bool) (to : Destination) → lowers f (code.matching h scrutinee ms around own to) ≡ low.matching f h (lowered scrutinee) (all_lowered ms) around own to
   matched_by h scrutinee ms around own to =
       in_own_by h own (Then (code.scrutinised around scrutinee) (Matches h.id (code.arms ms (code.place_in scrutinee around) around to))) (then_lower (low.scrutinised f around (lowered scrutinee)) (low.arms_in_order f h.id (all_lowered ms) (code.place_in scrutinee around) around to))
       (λ i. then_lower (scrutinises around scrutinee i) (all_arms h.id ms (code.place_in scrutinee around) around to i))
 
   -- Blocks and statements.
 
-  all_statements : (around : Around) (ms : List NodeWords) → lowers f (code.statements around ms) ≡ low.statements f around (all_lowered ms)
+  all_statements : (around : LoopsAndGuards) (ms : List NodeWords) → lowers f (code.statements around ms) ≡ low.statements f around (all_lowered ms)
   all_statements around [] = refl
   all_statements around (m ∷ ms) = ap (then_lower (lowers f (m.evaluates around false (Into m.head.id)))) (all_statements around ms)
 
-  ends_in : (h : NodeHead) (m : WordsIfAny) (around : Around) (to : Destination) → lowers f (code.tail_of f.items h m around to) ≡ low.tail_of f h (lowered_if m) around to
+  ends_in : (h : NodeHead) (m : WordsIfAny) (around : LoopsAndGuards) (to : Destination) → lowers f (code.tail_of f.items h m around to) ≡ low.tail_of f h (lowered_if m) around to
   ends_in h no_code around to = unit_put_if (is_never f.items h.ty) h to
   ends_in h (a_code m) around to = refl
 
-  a_block : (h : NodeHead) (ms : List NodeWords) (tail : WordsIfAny) (around : Around) (own : Bool) (to : Destination) → lowers f (code.block f.items h ms tail around own to) ≡ low.block f h (all_lowered ms) (lowered_if tail) around own to
+  a_block : (h : NodeHead) (ms : List NodeWords) (tail : WordsIfAny) (around : LoopsAndGuards) (own : Bool) (to : Destination) → lowers f (code.block f.items h ms tail around own to) ≡ low.block f h (all_lowered ms) (lowered_if tail) around own to
   a_block h ms tail around own to = λ i. in_scope f h.id own (then_lower (all_statements around ms i) (ends_in h tail around to i))
 
-  lets_parts : (h : NodeHead) (pattern m : NodeWords) (around : Around) → lowers f (code.let_parts h pattern m around) ≡ low.let_parts f h (lowered pattern) (lowered m) around
+  lets_parts : (h : NodeHead) (pattern m : NodeWords) (around : LoopsAndGuards) → lowers f (code.let_parts h pattern m around) ≡ low.let_parts f h (lowered pattern) (lowered m) around
   lets_parts h pattern m around =
       ap (in_scope f h.id true)
       (pending (not (m.shape.is_place || m.shape.in_destination)) Innermost m.head (Then (m.reaches around) (code.bind AroundInnermost (pattern.shape.bindings (code.place_in m around))))
@@ -207,15 +207,15 @@ module _ (f : LoweringFrame) where
   declares [] = refl
   declares (b ∷ bounds) = λ i. then_lower (empties (needs_drop f.items b.ty) b.key i) (from_changed (innermost (with_entry (bound_entry b))) (declares bounds i))
 
-  lets_value : (b : Bool) (h : NodeHead) (pattern m : NodeWords) (around : Around) → lowers f (code.let_value f.items b h pattern m around) ≡ low.let_value f b h (lowered pattern) (lowered m) around
+  lets_value : (b : Bool) (h : NodeHead) (pattern m : NodeWords) (around : LoopsAndGuards) → lowers f (code.let_value f.items b h pattern m around) ≡ low.let_value f b h (lowered pattern) (lowered m) around
   lets_value true h pattern m around = refl
   lets_value false h pattern m around = lets_parts h pattern m around
 
-  lets : (h : NodeHead) (pattern : NodeWords) (m : WordsIfAny) (around : Around) → lowers f (code.letting f.items h pattern m around) ≡ low.letting f h (lowered pattern) (lowered_if m) around
+  lets : (h : NodeHead) (pattern : NodeWords) (m : WordsIfAny) (around : LoopsAndGuards) → lowers f (code.letting f.items h pattern m around) ≡ low.letting f h (lowered pattern) (lowered_if m) around
   lets h pattern no_code around = declares (pattern.shape.bindings (whole_local 0))
   lets h pattern (a_code m) around = lets_value pattern.shape.is_binding h pattern m around
 
-  jumps_with : (h : NodeHead) (m : WordsIfAny) (around : Around) (to : Destination) → lowers f (code.value_of_jump h.id m around to) ≡ low.value_of_jump f h (lowered_if m) around to
+  jumps_with : (h : NodeHead) (m : WordsIfAny) (around : LoopsAndGuards) (to : Destination) → lowers f (code.value_of_jump h.id m around to) ≡ low.value_of_jump f h (lowered_if m) around to
   jumps_with h no_code around to = unit_put h to
   jumps_with h (a_code m) around to = refl
 
@@ -224,7 +224,7 @@ module _ (f : LoweringFrame) where
 
   -- Forms.
 
-  value : (h : NodeHead) (s : Shape) (e : code.Evaluates) (e' : low.Evaluates) → ((around : Around) (own : Bool) (to : Destination) → lowers f (e around own to) ≡ e' around own to) → lowered (code.node_code f.items h s (code.Makes e)) ≡ low.a_value f h s e'
+  value : (h : NodeHead) (s : Shape) (e : code.Evaluates) (e' : low.Evaluates) → ((around : LoopsAndGuards) (own : Bool) (to : Destination) → lowers f (e around own to) ≡ e' around own to) → lowered (code.node_code f.items h s (code.Makes e)) ≡ low.a_value f h s e'
   value h s e e' same = λ i. record {
     head = h;
     shape = s;
@@ -233,7 +233,7 @@ module _ (f : LoweringFrame) where
     arm = low.no_arm f;
   }
 
-  place : (h : NodeHead) (s : Shape) (r : code.Reaches) (r' : low.Reaches) → ((around : Around) → lowers f (r around) ≡ r' around) → lowered (code.node_code f.items h s (code.IsPlace r)) ≡ low.a_place f h s r'
+  place : (h : NodeHead) (s : Shape) (r : code.Reaches) (r' : low.Reaches) → ((around : LoopsAndGuards) → lowers f (r around) ≡ r' around) → lowered (code.node_code f.items h s (code.IsPlace r)) ≡ low.a_place f h s r'
   place h s r r' same = λ i. record {
     head = h;
     shape = s;
@@ -244,7 +244,7 @@ module _ (f : LoweringFrame) where
     arm = low.no_arm f;
   }
 
-  scope : (h : NodeHead) (s : Shape) (e : code.MakesInto) (e' : low.MakesInto) → ((around : Around) (to : Destination) → lowers f (e around to) ≡ e' around to) → lowered (code.node_code f.items h s (code.a_scope h e)) ≡ low.a_scope f h s e'
+  scope : (h : NodeHead) (s : Shape) (e : code.MakesInto) (e' : low.MakesInto) → ((around : LoopsAndGuards) (to : Destination) → lowers f (e around to) ≡ e' around to) → lowered (code.node_code f.items h s (code.a_scope h e)) ≡ low.a_scope f h s e'
   scope h s e e' same = value h s (λ around own to. code.in_own_scope h.id own (e around to)) (λ around own to. low.in_own_scope f h own (e' around to)) (λ around own to. in_own_by h own (e around to) (e' around to) (same around to))
 
   effect : (h : NodeHead) (s : Shape) (action : EffectSite → Action) → lowered (code.node_code f.items h s (code.effect h action)) ≡ low.effect f h s action
@@ -263,7 +263,7 @@ module _ (f : LoweringFrame) where
       let given = action (moved h.id m.head.id) in
       value h s (λ around own to. code.acting h.id around own (m ∷ []) (code.unit_after h.id given to)) (λ around own to. low.acting f h around own (lowered m ∷ []) (low.unit_after f h given to)) (λ around own to. acts_on h around own (m ∷ []) (code.unit_after h.id given to) (low.unit_after f h given to) (unit_follows h given to))
 
-  statement : (h : NodeHead) (s : Shape) (r : code.Reaches) (r' : low.Reaches) → ((around : Around) → lowers f (r around) ≡ r' around) → lowered (code.node_code f.items h s (code.does r)) ≡ low.a_statement f h s r'
+  statement : (h : NodeHead) (s : Shape) (r : code.Reaches) (r' : low.Reaches) → ((around : LoopsAndGuards) → lowers f (r around) ≡ r' around) → lowered (code.node_code f.items h s (code.does r)) ≡ low.a_statement f h s r'
   statement h s r r' same = value h s (λ around own to. r around) (λ around own to. r' around) (λ around own to. same around)
 
   pattern_same : (h : NodeHead) (s : Shape) → lowered (code.node_code f.items h s code.does_nothing) ≡ low.a_pattern f h s
@@ -295,11 +295,11 @@ module _ (f : LoweringFrame) where
   first_and h s n ns action is are =
       on_all h s (C n ∷ code.codes f.items ns) action ∙ (λ i. low.on_all f h s (is i ∷ are i) action)
 
-  otherwise_is : (h : NodeHead) (m : WordsIfAny) (around : Around) (to : Destination) → lowers f (code.otherwise_unit h m around to) ≡ low.otherwise_unit f h (lowered_if m) around to
+  otherwise_is : (h : NodeHead) (m : WordsIfAny) (around : LoopsAndGuards) (to : Destination) → lowers f (code.otherwise_unit h m around to) ≡ low.otherwise_unit f h (lowered_if m) around to
   otherwise_is h m around to =
       branched around to m (code.put_unit h.id to) ∙ ap (low.branch f around to (lowered_if m)) (unit_put h to)
 
-  jump_given : (h : NodeHead) (given : MaybeNode) (around : Around) (to : Destination) → lowered_if (code.code_if_any f.items given) ≡ low.lower_if_any f given → lowers f (code.value_of_jump h.id (code.code_if_any f.items given) around to) ≡ low.value_of_jump f h (low.lower_if_any f given) around to
+  jump_given : (h : NodeHead) (given : MaybeNode) (around : LoopsAndGuards) (to : Destination) → lowered_if (code.code_if_any f.items given) ≡ low.lower_if_any f given → lowers f (code.value_of_jump h.id (code.code_if_any f.items given) around to) ≡ low.value_of_jump f h (low.lower_if_any f given) around to
   jump_given h given around to is =
       jumps_with h (code.code_if_any f.items given) around to ∙ ap (λ m. low.value_of_jump f h m around to) is
 

@@ -19,7 +19,7 @@ use Rattle.typed_tree.specs.Nodes.{number_of, nodes_of, nodes_in, nodes_among, n
 use Rattle.typed_tree.specs.Tree as tree
 use Rattle.typed_tree.specs.Tree.{Form, Nodes, no_node, a_node, Fields, no_field, a_field, MaybeNode, absent, present, ParamTree, BodyTree}
 use Rattle.src_meaning.specs.Evaluation.{in_number_order, to_own_key}
-use Rattle.src_meaning.specs.Forms.{Destination, Into, Coerced, coerced, Around, in_loop, loop_destination, in_guard, entry_of, bound_entry, site_in, site_of_key, moved, is_never}
+use Rattle.src_meaning.specs.Forms.{Destination, Into, Coerced, coerced, LoopsAndGuards, in_loop, loop_destination, in_guard, entry_of, bound_entry, site_in, site_of_key, moved, is_never}
 use Rattle.src_meaning.specs.Locals.OfBody.{param_key, answer_key}
 use Rattle.src_meaning.specs.Scopes.{Scope, Scopes, innermost, around_innermost, nearest_temporary, with_entry, with_pending, without_pending, becomes_entry, Breaks, Continues, Returns}
 use Rattle.src_meaning.specs.Shape.{NodeHead, head, Shape, BoundName, PatternTests, no_test, a_test, followed_by, kind_of, shape, shape_of, in_fields, in_parts, alternatives_at, extended, site_at, operand_of_bound, operand_at}
@@ -78,9 +78,9 @@ module _ (f : LoweringFrame) (known : List tree.Node) (own : ℕ → Type 0) whe
   pub record NodeSites (x : NodeLower) : Type 0 where
     pub here : In x.head.id
     pub owned : own x.head.id
-    pub evaluates : (around : Around) (own : Bool) (to : Destination) → Sound (x.evaluates around own to)
-    pub reaches : (around : Around) → Sound (x.reaches around)
-    pub arm : (matched : Place) (around : Around) (to : Destination) → ArmSound (x.arm matched around to)
+    pub evaluates : (around : LoopsAndGuards) (own : Bool) (to : Destination) → Sound (x.evaluates around own to)
+    pub reaches : (around : LoopsAndGuards) → Sound (x.reaches around)
+    pub arm : (matched : Place) (around : LoopsAndGuards) (to : Destination) → ArmSound (x.arm matched around to)
     pub shaped : Shaped x.shape
 
   pub data AllSites : List NodeLower → Type 0 where
@@ -282,22 +282,22 @@ module _ (f : LoweringFrame) (known : List tree.Node) (own : ℕ → Type 0) whe
   pended b in_that h P keeps j p =
       lines.changed_sound f wanted (lower.pending_if f b in_that h) _ (pending_ok b in_that h keeps j) (and_then P _ p (lines.change_sound f wanted (lower.completed f in_that h) (completed_ok in_that h keeps j)))
 
-  operand_sites : (x : NodeLower) → NodeSites x → (around : Around) → Sound (lower.operand f around x)
+  operand_sites : (x : NodeLower) → NodeSites x → (around : LoopsAndGuards) → Sound (lower.operand f around x)
   operand_sites x p around = pended x.shape.in_destination innermost x.head _ inner p.here (p.evaluates around false (Into x.head.id))
 
-  operands_sites : (xs : List NodeLower) → AllSites xs → (around : Around) → Sound (lower.operands f around xs)
+  operands_sites : (xs : List NodeLower) → AllSites xs → (around : LoopsAndGuards) → Sound (lower.operands f around xs)
   operands_sites _ none_sites around = lines.nothing_sound f wanted
   operands_sites _ (one_sites x xs p ps) around = and_then _ _ (operand_sites x p around) (operands_sites xs ps around)
 
-  acting_sites : (h : NodeHead) (around : Around) (own : Bool) (xs : List NodeLower) → AllSites xs → (P : Lowers) → Sound P → Sound (lower.acting f h around own xs P)
+  acting_sites : (h : NodeHead) (around : LoopsAndGuards) (own : Bool) (xs : List NodeLower) → AllSites xs → (P : Lowers) → Sound P → Sound (lower.acting f h around own xs P)
   acting_sites h around own xs ps P p =
       lines.scope_sound f wanted h.id own _ (and_then _ _ (operands_sites xs ps around) (lines.changed_sound f wanted (taken f (lower.keys_of xs)) P (lines.taken_ok f wanted (lower.keys_of xs)) p))
 
   -- ---- nodes
   abbrev EvalSites : Evaluates → Type 0
-  EvalSites e = (around : Around) (own : Bool) (to : Destination) → Sound (e around own to)
+  EvalSites e = (around : LoopsAndGuards) (own : Bool) (to : Destination) → Sound (e around own to)
 
-  no_arm_sites : (matched : Place) (around : Around) (to : Destination) → ArmSound (lower.no_arm f matched around to)
+  no_arm_sites : (matched : Place) (around : LoopsAndGuards) (to : Destination) → ArmSound (lower.no_arm f matched around to)
   no_arm_sites matched around to c t S r k s o h l = (h, l)
 
   value_sites : (h : NodeHead) (s : Shape) → Inside h.id → Shaped s → (e : Evaluates) → EvalSites e → NodeSites (lower.a_value f h s e)
@@ -310,7 +310,7 @@ module _ (f : LoweringFrame) (known : List tree.Node) (own : ℕ → Type 0) whe
     shaped = shaped;
   }
 
-  place_sites : (h : NodeHead) (s : Shape) → Inside h.id → Shaped s → (r : Reaches) → ((around : Around) → Sound (r around)) → NodeSites (lower.a_place f h s r)
+  place_sites : (h : NodeHead) (s : Shape) → Inside h.id → Shaped s → (r : Reaches) → ((around : LoopsAndGuards) → Sound (r around)) → NodeSites (lower.a_place f h s r)
   place_sites h s j shaped r p = record {
     here = j.0;
     owned = j.1;
@@ -320,7 +320,7 @@ module _ (f : LoweringFrame) (known : List tree.Node) (own : ℕ → Type 0) whe
     shaped = shaped;
   }
 
-  scoped_sites : (h : NodeHead) (s : Shape) → Inside h.id → Shaped s → (does : lower.MakesInto) → ((around : Around) (to : Destination) → Sound (does around to)) → NodeSites (lower.a_scope f h s does)
+  scoped_sites : (h : NodeHead) (s : Shape) → Inside h.id → Shaped s → (does : lower.MakesInto) → ((around : LoopsAndGuards) (to : Destination) → Sound (does around to)) → NodeSites (lower.a_scope f h s does)
   scoped_sites h s j shaped does p = value_sites h s j shaped _ (λ around own to. own_sites h own _ (p around to))
 
   on_operands_sites : (h : NodeHead) (s : Shape) → Inside h.id → Shaped s → (xs : List NodeLower) → AllSites xs → (action : EffectSite → Action) → DoesCopy h action → NodeSites (lower.on_operands f h s xs action)
@@ -331,15 +331,15 @@ module _ (f : LoweringFrame) (known : List tree.Node) (own : ℕ → Type 0) whe
       value_sites h s j shaped _ (λ around own to. acting_sites h around own (x ∷ []) (one_sites x [] p none_sites) _ (and_then _ _ (acts h.id (action (moved h.id x.head.id)) j.0 q) (unit_sites h to j.0)))
 
   -- ---- branches and patterns
-  alone_sites : (x : NodeLower) → NodeSites x → (around : Around) (to : Destination) → Sound (lower.alone f around x to)
+  alone_sites : (x : NodeLower) → NodeSites x → (around : LoopsAndGuards) (to : Destination) → Sound (lower.alone f around x to)
   alone_sites x p around to = lines.back_sound f wanted _ (p.evaluates around true to)
 
-  condition_sites : (x : NodeLower) → NodeSites x → (around : Around) (P Q : Lowers) → Sound P → Sound Q → Sound (lower.condition f around x P Q)
+  condition_sites : (x : NodeLower) → NodeSites x → (around : LoopsAndGuards) (P Q : Lowers) → Sound P → Sound Q → Sound (lower.condition f around x P Q)
   condition_sites x p around P Q cp cq =
       and_then _ _ (alone_sites x p around (Into x.head.id))
       (lines.branches_sound f wanted x.head.id (if_true f (moved x.head.id x.head.id) x.head.id) P Q (lines.if_ok f wanted (moved x.head.id x.head.id) x.head.id (λ y n. (p.here, tt))) cp cq)
 
-  otherwise_sites : (h : NodeHead) → In h.id → (x : LowerIfAny) → IfAnySites x → (around : Around) (to : Destination) → Sound (lower.otherwise_unit f h x around to)
+  otherwise_sites : (h : NodeHead) → In h.id → (x : LowerIfAny) → IfAnySites x → (around : LoopsAndGuards) (to : Destination) → Sound (lower.otherwise_unit f h x around to)
   otherwise_sites h j _ without around to = unit_sites h to j
   otherwise_sites h j _ (with_one x p) around to = alone_sites x p around to
 
@@ -349,14 +349,14 @@ module _ (f : LoweringFrame) (known : List tree.Node) (own : ℕ → Type 0) whe
       and_then _ _ (acts x.key (effects.Put (site_of_key x.key) (operand_of_bound x)) b.0 (inl refl))
       (lines.changed_sound f wanted (in_that (with_entry (bound_entry x))) _ (keeps (with_entry (bound_entry x)) (lines.entry_keeps f wanted (bound_entry x) b.0)) (bind_sites in_that keeps bounds b.1))
 
-  scrutinised_sites : (x : NodeLower) → NodeSites x → (around : Around) → Sound (lower.scrutinised f around x)
+  scrutinised_sites : (x : NodeLower) → NodeSites x → (around : LoopsAndGuards) → Sound (lower.scrutinised f around x)
   scrutinised_sites x p around = and_then _ _ (p.reaches around) (touched x.shape.is_place)
     where
       touched : (b : Bool) → Sound (lower.touched f b (lower.site_of x around))
       touched true = acts x.head.id (effects.Touch (lower.site_of x around)) p.here tt
       touched false = lines.nothing_sound f wanted
 
-  if_taken_sites : (h : NodeHead) (around : Around) (p x : NodeLower) → NodeSites p → NodeSites x → (P Q : Lowers) → Sound P → Sound Q → Sound (lower.if_taken f h around p x P Q)
+  if_taken_sites : (h : NodeHead) (around : LoopsAndGuards) (p x : NodeLower) → NodeSites p → NodeSites x → (P Q : Lowers) → Sound P → Sound Q → Sound (lower.if_taken f h around p x P Q)
   if_taken_sites h around p x sp sx P Q p1 p2 =
       let place = lower.place_in x around in
       lines.entered_sound f wanted h.id true _ (and_then _ _ (scrutinised_sites x sx around)
@@ -365,7 +365,7 @@ module _ (f : LoweringFrame) (known : List tree.Node) (own : ℕ → Type 0) whe
       (and_then _ Q (lines.leave_sound f wanted) p2)))
 
   -- ---- arms
-  guarded_sites : (around : Around) (bounds : List BoundName) (g : LowerIfAny) → IfAnySites g → (P : Lowers) → Sound P → ArmSound (lower.guarded f around bounds g P)
+  guarded_sites : (around : LoopsAndGuards) (bounds : List BoundName) (g : LowerIfAny) → IfAnySites g → (P : Lowers) → Sound P → ArmSound (lower.guarded f around bounds g P)
   guarded_sites around bounds _ without P p c t S r k s o h l = p.lines c t S k s o h l
   guarded_sites around bounds _ (with_one x q) P p c t S r k s o h l = by_end (back_in (x.evaluates (in_guard bounds around) true (Into x.head.id))).has_end
     where
@@ -385,10 +385,10 @@ module _ (f : LoweringFrame) (known : List tree.Node) (own : ℕ → Type 0) whe
           asks.lines c t S test.0 test.1 o i.0 i.1
       by_end false = asks.lines c t S k s o h l
 
-  taken_sites : (h : NodeHead) (around : Around) (bounds : List BoundName) → BoundsIn bounds → (x : NodeLower) → NodeSites x → (to : Destination) → Sound (lower.taken_arm f h around bounds x to)
+  taken_sites : (h : NodeHead) (around : LoopsAndGuards) (bounds : List BoundName) → BoundsIn bounds → (x : NodeLower) → NodeSites x → (to : Destination) → Sound (lower.taken_arm f h around bounds x to)
   taken_sites h around bounds b x p to = lines.scope_sound f wanted h.id false _ (and_then _ _ (bind_sites innermost inner bounds b) (alone_sites x p around to))
 
-  arm_sites : (h : NodeHead) (p : NodeLower) (g : LowerIfAny) (x : NodeLower) → NodeSites p → IfAnySites g → NodeSites x → (matched : Place) (around : Around) (to : Destination) → ArmSound (lower.arm f h p g x matched around to)
+  arm_sites : (h : NodeHead) (p : NodeLower) (g : LowerIfAny) (x : NodeLower) → NodeSites p → IfAnySites g → NodeSites x → (matched : Place) (around : LoopsAndGuards) (to : Destination) → ArmSound (lower.arm f h p g x matched around to)
   arm_sites h p g x sp sg sx matched around to c t S r k s o hs l =
       let bounds = p.shape.bindings matched in
       let code = lower.guarded f around bounds g (lower.taken_arm f h around bounds x to) in
@@ -396,7 +396,7 @@ module _ (f : LoweringFrame) (known : List tree.Node) (own : ℕ → Type 0) whe
       let d = code.build c S r k s in
       lines.tests_ok f wanted (p.shape.tests matched) (sp.shaped.0 matched) (length d.1.blocks) r (closed Kind.Plain d.0 d.1) (lines.closed_ok f wanted Kind.Plain d.0 d.1 i.0 i.1)
 
-  arms_from_sites : (number : ℕ) (xs : List NodeLower) → AllSites xs → (matched : Place) (around : Around) (to : Destination) (c : Ways) → c.returns.block ≡ 1 → (S : Scopes) (k : BlockRest) (s : Building) → lines.ScopesOk f wanted S → lines.Ok f wanted s →
+  arms_from_sites : (number : ℕ) (xs : List NodeLower) → AllSites xs → (matched : Place) (around : LoopsAndGuards) (to : Destination) (c : Ways) → c.returns.block ≡ 1 → (S : Scopes) (k : BlockRest) (s : Building) → lines.ScopesOk f wanted S → lines.Ok f wanted s →
       lines.RestOk f wanted k → lines.Both f wanted (lower.arms_from f number xs matched around to c S k s)
   arms_from_sites number _ none_sites matched around to c t S k s o h l = lines.panic_both f wanted (Term.Panic Why.Match) number (λ u. (tt, tt)) S o s h
   arms_from_sites number _ (one_sites x xs p ps) matched around to c t S k s o h l =
@@ -404,7 +404,7 @@ module _ (f : LoweringFrame) (known : List tree.Node) (own : ℕ → Type 0) whe
       let i = arms_from_sites number xs ps matched around to c t S k s o h l in
       p.arm matched around to c t S (length d.1.blocks) k (closed Kind.Plain d.0 d.1) o (lines.closed_ok f wanted Kind.Plain d.0 d.1 i.0 i.1) l
 
-  arms_sites : (number : ℕ) (xs : List NodeLower) → AllSites xs → (matched : Place) (around : Around) (to : Destination) → Sound (lower.arms_in_order f number xs matched around to)
+  arms_sites : (number : ℕ) (xs : List NodeLower) → AllSites xs → (matched : Place) (around : LoopsAndGuards) (to : Destination) → Sound (lower.arms_in_order f number xs matched around to)
   arms_sites number xs ps matched around to = record {
     after = λ e S o. o;
     lines = λ c t S k s o h l.
@@ -415,11 +415,11 @@ module _ (f : LoweringFrame) (known : List tree.Node) (own : ℕ → Type 0) whe
   }
 
   -- ---- blocks and statements
-  statements_sites : (xs : List NodeLower) → AllSites xs → (around : Around) → Sound (lower.statements f around xs)
+  statements_sites : (xs : List NodeLower) → AllSites xs → (around : LoopsAndGuards) → Sound (lower.statements f around xs)
   statements_sites _ none_sites around = lines.nothing_sound f wanted
   statements_sites _ (one_sites x xs p ps) around = and_then _ _ (p.evaluates around false (Into x.head.id)) (statements_sites xs ps around)
 
-  tail_sites : (h : NodeHead) → In h.id → (x : LowerIfAny) → IfAnySites x → (around : Around) (to : Destination) → Sound (lower.tail_of f h x around to)
+  tail_sites : (h : NodeHead) → In h.id → (x : LowerIfAny) → IfAnySites x → (around : LoopsAndGuards) (to : Destination) → Sound (lower.tail_of f h x around to)
   tail_sites h j _ without around to = by_never (is_never f.items h.ty)
     where
       by_never : (b : Bool) → Sound (lower.put_unit_if f b h to)
@@ -427,7 +427,7 @@ module _ (f : LoweringFrame) (known : List tree.Node) (own : ℕ → Type 0) whe
       by_never false = unit_sites h to j
   tail_sites h j _ (with_one x p) around to = alone_sites x p around to
 
-  let_sites : (h : NodeHead) → In h.id → (p : NodeLower) → NodeSites p → (x : LowerIfAny) → IfAnySites x → (around : Around) → Sound (lower.letting f h p x around)
+  let_sites : (h : NodeHead) → In h.id → (p : NodeLower) → NodeSites p → (x : LowerIfAny) → IfAnySites x → (around : LoopsAndGuards) → Sound (lower.letting f h p x around)
   let_sites h j p sp _ without around = declared (p.shape.bindings (whole_local 0)) (sp.shaped.1 (whole_local 0))
     where
       emptied : (x : Bool) (key : ℕ) → In key → Sound (lower.emptied f x key)
@@ -455,7 +455,7 @@ module _ (f : LoweringFrame) (known : List tree.Node) (own : ℕ → Type 0) whe
           lines.scope_sound f wanted h.id true _ (lines.changed_sound f wanted (lower.pending_if f b innermost x.head) _ (pending_ok b innermost x.head inner sx.here)
           (and_then _ _ (sx.reaches around) (bind_sites around_innermost (lines.around_ok f wanted) (p.shape.bindings (lower.place_in x around)) (sp.shaped.1 (lower.place_in x around)))))
 
-  jump_value_sites : (h : NodeHead) → In h.id → (x : LowerIfAny) → IfAnySites x → (around : Around) (to : Destination) → Sound (lower.value_of_jump f h x around to)
+  jump_value_sites : (h : NodeHead) → In h.id → (x : LowerIfAny) → IfAnySites x → (around : LoopsAndGuards) (to : Destination) → Sound (lower.value_of_jump f h x around to)
   jump_value_sites h j _ without around to = unit_sites h to j
   jump_value_sites h j _ (with_one x p) around to = p.evaluates around false to
 

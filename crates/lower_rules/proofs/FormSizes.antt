@@ -14,7 +14,7 @@ use Rattle.typed_tree.specs.Nodes.{nodes_of, nodes_in, nodes_among, nodes_of_fie
 use Rattle.typed_tree.specs.Tree as tree
 use Rattle.typed_tree.specs.Tree.{Form, Nodes, no_node, a_node, Fields, no_field, a_field, MaybeNode, absent, present, ParamTree, BodyTree}
 use Rattle.src_meaning.specs.Evaluation.{in_number_order, to_own_key}
-use Rattle.src_meaning.specs.Forms.{Destination, Into, Coerced, coerced, Around, in_loop, loop_destination, in_guard, entry_of, bound_entry, site_in, site_of_key, moved, is_never}
+use Rattle.src_meaning.specs.Forms.{Destination, Into, Coerced, coerced, LoopsAndGuards, in_loop, loop_destination, in_guard, entry_of, bound_entry, site_in, site_of_key, moved, is_never}
 use Rattle.src_meaning.specs.Locals.OfBody.{param_key, answer_key}
 use Rattle.src_meaning.specs.Scopes.{Scope, Scopes, innermost, around_innermost, nearest_temporary, with_entry, with_pending, without_pending, becomes_entry, Exit, Breaks, Continues, Returns}
 use Rattle.src_meaning.specs.Shape.{NodeHead, head, Shape, BoundName, PatternTests, no_test, a_test, followed_by, kind_of, shape, shape_of, in_fields, in_parts, alternatives_at, extended, site_at, operand_of_bound, operand_at}
@@ -224,9 +224,9 @@ module _ (f : LoweringFrame) (W B : ℕ) (enough : 12 * (W + 2) ≤ B) where
   ArmCost b e a = (c : Ways) (S : Scopes) (r : ℕ) (k : BlockRest) (s : Building) → all S + e ≤ W → length (a.build c S r k s).1.blocks ≤ length s.blocks + b
 
   pub record NodeCosts (m : ℕ) (x : NodeLower) : Type 0 where
-    pub evaluates : (around : Around) (own : Bool) (to : Destination) → C (B + T m) (m + m) (x.evaluates around own to)
-    pub reaches : (around : Around) → C (T (suc m)) (suc m + suc m) (x.reaches around)
-    pub arm : (matched : Place) (around : Around) (to : Destination) → ArmCost (B + T m) (m + m) (x.arm matched around to)
+    pub evaluates : (around : LoopsAndGuards) (own : Bool) (to : Destination) → C (B + T m) (m + m) (x.evaluates around own to)
+    pub reaches : (around : LoopsAndGuards) → C (T (suc m)) (suc m + suc m) (x.reaches around)
+    pub arm : (matched : Place) (around : LoopsAndGuards) (to : Destination) → ArmCost (B + T m) (m + m) (x.arm matched around to)
     pub shaped : Tested x.shape m × Binds x.shape m
 
   pub data AllCost : ℕ → List NodeLower → Type 0 where
@@ -270,30 +270,30 @@ module _ (f : LoweringFrame) (W B : ℕ) (enough : 12 * (W + 2) ≤ B) where
   completed_grew : (in_that : (Scope → Scope) → Scopes → Scopes) (h : NodeHead) → ((g : Scope → Scope) → sizes.Adds 1 g → (S : Scopes) → Grew S (in_that g S) 1) → (S : Scopes) → Grew S (lower.completed f in_that h S) 1
   completed_grew in_that h grew S = grew (becomes_entry (entry_of h)) (becomes_adds (entry_of h)) S
 
-  operand_costs : (m : ℕ) (x : NodeLower) → NodeCosts m x → (around : Around) → C (T (suc m)) (suc m + suc m) (lower.operand f around x)
+  operand_costs : (m : ℕ) (x : NodeLower) → NodeCosts m x → (around : LoopsAndGuards) → C (T (suc m)) (suc m + suc m) (lower.operand f around x)
   operand_costs m x p around =
       pended m (lower.pending_if f x.shape.in_destination innermost x.head) (lower.completed f innermost x.head) _
       (pending_grew x.shape.in_destination innermost x.head (innermost_grew 1)) (completed_grew innermost x.head (innermost_grew 1)) (p.evaluates around false (Into x.head.id))
 
-  operands_cost : (n : ℕ) (xs : List NodeLower) → AllCost n xs → (around : Around) → C (T n) (n + n) (lower.operands f around xs)
+  operands_cost : (n : ℕ) (xs : List NodeLower) → AllCost n xs → (around : LoopsAndGuards) → C (T n) (n + n) (lower.operands f around xs)
   operands_cost _ _ none_cost around = sizes.nothing_costs f W
   operands_cost _ _ (one_costs m n x xs p ps) around =
       weaker (T (suc m) + T n) (suc m + suc m + (n + n)) (T (suc m + n)) (suc m + n + (suc m + n)) _ (let i = times_add (B + 12) (suc m) n in omega arith) (omega arith)
       (sizes.then_costs f W (T (suc m)) (suc m + suc m) (T n) (n + n) _ _ (operand_costs m x p around) (operands_cost n xs ps around))
 
-  acting_costs : (n b : ℕ) (xs : List NodeLower) → AllCost n xs → (h : NodeHead) (around : Around) (own : Bool) (P : Lowers) → C b 0 P → C (W + 1 + (T n + b)) (n + n) (lower.acting f h around own xs P)
+  acting_costs : (n b : ℕ) (xs : List NodeLower) → AllCost n xs → (h : NodeHead) (around : LoopsAndGuards) (own : Bool) (P : Lowers) → C b 0 P → C (W + 1 + (T n + b)) (n + n) (lower.acting f h around own xs P)
   acting_costs n b xs ps h around own P p =
       weaker (W + 1 + (T n + b)) (n + n + 0) (W + 1 + (T n + b)) (n + n) _ (omega arith) (omega arith)
       (sizes.scope_costs f W (T n + b) (n + n + 0) h.id own _ (sizes.then_costs f W (T n) (n + n) b 0 _ _ (operands_cost n xs ps around) (sizes.taken_costs f W b 0 (lower.keys_of xs) P p)))
 
   -- ---- nodes
   abbrev EvalCosts : ℕ → Evaluates → Type 0
-  EvalCosts m e = (around : Around) (own : Bool) (to : Destination) → C (B + T m) (m + m) (e around own to)
+  EvalCosts m e = (around : LoopsAndGuards) (own : Bool) (to : Destination) → C (B + T m) (m + m) (e around own to)
 
   abbrev Shaped : ℕ → Shape → Type 0
   Shaped m s = Tested s m × Binds s m
 
-  temporary_costs : (m : ℕ) (h : NodeHead) (s : Shape) (e : Evaluates) → EvalCosts m e → (around : Around) → C (T (suc m)) (suc m + suc m) (lower.temporary f h s e around)
+  temporary_costs : (m : ℕ) (h : NodeHead) (s : Shape) (e : Evaluates) → EvalCosts m e → (around : LoopsAndGuards) → C (T (suc m)) (suc m + suc m) (lower.temporary f h s e around)
   temporary_costs m h s e p around =
       pended m (lower.pending_if f s.in_destination nearest_temporary h) (lower.completed f nearest_temporary h) (e around false (Into h.id))
       (pending_grew s.in_destination nearest_temporary h (nearest_grew 1)) (completed_grew nearest_temporary h (nearest_grew 1)) (p around false (Into h.id))
@@ -306,7 +306,7 @@ module _ (f : LoweringFrame) (W B : ℕ) (enough : 12 * (W + 2) ≤ B) where
     shaped = shaped;
   }
 
-  place_costs : (m b e : ℕ) (h : NodeHead) (s : Shape) → Shaped m s → (r : Reaches) → ((around : Around) → C b e (r around)) → b + 3 * (W + 2) ≤ B + T m → e ≤ m + m → NodeCosts m (lower.a_place f h s r)
+  place_costs : (m b e : ℕ) (h : NodeHead) (s : Shape) → Shaped m s → (r : Reaches) → ((around : LoopsAndGuards) → C b e (r around)) → b + 3 * (W + 2) ≤ B + T m → e ≤ m + m → NodeCosts m (lower.a_place f h s r)
   place_costs m b e h s shaped r p lb le = record {
     evaluates = λ around own to.
         weaker (W + 1 + (b + 2 * (W + 2))) (e + 0) (B + T m) (m + m) _ (omega arith) (omega arith)
@@ -318,7 +318,7 @@ module _ (f : LoweringFrame) (W B : ℕ) (enough : 12 * (W + 2) ≤ B) where
   }
 
   -- in a scope of its own or not, into a destination
-  scoped_value_costs : (m b e : ℕ) (h : NodeHead) (s : Shape) → Shaped m s → (does : lower.MakesInto) → ((around : Around) (to : Destination) → C b e (does around to)) → b + (W + 2) ≤ B + T m → e ≤ m + m →
+  scoped_value_costs : (m b e : ℕ) (h : NodeHead) (s : Shape) → Shaped m s → (does : lower.MakesInto) → ((around : LoopsAndGuards) (to : Destination) → C b e (does around to)) → b + (W + 2) ≤ B + T m → e ≤ m + m →
       NodeCosts m (lower.a_scope f h s does)
   scoped_value_costs m b e h s shaped does p lb le =
       value_costs m h s shaped _ (λ around own to. weaker (W + 1 + b) e (B + T m) (m + m) _ (omega arith) (omega arith) (own_costs b e h own _ (p around to)))
@@ -346,16 +346,16 @@ module _ (f : LoweringFrame) (W B : ℕ) (enough : 12 * (W + 2) ≤ B) where
   single m x p = subst (λ n. AllCost n (x ∷ [])) (omega arith) (one_costs m 0 x [] p none_cost)
 
   -- ---- branches and patterns
-  alone_costs : (m : ℕ) (x : NodeLower) → NodeCosts m x → (around : Around) (to : Destination) → C (B + T m) (m + m) (lower.alone f around x to)
+  alone_costs : (m : ℕ) (x : NodeLower) → NodeCosts m x → (around : LoopsAndGuards) (to : Destination) → C (B + T m) (m + m) (lower.alone f around x to)
   alone_costs m x p around to = sizes.back_costs f W (B + T m) (m + m) _ (p.evaluates around true to)
 
-  condition_costs : (m b1 e1 b2 e2 : ℕ) (x : NodeLower) → NodeCosts m x → (around : Around) (P Q : Lowers) → C b1 e1 P → C b2 e2 Q →
+  condition_costs : (m b1 e1 b2 e2 : ℕ) (x : NodeLower) → NodeCosts m x → (around : LoopsAndGuards) (P Q : Lowers) → C b1 e1 P → C b2 e2 Q →
       C (B + T m + (3 + (b1 + b2))) (m + m + (e1 + e2)) (lower.condition f around x P Q)
   condition_costs m b1 e1 b2 e2 x p around P Q cp cq =
       sizes.then_costs f W (B + T m) (m + m) (3 + (b1 + b2)) (e1 + e2) _ _ (alone_costs m x p around (Into x.head.id))
       (sizes.branches_costs f W 0 b1 e1 b2 e2 x.head.id (if_true f (moved x.head.id x.head.id) x.head.id) P Q (λ y n s. omega arith) cp cq)
 
-  otherwise_costs : (n : ℕ) (h : NodeHead) (x : LowerIfAny) → IfAnyCost n x → (around : Around) (to : Destination) → C (T n + 2 * (W + 2)) (n + n) (lower.otherwise_unit f h x around to)
+  otherwise_costs : (n : ℕ) (h : NodeHead) (x : LowerIfAny) → IfAnyCost n x → (around : LoopsAndGuards) (to : Destination) → C (T n + 2 * (W + 2)) (n + n) (lower.otherwise_unit f h x around to)
   otherwise_costs _ h _ without around to = weaker (2 * (W + 2)) 0 (T 0 + 2 * (W + 2)) 0 _ (omega arith) (omega arith) (unit_costs h to)
   otherwise_costs _ h _ (with_one m x p) around to = weaker (B + T m) (m + m) (T (suc m) + 2 * (W + 2)) (suc m + suc m) _ (omega arith) (omega arith) (alone_costs m x p around to)
 
@@ -368,7 +368,7 @@ module _ (f : LoweringFrame) (W B : ℕ) (enough : 12 * (W + 2) ≤ B) where
       (sizes.stmt_costs f W (build.is_last f (effects.Put (site_of_key b.key) (operand_of_bound b))) b.key _)
       (sizes.changed_costs f W 1 (6 * length bounds) (length bounds) (in_that (with_entry (bound_entry b))) _ (grew (with_entry (bound_entry b)) (entry_adds (bound_entry b))) (bind_costs in_that grew bounds)))
 
-  scrutinised_costs : (m : ℕ) (x : NodeLower) → NodeCosts m x → (around : Around) → C (T (suc m)) (suc m + suc m) (lower.scrutinised f around x)
+  scrutinised_costs : (m : ℕ) (x : NodeLower) → NodeCosts m x → (around : LoopsAndGuards) → C (T (suc m)) (suc m + suc m) (lower.scrutinised f around x)
   scrutinised_costs m x p around =
       weaker (T (suc m) + 0) (suc m + suc m + 0) (T (suc m)) (suc m + suc m) _ (omega arith) (omega arith)
       (sizes.then_costs f W (T (suc m)) (suc m + suc m) 0 0 _ _ (p.reaches around) (touched x.shape.is_place (lower.site_of x around)))
@@ -378,7 +378,7 @@ module _ (f : LoweringFrame) (W B : ℕ) (enough : 12 * (W + 2) ≤ B) where
       touched false site = sizes.nothing_costs f W
 
   -- with the tests of a pattern and its names
-  if_taken_costs : (mp ms b1 e1 b2 e2 : ℕ) (h : NodeHead) (around : Around) (p x : NodeLower) → NodeCosts mp p → NodeCosts ms x → (P Q : Lowers) → C b1 e1 P → C b2 e2 Q →
+  if_taken_costs : (mp ms b1 e1 b2 e2 : ℕ) (h : NodeHead) (around : LoopsAndGuards) (p x : NodeLower) → NodeCosts mp p → NodeCosts ms x → (P Q : Lowers) → C b1 e1 P → C b2 e2 Q →
       C (T (suc ms) + (suc (mp + mp) + 3 + (6 * suc mp + b1 + (W + 1) + (b2 + (W + 1))))) (suc ms + suc ms + (suc mp + e1 + e2)) (lower.if_taken f h around p x P Q)
   if_taken_costs mp ms b1 e1 b2 e2 h around p x cp cx P Q p1 p2 =
       let place = lower.place_in x around in
@@ -392,7 +392,7 @@ module _ (f : LoweringFrame) (W B : ℕ) (enough : 12 * (W + 2) ≤ B) where
       (sizes.leaves_then f W b2 e2 Q p2))
 
   -- ---- arms
-  guarded_costs : (n b e : ℕ) (around : Around) (bounds : List BoundName) (g : LowerIfAny) → IfAnyCost n g → (P : Lowers) → C b e P → ArmCost (b + T n + 1) (e + (n + n)) (lower.guarded f around bounds g P)
+  guarded_costs : (n b e : ℕ) (around : LoopsAndGuards) (bounds : List BoundName) (g : LowerIfAny) → IfAnyCost n g → (P : Lowers) → C b e P → ArmCost (b + T n + 1) (e + (n + n)) (lower.guarded f around bounds g P)
   guarded_costs _ b e around bounds _ without P p c S r k s w =
       let x = p c S k s (omega (arith, w)) in let most = x.most in omega arith
   guarded_costs _ b e around bounds _ (with_one m x q) P p c S r k s w = by_end (back_in (x.evaluates (in_guard bounds around) true (Into x.head.id))).has_end
@@ -414,14 +414,14 @@ module _ (f : LoweringFrame) (W B : ℕ) (enough : 12 * (W + 2) ≤ B) where
           omega arith
       by_end false = let z = asks c S k s (omega (arith, w)) in let m2 = z.most in omega arith
 
-  taken_costs : (mp m : ℕ) (h : NodeHead) (around : Around) (bounds : List BoundName) → length bounds ≤ suc mp → (x : NodeLower) → NodeCosts m x → (to : Destination) →
+  taken_costs : (mp m : ℕ) (h : NodeHead) (around : LoopsAndGuards) (bounds : List BoundName) → length bounds ≤ suc mp → (x : NodeLower) → NodeCosts m x → (to : Destination) →
       C (W + 1 + (6 * suc mp + (B + T m))) (suc mp + (m + m)) (lower.taken_arm f h around bounds x to)
   taken_costs mp m h around bounds few x p to =
       sizes.scope_costs f W (6 * suc mp + (B + T m)) (suc mp + (m + m)) h.id false _
       (sizes.then_costs f W (6 * suc mp) (suc mp) (B + T m) (m + m) _ _
       (weaker (6 * length bounds) (length bounds) (6 * suc mp) (suc mp) _ (omega arith) (omega arith) (bind_costs innermost (innermost_grew 1) bounds)) (alone_costs m x p around to))
 
-  arm_costs : (mp n m : ℕ) (h : NodeHead) (p : NodeLower) (g : LowerIfAny) (x : NodeLower) → NodeCosts mp p → IfAnyCost n g → NodeCosts m x → (matched : Place) (around : Around) (to : Destination) →
+  arm_costs : (mp n m : ℕ) (h : NodeHead) (p : NodeLower) (g : LowerIfAny) (x : NodeLower) → NodeCosts mp p → IfAnyCost n g → NodeCosts m x → (matched : Place) (around : LoopsAndGuards) (to : Destination) →
       ArmCost (B + T (suc mp + (n + suc m))) (suc mp + (n + suc m) + (suc mp + (n + suc m))) (lower.arm f h p g x matched around to)
   arm_costs mp n m h p g x cp cg cx matched around to c S r k s w =
       let bounds = p.shape.bindings matched in
@@ -437,7 +437,7 @@ module _ (f : LoweringFrame) (W B : ℕ) (enough : 12 * (W + 2) ≤ B) where
       let tw = twelve (B + 12) mp (omega arith) in
       omega (arith, enough)
 
-  arms_most : (number n : ℕ) (xs : List NodeLower) → AllCost n xs → (matched : Place) (around : Around) (to : Destination) (c : Ways) (S : Scopes) (k : BlockRest) (s : Building) → all S + (n + n) ≤ W →
+  arms_most : (number n : ℕ) (xs : List NodeLower) → AllCost n xs → (matched : Place) (around : LoopsAndGuards) (to : Destination) (c : Ways) (S : Scopes) (k : BlockRest) (s : Building) → all S + (n + n) ≤ W →
       length (lower.arms_from f number xs matched around to c S k s).1.blocks ≤ length s.blocks + (T n + (W + 1))
   arms_most number _ _ none_cost matched around to c S k s w =
       let m = sizes.panic_most f W (Term.Panic Why.Match) number S s (omega (arith, w)) in omega arith
@@ -449,7 +449,7 @@ module _ (f : LoweringFrame) (W B : ℕ) (enough : 12 * (W + 2) ≤ B) where
       let a = times_add (B + 12) (suc m) n in
       omega arith
 
-  arms_costs : (number n : ℕ) (xs : List NodeLower) → AllCost n xs → (matched : Place) (around : Around) (to : Destination) → C (T n + (W + 2)) (n + n) (lower.arms_in_order f number xs matched around to)
+  arms_costs : (number n : ℕ) (xs : List NodeLower) → AllCost n xs → (matched : Place) (around : LoopsAndGuards) (to : Destination) → C (T n + (W + 2)) (n + n) (lower.arms_in_order f number xs matched around to)
   arms_costs number n xs ps matched around to c S k s w =
       let ends = lower.arms_end f xs matched around to in
       let j = joined ends number k s in
@@ -458,13 +458,13 @@ module _ (f : LoweringFrame) (W B : ℕ) (enough : 12 * (W + 2) ≤ B) where
       record { g = 0; few = omega arith; paid = omega arith; grew = grew_not S 0; most = omega arith }
 
   -- ---- blocks and statements
-  statements_cost : (n : ℕ) (xs : List NodeLower) → AllCost n xs → (around : Around) → C (T n) (n + n) (lower.statements f around xs)
+  statements_cost : (n : ℕ) (xs : List NodeLower) → AllCost n xs → (around : LoopsAndGuards) → C (T n) (n + n) (lower.statements f around xs)
   statements_cost _ _ none_cost around = sizes.nothing_costs f W
   statements_cost _ _ (one_costs m n x xs p ps) around =
       weaker (B + T m + T n) (m + m + (n + n)) (T (suc m + n)) (suc m + n + (suc m + n)) _ (let i = times_add (B + 12) (suc m) n in omega arith) (omega arith)
       (sizes.then_costs f W (B + T m) (m + m) (T n) (n + n) _ _ (p.evaluates around false (Into x.head.id)) (statements_cost n xs ps around))
 
-  tail_costs : (n : ℕ) (h : NodeHead) (x : LowerIfAny) → IfAnyCost n x → (around : Around) (to : Destination) → C (T n + 2 * (W + 2)) (n + n) (lower.tail_of f h x around to)
+  tail_costs : (n : ℕ) (h : NodeHead) (x : LowerIfAny) → IfAnyCost n x → (around : LoopsAndGuards) (to : Destination) → C (T n + 2 * (W + 2)) (n + n) (lower.tail_of f h x around to)
   tail_costs _ h _ without around to = by_never (is_never f.items h.ty)
     where
       by_never : (b : Bool) → C (T 0 + 2 * (W + 2)) 0 (lower.put_unit_if f b h to)
@@ -478,7 +478,7 @@ module _ (f : LoweringFrame) (W B : ℕ) (enough : 12 * (W + 2) ≤ B) where
       (sizes.scope_costs f W (T n + (T n' + 2 * (W + 2))) (n + n + (n' + n')) h.id own _
       (sizes.then_costs f W (T n) (n + n) (T n' + 2 * (W + 2)) (n' + n') _ _ (statements_cost n xs ps around) (tail_costs n' h x p around to)))
 
-  evaluating_costs : (m : ℕ) (h : NodeHead) (x : NodeLower) → NodeCosts m x → (around : Around) → C (W + 1 + T (suc m)) (suc m + suc m) (lower.evaluating f h x around)
+  evaluating_costs : (m : ℕ) (h : NodeHead) (x : NodeLower) → NodeCosts m x → (around : LoopsAndGuards) → C (W + 1 + T (suc m)) (suc m + suc m) (lower.evaluating f h x around)
   evaluating_costs m h x p around =
       sizes.scope_costs f W (T (suc m)) (suc m + suc m) h.id true _
       (pended m (lower.pending_if f true innermost x.head) (lower.completed f innermost x.head) _
@@ -489,12 +489,12 @@ module _ (f : LoweringFrame) (W B : ℕ) (enough : 12 * (W + 2) ≤ B) where
       grew_on S (innermost (without_pending (entry_of x)) S) (lower.named f x S) 0 1 (innermost_grew 0 (without_pending (entry_of x)) (without_adds (entry_of x)) S)
       (around_grew 1 (with_entry (entry_of x)) (entry_adds (entry_of x)) (innermost (without_pending (entry_of x)) S))
 
-  let_name_costs : (m : ℕ) (h y : NodeHead) (x : NodeLower) → NodeCosts m x → (around : Around) → C (W + 1 + T (suc m)) (suc m + suc m) (lower.let_name f h y x around)
+  let_name_costs : (m : ℕ) (h y : NodeHead) (x : NodeLower) → NodeCosts m x → (around : LoopsAndGuards) → C (W + 1 + T (suc m)) (suc m + suc m) (lower.let_name f h y x around)
   let_name_costs m h y x p around =
       sizes.scope_costs f W (T (suc m)) (suc m + suc m) h.id true _
       (pended m (lower.pending_if f true innermost y) (lower.named f y) _ (pending_grew true innermost y (innermost_grew 1)) (named_grew y) (p.evaluates around false (Into y.id)))
 
-  let_parts_costs : (mp m : ℕ) (h : NodeHead) (p x : NodeLower) → NodeCosts mp p → NodeCosts m x → (around : Around) →
+  let_parts_costs : (mp m : ℕ) (h : NodeHead) (p x : NodeLower) → NodeCosts mp p → NodeCosts m x → (around : LoopsAndGuards) →
       C (W + 1 + (6 * 1 + (T (suc m) + 6 * suc mp))) (1 + (suc m + suc m + suc mp)) (lower.let_parts f h p x around)
   let_parts_costs mp m h p x cp cx around =
       let bounds = p.shape.bindings (lower.place_in x around) in
@@ -520,7 +520,7 @@ module _ (f : LoweringFrame) (W B : ℕ) (enough : 12 * (W + 2) ≤ B) where
   times_wide zero = omega arith
   times_wide (suc n) = let i = times_wide n in omega (arith, enough)
 
-  letting_costs : (mp n : ℕ) (h : NodeHead) (p : NodeLower) (x : LowerIfAny) → NodeCosts mp p → IfAnyCost n x → (around : Around) → C (B + T (suc mp + n)) (suc mp + n + (suc mp + n)) (lower.letting f h p x around)
+  letting_costs : (mp n : ℕ) (h : NodeHead) (p : NodeLower) (x : LowerIfAny) → NodeCosts mp p → IfAnyCost n x → (around : LoopsAndGuards) → C (B + T (suc mp + n)) (suc mp + n + (suc mp + n)) (lower.letting f h p x around)
   letting_costs mp _ h p _ cp without around =
       let bounds = p.shape.bindings (whole_local 0) in
       let few = cp.shaped.1.0 (whole_local 0) in
@@ -542,14 +542,14 @@ module _ (f : LoweringFrame) (W B : ℕ) (enough : 12 * (W + 2) ≤ B) where
           let j = room in
           weaker (W + 1 + (6 * 1 + (T (suc m) + 6 * suc mp))) (1 + (suc m + suc m + suc mp)) _ _ _ (omega (arith, enough)) (omega arith) (let_parts_costs mp m h p x cp cx around)
 
-  jump_value_costs : (n : ℕ) (h : NodeHead) (x : LowerIfAny) → IfAnyCost n x → (around : Around) (to : Destination) → C (T n + 2 * (W + 2)) (n + n) (lower.value_of_jump f h x around to)
+  jump_value_costs : (n : ℕ) (h : NodeHead) (x : LowerIfAny) → IfAnyCost n x → (around : LoopsAndGuards) (to : Destination) → C (T n + 2 * (W + 2)) (n + n) (lower.value_of_jump f h x around to)
   jump_value_costs _ h _ without around to = weaker (2 * (W + 2)) 0 (T 0 + 2 * (W + 2)) 0 _ (omega arith) (omega arith) (unit_costs h to)
   jump_value_costs _ h _ (with_one m x p) around to = weaker (B + T m) (m + m) (T (suc m) + 2 * (W + 2)) (suc m + suc m) _ (omega arith) (omega arith) (p.evaluates around false to)
 
   ends_loop_costs : (h : NodeHead) (to : Destination) → C (2 * (W + 2) + (3 * W + 1)) (0 + 0) (lower.ends_loop f h to)
   ends_loop_costs h to = sizes.jump_costs f W (2 * (W + 2)) 0 h.id (Breaks h.id) _ (unit_costs h to)
 
-  body_costs : (m : ℕ) (x : NodeLower) → NodeCosts m x → (around : Around) → C (B + T m) (m + m) (lower.body_in f x around)
+  body_costs : (m : ℕ) (x : NodeLower) → NodeCosts m x → (around : LoopsAndGuards) → C (B + T m) (m + m) (lower.body_in f x around)
   body_costs m x p around = alone_costs m x p around (Into x.head.id)
 
   pattern_costs : (m : ℕ) (h : NodeHead) (s : Shape) → Shaped m s → NodeCosts m (lower.a_pattern f h s)
@@ -574,7 +574,7 @@ module _ (f : LoweringFrame) (W B : ℕ) (enough : 12 * (W + 2) ≤ B) where
   abbrev S_of : Form → NodeHead → Shape
   S_of form h = shape_of f.items form h
 
-  arm_form : (m : ℕ) (h : NodeHead) (s : Shape) → Shaped m s → (a : Place → Around → Destination → LowersArm) → ((matched : Place) (around : Around) (to : Destination) → ArmCost (B + T m) (m + m) (a matched around to)) →
+  arm_form : (m : ℕ) (h : NodeHead) (s : Shape) → Shaped m s → (a : Place → LoopsAndGuards → Destination → LowersArm) → ((matched : Place) (around : LoopsAndGuards) (to : Destination) → ArmCost (B + T m) (m + m) (a matched around to)) →
       NodeCosts m (record (lower.a_pattern f h s) { arm = a })
   arm_form m h s shaped a p = let v = pattern_costs m h s shaped in record { evaluates = v.evaluates; reaches = v.reaches; arm = p; shaped = shaped }
 
@@ -621,7 +621,7 @@ module _ (f : LoweringFrame) (W B : ℕ) (enough : 12 * (W + 2) ≤ B) where
   to_unit form h x e c action =
       as_many (suc (inside x)) _ _ e (gives_unit_costs (suc (inside x)) h (S_of form h) (shape_at form h (suc (inside x)) e) (lower.lower f x) (single (inside x) _ c) action)
 
-  of_jump : (form : Form) (h : NodeHead) (value : MaybeNode) → length (nodes_if_any value) ≡ length (nodes_in form) → IfAnyCost (length (nodes_if_any value)) (lower.lower_if_any f value) → (exit : Exit) (to : Around → Destination) →
+  of_jump : (form : Form) (h : NodeHead) (value : MaybeNode) → length (nodes_if_any value) ≡ length (nodes_in form) → IfAnyCost (length (nodes_if_any value)) (lower.lower_if_any f value) → (exit : Exit) (to : LoopsAndGuards → Destination) →
       NodeCosts (length (nodes_in form)) (lower.a_scope f h (S_of form h) (λ around own_to. jump f h.id exit (lower.value_of_jump f h (lower.lower_if_any f value) around (to around))))
   of_jump form h value e c exit to =
       let n = length (nodes_if_any value) in

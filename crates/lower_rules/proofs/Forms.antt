@@ -13,7 +13,7 @@ use Rattle.store_model.specs.Places.Place.{Step, ToPart, ToField, Place, whole_l
 use Rattle.typed_tree.specs.Tree as tree
 use Rattle.typed_tree.specs.Tree.{Form, Nodes, no_node, a_node, Fields, no_field, a_field, MaybeNode, absent, present, ParamTree, BodyTree}
 use Rattle.src_meaning.specs.Evaluation.{in_number_order, to_own_key}
-use Rattle.src_meaning.specs.Forms.{Destination, Into, Coerced, coerced, Around, in_loop, loop_destination, in_guard, bound_entry, site_in, site_of_key, moved, is_never}
+use Rattle.src_meaning.specs.Forms.{Destination, Into, Coerced, coerced, LoopsAndGuards, in_loop, loop_destination, in_guard, bound_entry, site_in, site_of_key, moved, is_never}
 use Rattle.src_meaning.specs.Locals.OfBody.{param_key, answer_key}
 use Rattle.src_meaning.specs.Scopes.{Scope, Scopes, with_scope, innermost, around_innermost, with_entry, Breaks, Continues, Returns}
 use Rattle.src_meaning.specs.Shape.{NodeHead, head, Shape, BoundName, kind_of, shape, shape_of, in_fields, in_parts, extended, site_at, moves, copied_or_moved, operand_of_bound, operand_at}
@@ -129,16 +129,16 @@ module _ (t : CodeTarget) where
         built.KindAt t false r → built.TidyAfter t (a.build c S r k s)
 
   abbrev pub LowersE : Evaluates → EvaluatesAt → Type 0
-  LowersE e P = (around : Around) (own : Bool) (to : Destination) → L (e around own to) (λ c. P around c own to)
+  LowersE e P = (around : LoopsAndGuards) (own : Bool) (to : Destination) → L (e around own to) (λ c. P around c own to)
 
   abbrev pub LowersR : Reaches → ReachesAt → Type 0
-  LowersR r Q = (around : Around) → L (r around) (λ c. Q around c)
+  LowersR r Q = (around : LoopsAndGuards) → L (r around) (λ c. Q around c)
 
-  abbrev pub LowersA : (Place → Around → Destination → LowersArm) → ArmsAt → Type 0
-  LowersA a A = (matched : Place) (around : Around) (to : Destination) → LoweredArm (a matched around to) (λ rest c. A matched rest around c to)
+  abbrev pub LowersA : (Place → LoopsAndGuards → Destination → LowersArm) → ArmsAt → Type 0
+  LowersA a A = (matched : Place) (around : LoopsAndGuards) (to : Destination) → LoweredArm (a matched around to) (λ rest c. A matched rest around c to)
 
   pub data LowersAs : NodeLower → NodeCode → Type 1 where
-    lowers_as : (h : NodeHead) (s : Shape) (e : Evaluates) (r : Reaches) (a : Place → Around → Destination → LowersArm) (P : EvaluatesAt) (Q : ReachesAt) (A : ArmsAt) → Named s → LowersE e P → LowersR r Q → LowersA a A →
+    lowers_as : (h : NodeHead) (s : Shape) (e : Evaluates) (r : Reaches) (a : Place → LoopsAndGuards → Destination → LowersArm) (P : EvaluatesAt) (Q : ReachesAt) (A : ArmsAt) → Named s → LowersE e P → LowersR r Q → LowersA a A →
         LowersAs (record { head = h; shape = s; evaluates = e; reaches = r; arm = a }) (record { head = h; shape = s; evaluates = P; reaches = Q; arm = A })
 
   pub data AllLower : List NodeLower → List NodeCode → Type 1 where
@@ -177,21 +177,21 @@ module _ (t : CodeTarget) where
   own_lowers h true P sp l = built.in_scope_lowered t h.id true P sp l
   own_lowers h false P sp l = l
 
-  operand_lowers : (around : Around) (m : NodeLower) (d : NodeCode) → LowersAs m d → L (lower.operand f around m) (λ c. OperandAt t around c d)
+  operand_lowers : (around : LoopsAndGuards) (m : NodeLower) (d : NodeCode) → LowersAs m d → L (lower.operand f around m) (λ c. OperandAt t around c d)
   operand_lowers around _ _ (lowers_as h s e r a P Q A sn se sr sa) =
       built.changed_lowered t _ _ _ (built.then_lowered t _ _ _ _ (se around false (Into h.id)) (built.change_lowered t _))
 
-  operands_lower : (around : Around) (ms : List NodeLower) (ds : List NodeCode) → AllLower ms ds → L (lower.operands f around ms) (λ c. OperandsAt t around c ds)
+  operands_lower : (around : LoopsAndGuards) (ms : List NodeLower) (ds : List NodeCode) → AllLower ms ds → L (lower.operands f around ms) (λ c. OperandsAt t around c ds)
   operands_lower around _ _ none_lower = built.nothing_lowered t
   operands_lower around _ _ (one_lowers m d ms ds one all) = built.then_lowered t _ _ _ _ (operand_lowers around m d one) (operands_lower around ms ds all)
 
-  acting_lowers : (h : NodeHead) (around : Around) (own : Bool) (ms : List NodeLower) (ds : List NodeCode) → AllLower ms ds → (P : Lowers) (sp : Ways → CodeSpot) → L P sp →
+  acting_lowers : (h : NodeHead) (around : LoopsAndGuards) (own : Bool) (ms : List NodeLower) (ds : List NodeCode) → AllLower ms ds → (P : Lowers) (sp : Ways → CodeSpot) → L P sp →
       L (lower.acting f h around own ms P) (λ c. ActingAt t h around c own ds (sp c))
   acting_lowers h around own ms ds all P sp l =
       subst (λ keys. L (lower.acting f h around own ms P) (λ c. InScope t h.id own (Then (OperandsAt t around c ds) (After (taken t keys) (sp c))))) (same_keys ms ds all)
       (built.in_scope_lowered t h.id own _ _ (built.then_lowered t _ _ _ _ (operands_lower around ms ds all) (built.changed_lowered t (taken t (lower.keys_of ms)) P sp l)))
 
-  dropping_lowers : (h : NodeHead) (around : Around) (own : Bool) (m : NodeLower) (d : NodeCode) → LowersAs m d → (P : Lowers) (sp : Ways → CodeSpot) → L P sp →
+  dropping_lowers : (h : NodeHead) (around : LoopsAndGuards) (own : Bool) (m : NodeLower) (d : NodeCode) → LowersAs m d → (P : Lowers) (sp : Ways → CodeSpot) → L P sp →
       L (lower.dropping f h around own m P) (λ c. DroppingAt t h around c own d (sp c))
   dropping_lowers h around own m d one P sp l = built.in_scope_lowered t h.id own _ _ (built.then_lowered t _ _ _ _ (operand_lowers around m d one) l)
 
@@ -220,10 +220,10 @@ module _ (t : CodeTarget) where
           (λ c. ReplacesAt t (needs_drop t.items ph.ty) (site_at ph (ps.place around.aliases)) d.head.id)
       by_key (lowers_as vh s e r a P Q A sn se sr sa) = built.replaces_lowered t (needs_drop t.items ph.ty) (site_at ph (ps.place around.aliases)) vh.id
 
-  alone_lowers : (around : Around) (m : NodeLower) (d : NodeCode) → LowersAs m d → (to : Destination) → L (lower.alone f around m to) (λ c. AloneAt t around c d to)
+  alone_lowers : (around : LoopsAndGuards) (m : NodeLower) (d : NodeCode) → LowersAs m d → (to : Destination) → L (lower.alone f around m to) (λ c. AloneAt t around c d to)
   alone_lowers around _ _ (lowers_as h s e r a P Q A sn se sr sa) to = built.back_lowered t _ _ (se around true to)
 
-  condition_lowers : (around : Around) (m : NodeLower) (d : NodeCode) → LowersAs m d → (P Q : Lowers) (sp sq : Ways → CodeSpot) → L P sp → L Q sq → ((S : Scopes) → P.after S ≡ Q.after S) →
+  condition_lowers : (around : LoopsAndGuards) (m : NodeLower) (d : NodeCode) → LowersAs m d → (P Q : Lowers) (sp sq : Ways → CodeSpot) → L P sp → L Q sq → ((S : Scopes) → P.after S ≡ Q.after S) →
       L (lower.condition f around m P Q) (λ c. ConditionAt t around c d (sp c) (sq c))
   condition_lowers around _ _ (lowers_as h s e r a Pe Qr A sn se sr sa) P Q sp sq lp lq same =
       built.then_lowered t _ _ _ _ (built.back_lowered t _ _ (se around true (Into h.id)))
@@ -242,11 +242,11 @@ module _ (t : CodeTarget) where
   unit_after_scopes : (h : NodeHead) (to : Destination) (S : Scopes) → (lower.put_unit f h to).after S ≡ S
   unit_after_scopes h to S = deliver_after h (λ site. effects.Put site effects.UnitValue) to S
 
-  otherwise_lowers : (h : NodeHead) (m : LowerIfAny) (d : CodeIfAny) → IfAnyLowers m d → (around : Around) (to : Destination) → L (lower.otherwise_unit f h m around to) (λ c. code.otherwise_unit t h d around c to)
+  otherwise_lowers : (h : NodeHead) (m : LowerIfAny) (d : CodeIfAny) → IfAnyLowers m d → (around : LoopsAndGuards) (to : Destination) → L (lower.otherwise_unit f h m around to) (λ c. code.otherwise_unit t h d around c to)
   otherwise_lowers h _ _ without around to = unit_lowers h to
   otherwise_lowers h _ _ (with_one m d l) around to = alone_lowers around m d l to
 
-  otherwise_after : (h : NodeHead) (m : LowerIfAny) (around : Around) (to : Destination) (S : Scopes) → S ≡ (lower.otherwise_unit f h m around to).after S
+  otherwise_after : (h : NodeHead) (m : LowerIfAny) (around : LoopsAndGuards) (to : Destination) (S : Scopes) → S ≡ (lower.otherwise_unit f h m around to).after S
   otherwise_after h no_lower around to S = sym (unit_after_scopes h to S)
   otherwise_after h (a_lower m) around to S = refl
 
@@ -261,7 +261,7 @@ module _ (t : CodeTarget) where
   touched_lowers true site = built.act_lowered t site.node (effects.Touch site) refl
   touched_lowers false site = built.nothing_lowered t
 
-  scrutinised_lowers : (around : Around) (m : NodeLower) (d : NodeCode) → LowersAs m d → L (lower.scrutinised f around m) (λ c. ScrutinisedAt t around c d)
+  scrutinised_lowers : (around : LoopsAndGuards) (m : NodeLower) (d : NodeCode) → LowersAs m d → L (lower.scrutinised f around m) (λ c. ScrutinisedAt t around c d)
   scrutinised_lowers around _ _ (lowers_as h s e r a P Q A sn se sr sa) =
       built.then_lowered t _ _ _ _ (sr around) (touched_lowers s.is_place (site_at h (s.place around.aliases)))
 
@@ -276,7 +276,7 @@ module _ (t : CodeTarget) where
       ∙ outer_innermost (with_entry (bound_entry b)) ((act f b.key (effects.Put (site_of_key b.key) (operand_of_bound b))).after S)
       ∙ ap (outer f) (act_after (build.is_last f (effects.Put (site_of_key b.key) (operand_of_bound b))) b.key (build.done_by f (effects.Put (site_of_key b.key) (operand_of_bound b))) S)
 
-  if_taken_lowers : (h : NodeHead) (around : Around) (pattern : NodeLower) (dp : NodeCode) → LowersAs pattern dp → (scrutinee : NodeLower) (ds : NodeCode) → LowersAs scrutinee ds →
+  if_taken_lowers : (h : NodeHead) (around : LoopsAndGuards) (pattern : NodeLower) (dp : NodeCode) → LowersAs pattern dp → (scrutinee : NodeLower) (ds : NodeCode) → LowersAs scrutinee ds →
       (P Q : Lowers) (sp sq : Ways → CodeSpot) → L P sp → L Q sq → ((S : Scopes) → P.after S ≡ S) → ((S : Scopes) → S ≡ Q.after S) →
       L (lower.if_taken f h around pattern scrutinee P Q) (λ c. IfTakenAt t h around c dp ds (sp c) (sq c))
   if_taken_lowers h around _ _ (lowers_as ph ps pe pr pa pP pQ pA pn spe spr spa) _ _ (lowers_as mh s e r a Pe Qr A sn se sr sa) P Q sp sq lp lq same same2 =
@@ -286,12 +286,12 @@ module _ (t : CodeTarget) where
       (built.then_lowered t _ _ _ _ (built.leave_lowered t) lq)
       (λ S. ap (outer f) (same _) ∙ bind_outer (ps.bindings (s.place around.aliases)) S ∙ same2 (outer f S))))
 
-  taken_lowers : (h : NodeHead) (around : Around) (bounds : List BoundName) → AllNamed bounds → (m : NodeLower) (d : NodeCode) → LowersAs m d → (to : Destination) →
+  taken_lowers : (h : NodeHead) (around : LoopsAndGuards) (bounds : List BoundName) → AllNamed bounds → (m : NodeLower) (d : NodeCode) → LowersAs m d → (to : Destination) →
       L (lower.taken_arm f h around bounds m to) (λ c. TakenArmAt t h around c bounds d to)
   taken_lowers h around bounds named m d one to =
       built.in_scope_lowered t h.id false _ _ (built.then_lowered t _ _ _ _ (bind_lowers innermost bounds named) (alone_lowers around m d one to))
 
-  taken_after : (h : NodeHead) (around : Around) (bounds : List BoundName) (m : NodeLower) (to : Destination) (S : Scopes) → (lower.taken_arm f h around bounds m to).after S ≡ S
+  taken_after : (h : NodeHead) (around : LoopsAndGuards) (bounds : List BoundName) (m : NodeLower) (to : Destination) (S : Scopes) → (lower.taken_arm f h around bounds m to).after S ≡ S
   taken_after h around bounds m to S = bind_outer bounds (with_scope h.id false S)
 
   -- ---- arms
@@ -304,7 +304,7 @@ module _ (t : CodeTarget) where
   true_second false z e = e
 
   module _ (P : Lowers) (sp : Ways → CodeSpot) (lp : L P sp) (same : (S : Scopes) → P.after S ≡ S) where
-    unguarded : (around : Around) (bounds : List BoundName) → LoweredArm (lower.guarded f around bounds no_lower P) (λ rest c. GuardedAt t around c bounds no_code (Joins t (sp c)) rest)
+    unguarded : (around : LoopsAndGuards) (bounds : List BoundName) → LoweredArm (lower.guarded f around bounds no_lower P) (λ rest c. GuardedAt t around c bounds no_code (Joins t (sp c)) rest)
     unguarded around bounds = record {
       grows = λ c S r k s. lp.grows c S k s;
       holds = λ c S r k s u later chains step.
@@ -389,7 +389,7 @@ module _ (t : CodeTarget) where
           (((g, (built.kind_stands t Kind.Plain (P.build c S k s).0 (P.build c S k s).1 l1, tt)), tt, refl, tt), tt)
       guard_tidies false c S r k s wa wp later h l g = la.tidies c S k s wa later h l
 
-    guarded_lowers : (around : Around) (bounds : List BoundName) (g : LowerIfAny) (d : CodeIfAny) → IfAnyLowers g d →
+    guarded_lowers : (around : LoopsAndGuards) (bounds : List BoundName) (g : LowerIfAny) (d : CodeIfAny) → IfAnyLowers g d →
         LoweredArm (lower.guarded f around bounds g P) (λ rest c. GuardedAt t around c bounds d (Joins t (sp c)) rest)
     guarded_lowers around bounds _ _ without = unguarded around bounds
     guarded_lowers around bounds _ _ (with_one _ _ (lowers_as h s e r a Pe Qr A sn se sr sa)) =
@@ -454,7 +454,7 @@ module _ (t : CodeTarget) where
           guarded_lowers (lower.taken_arm f h around bounds m to) (λ c. TakenArmAt t h around c bounds d to) (taken_lowers h around bounds (pn matched) m d one to) (taken_after h around bounds m to) around bounds g dg lg
 
   -- the last arm first: behind it a panic
-  module _ (number : ℕ) (matched : Place) (around : Around) (to : Destination) where
+  module _ (number : ℕ) (matched : Place) (around : LoopsAndGuards) (to : Destination) where
     arms_grow : (ms : List NodeLower) (ds : List NodeCode) → AllLower ms ds → (c : Ways) (S : Scopes) (k : BlockRest) (s : Building) → Grows s (lower.arms_from f number ms matched around to c S k s).1
     arms_grow _ _ none_lower c S k s = built.unwind_grows t (panic_drops t S) s
     arms_grow _ _ (one_lowers _ _ ms ds (lowers_as h sh e r a P Q A sn se sr sa) all) c S k s =
@@ -546,7 +546,7 @@ module _ (t : CodeTarget) where
       own_lowers h own _ _ (built.then_lowered t _ _ _ _ (scrutinised_lowers around _ _ (lowers_as mh s e r a P Q A sn se sr sa)) (arms_lower h.id (s.place around.aliases) around to ms ds all))
 
   -- ---- blocks and statements
-  statements_lower : (around : Around) (ms : List NodeLower) (ds : List NodeCode) → AllLower ms ds → L (lower.statements f around ms) (λ c. StatementsAt t around c ds)
+  statements_lower : (around : LoopsAndGuards) (ms : List NodeLower) (ds : List NodeCode) → AllLower ms ds → L (lower.statements f around ms) (λ c. StatementsAt t around c ds)
   statements_lower around _ _ none_lower = built.nothing_lowered t
   statements_lower around _ _ (one_lowers _ _ ms ds (lowers_as h s e r a P Q A sn se sr sa) all) =
       built.then_lowered t _ _ _ _ (se around false (Into h.id)) (statements_lower around ms ds all)
@@ -555,7 +555,7 @@ module _ (t : CodeTarget) where
   unit_if_lowers true h to = built.nothing_lowered t
   unit_if_lowers false h to = unit_lowers h to
 
-  tail_lowers : (h : NodeHead) (m : LowerIfAny) (d : CodeIfAny) → IfAnyLowers m d → (around : Around) (to : Destination) → L (lower.tail_of f h m around to) (λ c. TailAt t h d around c to)
+  tail_lowers : (h : NodeHead) (m : LowerIfAny) (d : CodeIfAny) → IfAnyLowers m d → (around : LoopsAndGuards) (to : Destination) → L (lower.tail_of f h m around to) (λ c. TailAt t h d around c to)
   tail_lowers h _ _ without around to = unit_if_lowers (is_never t.items h.ty) h to
   tail_lowers h _ _ (with_one m d l) around to = alone_lowers around m d l to
 
@@ -610,7 +610,7 @@ module _ (t : CodeTarget) where
       let_value_lowers ps.is_binding h _ _ (lowers_as ph ps pe pr pa pP pQ pA pn spe spr spa) m d l around
 
   -- ---- jumps, and the rest of the rules
-  jump_value_lowers : (h : NodeHead) (m : LowerIfAny) (d : CodeIfAny) → IfAnyLowers m d → (around : Around) (to : Destination) → L (lower.value_of_jump f h m around to) (λ c. JumpValueAt t h d around c to)
+  jump_value_lowers : (h : NodeHead) (m : LowerIfAny) (d : CodeIfAny) → IfAnyLowers m d → (around : LoopsAndGuards) (to : Destination) → L (lower.value_of_jump f h m around to) (λ c. JumpValueAt t h d around c to)
   jump_value_lowers h _ _ without around to = unit_lowers h to
   jump_value_lowers h _ _ (with_one _ _ (lowers_as _ s e r a P Q A sn se sr sa)) around to = se around false to
 
@@ -644,7 +644,7 @@ module _ (t : CodeTarget) where
   a_place_lowers : (h : NodeHead) (s : Shape) → Named s → (r : Reaches) (Q : ReachesAt) → LowersR r Q → LowersAs (lower.a_place f h s r) (code.a_place t h s Q)
   a_place_lowers h s named r Q l = lowers_as h s _ _ _ _ _ _ named (made_lowers h _ _ (use_lowers h s r Q l)) l no_arm_lowers
 
-  a_scope_lowers : (h : NodeHead) (s : Shape) → Named s → (e : lower.MakesInto) (P : Around → Ways → Destination → CodeSpot) → ((around : Around) (to : Destination) → L (e around to) (λ c. P around c to)) →
+  a_scope_lowers : (h : NodeHead) (s : Shape) → Named s → (e : lower.MakesInto) (P : LoopsAndGuards → Ways → Destination → CodeSpot) → ((around : LoopsAndGuards) (to : Destination) → L (e around to) (λ c. P around c to)) →
       LowersAs (lower.a_scope f h s e) (code.a_scope t h s P)
   a_scope_lowers h s named e P l = a_value_lowers h s named _ _ (λ around own to. own_lowers h own _ _ (l around to))
 
@@ -708,13 +708,13 @@ module _ (t : CodeTarget) where
   a_pattern_lowers : (h : NodeHead) (s : Shape) → Named s → LowersAs (lower.a_pattern f h s) (code.a_pattern t h s)
   a_pattern_lowers h s named = a_value_lowers h s named _ _ (λ around own to. built.nothing_lowered t)
 
-  arm_form : (h : NodeHead) (s : Shape) → Named s → (a : Place → Around → Destination → LowersArm) (A : ArmsAt) → LowersA a A →
+  arm_form : (h : NodeHead) (s : Shape) → Named s → (a : Place → LoopsAndGuards → Destination → LowersArm) (A : ArmsAt) → LowersA a A →
       LowersAs (record (lower.a_pattern f h s) { arm = a }) (record (code.a_pattern t h s) { arm = A })
   arm_form h s named a A l =
       lowers_as h s _ _ _ _ _ _ named (made_lowers h (λ around own to. nothing) (λ around c own to. Nothing) (λ around own to. built.nothing_lowered t))
       (temporary_lowers h s _ _ (made_lowers h (λ around own to. nothing) (λ around c own to. Nothing) (λ around own to. built.nothing_lowered t))) l
 
-  body_lowers : (m : NodeLower) (d : NodeCode) → LowersAs m d → (around : Around) → L (lower.body_in f m around) (λ c. code.body_in t d around c)
+  body_lowers : (m : NodeLower) (d : NodeCode) → LowersAs m d → (around : LoopsAndGuards) → L (lower.body_in f m around) (λ c. code.body_in t d around c)
   body_lowers _ _ (lowers_as h s e r a P Q A sn se sr sa) around = built.back_lowered t _ _ (se around true (Into h.id))
 
   shortcut_lowers : (h : NodeHead) (truth : Bool) (to : Destination) → L (lower.shortcut f h truth to) (λ c. code.shortcut t h truth to)
@@ -837,7 +837,7 @@ module _ (t : CodeTarget) where
       (names_lower (shape t.items param.pattern).is_binding ((shape t.items param.pattern).bindings (whole_local (param_key param))) (node_named t.items param.pattern (whole_local (param_key param))))
       (params_lower params))
 
-  given_lowers : (m : NodeLower) (d : NodeCode) → LowersAs m d → (around : Around) (to : Destination) → L (m.evaluates around false to) (λ c. d.evaluates around c false to)
+  given_lowers : (m : NodeLower) (d : NodeCode) → LowersAs m d → (around : LoopsAndGuards) (to : Destination) → L (m.evaluates around false to) (λ c. d.evaluates around c false to)
   given_lowers _ _ (lowers_as h s e r a P Q A sn se sr sa) around to = se around false to
 
   -- the code of a function, given the ways of its jumps

@@ -9,7 +9,7 @@ use Rattle.typed_tree.specs.Tree.{Form, Nodes, no_node, a_node, Fields, no_field
 use Rattle.mir_base.specs.declared.trace.Why.{Why}
 use Rattle.mir_ty.specs.Facts.{needs_drop}
 use Rattle.src_meaning.specs.Evaluation.{in_number_order, to_own_key}
-use Rattle.src_meaning.specs.Forms.{Destination, Into, Coerced, Around, in_loop, loop_destination, in_guard, coerced, bound_entry, site_in, site_of_key, moved, is_never}
+use Rattle.src_meaning.specs.Forms.{Destination, Into, Coerced, LoopsAndGuards, in_loop, loop_destination, in_guard, coerced, bound_entry, site_in, site_of_key, moved, is_never}
 use Rattle.src_meaning.specs.Locals.OfBody.{param_key, answer_key}
 use Rattle.src_meaning.specs.Scopes.{Scope, Scopes, with_scope, innermost, around_innermost, with_entry, Exit, Value, Breaks, Continues, Returns, Panics}
 use Rattle.src_meaning.specs.Shape.{NodeHead, head, Shape, BoundName, kind_of, shape, shape_of, site_at, operand_of_bound, operand_at}
@@ -104,9 +104,9 @@ module _ (f : LoweringFrame) (loops : List ℕ) where
 
   -- a node, as it is evaluated, as its place is reached, and as an arm
   pub record NodeIn (m : NodeLower) : Type 0 where
-    pub evaluated : (around : Around) (own : Bool) (to : Destination) → JumpsIn loops (m.evaluates around own to)
-    pub reached : (around : Around) → JumpsIn loops (m.reaches around)
-    pub armed : (matched : Place) (around : Around) (to : Destination) → AllIn loops (m.arm matched around to).jumps
+    pub evaluated : (around : LoopsAndGuards) (own : Bool) (to : Destination) → JumpsIn loops (m.evaluates around own to)
+    pub reached : (around : LoopsAndGuards) → JumpsIn loops (m.reaches around)
+    pub armed : (matched : Place) (around : LoopsAndGuards) (to : Destination) → AllIn loops (m.arm matched around to).jumps
 
   pub data AllNodesIn : List NodeLower → Type 0 where
     none_in : AllNodesIn []
@@ -116,31 +116,31 @@ module _ (f : LoweringFrame) (loops : List ℕ) where
     without : IfAnyIn no_lower
     with_one : (m : NodeLower) → NodeIn m → IfAnyIn (a_lower m)
 
-  operand_in : (around : Around) (m : NodeLower) → NodeIn m → JumpsIn loops (lower.operand f around m)
+  operand_in : (around : LoopsAndGuards) (m : NodeLower) → NodeIn m → JumpsIn loops (lower.operand f around m)
   operand_in around m l = changed_in _ _ (then_in _ _ (l.evaluated around false (Into m.head.id)) (change_in (lower.completed f innermost m.head)))
 
-  operands_in : (around : Around) (ms : List NodeLower) → AllNodesIn ms → JumpsIn loops (lower.operands f around ms)
+  operands_in : (around : LoopsAndGuards) (ms : List NodeLower) → AllNodesIn ms → JumpsIn loops (lower.operands f around ms)
   operands_in around _ none_in = nothing_in
   operands_in around _ (one_in m ms l all) = then_in _ _ (operand_in around m l) (operands_in around ms all)
 
-  acting_in : (h : NodeHead) (around : Around) (own : Bool) (ms : List NodeLower) → AllNodesIn ms → (P : Lowers) → JumpsIn loops P → JumpsIn loops (lower.acting f h around own ms P)
+  acting_in : (h : NodeHead) (around : LoopsAndGuards) (own : Bool) (ms : List NodeLower) → AllNodesIn ms → (P : Lowers) → JumpsIn loops P → JumpsIn loops (lower.acting f h around own ms P)
   acting_in h around own ms all P l = scope_in h.id own _ (then_in _ _ (operands_in around ms all) (changed_in (build.taken f (lower.keys_of ms)) P l))
 
-  value_in : (h : NodeHead) (s : Shape) (e : Evaluates) → ((around : Around) (own : Bool) (to : Destination) → JumpsIn loops (e around own to)) → NodeIn (lower.a_value f h s e)
+  value_in : (h : NodeHead) (s : Shape) (e : Evaluates) → ((around : LoopsAndGuards) (own : Bool) (to : Destination) → JumpsIn loops (e around own to)) → NodeIn (lower.a_value f h s e)
   value_in h s e l = record {
     evaluated = λ around own to. l around own (to_own_key (is_never f.items h.ty) h.id to);
     reached = λ around. changed_in _ _ (then_in _ _ (l around false (to_own_key (is_never f.items h.ty) h.id (Into h.id))) (record { named = tt }));
     armed = λ matched around to. tt;
   }
 
-  place_in : (h : NodeHead) (s : Shape) (r : Reaches) → ((around : Around) → JumpsIn loops (r around)) → NodeIn (lower.a_place f h s r)
+  place_in : (h : NodeHead) (s : Shape) (r : Reaches) → ((around : LoopsAndGuards) → JumpsIn loops (r around)) → NodeIn (lower.a_place f h s r)
   place_in h s r l = record {
     evaluated = λ around own to. own_in h own _ (then_in _ _ (l around) (deliver_in h.id h (λ site. effects.Put site (operand_at h (s.place around.aliases))) (to_own_key (is_never f.items h.ty) h.id to)));
     reached = l;
     armed = λ matched around to. tt;
   }
 
-  scope_value_in : (h : NodeHead) (s : Shape) (e : lower.MakesInto) → ((around : Around) (to : Destination) → JumpsIn loops (e around to)) → NodeIn (lower.a_scope f h s e)
+  scope_value_in : (h : NodeHead) (s : Shape) (e : lower.MakesInto) → ((around : LoopsAndGuards) (to : Destination) → JumpsIn loops (e around to)) → NodeIn (lower.a_scope f h s e)
   scope_value_in h s e l = value_in h s (λ around own to. lower.in_own_scope f h own (e around to)) (λ around own to. own_in h own _ (l around to))
 
   operands_value_in : (h : NodeHead) (s : Shape) (ms : List NodeLower) → AllNodesIn ms → (action : EffectSite → Action) → NodeIn (lower.on_operands f h s ms action)
@@ -165,11 +165,11 @@ module _ (f : LoweringFrame) (loops : List ℕ) where
   branches_in : (node : ℕ) (x : ℕ → ℕ → build.Building → build.BlockRest × build.Building) (P Q : Lowers) → JumpsIn loops P → JumpsIn loops Q → JumpsIn loops (build.branches node x P Q)
   branches_in node x P Q p q = record { named = in_append loops P.jumps Q.jumps p.named q.named }
 
-  condition_in : (around : Around) (m : NodeLower) → NodeIn m → (P Q : Lowers) → JumpsIn loops P → JumpsIn loops Q → JumpsIn loops (lower.condition f around m P Q)
+  condition_in : (around : LoopsAndGuards) (m : NodeLower) → NodeIn m → (P Q : Lowers) → JumpsIn loops P → JumpsIn loops Q → JumpsIn loops (lower.condition f around m P Q)
   condition_in around m l P Q p q =
       then_in _ _ (back_in _ (l.evaluated around true (Into m.head.id))) (branches_in m.head.id (build.if_true f (moved m.head.id m.head.id) m.head.id) P Q p q)
 
-  branch_in : (around : Around) (to : Destination) (m : LowerIfAny) → IfAnyIn m → (P : Lowers) → JumpsIn loops P → JumpsIn loops (lower.branch f around to m P)
+  branch_in : (around : LoopsAndGuards) (to : Destination) (m : LowerIfAny) → IfAnyIn m → (P : Lowers) → JumpsIn loops P → JumpsIn loops (lower.branch f around to m P)
   branch_in around to _ without P l = l
   branch_in around to _ (with_one m h) P l = back_in _ (h.evaluated around true to)
 
@@ -182,29 +182,29 @@ module _ (f : LoweringFrame) (loops : List ℕ) where
   touched_in true site = act_in site.node (effects.Touch site)
   touched_in false site = nothing_in
 
-  scrutinised_in : (around : Around) (m : NodeLower) → NodeIn m → JumpsIn loops (lower.scrutinised f around m)
+  scrutinised_in : (around : LoopsAndGuards) (m : NodeLower) → NodeIn m → JumpsIn loops (lower.scrutinised f around m)
   scrutinised_in around m l = then_in _ _ (l.reached around) (touched_in m.shape.is_place (lower.site_of m around))
 
   leave_in : JumpsIn loops (build.leave f)
   leave_in = record { named = tt }
 
-  if_taken_in : (h : NodeHead) (around : Around) (pattern scrutinee : NodeLower) → NodeIn scrutinee → (P Q : Lowers) → JumpsIn loops P → JumpsIn loops Q →
+  if_taken_in : (h : NodeHead) (around : LoopsAndGuards) (pattern scrutinee : NodeLower) → NodeIn scrutinee → (P Q : Lowers) → JumpsIn loops P → JumpsIn loops Q →
       JumpsIn loops (lower.if_taken f h around pattern scrutinee P Q)
   if_taken_in h around pattern scrutinee l P Q p q =
       changed_in (with_scope h.id true) _ (then_in _ _ (scrutinised_in around scrutinee l)
       (branches_in h.id (build.tests f (pattern.shape.tests (lower.place_in scrutinee around))) _ _
       (then_in _ _ (then_in _ _ (bind_in innermost (pattern.shape.bindings (lower.place_in scrutinee around))) p) leave_in) (then_in _ _ leave_in q)))
 
-  taken_in : (h : NodeHead) (around : Around) (bounds : List BoundName) (m : NodeLower) → NodeIn m → (to : Destination) → JumpsIn loops (lower.taken_arm f h around bounds m to)
+  taken_in : (h : NodeHead) (around : LoopsAndGuards) (bounds : List BoundName) (m : NodeLower) → NodeIn m → (to : Destination) → JumpsIn loops (lower.taken_arm f h around bounds m to)
   taken_in h around bounds m l to = scope_in h.id false _ (then_in _ _ (bind_in innermost bounds) (back_in _ (l.evaluated around true to)))
 
-  guarded_in : (around : Around) (bounds : List BoundName) (g : LowerIfAny) → IfAnyIn g → (P : Lowers) → JumpsIn loops P → AllIn loops (lower.guarded f around bounds g P).jumps
+  guarded_in : (around : LoopsAndGuards) (bounds : List BoundName) (g : LowerIfAny) → IfAnyIn g → (P : Lowers) → JumpsIn loops P → AllIn loops (lower.guarded f around bounds g P).jumps
   guarded_in around bounds _ without P p = p.named
   guarded_in around bounds _ (with_one g l) P p =
       let asked = lower.alone f (in_guard bounds around) g (Into g.head.id) in
       in_append loops asked.jumps (jumps_if asked.has_end P.jumps) (l.evaluated (in_guard bounds around) true (Into g.head.id)).named (in_if loops asked.has_end P.jumps p.named)
 
-  arms_in : (ms : List NodeLower) → AllNodesIn ms → (matched : Place) (around : Around) (to : Destination) → AllIn loops (lower.arm_jumps f ms matched around to)
+  arms_in : (ms : List NodeLower) → AllNodesIn ms → (matched : Place) (around : LoopsAndGuards) (to : Destination) → AllIn loops (lower.arm_jumps f ms matched around to)
   arms_in _ none_in matched around to = tt
   arms_in _ (one_in m ms l all) matched around to =
       in_append loops (m.arm matched around to).jumps (lower.arm_jumps f ms matched around to) (l.armed matched around to) (arms_in ms all matched around to)
@@ -217,24 +217,24 @@ module _ (f : LoweringFrame) (loops : List ℕ) where
   declared_in [] = nothing_in
   declared_in (b ∷ bounds) = then_in _ _ (emptied_in (needs_drop f.items b.ty) b.key) (changed_in (innermost (with_entry (bound_entry b))) _ (declared_in bounds))
 
-  let_value_in : (x : Bool) (h : NodeHead) (pattern m : NodeLower) → NodeIn m → (around : Around) → JumpsIn loops (lower.let_value f x h pattern m around)
+  let_value_in : (x : Bool) (h : NodeHead) (pattern m : NodeLower) → NodeIn m → (around : LoopsAndGuards) → JumpsIn loops (lower.let_value f x h pattern m around)
   let_value_in true h pattern m l around = scope_in h.id true _ (changed_in _ _ (then_in _ _ (l.evaluated around false (Into pattern.head.id)) (change_in (lower.named f pattern.head))))
   let_value_in false h pattern m l around =
       scope_in h.id true _ (changed_in _ _ (then_in _ _ (l.reached around) (bind_in around_innermost (pattern.shape.bindings (lower.place_in m around)))))
 
-  letting_in : (h : NodeHead) (pattern : NodeLower) (m : LowerIfAny) → IfAnyIn m → (around : Around) → JumpsIn loops (lower.letting f h pattern m around)
+  letting_in : (h : NodeHead) (pattern : NodeLower) (m : LowerIfAny) → IfAnyIn m → (around : LoopsAndGuards) → JumpsIn loops (lower.letting f h pattern m around)
   letting_in h pattern _ without around = declared_in (pattern.shape.bindings (whole_local 0))
   letting_in h pattern _ (with_one m l) around = let_value_in pattern.shape.is_binding h pattern m l around
 
-  statements_in : (around : Around) (ms : List NodeLower) → AllNodesIn ms → JumpsIn loops (lower.statements f around ms)
+  statements_in : (around : LoopsAndGuards) (ms : List NodeLower) → AllNodesIn ms → JumpsIn loops (lower.statements f around ms)
   statements_in around _ none_in = nothing_in
   statements_in around _ (one_in m ms l all) = then_in _ _ (l.evaluated around false (Into m.head.id)) (statements_in around ms all)
 
-  tail_in : (h : NodeHead) (m : LowerIfAny) → IfAnyIn m → (around : Around) (to : Destination) → JumpsIn loops (lower.tail_of f h m around to)
+  tail_in : (h : NodeHead) (m : LowerIfAny) → IfAnyIn m → (around : LoopsAndGuards) (to : Destination) → JumpsIn loops (lower.tail_of f h m around to)
   tail_in h _ without around to = unit_if_in (is_never f.items h.ty) h to
   tail_in h _ (with_one m l) around to = back_in _ (l.evaluated around true to)
 
-  jump_value_in : (h : NodeHead) (m : LowerIfAny) → IfAnyIn m → (around : Around) (to : Destination) → JumpsIn loops (lower.value_of_jump f h m around to)
+  jump_value_in : (h : NodeHead) (m : LowerIfAny) → IfAnyIn m → (around : LoopsAndGuards) (to : Destination) → JumpsIn loops (lower.value_of_jump f h m around to)
   jump_value_in h _ without around to = unit_in h to
   jump_value_in h _ (with_one m l) around to = l.evaluated around false to
 

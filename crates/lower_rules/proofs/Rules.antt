@@ -24,7 +24,7 @@ use Rattle.src_meaning.specs.Locals.Effects.{step_at, site_at, operand_at, actio
 use Rattle.src_meaning.specs.Scopes.{Entry, Scope, Scopes, with_scope, needing_drop, entry_site, Exit, Value, Breaks, Continues, Returns, Panics}
 use Rattle.src_meaning.specs.Shape.{PatternTest, IsVariant, IsNumber, IsTruth, AnyOf, PatternTests, no_test, a_test, Alternatives, no_alternative, an_alternative}
 use Rattle.lower_rules.specs.Rules.{taken, StoresAt, ReplacesAt, IfAt, BranchesAt, EqualsAt, TestAt, TestsAt, AnyTestAt, PanicsAt, LoopAt}
-use Rattle.lower_rules.specs.Spots.{CodeTarget, CodePos, JumpWay, Ways, loop_ways, ways_of, ways_in_loop, CodeSpot, HasNoEnd, Then, Changes, After, Nothing, BackIn, action_of_term, panic_drops, StepAt, EntersAt, TermAt, Leads, stays, goes, Joins, CleanAt, Cleans, IsLast, ActionTermAt, Acts, by_statement, by_terminator, by_last_statement, by_last_terminator, DropsAt, AllDropAt, Left, Scoped, InScope, leaves_one, LeavesTo, JumpAt}
+use Rattle.lower_rules.specs.Spots.{CodeTarget, CodePos, JumpWay, Ways, loop_ways, ways_of, ways_in_loop, CodeSpot, HasNoEnd, Then, Changes, After, Nothing, BackIn, action_of_term, panic_drops, StepAt, EntersAt, TermAt, Leads, stays, goes, Joins, CleanAt, Cleans, IsLast, ActionTermAt, Acts, by_statement, by_terminator, by_last_statement, by_last_terminator, DropsAt, AllDropAt, LeavesScope, Scoped, InScope, leaves_one, LeavesTo, JumpAt}
 use Rattle.lower_rules.specs.Build as build
 use Rattle.lower_rules.specs.Build.{LoweringFrame, NodeLine, BlockRest, MadeBlock, Building, ending, with_line, made, next_number, closed, closing, reserved, filled, same_entries, chain_among, kept_chain, chain_or, way_of, naming, names, breaks_from, is_left_by, outside, jumps_if, Lowers, Done, ByStmt, ByTerm, change, nothing, from_changed, back_in, then_build, then_lower, joined, after_either, branches, with_exit, looped, step_of, place_of, done_by, chain, unwind_to, unwinding, done, is_last, act_by, act, drop_one, drop_all, outer, leave_from, leave, scoped, in_scope, leaves_to, exits, jump, panics, if_true, compared, equals, test, tests, any_test, put_into, replaces_from, stores, replaces}
 
@@ -801,7 +801,7 @@ module _ (t : CodeTarget) where
   leave_grows (scope ∷ S) k s = drops_grow (dropped_of scope) S k s
 
   leave_holds : (S : Scopes) (k : BlockRest) (s : Building) → ChainsStand s → Later (leave_from f S k s).1 →
-      ChainsStand (leave_from f S k s).1 × ((b : CodePos) → Stands (leave_from f S k s).0 b → (b' : CodePos) × Stands k b' × Left t S b (outer f S) b')
+      ChainsStand (leave_from f S k s).1 × ((b : CodePos) → Stands (leave_from f S k s).0 b → (b' : CodePos) × Stands k b' × LeavesScope t S b (outer f S) b')
   leave_holds [] k s h later = (h, λ b st. (b, st, (refl, stays)))
   leave_holds (scope ∷ S) k s h later =
       let d = drops_made (dropped_of scope) S k s h later in
@@ -815,7 +815,7 @@ module _ (t : CodeTarget) where
   leave_tidies [] k s later h l = (h, l)
   leave_tidies (scope ∷ S) k s later h l = drops_tidy (dropped_of scope) S k s later h l
 
-  pub leave_lowered : Lowered (leave f) (λ c. Left t)
+  pub leave_lowered : Lowered (leave f) (λ c. LeavesScope t)
   leave_lowered = record {
     grows = λ c S k s. leave_grows S k s;
     holds = λ c S k s u later chains. leave_holds S k s chains later;
@@ -824,7 +824,7 @@ module _ (t : CodeTarget) where
   }
 
   pub scoped_lowered : (enter : Scopes → Scopes) (P : Lowers) (sp : Ways → CodeSpot) → Lowered P sp → Lowered (scoped f enter P) (λ c. Scoped t enter (sp c))
-  scoped_lowered enter P sp lp = changed_lowered enter (then_lower P (leave f)) _ (then_lowered P (leave f) sp (λ c. Left t) lp leave_lowered)
+  scoped_lowered enter P sp lp = changed_lowered enter (then_lower P (leave f)) _ (then_lowered P (leave f) sp (λ c. LeavesScope t) lp leave_lowered)
 
   pub in_scope_lowered : (node : ℕ) (own : Bool) (P : Lowers) (sp : Ways → CodeSpot) → Lowered P sp → Lowered (in_scope f node own P) (λ c. InScope t node own (sp c))
   in_scope_lowered node own P sp lp = scoped_lowered (with_scope node own) P sp lp

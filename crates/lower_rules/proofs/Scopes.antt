@@ -10,7 +10,7 @@ use Rattle.mir_ty.specs.Facts.{needs_drop}
 use Rattle.src_meaning.specs.Evaluation.{in_number_order, to_own_key}
 use Rattle.src_meaning.specs.FieldKeys.{field_keys, moved_fields}
 use Rattle.mir_base.specs.declared.trace.Why.{Why}
-use Rattle.src_meaning.specs.Forms.{Destination, Into, Coerced, Around, in_loop, loop_destination, coerced, entry_of, bound_entry, site_in, site_of_key, moved, is_never, changed_if}
+use Rattle.src_meaning.specs.Forms.{Destination, Into, Coerced, LoopsAndGuards, in_loop, loop_destination, coerced, entry_of, bound_entry, site_in, site_of_key, moved, is_never, changed_if}
 use Rattle.src_meaning.specs.Scopes.{Scope, Scopes, with_scope, innermost, around_innermost, nearest_from, nearest_temporary, with_entry, with_pending, without_pending, becomes_entry, without_operands, Exit, Breaks, Continues, Returns}
 use Rattle.src_meaning.specs.Shape.{NodeHead, head, Shape, BoundName, kind_of, shape, shape_of, site_at, operand_of_bound, operand_at}
 use Rattle.store_model.specs.Places.Place.{whole_local}
@@ -147,8 +147,8 @@ module _ (f : LoweringFrame) where
 
   -- a node, as it is evaluated and as its place is reached
   pub record IsLocal (m : NodeLower) : Type 0 where
-    pub evaluated : (around : Around) (own : Bool) (to : Destination) → Local (m.evaluates around own to)
-    pub reached : (around : Around) → Local (m.reaches around)
+    pub evaluated : (around : LoopsAndGuards) (own : Bool) (to : Destination) → Local (m.evaluates around own to)
+    pub reached : (around : LoopsAndGuards) → Local (m.reaches around)
 
   pub data AllLocal : List NodeLower → Type 0 where
     none_local : AllLocal []
@@ -164,37 +164,37 @@ module _ (f : LoweringFrame) where
   completed_stays : (h : NodeHead) → Stays (lower.completed f innermost h)
   completed_stays h = innermost_stays (becomes_entry (entry_of h)) (λ s. refl)
 
-  operand_local : (around : Around) (m : NodeLower) → IsLocal m → Local (lower.operand f around m)
+  operand_local : (around : LoopsAndGuards) (m : NodeLower) → IsLocal m → Local (lower.operand f around m)
   operand_local around m l =
       changed_local _ _ (pending_stays m.shape.in_destination m.head)
       (then_local _ _ (l.evaluated around false (Into m.head.id)) (change_local _ (completed_stays m.head)))
 
-  operands_local : (around : Around) (ms : List NodeLower) → AllLocal ms → Local (lower.operands f around ms)
+  operands_local : (around : LoopsAndGuards) (ms : List NodeLower) → AllLocal ms → Local (lower.operands f around ms)
   operands_local around _ none_local = nothing_local
   operands_local around _ (one_local m ms l all) = then_local _ _ (operand_local around m l) (operands_local around ms all)
 
-  acting_local : (h : NodeHead) (around : Around) (own : Bool) (ms : List NodeLower) → AllLocal ms → (P : Lowers) → Local P → Local (lower.acting f h around own ms P)
+  acting_local : (h : NodeHead) (around : LoopsAndGuards) (own : Bool) (ms : List NodeLower) → AllLocal ms → (P : Lowers) → Local P → Local (lower.acting f h around own ms P)
   acting_local h around own ms all P l =
       scope_local h.id own _ (then_local _ _ (operands_local around ms all) (changed_local _ _ (innermost_stays (without_operands (lower.keys_of ms)) (λ s. refl)) l))
 
-  temporary_local : (h : NodeHead) (s : Shape) (e : Evaluates) (around : Around) → ((around : Around) (own : Bool) (to : Destination) → Local (e around own to)) → Local (lower.temporary f h s e around)
+  temporary_local : (h : NodeHead) (s : Shape) (e : Evaluates) (around : LoopsAndGuards) → ((around : LoopsAndGuards) (own : Bool) (to : Destination) → Local (e around own to)) → Local (lower.temporary f h s e around)
   temporary_local h s e around l =
       changed_local _ _ (changed_stays s.in_destination _ (nearest_stays (with_pending (entry_of h)) (λ s. refl)))
       (then_local _ _ (l around false (Into h.id)) (change_local _ (nearest_stays (becomes_entry (entry_of h)) (λ s. refl))))
 
-  value_local : (h : NodeHead) (s : Shape) (e : Evaluates) → ((around : Around) (own : Bool) (to : Destination) → Local (e around own to)) → IsLocal (lower.a_value f h s e)
+  value_local : (h : NodeHead) (s : Shape) (e : Evaluates) → ((around : LoopsAndGuards) (own : Bool) (to : Destination) → Local (e around own to)) → IsLocal (lower.a_value f h s e)
   value_local h s e l = record {
     evaluated = λ around own to. l around own (to_own_key (is_never f.items h.ty) h.id to);
     reached = λ around. temporary_local h s (lower.made_in f h e) around (λ around own to. l around own (to_own_key (is_never f.items h.ty) h.id to));
   }
 
-  place_local : (h : NodeHead) (s : Shape) (r : Reaches) → ((around : Around) → Local (r around)) → IsLocal (lower.a_place f h s r)
+  place_local : (h : NodeHead) (s : Shape) (r : Reaches) → ((around : LoopsAndGuards) → Local (r around)) → IsLocal (lower.a_place f h s r)
   place_local h s r l = record {
     evaluated = λ around own to. own_local h own _ (then_local _ _ (l around) (deliver_local h.id h (λ site. effects.Put site (operand_at h (s.place around.aliases))) (to_own_key (is_never f.items h.ty) h.id to)));
     reached = l;
   }
 
-  scope_value_local : (h : NodeHead) (s : Shape) (e : lower.MakesInto) → ((around : Around) (to : Destination) → Local (e around to)) → IsLocal (lower.a_scope f h s e)
+  scope_value_local : (h : NodeHead) (s : Shape) (e : lower.MakesInto) → ((around : LoopsAndGuards) (to : Destination) → Local (e around to)) → IsLocal (lower.a_scope f h s e)
   scope_value_local h s e l = value_local h s (λ around own to. lower.in_own_scope f h own (e around to)) (λ around own to. own_local h own _ (l around to))
 
   operands_value_local : (h : NodeHead) (s : Shape) (ms : List NodeLower) → AllLocal ms → (action : EffectSite → Action) → IsLocal (lower.on_operands f h s ms action)
@@ -220,10 +220,10 @@ module _ (f : LoweringFrame) where
       by_end true = record { stays = p.stays }
       by_end false = record { stays = q.stays }
 
-  condition_local : (around : Around) (m : NodeLower) (P Q : Lowers) → Local P → Local Q → Local (lower.condition f around m P Q)
+  condition_local : (around : LoopsAndGuards) (m : NodeLower) (P Q : Lowers) → Local P → Local Q → Local (lower.condition f around m P Q)
   condition_local around m P Q p q = then_local _ _ (back_local (m.evaluates around true (Into m.head.id))) (branches_local m.head.id (build.if_true f (moved m.head.id m.head.id) m.head.id) P Q p q)
 
-  branch_local : (around : Around) (to : Destination) (m : LowerIfAny) (P : Lowers) → Local P → Local (lower.branch f around to m P)
+  branch_local : (around : LoopsAndGuards) (to : Destination) (m : LowerIfAny) (P : Lowers) → Local P → Local (lower.branch f around to m P)
   branch_local around to no_lower P l = l
   branch_local around to (a_lower m) P l = back_local (m.evaluates around true to)
 
@@ -236,7 +236,7 @@ module _ (f : LoweringFrame) where
   touched_local true site = act_local site.node (effects.Touch site)
   touched_local false site = nothing_local
 
-  scrutinised_local : (around : Around) (m : NodeLower) → IsLocal m → Local (lower.scrutinised f around m)
+  scrutinised_local : (around : LoopsAndGuards) (m : NodeLower) → IsLocal m → Local (lower.scrutinised f around m)
   scrutinised_local around m l = then_local _ _ (l.reached around) (touched_local m.shape.is_place (lower.site_of m around))
 
   outer_innermost : (change : Scope → Scope) (S : Scopes) → outer f (innermost change S) ≡ outer f S
@@ -258,7 +258,7 @@ module _ (f : LoweringFrame) where
       ∙ ap (outer f) (outer_act b.key (effects.Put (site_of_key b.key) (operand_of_bound b)) S)
 
   -- what follows a test of a pattern leaves the scope of the scrutinee first
-  pub if_taken_after : (h : NodeHead) (around : Around) (pattern scrutinee : NodeLower) → IsLocal scrutinee → (P Q : Lowers) → ((S : Scopes) → P.after S ≡ S) → ((S : Scopes) → Q.after S ≡ S) →
+  pub if_taken_after : (h : NodeHead) (around : LoopsAndGuards) (pattern scrutinee : NodeLower) → IsLocal scrutinee → (P Q : Lowers) → ((S : Scopes) → P.after S ≡ S) → ((S : Scopes) → Q.after S ≡ S) →
       (S : Scopes) → (lower.if_taken f h around pattern scrutinee P Q).after S ≡ S
   if_taken_after h around pattern scrutinee l P Q p q S = by_end _
     where
@@ -274,7 +274,7 @@ module _ (f : LoweringFrame) where
       by_end true = ap (outer f) (p _) ∙ bind_outer (pattern.shape.bindings (lower.place_in scrutinee around)) Y ∙ left
       by_end false = q _ ∙ left
 
-  if_taken_local : (h : NodeHead) (around : Around) (pattern scrutinee : NodeLower) → IsLocal scrutinee → (P Q : Lowers) → ((S : Scopes) → P.after S ≡ S) → ((S : Scopes) → Q.after S ≡ S) →
+  if_taken_local : (h : NodeHead) (around : LoopsAndGuards) (pattern scrutinee : NodeLower) → IsLocal scrutinee → (P Q : Lowers) → ((S : Scopes) → P.after S ≡ S) → ((S : Scopes) → Q.after S ≡ S) →
       Local (lower.if_taken f h around pattern scrutinee P Q)
   if_taken_local h around pattern scrutinee l P Q p q = record { stays = λ S. near_same S _ S (if_taken_after h around pattern scrutinee l P Q p q S) (near_itself S) }
 
@@ -288,7 +288,7 @@ module _ (f : LoweringFrame) where
       near_same S _ _ (around_outer (with_entry (entry_of x)) (innermost (without_pending (entry_of x)) Y) ∙ ap (innermost (with_entry (entry_of x))) (outer_innermost (without_pending (entry_of x)) Y))
       (near_then S (outer f Y) _ (left_near f node S Y true n) (innermost_stays (with_entry (entry_of x)) (λ s. refl) (outer f Y)))
 
-  let_name_local : (h x : NodeHead) (m : NodeLower) → IsLocal m → (around : Around) → Local (lower.let_name f h x m around)
+  let_name_local : (h x : NodeHead) (m : NodeLower) → IsLocal m → (around : LoopsAndGuards) → Local (lower.let_name f h x m around)
   let_name_local h x m l around = record {
     stays = λ S. named_near x S _ h.id (near_then (with_scope h.id true S) _ _ (pending_stays true x (with_scope h.id true S)) ((l.evaluated around false (Into x.id)).stays _));
   }
@@ -300,7 +300,7 @@ module _ (f : LoweringFrame) where
       (near_same S _ _ (around_outer (with_entry (bound_entry b)) _ ∙ ap (λ Z. innermost (with_entry (bound_entry b)) (outer f Z)) (outer_act b.key (effects.Put (site_of_key b.key) (operand_of_bound b)) Y))
       (near_then S (outer f Y) _ n (innermost_stays (with_entry (bound_entry b)) (λ s. refl) (outer f Y))))
 
-  let_parts_local : (h : NodeHead) (pattern m : NodeLower) → IsLocal m → (around : Around) → Local (lower.let_parts f h pattern m around)
+  let_parts_local : (h : NodeHead) (pattern m : NodeLower) → IsLocal m → (around : LoopsAndGuards) → Local (lower.let_parts f h pattern m around)
   let_parts_local h pattern m l around = record {
     stays = λ S. bind_around (pattern.shape.bindings (lower.place_in m around)) S _ (left_near f h.id S _ true
         (near_then (with_scope h.id true S) _ _ (pending_stays (not (m.shape.is_place || m.shape.in_destination)) m.head (with_scope h.id true S)) ((l.reached around).stays _)));
@@ -315,23 +315,23 @@ module _ (f : LoweringFrame) where
   declared_local (b ∷ bounds) =
       then_local _ _ (emptied_local (needs_drop f.items b.ty) b.key) (changed_local _ _ (innermost_stays (with_entry (bound_entry b)) (λ s. refl)) (declared_local bounds))
 
-  let_value_local : (x : Bool) (h : NodeHead) (pattern m : NodeLower) → IsLocal m → (around : Around) → Local (lower.let_value f x h pattern m around)
+  let_value_local : (x : Bool) (h : NodeHead) (pattern m : NodeLower) → IsLocal m → (around : LoopsAndGuards) → Local (lower.let_value f x h pattern m around)
   let_value_local true h pattern m l around = let_name_local h pattern.head m l around
   let_value_local false h pattern m l around = let_parts_local h pattern m l around
 
-  letting_local : (h : NodeHead) (pattern : NodeLower) (m : LowerIfAny) → IfAnyLocal m → (around : Around) → Local (lower.letting f h pattern m around)
+  letting_local : (h : NodeHead) (pattern : NodeLower) (m : LowerIfAny) → IfAnyLocal m → (around : LoopsAndGuards) → Local (lower.letting f h pattern m around)
   letting_local h pattern _ without around = declared_local (pattern.shape.bindings (whole_local 0))
   letting_local h pattern _ (with_one m l) around = let_value_local pattern.shape.is_binding h pattern m l around
 
-  statements_local : (around : Around) (ms : List NodeLower) → AllLocal ms → Local (lower.statements f around ms)
+  statements_local : (around : LoopsAndGuards) (ms : List NodeLower) → AllLocal ms → Local (lower.statements f around ms)
   statements_local around _ none_local = nothing_local
   statements_local around _ (one_local m ms l all) = then_local _ _ (l.evaluated around false (Into m.head.id)) (statements_local around ms all)
 
-  tail_local : (h : NodeHead) (m : LowerIfAny) (around : Around) (to : Destination) → Local (lower.tail_of f h m around to)
+  tail_local : (h : NodeHead) (m : LowerIfAny) (around : LoopsAndGuards) (to : Destination) → Local (lower.tail_of f h m around to)
   tail_local h no_lower around to = unit_if_local (is_never f.items h.ty) h to
   tail_local h (a_lower m) around to = back_local (m.evaluates around true to)
 
-  jump_value_local : (h : NodeHead) (m : LowerIfAny) → IfAnyLocal m → (around : Around) (to : Destination) → Local (lower.value_of_jump f h m around to)
+  jump_value_local : (h : NodeHead) (m : LowerIfAny) → IfAnyLocal m → (around : LoopsAndGuards) (to : Destination) → Local (lower.value_of_jump f h m around to)
   jump_value_local h _ without around to = unit_local h to
   jump_value_local h _ (with_one m l) around to = l.evaluated around false to
 
@@ -350,15 +350,15 @@ module _ (f : LoweringFrame) where
   unit_after_same h (Coerced key trait_no to) S =
       outer_act h.id (effects.Unsize (site_in h.id to) trait_no (moved h.id key)) _ ∙ outer_act h.id (effects.Put (site_in h.id key) effects.UnitValue) S
 
-  otherwise_same : (h : NodeHead) (m : LowerIfAny) (around : Around) (to : Destination) (S : Scopes) → (lower.otherwise_unit f h m around to).after S ≡ S
+  otherwise_same : (h : NodeHead) (m : LowerIfAny) (around : LoopsAndGuards) (to : Destination) (S : Scopes) → (lower.otherwise_unit f h m around to).after S ≡ S
   otherwise_same h no_lower around to S = unit_after_same h to S
   otherwise_same h (a_lower m) around to S = refl
 
-  abbrev while_turn : NodeHead → NodeLower → NodeLower → Around → Destination → Lowers
+  abbrev while_turn : NodeHead → NodeLower → NodeLower → LoopsAndGuards → Destination → Lowers
   while_turn h condition m around to =
       lower.condition f (in_loop h.id to around) condition (lower.body_in f m (in_loop h.id to around)) (lower.ends_loop f h to)
 
-  abbrev while_let_turn : NodeHead → NodeLower → NodeLower → NodeLower → Around → Destination → Lowers
+  abbrev while_let_turn : NodeHead → NodeLower → NodeLower → NodeLower → LoopsAndGuards → Destination → Lowers
   while_let_turn h pattern scrutinee m around to =
       lower.if_taken f h (in_loop h.id to around) pattern scrutinee (lower.body_in f m (in_loop h.id to around)) (lower.ends_loop f h to)
 

@@ -25,7 +25,7 @@ use Rattle.typed_tree.specs.Tree.{Form, Nodes, no_node, a_node, Fields, no_field
 use Rattle.src_meaning.specs.Evaluation as evaluation
 use Rattle.src_meaning.specs.Evaluation.{meaning, meaning_of, meanings, fields_of, meaning_if_any, values_of, in_number_order, insert_field, to_own_key}
 use Rattle.src_meaning.specs.Forms as forms
-use Rattle.src_meaning.specs.Forms.{Destination, Into, Coerced, Around, in_loop, loop_destination, in_guard, Meaning, entry_of, bound_entry, site_in, site_of_key, moved, is_never, changed_if, deliver, put_unit, put_unit_if, in_own_scope, alone, operand, operands, acting, dropping, temporary, use_of_place, borrowing, stored, stored_after, dropped_first, replacing, assigning, condition, tested, equals, tests_after, alternatives_after, holds, all_hold, any_holds, bind, touched, scrutinised, if_taken, arms_in_order, matching, taken_arm, guarded, arm, statements, tail_of, block, evaluating, let_name, let_parts, emptied, declared, let_value, letting, turned, turns, jumping}
+use Rattle.src_meaning.specs.Forms.{Destination, Into, Coerced, LoopsAndGuards, in_loop, loop_destination, in_guard, Meaning, entry_of, bound_entry, site_in, site_of_key, moved, is_never, changed_if, deliver, put_unit, put_unit_if, in_own_scope, alone, operand, operands, acting, dropping, temporary, use_of_place, borrowing, stored, stored_after, dropped_first, replacing, assigning, condition, tested, equals, tests_after, alternatives_after, holds, all_hold, any_holds, bind, touched, scrutinised, if_taken, arms_in_order, matching, taken_arm, guarded, arm, statements, tail_of, block, evaluating, let_name, let_parts, emptied, declared, let_value, letting, turned, turns, jumping}
 use Rattle.src_meaning.specs.Locals.Effects.{site_at as site_on, action_at, at_locals}
 use Rattle.src_meaning.specs.Locals.OfBody.{param_key, answer_key}
 use Rattle.src_meaning.specs.Programs as programs
@@ -36,7 +36,7 @@ use Rattle.lower_rules.specs.Code as code
 use Rattle.src_meaning.specs.FieldKeys.{field_keys, moved_fields}
 use Rattle.lower_rules.specs.CodeLaws.{without_place}
 use Rattle.lower_rules.specs.Rules.{EvaluatesAt, ReachesAt, ArmsAt, NodeCode, CodeIfAny, no_code, a_code, keys_of, all_moved, Delivers, PutsUnit, PutsUnitIf, InOwnScope, AloneAt, pending_if, OperandAt, OperandsAt, taken, ActingAt, DroppingAt, TemporaryAt, UseAt, array_around, ElementAt, BorrowAt, UnitAfterAt, StoresAt, StoresUnwindingAt, ReplacesAt, AssignAt, IfAt, CaseAt, BranchesAt, ConditionAt, BranchAt, EqualsAt, TestAt, TestsAt, AnyTestAt, BindsAt, TouchedAt, ScrutinisedAt, PanicsAt, IfTakenAt, ArmsInOrderAt, MatchAt, TakenArmAt, IfTakenElse, GuardedAt, ArmAt, StatementsAt, TailAt, BlockAt, EvaluatingAt, named, LetNameAt, LetPartsAt, EmptiedAt, DeclaredAt, LetValueAt, LetAt, LoopAt, JumpValueAt}
-use Rattle.lower_rules.specs.Spots.{CodeTarget, CodePos, JumpWay, Ways, LoopWays, loop_ways, ways_of, ways_in_loop, body_ways, CodeSpot, HasNoEnd, Then, Changes, After, Nothing, BackIn, action_of_term, panic_drops, StepAt, TurnAt, EntersAt, TermAt, StmtAt, Leads, stays, goes, Joins, CleanAt, Cleans, IsLast, ActionTermAt, Acts, by_statement, by_terminator, by_last_statement, by_last_terminator, DropsAt, AllDropAt, Left, Scoped, InScope, leaves_one, LeavesTo, JumpAt}
+use Rattle.lower_rules.specs.Spots.{CodeTarget, CodePos, JumpWay, Ways, LoopWays, loop_ways, ways_of, ways_in_loop, body_ways, CodeSpot, HasNoEnd, Then, Changes, After, Nothing, BackIn, action_of_term, panic_drops, StepAt, TurnAt, EntersAt, TermAt, StmtAt, Leads, stays, goes, Joins, CleanAt, Cleans, IsLast, ActionTermAt, Acts, by_statement, by_terminator, by_last_statement, by_last_terminator, DropsAt, AllDropAt, LeavesScope, Scoped, InScope, leaves_one, LeavesTo, JumpAt}
 
 abbrev pub NoUnwind : {W : Type 0} → Out W → Type 0
 NoUnwind (Go w) = Unit {0}
@@ -417,10 +417,10 @@ module _ {W : Type 0} (t : CodeTarget) (p q : Effects W) (size : W → ℕ) (bou
   never_empty n e = absurd (let never : ⊥ = omega arith in never)
 
   pub leave_ends : (c : Ways) (m n : ℕ) (S1 : Scopes) (b1 : CodePos) (S' : Scopes) (b' : CodePos) (r : Run W) (out : Out W) → m ≤ bound → Within c n → Ends c m (suc n) S1 b1 r out →
-      Left t S1 b1 S' b' → Ends c m n S' b' (leave t.items keyed r) out
+      LeavesScope t S1 b1 S' b' → Ends c m n S' b' (leave t.items keyed r) out
   leave_ends c m n S1 b1 S' b' (At Value [] w) out l within h f = never_empty n h.1
   leave_ends c m n S1 b1 S' b' (At Value (s ∷ S) w) out l within h f =
-      let g : Left t (s ∷ S) b1 S' b' = subst (λ z. Left t z b1 S' b') (sym h.0) f in
+      let g : LeavesScope t (s ∷ S) b1 S' b' = subst (λ z. LeavesScope t z b1 S' b') (sym h.0) f in
       normal_ends c m n S' b' Value S (From b') out l (λ v k e. (sym g.0, (let j = h.1 in omega arith), k, e)) (dropped_of s) w h.2
       (h.3 ∙ drops_walk (dropped_of s) S b1 g.1 g.2 w (let j = h.2 in omega arith)
       ∙ drops_same (dropped_of s) S (From g.1) (From b') (λ v k. leads_walk g.1 b' g.3 v k) w (let j = h.2 in omega arith))
@@ -466,7 +466,7 @@ module _ {W : Type 0} (t : CodeTarget) (p q : Effects W) (size : W → ℕ) (bou
 
   -- what is done in one scope more, which is then left
   leaving_sim : (c : Ways) (f : Does W) (P : CodeSpot) → Sim c f P → (around S : Scopes) → length S ≡ suc (length around) → Within c (length around) → (b : CodePos) (S' : Scopes) (b' : CodePos) →
-      Then P (Left t) S b S' b' → (w : W) → size w ≤ bound → Ends c (size w) (length around) S' b' (leave t.items keyed (f S w)) (From b w)
+      Then P (LeavesScope t) S b S' b' → (w : W) → size w ≤ bound → Ends c (size w) (length around) S' b' (leave t.items keyed (f S w)) (From b w)
   leaving_sim c f P sim around S e within b S' b' (inl none) w l =
       subst (λ r. Ends c (size w) (length around) S' b' r (From b w)) (then_leave (f S w))
       (endless_leaves c (size w) around S' b' (f S w) (From b w) l within
@@ -546,21 +546,21 @@ module _ {W : Type 0} (t : CodeTarget) (p q : Effects W) (size : W → ℕ) (bou
       subst (λ i. Ends c (size w) i S' b' (f (change S) w) (From b w)) (keeps S) (sim (change S) b S' b' (subst (Within c) (sym (keeps S)) within) h w l)
 
   -- ---- the rules
-  abbrev pub SimE : (Around → Bool → Destination → Does W) → EvaluatesAt → Type 0
-  SimE e P = (around : Around) (c : Ways) (own : Bool) (to : Destination) → Sim c (e around own to) (P around c own to)
+  abbrev pub SimE : (LoopsAndGuards → Bool → Destination → Does W) → EvaluatesAt → Type 0
+  SimE e P = (around : LoopsAndGuards) (c : Ways) (own : Bool) (to : Destination) → Sim c (e around own to) (P around c own to)
 
-  abbrev pub SimR : (Around → Does W) → ReachesAt → Type 0
-  SimR r P = (around : Around) (c : Ways) → Sim c (r around) (P around c)
+  abbrev pub SimR : (LoopsAndGuards → Does W) → ReachesAt → Type 0
+  SimR r P = (around : LoopsAndGuards) (c : Ways) → Sim c (r around) (P around c)
 
   -- an arm, given that where it is not taken the walk goes on likewise
-  abbrev pub SimA : (Place → Does W → Around → Destination → Does W) → ArmsAt → Type 0
+  abbrev pub SimA : (Place → Does W → LoopsAndGuards → Destination → Does W) → ArmsAt → Type 0
   SimA a P =
-      (matched : Place) (otherwise : Does W) (rest : CodePos) (around : Around) (c : Ways) (to : Destination) (S : Scopes) (b : CodePos) (S' : Scopes) (b' : CodePos) → Within c (length S) →
+      (matched : Place) (otherwise : Does W) (rest : CodePos) (around : LoopsAndGuards) (c : Ways) (to : Destination) (S : Scopes) (b : CodePos) (S' : Scopes) (b' : CodePos) → Within c (length S) →
       ((w : W) → size w ≤ bound → Ends c (size w) (length S) S' b' (otherwise S w) (From rest w)) → P matched rest around c to S b S' b' →
       (w : W) → size w ≤ bound → Ends c (size w) (length S) S' b' (a matched otherwise around to S w) (From b w)
 
   pub data Simulates : Meaning W → NodeCode → Type 1 where
-    simulated : (h : NodeHead) (s : Shape) (e : Around → Bool → Destination → Does W) (r : Around → Does W) (a : Place → Does W → Around → Destination → Does W)
+    simulated : (h : NodeHead) (s : Shape) (e : LoopsAndGuards → Bool → Destination → Does W) (r : LoopsAndGuards → Does W) (a : Place → Does W → LoopsAndGuards → Destination → Does W)
         (P : EvaluatesAt) (Q : ReachesAt) (A : ArmsAt) → SimE e P → SimR r Q → SimA a A →
         Simulates (record { head = h; shape = s; evaluate = e; reach = r; arm = a }) (record { head = h; shape = s; evaluates = P; reaches = Q; arm = A })
 
@@ -589,16 +589,16 @@ module _ {W : Type 0} (t : CodeTarget) (p q : Effects W) (size : W → ℕ) (bou
   own_sim h true f P c sim = in_scope_sim h.id true c f P sim
   own_sim h false f P c sim = sim
 
-  operand_sim : (around : Around) (c : Ways) (m : Meaning W) (d : NodeCode) → Simulates m d → Sim c (operand t.items keyed around m) (OperandAt t around c d)
+  operand_sim : (around : LoopsAndGuards) (c : Ways) (m : Meaning W) (d : NodeCode) → Simulates m d → Sim c (operand t.items keyed around m) (OperandAt t around c d)
   operand_sim around c _ _ (simulated h s e r a P Q A se sr sa) =
       after_sim c _ _ (pending_if t s.in_destination innermost h) (changed_keeps s.in_destination _ (innermost_keeps (with_pending (entry_of h))))
       (then_sim c (e around false (Into h.id)) _ (P around c false (Into h.id)) _ (se around c false (Into h.id)) (changes_sim c _ (innermost_keeps (becomes_entry (entry_of h)))))
 
-  operands_sim : (around : Around) (c : Ways) (ms : List (Meaning W)) (ds : List NodeCode) → SimulatesAll ms ds → Sim c (operands t.items keyed around ms) (OperandsAt t around c ds)
+  operands_sim : (around : LoopsAndGuards) (c : Ways) (ms : List (Meaning W)) (ds : List NodeCode) → SimulatesAll ms ds → Sim c (operands t.items keyed around ms) (OperandsAt t around c ds)
   operands_sim around c _ _ none_simulated = changes_sim c (λ S. S) (λ S. refl)
   operands_sim around c _ _ (one_simulated m d ms ds one all) = then_sim c _ _ _ _ (operand_sim around c m d one) (operands_sim around c ms ds all)
 
-  pub acting_sim : (h : NodeHead) (around : Around) (c : Ways) (own : Bool) (ms : List (Meaning W)) (ds : List NodeCode) → SimulatesAll ms ds → (act : Does W) (P : CodeSpot) → Sim c act P →
+  pub acting_sim : (h : NodeHead) (around : LoopsAndGuards) (c : Ways) (own : Bool) (ms : List (Meaning W)) (ds : List NodeCode) → SimulatesAll ms ds → (act : Does W) (P : CodeSpot) → Sim c act P →
       Sim c (acting t.items keyed h around own ms act) (ActingAt t h around c own ds P)
   acting_sim h around c own ms ds all act P sim =
       subst (λ keys. Sim c (acting t.items keyed h around own ms act) (InScope t h.id own (Then (OperandsAt t around c ds) (After (taken t keys) P))))
@@ -607,16 +607,16 @@ module _ {W : Type 0} (t : CodeTarget) (p q : Effects W) (size : W → ℕ) (bou
       (then_sim c (operands t.items keyed around ms) _ _ _ (operands_sim around c ms ds all)
       (after_sim c act P (taken t (forms.keys_of ms)) (innermost_keeps (without_operands (forms.keys_of ms))) sim)))
 
-  pub dropping_sim : (h : NodeHead) (around : Around) (c : Ways) (own : Bool) (m : Meaning W) (d : NodeCode) → Simulates m d → (act : Does W) (P : CodeSpot) → Sim c act P →
+  pub dropping_sim : (h : NodeHead) (around : LoopsAndGuards) (c : Ways) (own : Bool) (m : Meaning W) (d : NodeCode) → Simulates m d → (act : Does W) (P : CodeSpot) → Sim c act P →
       Sim c (dropping t.items keyed h around own m act) (DroppingAt t h around c own d P)
   dropping_sim h around c own m d one act P sim = in_scope_sim h.id own c _ _ (then_sim c _ _ _ _ (operand_sim around c m d one) sim)
 
-  pub temporary_sim : (h : NodeHead) (s : Shape) (e : Around → Bool → Destination → Does W) (P : EvaluatesAt) → SimE e P → SimR (temporary t.items keyed h s e) (TemporaryAt t h s P)
+  pub temporary_sim : (h : NodeHead) (s : Shape) (e : LoopsAndGuards → Bool → Destination → Does W) (P : EvaluatesAt) → SimE e P → SimR (temporary t.items keyed h s e) (TemporaryAt t h s P)
   temporary_sim h s e P sim around c =
       after_sim c _ _ (pending_if t s.in_destination nearest_temporary h) (changed_keeps s.in_destination _ (nearest_keeps (with_pending (entry_of h))))
       (then_sim c (e around false (Into h.id)) _ (P around c false (Into h.id)) _ (sim around c false (Into h.id)) (changes_sim c _ (nearest_keeps (becomes_entry (entry_of h)))))
 
-  pub use_sim : (h : NodeHead) (s : Shape) (r : Around → Does W) (Q : ReachesAt) → SimR r Q → SimE (use_of_place t.items keyed h s r) (UseAt t h s Q)
+  pub use_sim : (h : NodeHead) (s : Shape) (r : LoopsAndGuards → Does W) (Q : ReachesAt) → SimR r Q → SimE (use_of_place t.items keyed h s r) (UseAt t h s Q)
   use_sim h s r Q sim around c own to =
       own_sim h own _ _ c (then_sim c (r around) _ (Q around c) _ (sim around c) (deliver_sim h (λ site. effects.Put site (operand_at h (s.place around.aliases))) to c))
 
@@ -715,13 +715,13 @@ module _ {W : Type 0} (t : CodeTarget) (p q : Effects W) (size : W → ℕ) (bou
       chosen_ends c (size w) (length S) S' b' h.0 h.1 (test w) (From b w) (f S) (g S) l (tests b h.0 h.1 h.2 w l)
       (λ v k. joins_sim c f P sf S h.0 S' b' within h.3 v k) (λ v k. joins_sim c g Q sg S h.1 S' b' within h.4 v k)
 
-  pub condition_sim : (around : Around) (c : Ways) (m : Meaning W) (d : NodeCode) → Simulates m d → (f g : Does W) (P Q : CodeSpot) → Sim c f P → Sim c g Q →
+  pub condition_sim : (around : LoopsAndGuards) (c : Ways) (m : Meaning W) (d : NodeCode) → Simulates m d → (f g : Does W) (P Q : CodeSpot) → Sim c f P → Sim c g Q →
       Sim c (condition t.items keyed around m f g) (ConditionAt t around c d P Q)
   condition_sim around c _ _ (simulated h s e r a Pe Qr A se sr sa) f g P Q sf sg =
       then_sim c _ _ _ _ (back_sim c (e around true (Into h.id)) (Pe around c true (Into h.id)) (se around c true (Into h.id)))
       (branches_sim c _ _ (truth_sim (moved h.id h.id)) f g P Q sf sg)
 
-  pub branch_sim : (around : Around) (c : Ways) (to : Destination) (m : Option (Meaning W)) (d : CodeIfAny) → SimulatesIfAny m d → (f : Does W) (P : CodeSpot) → Sim c f P →
+  pub branch_sim : (around : LoopsAndGuards) (c : Ways) (to : Destination) (m : Option (Meaning W)) (d : CodeIfAny) → SimulatesIfAny m d → (f : Does W) (P : CodeSpot) → Sim c f P →
       Sim c (forms.branch t.items keyed around to m f) (BranchAt t around c to d P)
   branch_sim around c to _ _ without f P sim = sim
   branch_sim around c to _ _ (with_one _ _ (simulated h s e r a Pe Qr A se sr sa)) f P sim = back_sim c (e around true to) (Pe around c true to) (se around c true to)
@@ -794,7 +794,7 @@ module _ {W : Type 0} (t : CodeTarget) (p q : Effects W) (size : W → ℕ) (bou
   touched_sim true site c = act_sim c (effects.Touch site)
   touched_sim false site c = value_sim c
 
-  scrutinised_sim : (around : Around) (c : Ways) (m : Meaning W) (d : NodeCode) → Simulates m d → Sim c (scrutinised t.items keyed around m) (ScrutinisedAt t around c d)
+  scrutinised_sim : (around : LoopsAndGuards) (c : Ways) (m : Meaning W) (d : NodeCode) → Simulates m d → Sim c (scrutinised t.items keyed around m) (ScrutinisedAt t around c d)
   scrutinised_sim around c _ _ (simulated h s e r a P Q A se sr sa) =
       then_sim c (r around) _ (Q around c) _ (sr around c) (touched_sim s.is_place (site_at h (s.place around.aliases)) c)
 
@@ -805,7 +805,7 @@ module _ {W : Type 0} (t : CodeTarget) (p q : Effects W) (size : W → ℕ) (bou
         at_term (Term.Panic why h.0) b h.1 w ∙ cleans_walk (panic_drops t S) h.0 h.2 (q.panic why w) (let k = laws.panicking why w in omega arith),
       )
 
-  arms_sim : (ms : List (Meaning W)) (ds : List NodeCode) → SimulatesAll ms ds → (matched : Place) (around : Around) (c : Ways) (to : Destination) →
+  arms_sim : (ms : List (Meaning W)) (ds : List NodeCode) → SimulatesAll ms ds → (matched : Place) (around : LoopsAndGuards) (c : Ways) (to : Destination) →
       Sim c (arms_in_order t.items keyed ms matched around to) (ArmsInOrderAt t ds matched around c to)
   arms_sim _ _ none_simulated matched around c to S b S' b' within k w l = panics_sim Why.Match c S b S' b' within k w l
   arms_sim _ _ (one_simulated _ _ ms ds (simulated h s e r a P Q A se sr sa) all) matched around c to S b S' b' within k w l =
@@ -816,7 +816,7 @@ module _ {W : Type 0} (t : CodeTarget) (p q : Effects W) (size : W → ℕ) (bou
   matching_sim h _ _ (simulated mh s e r a P Q A se sr sa) ms ds all around c own to =
       own_sim h own _ _ c (then_sim c _ _ _ _ (scrutinised_sim around c _ _ (simulated mh s e r a P Q A se sr sa)) (arms_sim ms ds all (s.place around.aliases) around c to))
 
-  taken_sim : (h : NodeHead) (around : Around) (c : Ways) (bounds : List BoundName) (m : Meaning W) (d : NodeCode) → Simulates m d → (to : Destination) →
+  taken_sim : (h : NodeHead) (around : LoopsAndGuards) (c : Ways) (bounds : List BoundName) (m : Meaning W) (d : NodeCode) → Simulates m d → (to : Destination) →
       Sim c (taken_arm t.items keyed h around bounds m to) (TakenArmAt t h around c bounds d to)
   taken_sim h around c bounds _ _ (simulated mh s e r a P Q A se sr sa) to =
       in_scope_sim h.id false c _ _ (then_sim c _ _ _ _ (bind_sim innermost innermost_keeps bounds c) (back_sim c (e around true to) (P around c true to) (se around c true to)))
@@ -850,7 +850,7 @@ module _ {W : Type 0} (t : CodeTarget) (p q : Effects W) (size : W → ℕ) (bou
         by_back S1 m (inr q) h =
             guard_holds f Q key sf b m (inr (refl, q.1, q.2)) (subst (λ z. IfTakenElse t (moved key key) P rest z m S' b') q.0 h) w l
 
-  guarded_sim : (around : Around) (c : Ways) (bounds : List BoundName) (g : Option (Meaning W)) (d : CodeIfAny) → SimulatesIfAny g d → (taken otherwise : Does W) (P : CodeSpot) (rest : CodePos) →
+  guarded_sim : (around : LoopsAndGuards) (c : Ways) (bounds : List BoundName) (g : Option (Meaning W)) (d : CodeIfAny) → SimulatesIfAny g d → (taken otherwise : Does W) (P : CodeSpot) (rest : CodePos) →
       Sim c taken P → (S : Scopes) (b : CodePos) (S' : Scopes) (b' : CodePos) → Within c (length S) →
       ((w : W) → size w ≤ bound → Ends c (size w) (length S) S' b' (otherwise S w) (From rest w)) → GuardedAt t around c bounds d P rest S b S' b' →
       (w : W) → size w ≤ bound → Ends c (size w) (length S) S' b' (guarded t.items keyed around bounds g taken otherwise S w) (From b w)
@@ -887,14 +887,14 @@ module _ {W : Type 0} (t : CodeTarget) (p q : Effects W) (size : W → ℕ) (bou
   -- two ways on from one scope more, which each leave it first: with what is done in it, or at once
   left_branches : (c : Ways) (test : W → Choice W) (T : CodePos → CodePos → CodePos → Type 0) → SimTest test T → (f g : Does W) (P Q : CodeSpot) → Sim c f P → Sim c g Q →
       (around S : Scopes) → length S ≡ suc (length around) → Within c (length around) → (b : CodePos) (S' : Scopes) (b' : CodePos) →
-      BranchesAt t T (Then P (Left t)) (Then (Left t) Q) S b S' b' → (w : W) → size w ≤ bound →
+      BranchesAt t T (Then P (LeavesScope t)) (Then (LeavesScope t) Q) S b S' b' → (w : W) → size w ≤ bound →
       Ends c (size w) (length around) S' b' (choosing test (leaving t.items keyed f) (leaving t.items keyed (At Value) >> g) S w) (From b w)
   left_branches c test T tests f g P Q sf sg around S e within b S' b' h w l =
       chosen_ends c (size w) (length around) S' b' h.0 h.1 (test w) (From b w) (leaving t.items keyed f S) ((leaving t.items keyed (At Value) >> g) S) l (tests b h.0 h.1 h.2 w l)
       (λ v k. post c (size v) (length around) S' h.3.0 b' _ (From h.0 v) k h.3.2 (leaving_sim c f P sf around S e within h.0 S' h.3.0 h.3.1 v k))
       (λ v k. post c (size v) (length around) S' h.4.0 b' _ (From h.1 v) k h.4.2 (by_left h.4.1 v k))
     where
-      by_left : Then (Left t) Q S h.1 S' h.4.0 → (v : W) → size v ≤ bound →
+      by_left : Then (LeavesScope t) Q S h.1 S' h.4.0 → (v : W) → size v ≤ bound →
           Ends c (size v) (length around) S' h.4.0 ((leaving t.items keyed (At Value) >> g) S v) (From h.1 v)
       by_left (inl none) v k =
           endless_ends c (size v) around S' h.4.0 (leave t.items keyed (At Value S v)) g (From h.1 v)
@@ -904,7 +904,7 @@ module _ {W : Type 0} (t : CodeTarget) (p q : Effects W) (size : W → ℕ) (bou
           (leaving_sim c (At Value) Nothing (value_sim c) around S e within h.1 x.0 x.1 (inr (S, h.1, (refl, refl), x.2)) v k)
           (λ same2 u i. sg x.0 x.1 S' h.4.0 (subst (Within c) (sym same2) within) x.3 u i)
 
-  pub if_taken_sim : (h : NodeHead) (around : Around) (c : Ways) (pattern : Meaning W) (dp : NodeCode) → Simulates pattern dp → (scrutinee : Meaning W) (ds : NodeCode) → Simulates scrutinee ds →
+  pub if_taken_sim : (h : NodeHead) (around : LoopsAndGuards) (c : Ways) (pattern : Meaning W) (dp : NodeCode) → Simulates pattern dp → (scrutinee : Meaning W) (ds : NodeCode) → Simulates scrutinee ds →
       (f g : Does W) (P Q : CodeSpot) → Sim c f P → Sim c g Q →
       Sim c (if_taken t.items keyed h around pattern scrutinee f g) (IfTakenAt t h around c dp ds P Q)
   if_taken_sim h around c _ _ (simulated ph ps pe pr pa pP pQ pA spe spr spa) _ _ (simulated sh s e r a Pe Qr A se sr sa) f g P Q sf sg S b S' b' within (inl none) w l =
@@ -917,7 +917,7 @@ module _ {W : Type 0} (t : CodeTarget) (p q : Effects W) (size : W → ℕ) (bou
       (then_sim c _ _ _ _ (bind_sim innermost innermost_keeps (ps.bindings (s.place around.aliases)) c) sf) sg S k.0 same within k.1 S' b' k.3 v j)
 
   -- ---- blocks and statements
-  statements_sim : (around : Around) (c : Ways) (ms : List (Meaning W)) (ds : List NodeCode) → SimulatesAll ms ds → Sim c (statements t.items keyed around ms) (StatementsAt t around c ds)
+  statements_sim : (around : LoopsAndGuards) (c : Ways) (ms : List (Meaning W)) (ds : List NodeCode) → SimulatesAll ms ds → Sim c (statements t.items keyed around ms) (StatementsAt t around c ds)
   statements_sim around c _ _ none_simulated = value_sim c
   statements_sim around c _ _ (one_simulated _ _ ms ds (simulated h s e r a P Q A se sr sa) all) =
       then_sim c (e around false (Into h.id)) _ (P around c false (Into h.id)) _ (se around c false (Into h.id)) (statements_sim around c ms ds all)
@@ -926,7 +926,7 @@ module _ {W : Type 0} (t : CodeTarget) (p q : Effects W) (size : W → ℕ) (bou
   unit_if_sim true h to c = value_sim c
   unit_if_sim false h to c = unit_sim h to c
 
-  tail_sim : (h : NodeHead) (m : Option (Meaning W)) (d : CodeIfAny) → SimulatesIfAny m d → (around : Around) (c : Ways) (to : Destination) →
+  tail_sim : (h : NodeHead) (m : Option (Meaning W)) (d : CodeIfAny) → SimulatesIfAny m d → (around : LoopsAndGuards) (c : Ways) (to : Destination) →
       Sim c (tail_of t.items keyed h m around to) (TailAt t h d around c to)
   tail_sim h _ _ without around c to = unit_if_sim (is_never t.items h.ty) h to c
   tail_sim h _ _ (with_one _ _ (simulated _ s e r a P Q A se sr sa)) around c to = back_sim c (e around true to) (P around c true to) (se around c true to)
@@ -987,7 +987,7 @@ module _ {W : Type 0} (t : CodeTarget) (p q : Effects W) (size : W → ℕ) (bou
       (λ S b S' b' within h v k. fin (size v) (length S) S' b' S v (From b v) (refl, omega arith, h.0, leaves_walk way.base way.block S b h.1 v k))
 
   pub jumping_sim : (c : Ways) (way : JumpWay) (exit : Exit) → ((m n : ℕ) (S' : Scopes) (b' : CodePos) (S : Scopes) (v : W) (out : Out W) → Jumps way m n S v out → Ends c m n S' b' (At exit S v) out) →
-      (h : NodeHead) (m : Option (Meaning W)) (d : CodeIfAny) → SimulatesIfAny m d → (around : Around) (to : Destination) →
+      (h : NodeHead) (m : Option (Meaning W)) (d : CodeIfAny) → SimulatesIfAny m d → (around : LoopsAndGuards) (to : Destination) →
       Sim c (jumping t.items keyed exit h m around to) (JumpAt t way (JumpValueAt t h d around c to))
   jumping_sim c way exit fin h _ _ without around to = jump_ends c way exit fin _ _ (unit_sim h to c)
   jumping_sim c way exit fin h _ _ (with_one _ _ (simulated _ s e r a P Q A se sr sa)) around to = jump_ends c way exit fin (e around false to) (P around c false to) (se around c false to)
@@ -1104,19 +1104,19 @@ module _ {W : Type 0} (t : CodeTarget) (p q : Effects W) (size : W → ℕ) (bou
     no_arm_sim : SimA (evaluation.no_arm t.items keyed fuel) (code.no_arm t)
     no_arm_sim matched otherwise rest around c to S b S' b' within other k w l = joins_sim c (At Value) Nothing (value_sim c) S b S' b' within k w l
 
-    made_sim : (h : NodeHead) (e : Around → Bool → Destination → Does W) (P : EvaluatesAt) → SimE e P → SimE (evaluation.made_in t.items keyed fuel h e) (code.made_in t h P)
+    made_sim : (h : NodeHead) (e : LoopsAndGuards → Bool → Destination → Does W) (P : EvaluatesAt) → SimE e P → SimE (evaluation.made_in t.items keyed fuel h e) (code.made_in t h P)
     made_sim h e P sim around c own to = sim around c own (to_own_key (is_never t.items h.ty) h.id to)
 
-    a_value_sim : (h : NodeHead) (s : Shape) (e : Around → Bool → Destination → Does W) (P : EvaluatesAt) → SimE e P →
+    a_value_sim : (h : NodeHead) (s : Shape) (e : LoopsAndGuards → Bool → Destination → Does W) (P : EvaluatesAt) → SimE e P →
         Simulates (evaluation.a_value t.items keyed fuel h s e) (code.a_value t h s P)
     a_value_sim h s e P sim = simulated h s _ _ _ _ _ _ (made_sim h e P sim) (temporary_sim h s _ _ (made_sim h e P sim)) no_arm_sim
 
-    a_place_sim : (h : NodeHead) (s : Shape) (r : Around → Does W) (Q : ReachesAt) → SimR r Q →
+    a_place_sim : (h : NodeHead) (s : Shape) (r : LoopsAndGuards → Does W) (Q : ReachesAt) → SimR r Q →
         Simulates (evaluation.a_place t.items keyed fuel h s r) (code.a_place t h s Q)
     a_place_sim h s r Q sim = simulated h s _ _ _ _ _ _ (made_sim h _ _ (use_sim h s r Q sim)) sim no_arm_sim
 
-    a_scope_sim : (h : NodeHead) (s : Shape) (f : Around → Destination → Does W) (P : Around → Ways → Destination → CodeSpot) →
-        ((around : Around) (c : Ways) (to : Destination) → Sim c (f around to) (P around c to)) →
+    a_scope_sim : (h : NodeHead) (s : Shape) (f : LoopsAndGuards → Destination → Does W) (P : LoopsAndGuards → Ways → Destination → CodeSpot) →
+        ((around : LoopsAndGuards) (c : Ways) (to : Destination) → Sim c (f around to) (P around c to)) →
         Simulates (evaluation.a_scope t.items keyed fuel h s f) (code.a_scope t h s P)
     a_scope_sim h s f P sim = a_value_sim h s _ _ (λ around c own to. own_sim h own _ _ c (sim around c to))
 
@@ -1157,7 +1157,7 @@ module _ {W : Type 0} (t : CodeTarget) (p q : Effects W) (size : W → ℕ) (bou
     gives_unit_sim h s _ _ (simulated mh ms e r a P Q A se sr sa) action =
         a_value_sim h s _ _ (λ around c own to. acting_sim h around c own _ _ (one _ _ (simulated mh ms e r a P Q A se sr sa)) _ _ (unit_after_sim h (action (moved h.id mh.id)) to c))
 
-    a_statement_sim : (h : NodeHead) (s : Shape) (r : Around → Does W) (Q : ReachesAt) → SimR r Q →
+    a_statement_sim : (h : NodeHead) (s : Shape) (r : LoopsAndGuards → Does W) (Q : ReachesAt) → SimR r Q →
         Simulates (evaluation.a_statement t.items keyed fuel h s r) (code.a_statement t h s Q)
     a_statement_sim h s r Q sim = a_value_sim h s _ _ (λ around c own to. sim around c)
 
@@ -1167,16 +1167,16 @@ module _ {W : Type 0} (t : CodeTarget) (p q : Effects W) (size : W → ℕ) (bou
     shortcut_sim : (h : NodeHead) (truth : Bool) (to : Destination) (c : Ways) → Sim c (evaluation.shortcut t.items keyed fuel h truth to) (code.shortcut t h truth to)
     shortcut_sim h truth to c = deliver_sim h (λ site. effects.Put site (effects.Truth truth)) to c
 
-    alone_sim : (m : Meaning W) (d : NodeCode) → Simulates m d → (around : Around) (c : Ways) (to : Destination) → Sim c (alone t.items keyed around m to) (AloneAt t around c d to)
+    alone_sim : (m : Meaning W) (d : NodeCode) → Simulates m d → (around : LoopsAndGuards) (c : Ways) (to : Destination) → Sim c (alone t.items keyed around m to) (AloneAt t around c d to)
     alone_sim _ _ (simulated h s e r a P Q A se sr sa) around c to = back_sim c (e around true to) (P around c true to) (se around c true to)
 
-    body_sim : (m : Meaning W) (d : NodeCode) → Simulates m d → (around : Around) (c : Ways) → Sim c (evaluation.body_in t.items keyed fuel m around) (code.body_in t d around c)
+    body_sim : (m : Meaning W) (d : NodeCode) → Simulates m d → (around : LoopsAndGuards) (c : Ways) → Sim c (evaluation.body_in t.items keyed fuel m around) (code.body_in t d around c)
     body_sim _ _ (simulated h s e r a P Q A se sr sa) around c = back_sim c (e around true (Into h.id)) (P around c true (Into h.id)) (se around c true (Into h.id))
 
     ends_loop_sim : (h : NodeHead) (to : Destination) (c : Ways) → Sim c (forms.ends_loop t.items keyed h to) (code.ends_loop t h to c)
     ends_loop_sim h to c = jump_ends c (ways_of h.id c).breaks (Breaks h.id) (λ m n S' b' S v out k. k) _ _ (unit_sim h to c)
 
-    otherwise_sim : (h : NodeHead) (m : Option (Meaning W)) (d : CodeIfAny) → SimulatesIfAny m d → (around : Around) (c : Ways) (to : Destination) →
+    otherwise_sim : (h : NodeHead) (m : Option (Meaning W)) (d : CodeIfAny) → SimulatesIfAny m d → (around : LoopsAndGuards) (c : Ways) (to : Destination) →
         Sim c (evaluation.otherwise_unit t.items keyed fuel h m around to) (code.otherwise_unit t h d around c to)
     otherwise_sim h m d sim around c to = branch_sim around c to m d sim _ _ (unit_sim h to c)
 
@@ -1187,7 +1187,7 @@ module _ {W : Type 0} (t : CodeTarget) (p q : Effects W) (size : W → ℕ) (bou
         SimE (evaluation.coerce t.items keyed fuel h trait_no m) (code.coerce t h trait_no d)
     coerced_sim h trait_no _ _ (simulated mh s e r a P Q A se sr sa) around c own to = se around c own (forms.coerced mh.id trait_no to)
 
-    arm_form : (h : NodeHead) (s : Shape) (a : Place → Does W → Around → Destination → Does W) (A : ArmsAt) → SimA a A →
+    arm_form : (h : NodeHead) (s : Shape) (a : Place → Does W → LoopsAndGuards → Destination → Does W) (A : ArmsAt) → SimA a A →
         Simulates (record (evaluation.a_pattern t.items keyed fuel h s) { arm = a }) (record (code.a_pattern t h s) { arm = A })
     arm_form h s a A sim =
         simulated h s _ _ _ _ _ _ (made_sim h (λ around own to. At Value) _ (λ around c own to. value_sim c))
@@ -1389,7 +1389,7 @@ module _ {W : Type 0} (t : CodeTarget) (p q : Effects W) (size : W → ℕ) (bou
         (names_sim (shape t.items param.pattern).is_binding ((shape t.items param.pattern).bindings (whole_local (param_key param))) c)
         (params_sim params c))
 
-    given_sim : (m : Meaning W) (d : NodeCode) → Simulates m d → (around : Around) (c : Ways) (to : Destination) → Sim c (m.evaluate around false to) (d.evaluates around c false to)
+    given_sim : (m : Meaning W) (d : NodeCode) → Simulates m d → (around : LoopsAndGuards) (c : Ways) (to : Destination) → Sim c (m.evaluate around false to) (d.evaluates around c false to)
     given_sim _ _ (simulated h s e r a P Q A se sr sa) around c to = se around c false to
 
     unwinds_same : (es : List Entry) (w : W) → size w ≤ bound → renamed without_place (programs.unwinds t.items keyed fuel es w) ≡ unwinds es w

@@ -10,7 +10,7 @@ use Rattle.typed_tree.specs.Nodes.{number_of}
 use Rattle.typed_tree.specs.Tree as tree
 use Rattle.typed_tree.specs.Tree.{Node, node, Form, Nodes, no_node, a_node, Fields, no_field, a_field, MaybeNode, absent, present, ParamTree, BodyTree, ProgramTree}
 use Rattle.src_meaning.specs.Evaluation.{in_number_order, to_own_key}
-use Rattle.src_meaning.specs.Forms.{Destination, Into, coerced, Around, in_loop, loop_destination, moved, is_never}
+use Rattle.src_meaning.specs.Forms.{Destination, Into, coerced, LoopsAndGuards, in_loop, loop_destination, moved, is_never}
 use Rattle.src_meaning.specs.Locals.OfBody.{param_key, answer_key}
 use Rattle.src_meaning.specs.Scopes.{Scopes, innermost, with_scope, with_entry, with_pending}
 use Rattle.src_meaning.specs.Shape.{NodeHead, head, Shape, BoundName, kind_of, shape, shape_of}
@@ -20,12 +20,12 @@ use Rattle.lower_rules.specs.Spots.{CodeTarget, CodePos, Ways, ways_of, body_way
 
 module _ (t : CodeTarget) where
   abbrev pub MakesIntoAt : Type 1
-  MakesIntoAt = Around → Ways → Destination → CodeSpot
+  MakesIntoAt = LoopsAndGuards → Ways → Destination → CodeSpot
 
   abbrev pub made_in : NodeHead → EvaluatesAt → EvaluatesAt
   made_in h P around c own to = P around c own (to_own_key (is_never t.items h.ty) h.id to)
 
-  abbrev pub no_arm : Place → CodePos → Around → Ways → Destination → CodeSpot
+  abbrev pub no_arm : Place → CodePos → LoopsAndGuards → Ways → Destination → CodeSpot
   no_arm matched rest around c to = Joins t Nothing
 
   abbrev pub a_value : NodeHead → Shape → EvaluatesAt → NodeCode
@@ -108,7 +108,7 @@ module _ (t : CodeTarget) where
       (otherwise_unit h otherwise around c to)
 
   -- the body of a loop
-  abbrev pub body_in : NodeCode → Around → Ways → CodeSpot
+  abbrev pub body_in : NodeCode → LoopsAndGuards → Ways → CodeSpot
   body_in m around c = AloneAt t around c m (Into m.head.id)
 
   -- the end of a loop with a condition
@@ -240,7 +240,7 @@ module _ (t : CodeTarget) where
       ((shape t.items param.pattern).bindings (whole_local (param_key param))))
       (ParamsAt params))
 
-  abbrev pub around_body : BodyTree → Around
+  abbrev pub around_body : BodyTree → LoopsAndGuards
   around_body body = record { answer = Into (answer_key body); loops = []; aliases = [] }
 
   abbrev pub answer_scope : BodyTree → Scopes

@@ -15,7 +15,7 @@ use Rattle.store_model.specs.Places.Place.{Place, whole_local, before_element}
 use Rattle.typed_tree.specs.Tree as tree
 use Rattle.typed_tree.specs.Tree.{Node, node, Form, Nodes, no_node, a_node, Fields, no_field, a_field, MaybeNode, absent, present, ParamTree, BodyTree, ProgramTree}
 use Rattle.src_meaning.specs.Evaluation.{in_number_order, to_own_key}
-use Rattle.src_meaning.specs.Forms.{Destination, Into, Coerced, coerced, Around, in_loop, loop_destination, in_guard, entry_of, bound_entry, site_in, site_of_key, moved, is_never, changed_if}
+use Rattle.src_meaning.specs.Forms.{Destination, Into, Coerced, coerced, LoopsAndGuards, in_loop, loop_destination, in_guard, entry_of, bound_entry, site_in, site_of_key, moved, is_never, changed_if}
 use Rattle.src_meaning.specs.Locals.OfBody.{param_key, answer_key, local_of, local_tys}
 use Rattle.src_meaning.specs.Scopes.{Scope, Scopes, with_scope, innermost, around_innermost, nearest_temporary, with_entry, with_pending, without_pending, becomes_entry, Exit, Breaks, Continues, Returns}
 use Rattle.src_meaning.specs.Shape.{NodeHead, head, Shape, BoundName, kind_of, shape, shape_of, site_at, operand_of_bound, operand_at}
@@ -24,13 +24,13 @@ use Rattle.lower_rules.specs.Spots.{Ways, body_ways}
 use Rattle.lower_rules.specs.Build.{LoweringFrame, BlockRest, MadeBlock, Building, ending, closed, closing, reserved, filled, jumps_if, Lowers, change, nothing, from_changed, back_in, then_lower, joined, branches, looped, panic_drops, unwinding, act, drop_one, leave, in_scope, jump, panics, if_true, tests, taken, replaces}
 
 abbrev pub Evaluates : Type 0
-Evaluates = Around → Bool → Destination → Lowers
+Evaluates = LoopsAndGuards → Bool → Destination → Lowers
 
 abbrev pub Reaches : Type 0
-Reaches = Around → Lowers
+Reaches = LoopsAndGuards → Lowers
 
 abbrev pub MakesInto : Type 0
-MakesInto = Around → Destination → Lowers
+MakesInto = LoopsAndGuards → Destination → Lowers
 
 -- An arm to be built, given the number of the block for what is done where it is not taken, and the rest to which it
 -- goes where it is taken.
@@ -45,7 +45,7 @@ pub record NodeLower : Type 0 where
   pub shape : Shape
   pub evaluates : Evaluates
   pub reaches : Reaches
-  pub arm : Place → Around → Destination → LowersArm
+  pub arm : Place → LoopsAndGuards → Destination → LowersArm
 
 pub data LowerIfAny : Type 0 where
   no_lower : LowerIfAny
@@ -58,10 +58,10 @@ keys_of (m ∷ ms) = m.head.id ∷ keys_of ms
 abbrev pub all_moved : ℕ → List NodeLower → List Operand
 all_moved number ms = map (moved number) (keys_of ms)
 
-abbrev pub place_in : NodeLower → Around → Place
+abbrev pub place_in : NodeLower → LoopsAndGuards → Place
 place_in m around = m.shape.place around.aliases
 
-abbrev pub site_of : NodeLower → Around → EffectSite
+abbrev pub site_of : NodeLower → LoopsAndGuards → EffectSite
 site_of m around = site_at m.head (place_in m around)
 
 module _ (f : LoweringFrame) where
@@ -88,7 +88,7 @@ module _ (f : LoweringFrame) where
   in_own_scope h true P = in_scope f h.id true P
   in_own_scope h false P = P
 
-  abbrev pub alone : Around → NodeLower → Destination → Lowers
+  abbrev pub alone : LoopsAndGuards → NodeLower → Destination → Lowers
   alone around m to = back_in (m.evaluates around true to)
 
   abbrev pub pending_if : Bool → ((Scope → Scope) → Scopes → Scopes) → NodeHead → Scopes → Scopes
@@ -97,20 +97,20 @@ module _ (f : LoweringFrame) where
   abbrev pub completed : ((Scope → Scope) → Scopes → Scopes) → NodeHead → Scopes → Scopes
   completed in_that h = in_that (becomes_entry (entry_of h))
 
-  abbrev pub operand : Around → NodeLower → Lowers
+  abbrev pub operand : LoopsAndGuards → NodeLower → Lowers
   operand around m =
       from_changed (pending_if m.shape.in_destination innermost m.head)
       (then_lower (m.evaluates around false (Into m.head.id)) (change (completed innermost m.head)))
 
-  abbrev pub operands : Around → List NodeLower → Lowers
+  abbrev pub operands : LoopsAndGuards → List NodeLower → Lowers
   operands around [] = nothing
   operands around (m ∷ ms) = then_lower (operand around m) (operands around ms)
 
-  abbrev pub acting : NodeHead → Around → Bool → List NodeLower → Lowers → Lowers
+  abbrev pub acting : NodeHead → LoopsAndGuards → Bool → List NodeLower → Lowers → Lowers
   acting h around own ms P =
       in_scope f h.id own (then_lower (operands around ms) (from_changed (taken f (keys_of ms)) P))
 
-  abbrev pub dropping : NodeHead → Around → Bool → NodeLower → Lowers → Lowers
+  abbrev pub dropping : NodeHead → LoopsAndGuards → Bool → NodeLower → Lowers → Lowers
   dropping h around own m P = in_scope f h.id own (then_lower (operand around m) P)
 
   -- Places.
@@ -154,12 +154,12 @@ module _ (f : LoweringFrame) where
 
   -- Conditions, branches, patterns.
 
-  abbrev pub condition : Around → NodeLower → Lowers → Lowers → Lowers
+  abbrev pub condition : LoopsAndGuards → NodeLower → Lowers → Lowers → Lowers
   condition around m P Q =
       then_lower (alone around m (Into m.head.id))
       (branches m.head.id (if_true f (moved m.head.id m.head.id) m.head.id) P Q)
 
-  abbrev pub branch : Around → Destination → LowerIfAny → Lowers → Lowers
+  abbrev pub branch : LoopsAndGuards → Destination → LowerIfAny → Lowers → Lowers
   branch around to no_lower without = without
   branch around to (a_lower m) without = alone around m to
 
@@ -173,17 +173,17 @@ module _ (f : LoweringFrame) where
   touched true site = act f site.node (effects.Touch site)
   touched false site = nothing
 
-  abbrev pub scrutinised : Around → NodeLower → Lowers
+  abbrev pub scrutinised : LoopsAndGuards → NodeLower → Lowers
   scrutinised around m = then_lower (m.reaches around) (touched m.shape.is_place (site_of m around))
 
-  abbrev pub if_taken : NodeHead → Around → NodeLower → NodeLower → Lowers → Lowers → Lowers
+  abbrev pub if_taken : NodeHead → LoopsAndGuards → NodeLower → NodeLower → Lowers → Lowers → Lowers
   if_taken h around pattern scrutinee P Q =
       from_changed (with_scope h.id true) (then_lower (scrutinised around scrutinee)
       (branches h.id (tests f (pattern.shape.tests (place_in scrutinee around)))
       (then_lower (then_lower (bind innermost (pattern.shape.bindings (place_in scrutinee around))) P) (leave f))
       (then_lower (leave f) Q)))
 
-  abbrev pub taken_arm : NodeHead → Around → List BoundName → NodeLower → Destination → Lowers
+  abbrev pub taken_arm : NodeHead → LoopsAndGuards → List BoundName → NodeLower → Destination → Lowers
   taken_arm h around bounds m to = in_scope f h.id false (then_lower (bind innermost bounds) (alone around m to))
 
   -- where a guard holds the arm is taken; where it does not, what is done otherwise follows
@@ -194,7 +194,7 @@ module _ (f : LoweringFrame) where
       guard.build c S asked.0 asked.1
   guard_from false guard key P c S otherwise k s = guard.build c S k s
 
-  abbrev pub guarded : Around → List BoundName → LowerIfAny → Lowers → LowersArm
+  abbrev pub guarded : LoopsAndGuards → List BoundName → LowerIfAny → Lowers → LowersArm
   guarded around bounds no_lower P =
       record { has_end = P.has_end; jumps = P.jumps; build = λ c S otherwise k s. P.build c S k s }
   guarded around bounds (a_lower guard) P =
@@ -205,7 +205,7 @@ module _ (f : LoweringFrame) where
         build = guard_from asked.has_end asked guard.head.id P;
       }
 
-  abbrev pub arm : NodeHead → NodeLower → LowerIfAny → NodeLower → Place → Around → Destination → LowersArm
+  abbrev pub arm : NodeHead → NodeLower → LowerIfAny → NodeLower → Place → LoopsAndGuards → Destination → LowersArm
   arm h pattern guard m matched around to =
       let bounds = pattern.shape.bindings matched in
       let code = guarded around bounds guard (taken_arm h around bounds m to) in
@@ -215,23 +215,23 @@ module _ (f : LoweringFrame) where
             tests f (pattern.shape.tests matched) then_do.0 otherwise then_do.1;
       }
 
-  abbrev pub arms_end : List NodeLower → Place → Around → Destination → Bool
+  abbrev pub arms_end : List NodeLower → Place → LoopsAndGuards → Destination → Bool
   arms_end [] matched around to = false
   arms_end (m ∷ ms) matched around to = (m.arm matched around to).has_end || arms_end ms matched around to
 
-  abbrev pub arm_jumps : List NodeLower → Place → Around → Destination → List Exit
+  abbrev pub arm_jumps : List NodeLower → Place → LoopsAndGuards → Destination → List Exit
   arm_jumps [] matched around to = []
   arm_jumps (m ∷ ms) matched around to = (m.arm matched around to).jumps ++ arm_jumps ms matched around to
 
   -- the last arm is built first; behind it a panic
   abbrev pub arms_from :
-      ℕ → List NodeLower → Place → Around → Destination → Ways → Scopes → BlockRest → Building → BlockRest × Building
+      ℕ → List NodeLower → Place → LoopsAndGuards → Destination → Ways → Scopes → BlockRest → Building → BlockRest × Building
   arms_from number [] matched around to c S k s = unwinding f (Term.Panic Why.Match) number (panic_drops f S) s
   arms_from number (m ∷ ms) matched around to c S k s =
       let otherwise = closing (arms_from number ms matched around to c S k s) in
       (m.arm matched around to).build c S otherwise.0 k otherwise.1
 
-  abbrev pub arms_in_order : ℕ → List NodeLower → Place → Around → Destination → Lowers
+  abbrev pub arms_in_order : ℕ → List NodeLower → Place → LoopsAndGuards → Destination → Lowers
   arms_in_order number ms matched around to = record {
     has_end = arms_end ms matched around to;
     jumps = arm_jumps ms matched around to;
@@ -248,12 +248,12 @@ module _ (f : LoweringFrame) where
 
   -- Blocks and statements.
 
-  abbrev pub statements : Around → List NodeLower → Lowers
+  abbrev pub statements : LoopsAndGuards → List NodeLower → Lowers
   statements around [] = nothing
   statements around (m ∷ ms) =
       then_lower (m.evaluates around false (Into m.head.id)) (statements around ms)
 
-  abbrev pub tail_of : NodeHead → LowerIfAny → Around → Destination → Lowers
+  abbrev pub tail_of : NodeHead → LowerIfAny → LoopsAndGuards → Destination → Lowers
   tail_of h no_lower around to = put_unit_if (is_never f.items h.ty) h to
   tail_of h (a_lower m) around to = alone around m to
 
@@ -300,7 +300,7 @@ module _ (f : LoweringFrame) where
 
   -- Jumps.
 
-  abbrev pub value_of_jump : NodeHead → LowerIfAny → Around → Destination → Lowers
+  abbrev pub value_of_jump : NodeHead → LowerIfAny → LoopsAndGuards → Destination → Lowers
   value_of_jump h no_lower around to = put_unit h to
   value_of_jump h (a_lower m) around to = m.evaluates around false to
 
@@ -312,7 +312,7 @@ module _ (f : LoweringFrame) where
   abbrev pub made_in : NodeHead → Evaluates → Evaluates
   made_in h e around own to = e around own (to_own_key (is_never f.items h.ty) h.id to)
 
-  abbrev pub no_arm : Place → Around → Destination → LowersArm
+  abbrev pub no_arm : Place → LoopsAndGuards → Destination → LowersArm
   no_arm matched around to = record { has_end = true; jumps = []; build = λ c S otherwise k s. (k, s) }
 
   abbrev pub a_value : NodeHead → Shape → Evaluates → NodeLower
@@ -375,7 +375,7 @@ module _ (f : LoweringFrame) where
   abbrev pub otherwise_unit : NodeHead → LowerIfAny → MakesInto
   otherwise_unit h otherwise around to = branch around to otherwise (put_unit h to)
 
-  abbrev pub body_in : NodeLower → Around → Lowers
+  abbrev pub body_in : NodeLower → LoopsAndGuards → Lowers
   body_in m around = alone around m (Into m.head.id)
 
   abbrev mutual
@@ -494,7 +494,7 @@ module _ (f : LoweringFrame) where
       ((shape f.items param.pattern).bindings (whole_local (param_key param))))
       (params_entered params))
 
-  abbrev pub around_body : BodyTree → Around
+  abbrev pub around_body : BodyTree → LoopsAndGuards
   around_body body = record { answer = Into (answer_key body); loops = []; aliases = [] }
 
   abbrev pub entire_function : BodyTree → Lowers

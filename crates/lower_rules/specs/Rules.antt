@@ -12,23 +12,23 @@ use Rattle.mir_ty.specs.Facts.{needs_drop}
 use Rattle.store_model.specs.Effects as effects
 use Rattle.store_model.specs.Effects.{EffectSite, Action}
 use Rattle.store_model.specs.Places.Place.{Place, whole_local, before_element}
-use Rattle.src_meaning.specs.Forms.{Destination, Into, Coerced, Around, in_guard, entry_of, bound_entry, site_in, site_of_key, moved, is_never, changed_if}
+use Rattle.src_meaning.specs.Forms.{Destination, Into, Coerced, LoopsAndGuards, in_guard, entry_of, bound_entry, site_in, site_of_key, moved, is_never, changed_if}
 use Rattle.src_meaning.specs.Locals.Effects.{operand_at as operand_in, site_at as site_on}
 use Rattle.src_meaning.specs.Scopes.{Scope, Scopes, with_scope, innermost, around_innermost, nearest_temporary, with_entry, with_pending, without_pending, becomes_entry, without_operands}
 use Rattle.src_meaning.specs.Shape.{NodeHead, Shape, PatternTest, IsVariant, IsNumber, IsTruth, AnyOf, PatternTests, no_test, a_test, Alternatives, no_alternative, an_alternative, BoundName, site_at, operand_of_bound, operand_at}
-use Rattle.lower_rules.specs.Spots.{CodeTarget, CodePos, Ways, ways_in_loop, CodeSpot, Then, Changes, After, Nothing, BackIn, node_at, panic_drops, StepAt, TurnAt, EntersAt, TermAt, StmtAt, Leads, Joins, CleanAt, Cleans, Acts, DropsAt, Left, InScope}
+use Rattle.lower_rules.specs.Spots.{CodeTarget, CodePos, Ways, ways_in_loop, CodeSpot, Then, Changes, After, Nothing, BackIn, node_at, panic_drops, StepAt, TurnAt, EntersAt, TermAt, StmtAt, Leads, Joins, CleanAt, Cleans, Acts, DropsAt, LeavesScope, InScope}
 
 -- the code by which a node is evaluated, as a scope for temporaries of its own or not, into a destination
 abbrev pub EvaluatesAt : Type 1
-EvaluatesAt = Around → Ways → Bool → Destination → CodeSpot
+EvaluatesAt = LoopsAndGuards → Ways → Bool → Destination → CodeSpot
 
 -- the code by which a place is reached
 abbrev pub ReachesAt : Type 1
-ReachesAt = Around → Ways → CodeSpot
+ReachesAt = LoopsAndGuards → Ways → CodeSpot
 
 -- the code of an arm, given the matched place, and where the code stands for what is done where the arm is not taken
 abbrev pub ArmsAt : Type 1
-ArmsAt = Place → CodePos → Around → Ways → Destination → CodeSpot
+ArmsAt = Place → CodePos → LoopsAndGuards → Ways → Destination → CodeSpot
 
 -- the code of a node
 pub record NodeCode : Type 1 where
@@ -49,10 +49,10 @@ keys_of (m ∷ ms) = m.head.id ∷ keys_of ms
 abbrev pub all_moved : ℕ → List NodeCode → List effects.Operand
 all_moved number ms = map (moved number) (keys_of ms)
 
-abbrev pub place_of : NodeCode → Around → Place
+abbrev pub place_of : NodeCode → LoopsAndGuards → Place
 place_of m around = m.shape.place around.aliases
 
-abbrev pub site_of_code : NodeCode → Around → EffectSite
+abbrev pub site_of_code : NodeCode → LoopsAndGuards → EffectSite
 site_of_code m around = site_at m.head (place_of m around)
 
 module _ (t : CodeTarget) where
@@ -75,7 +75,7 @@ module _ (t : CodeTarget) where
   InOwnScope h true P = InScope t h.id true P
   InOwnScope h false P = P
 
-  abbrev pub AloneAt : Around → Ways → NodeCode → Destination → CodeSpot
+  abbrev pub AloneAt : LoopsAndGuards → Ways → NodeCode → Destination → CodeSpot
   AloneAt around c m to = BackIn (m.evaluates around c true to)
 
   abbrev pub pending_if : Bool → ((Scope → Scope) → Scopes → Scopes) → NodeHead → Scopes → Scopes
@@ -84,23 +84,23 @@ module _ (t : CodeTarget) where
   abbrev pub completed : ((Scope → Scope) → Scopes → Scopes) → NodeHead → Scopes → Scopes
   completed in_that h = in_that (becomes_entry (entry_of h))
 
-  abbrev pub OperandAt : Around → Ways → NodeCode → CodeSpot
+  abbrev pub OperandAt : LoopsAndGuards → Ways → NodeCode → CodeSpot
   OperandAt around c m =
       After (pending_if m.shape.in_destination innermost m.head)
       (Then (m.evaluates around c false (Into m.head.id)) (Changes (completed innermost m.head)))
 
-  abbrev pub OperandsAt : Around → Ways → List NodeCode → CodeSpot
+  abbrev pub OperandsAt : LoopsAndGuards → Ways → List NodeCode → CodeSpot
   OperandsAt around c [] = Nothing
   OperandsAt around c (m ∷ ms) = Then (OperandAt around c m) (OperandsAt around c ms)
 
   abbrev pub taken : List ℕ → Scopes → Scopes
   taken keys = innermost (without_operands keys)
 
-  abbrev pub ActingAt : NodeHead → Around → Ways → Bool → List NodeCode → CodeSpot → CodeSpot
+  abbrev pub ActingAt : NodeHead → LoopsAndGuards → Ways → Bool → List NodeCode → CodeSpot → CodeSpot
   ActingAt h around c own ms P =
       InScope t h.id own (Then (OperandsAt around c ms) (After (taken (keys_of ms)) P))
 
-  abbrev pub DroppingAt : NodeHead → Around → Ways → Bool → NodeCode → CodeSpot → CodeSpot
+  abbrev pub DroppingAt : NodeHead → LoopsAndGuards → Ways → Bool → NodeCode → CodeSpot → CodeSpot
   DroppingAt h around c own m P = InScope t h.id own (Then (OperandAt around c m) P)
 
   -- Places.
@@ -177,11 +177,11 @@ module _ (t : CodeTarget) where
       (if_true : CodePos) × (if_false : CodePos) × Test b if_true if_false
       × Joins t P S if_true S' b' × Joins t Q S if_false S' b'
 
-  abbrev pub ConditionAt : Around → Ways → NodeCode → CodeSpot → CodeSpot → CodeSpot
+  abbrev pub ConditionAt : LoopsAndGuards → Ways → NodeCode → CodeSpot → CodeSpot → CodeSpot
   ConditionAt around c m P Q =
       Then (AloneAt around c m (Into m.head.id)) (BranchesAt (IfAt (moved m.head.id m.head.id)) P Q)
 
-  abbrev pub BranchAt : Around → Ways → Destination → CodeIfAny → CodeSpot → CodeSpot
+  abbrev pub BranchAt : LoopsAndGuards → Ways → Destination → CodeIfAny → CodeSpot → CodeSpot
   BranchAt around c to no_code without = without
   BranchAt around c to (a_code m) without = AloneAt around c m to
 
@@ -219,22 +219,22 @@ module _ (t : CodeTarget) where
   TouchedAt true site = Acts t (effects.Touch site)
   TouchedAt false site = Nothing
 
-  abbrev pub ScrutinisedAt : Around → Ways → NodeCode → CodeSpot
+  abbrev pub ScrutinisedAt : LoopsAndGuards → Ways → NodeCode → CodeSpot
   ScrutinisedAt around c m = Then (m.reaches around c) (TouchedAt m.shape.is_place (site_of_code m around))
 
   abbrev pub PanicsAt : Why → CodeSpot
   PanicsAt why S b S' b' = (unwind : Unwind) × TermAt t (Term.Panic why unwind) b × Cleans t (panic_drops t S) unwind
 
   -- `if let`, and a turn of `while let`
-  abbrev pub IfTakenAt : NodeHead → Around → Ways → NodeCode → NodeCode → CodeSpot → CodeSpot → CodeSpot
+  abbrev pub IfTakenAt : NodeHead → LoopsAndGuards → Ways → NodeCode → NodeCode → CodeSpot → CodeSpot → CodeSpot
   IfTakenAt h around c pattern scrutinee P Q =
       After (with_scope h.id true) (Then (ScrutinisedAt around c scrutinee)
       (BranchesAt (TestsAt (pattern.shape.tests (place_of scrutinee around)))
-      (Then (Then (BindsAt innermost (pattern.shape.bindings (place_of scrutinee around))) P) (Left t))
-      (Then (Left t) Q)))
+      (Then (Then (BindsAt innermost (pattern.shape.bindings (place_of scrutinee around))) P) (LeavesScope t))
+      (Then (LeavesScope t) Q)))
 
   -- where an arm is not taken the next one is tried, from the same scopes
-  abbrev pub ArmsInOrderAt : List NodeCode → Place → Around → Ways → Destination → CodeSpot
+  abbrev pub ArmsInOrderAt : List NodeCode → Place → LoopsAndGuards → Ways → Destination → CodeSpot
   ArmsInOrderAt [] matched around c to S b S' b' = PanicsAt Why.Match S b S' b'
   ArmsInOrderAt (arm ∷ arms) matched around c to S b S' b' =
       (rest : CodePos) × arm.arm matched rest around c to S b S' b' ×
@@ -245,7 +245,7 @@ module _ (t : CodeTarget) where
       InOwnScope h own (Then (ScrutinisedAt around c scrutinee)
       (ArmsInOrderAt arms (place_of scrutinee around) around c to))
 
-  abbrev pub TakenArmAt : NodeHead → Around → Ways → List BoundName → NodeCode → Destination → CodeSpot
+  abbrev pub TakenArmAt : NodeHead → LoopsAndGuards → Ways → List BoundName → NodeCode → Destination → CodeSpot
   TakenArmAt h around c bounds m to =
       InScope t h.id false (Then (BindsAt innermost bounds) (AloneAt around c m to))
 
@@ -253,7 +253,7 @@ module _ (t : CodeTarget) where
   abbrev pub IfTakenElse : effects.Operand → CodeSpot → CodePos → CodeSpot
   IfTakenElse operand P rest S b S' b' = (if_true : CodePos) × IfAt operand b if_true rest × P S if_true S' b'
 
-  abbrev pub GuardedAt : Around → Ways → List BoundName → CodeIfAny → CodeSpot → CodePos → CodeSpot
+  abbrev pub GuardedAt : LoopsAndGuards → Ways → List BoundName → CodeIfAny → CodeSpot → CodePos → CodeSpot
   GuardedAt around c bounds no_code P rest = P
   GuardedAt around c bounds (a_code guard) P rest =
       Then (AloneAt (in_guard bounds around) c guard (Into guard.head.id))
@@ -267,12 +267,12 @@ module _ (t : CodeTarget) where
 
   -- Blocks and statements.
 
-  abbrev pub StatementsAt : Around → Ways → List NodeCode → CodeSpot
+  abbrev pub StatementsAt : LoopsAndGuards → Ways → List NodeCode → CodeSpot
   StatementsAt around c [] = Nothing
   StatementsAt around c (m ∷ ms) =
       Then (m.evaluates around c false (Into m.head.id)) (StatementsAt around c ms)
 
-  abbrev pub TailAt : NodeHead → CodeIfAny → Around → Ways → Destination → CodeSpot
+  abbrev pub TailAt : NodeHead → CodeIfAny → LoopsAndGuards → Ways → Destination → CodeSpot
   TailAt h no_code around c to = PutsUnitIf (is_never t.items h.ty) h to
   TailAt h (a_code m) around c to = AloneAt around c m to
 
@@ -326,6 +326,6 @@ module _ (t : CodeTarget) where
       × turn (ways_in_loop id (length S) exit begin is_left c) S (begin, 0) S e × TermAt t (Term.Goto begin) e
       × (is_left ≡ true → EntersAt t exit b' × (S' ≡ S))
 
-  abbrev pub JumpValueAt : NodeHead → CodeIfAny → Around → Ways → Destination → CodeSpot
+  abbrev pub JumpValueAt : NodeHead → CodeIfAny → LoopsAndGuards → Ways → Destination → CodeSpot
   JumpValueAt h no_code around c to = PutsUnit h to
   JumpValueAt h (a_code m) around c to = m.evaluates around c false to

@@ -201,14 +201,14 @@ module _ (t : CodeTarget) where
   AllDropAt (e ∷ es) S b b' = (m : CodePos) × DropsAt (entry_site e) (es ++ panic_drops S) b m × AllDropAt es S m b'
 
   -- the innermost scope is left
-  abbrev pub Left : CodeSpot
-  Left [] b S' b' = (S' ≡ []) × Leads b b'
-  Left (s ∷ S) b S' b' =
+  abbrev pub LeavesScope : CodeSpot
+  LeavesScope [] b S' b' = (S' ≡ []) × Leads b b'
+  LeavesScope (s ∷ S) b S' b' =
       (S' ≡ S) × (m : CodePos) × AllDropAt (needing_drop t.items s.entries) S b m × Leads m b'
 
   -- in a scope that is entered and left
   abbrev pub Scoped : (Scopes → Scopes) → CodeSpot → CodeSpot
-  Scoped enter P S b S' b' = Then P Left (enter S) b S' b'
+  Scoped enter P S b S' b' = Then P LeavesScope (enter S) b S' b'
 
   abbrev pub InScope : ℕ → Bool → CodeSpot → CodeSpot
   InScope node for_temporaries P = Scoped (with_scope node for_temporaries) P

@@ -2,7 +2,7 @@
 use Rattle.std.proofs.Common.{◌≡◌, ℕ, zero, suc, ◌==◌, ◌<◌, List, [], ◌∷◌, ◌++◌, length, Bool, true, false, Option, Some, None, refl, ap, sym, ◌∙◌, arith, append_assoc, append-nil}
 use Rattle.std.proofs.lemmas.Bool.Decides.{Decides-eqb}
 use Rattle.std.specs.Option.{option_and_then, option_map_or}
-use Rattle.machine_steps.specs.Left.{from_part}
+use Rattle.machine_steps.specs.Continuation.{from_part}
 use Rattle.mir_ty.specs.ItemTable.{ItemTable}
 use Rattle.mir_ty.specs.declared.ty.TyId.{TyId}
 use Rattle.store_model.proofs.Values.Access.{replaced-step}

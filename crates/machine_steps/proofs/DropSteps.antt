@@ -2,7 +2,7 @@
 use Rattle.std.proofs.Common.{◌≡◌, inl, inr, ℕ, zero, suc, ◌==◌, ◌<◌, ◌≤◌, List, [], ◌∷◌, ◌++◌, Bool, true, false, Option, Some, None, slice_get, refl, ap, sym, subst, ◌∙◌, arith, append-nil}
 use Rattle.std.proofs.lemmas.Bool.Decides.{Decides-eqb}
 use Rattle.std.specs.Option.{option_map_or}
-use Rattle.machine_steps.specs.Left.{from_part, is_still, is_expected, expected_if, found_of, told_serial, IsPlain, own_impl, type_of_number, Level, PartsOf, ContentOf, DropRest, finished, at_path, found_as, StandsFrom, PartsLeft, HasLeft, IsAfter, Visits, AsRead, Again, LeavesLeft, GoesLeft, ClearsLeft, FreesLeft, VisitsLeft, ReadLeft, AwaitsLeft, EntersLeft}
+use Rattle.machine_steps.specs.Continuation.{from_part, is_still, is_expected, expected_if, found_of, told_serial, IsPlain, own_impl, type_of_number, Level, PartsOf, ContentOf, DropRest, finished, at_path, found_as, StandsFrom, PartsLeft, HasLeft, IsAfter, Visits, AsRead, Again, LeavesLeft, GoesLeft, ClearsLeft, FreesLeft, VisitsLeft, ReadLeft, AwaitsLeft, EntersLeft}
 use Rattle.machine_steps.proofs.Below.{next_part, stands_at, located_step, into_is, into_untyped, parts_of_into}
 use Rattle.machine_steps.proofs.Dropping.{unwinding_twice, one_by_one, same_rest, halts_through, after_later, after_stored, cleared, freed_there_is}
 use Rattle.mir_base.specs.declared.trace.Event.{Event}

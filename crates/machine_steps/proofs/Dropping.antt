@@ -1,6 +1,6 @@
 -- A drop, step by step.
 use Rattle.std.proofs.Common.{◌≡◌, inl, inr, ℕ, ◌<◌, List, [], ◌∷◌, ◌++◌, Bool, true, false, Option, Some, None, refl, ap, sym, subst, ◌∙◌, arith, append_assoc}
-use Rattle.machine_steps.specs.Left.{from_part, Level, PartsOf, ContentOf, DropRest, IsBehind, finished, at_path, found_as, StandsFrom, after_by, HasLeft, IsAfter}
+use Rattle.machine_steps.specs.Continuation.{from_part, Level, PartsOf, ContentOf, DropRest, IsBehind, finished, at_path, found_as, StandsFrom, after_by, HasLeft, IsAfter}
 use Rattle.machine_steps.proofs.Below.{later_parts_kept, located_stored, stands_at}
 use Rattle.mir_base.specs.declared.trace.Event.{Event}
 use Rattle.store_model.specs.declared.address.At.{At}

@@ -6,7 +6,7 @@ use Rattle.machine_steps.proofs.Below.{same_number}
 use Rattle.std.specs.declared.alloc.Global.{Global}
 use Rattle.std.specs.declared.boxed.Box.{Box as TheBox}
 use Rattle.machine_steps.specs.declared.sweep.Sweeps.{Sweeps}
-use Rattle.machine_steps.specs.Left.{type_of_number, found_of, own_impl}
+use Rattle.machine_steps.specs.Continuation.{type_of_number, found_of, own_impl}
 use Rattle.machine_steps.specs.Swept.{GoneOver, holds_parts, freed, freed_parts, HasType, IsFoundAgain, IsSwept, ArePartsSwept, IsSweptBy, AreSwept, freed_by, freed_before, PutsBefore, GoesOver}
 use Rattle.mir_base.specs.declared.trace.Event.{Event}
 use Rattle.machine_steps.specs.declared.told.ToldEvents.{ToldEvents}

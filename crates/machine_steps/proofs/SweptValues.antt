@@ -1,7 +1,7 @@
 -- What is left where a value was dropped in which no `Drop` body is to run.
 use Rattle.std.proofs.Common.{◌≡◌, ◌⊎◌, inl, inr, ℕ, suc, ◌==◌, ◌+◌, ◌<◌, ◌≤◌, List, [], ◌∷◌, ◌++◌, length, Bool, true, false, Option, Some, None, refl, ap, sym, subst, ◌∙◌, arith, append_assoc, append-nil}
 use Rattle.std.specs.Option.{option_map_or}
-use Rattle.machine_steps.specs.Left.{from_part, expected_if, VisitsLeft, is_still, type_of_number, IsPlain, Level, PartsOf, ContentOf, at_path, found_as, LeavesLeft, GoesLeft, ReadLeft}
+use Rattle.machine_steps.specs.Continuation.{from_part, expected_if, VisitsLeft, is_still, type_of_number, IsPlain, Level, PartsOf, ContentOf, at_path, found_as, LeavesLeft, GoesLeft, ReadLeft}
 use Rattle.machine_steps.specs.Swept.{freed, freed_parts, HasType, IsFoundAgain, IsSwept, ArePartsSwept, is_there, with_events}
 use Rattle.machine_steps.proofs.Below.{same_number, cell_stored, as_many, stored_in, local_of, located_stored, located_step, into_is, next_part, stands_at}
 use Rattle.machine_steps.proofs.Dropping.{part_replaced}

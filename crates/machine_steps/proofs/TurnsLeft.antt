@@ -6,7 +6,7 @@ use Rattle.machine_steps.specs.declared.level.Level as rust
 use Rattle.machine_steps.specs.declared.found.FoundValue.{FoundValue}
 use Rattle.machine_steps.specs.declared.found.DropKind.{DropKind}
 use Rattle.machine_steps.specs.declared.found.OwnDrop.{OwnDrop}
-use Rattle.machine_steps.specs.Left.{Level, PartsOf, ContentOf, own_impl, type_of_number, expected_if, is_still, is_expected, told_serial, finished, found_as, HasLeft, LeavesLeft, GoesLeft, ClearsLeft, VisitsLeft, ReadLeft, AwaitsLeft, EntersLeft, Again}
+use Rattle.machine_steps.specs.Continuation.{Level, PartsOf, ContentOf, own_impl, type_of_number, expected_if, is_still, is_expected, told_serial, finished, found_as, HasLeft, LeavesLeft, GoesLeft, ClearsLeft, VisitsLeft, ReadLeft, AwaitsLeft, EntersLeft, Again}
 use Rattle.machine_steps.specs.Reading.{ShowsValue, FindsIt, IsFound, pair_of}
 use Rattle.machine_steps.specs.Swept.{IsSwept, freed, is_there, with_events}
 use Rattle.machine_steps.proofs.SweptValues.{read_swept}

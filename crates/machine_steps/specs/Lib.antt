@@ -5,7 +5,7 @@ pub mod Numbers
 pub mod Steps
 pub mod Typed
 pub mod Worlds
-pub mod Left
+pub mod Continuation
 pub mod Reading
 pub mod Seen
 pub mod Swept

@@ -3,7 +3,7 @@ use Rattle.std.specs.Prelude.{◌≡◌, ℕ, Option, Some, None, option_map}
 use Rattle.machine_steps.specs.declared.found.FoundValue.{FoundValue}
 use Rattle.machine_steps.specs.declared.found.DropKind.{DropKind}
 use Rattle.machine_steps.specs.declared.found.OwnDrop.{OwnDrop}
-use Rattle.machine_steps.specs.Left.{IsPlain}
+use Rattle.machine_steps.specs.Continuation.{IsPlain}
 use Rattle.machine_store.specs.Standing.{dynamic_of}
 use Rattle.mir_ty.specs.ItemTable.{ItemTable}
 use Rattle.store_model.specs.declared.address.At.TheVariants.{Inside}

@@ -3,7 +3,7 @@
 use Rattle.std.specs.Prelude.{◌≡◌, ℕ, suc, Bool, true, false, List, [], ◌∷◌, ◌++◌, map, Option, Some, None}
 use Rattle.machine_steps.specs.declared.sweep.Pass.{Pass}
 use Rattle.machine_steps.specs.declared.sweep.Sweeps.{Sweeps}
-use Rattle.machine_steps.specs.Left.{is_still, own_impl, type_of_number}
+use Rattle.machine_steps.specs.Continuation.{is_still, own_impl, type_of_number}
 use Rattle.mir_base.specs.declared.trace.Event.{Event}
 use Rattle.machine_store.specs.Standing.{dynamic_of}
 use Rattle.mir_ty.specs.ItemTable.{ItemTable}

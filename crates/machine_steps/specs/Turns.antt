@@ -3,8 +3,8 @@ use Rattle.std.specs.Prelude.{◌≡◌, ℕ, ◌<◌, ◌⊎◌, Bool, true, fa
 use Rattle.machine_steps.specs.declared.drops.Drops.{Drops}
 use Rattle.machine_steps.specs.declared.drops.Turn.{Turn}
 use Rattle.machine_steps.specs.declared.level.Level.{Level}
-use Rattle.machine_steps.specs.Left as left
-use Rattle.machine_steps.specs.Left.{LeavesLeft, GoesLeft, ClearsLeft, FreesLeft, VisitsLeft, ReadLeft, AwaitsLeft, EntersLeft, finished, own_impl, told_serial, found_as}
+use Rattle.machine_steps.specs.Continuation as left
+use Rattle.machine_steps.specs.Continuation.{LeavesLeft, GoesLeft, ClearsLeft, FreesLeft, VisitsLeft, ReadLeft, AwaitsLeft, EntersLeft, finished, own_impl, told_serial, found_as}
 use Rattle.machine_steps.specs.declared.found.OwnDrop.{OwnDrop}
 use Rattle.machine_store.specs.declared.types.Dynamic.{Dynamic}
 use Rattle.store_model.specs.declared.address.Addr.{Addr}

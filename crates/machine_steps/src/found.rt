@@ -1,7 +1,7 @@
 //! What stands at an address, as far as a drop asks.
 ghost use Rattle.std.specs.Prelude.{◌≡◌, IfOk, Some, None, option_map, true};
 ghost use Rattle.cfg_meaning.specs.Programs.{setting_of};
-ghost use Rattle.machine_steps.specs.Left.{is_expected as is_expected_as, is_still as is_still_as, own_impl};
+ghost use Rattle.machine_steps.specs.Continuation.{is_expected as is_expected_as, is_still as is_still_as, own_impl};
 ghost use Rattle.machine_steps.specs.Reading.{IsFound, ShowsValue, pair_of};
 ghost use Rattle.machine_steps.specs.Turns.{stage_by};
 ghost use Rattle.machine_store.specs.Activations.{activations_of};

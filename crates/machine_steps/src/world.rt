@@ -29,7 +29,7 @@ pub struct World<'a> {
 
 impl<'a> World<'a> {
     /// The value of a place, which stays there; `None` where it is not whole.
-    fn copied(&self, alloc: Global, place: &Place) -> Result<Option<Value>, NoMemory>
+    fn copy_from(&self, alloc: Global, place: &Place) -> Result<Option<Value>, NoMemory>
         ensures { IfOk result (λ taken. (before : Trace) → MatchOption taken (evaluate_operand (run_setting self.now)
             (copied_at place.now) (state_of before self.now) ≡ None)
             (λ value. IsWhole (datum_of value) × (evaluate_operand (run_setting self.now) (copied_at place.now)
@@ -45,7 +45,7 @@ impl<'a> World<'a> {
     }
 
     /// The value of a place, which is gone then; `None` where it is not whole, and then nothing changes.
-    fn moved(&mut self, alloc: Global, place: &Place) -> Result<Option<Value>, NoMemory>
+    fn move_from(&mut self, alloc: Global, place: &Place) -> Result<Option<Value>, NoMemory>
         ensures run { run_setting self.new ≡ run_setting self.old }
         ensures taken { IfOk result (λ taken. (before : Trace) → MatchOption taken
             ((evaluate_operand (run_setting self.old) (moved_at place.now) (state_of before self.old) ≡
@@ -69,8 +69,8 @@ impl<'a> World<'a> {
             Evaluates (run_setting self.old) operand.now (state_of before self.old) taken (state_of before self.new)) }
     {
         match operand {
-            Operand::Copied(place) => self.copied(alloc, place),
-            Operand::Moved(place) => self.moved(alloc, place),
+            Operand::Copied(place) => self.copy_from(alloc, place),
+            Operand::Moved(place) => self.move_from(alloc, place),
             Operand::Number(number, _) => Ok(Some(Value::Int(*number))),
             Operand::Truth(truth) => Ok(Some(Value::Bool(*truth))),
             Operand::Unit => Ok(Some(Value::Unit)),

@@ -16,7 +16,7 @@ use Rattle.mir_machine.proofs.RunsLeft.{walk_on}
 use Rattle.mir_machine.proofs.TasksLeft.{ends_halted, ends_lost, moved}
 use Rattle.mir_machine.specs.declared.tasks.Doing.{Doing}
 use Rattle.mir_machine.specs.declared.tasks.Task.{Task}
-use Rattle.mir_machine.specs.Left.{walks}
+use Rattle.mir_machine.specs.Continuation.{walks}
 use Rattle.mir_machine.specs.Tasks.{AreRanked, AtBlock, AtTerm, BeginsSo, DoesStmts, Keeps, Next, StmtsEnd, begun, lost_end}
 use Rattle.machine_steps.specs.Acting.{DoesAct}
 use Rattle.machine_steps.specs.declared.actions.Outcome.{Outcome}

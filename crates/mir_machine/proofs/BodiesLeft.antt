@@ -20,7 +20,7 @@ use Rattle.mir_machine.proofs.TermsLeft.{choice_left, graph_laws}
 use Rattle.mir_machine.specs.declared.tasks.Doing.{Doing}
 use Rattle.mir_machine.specs.declared.tasks.Post.{Post}
 use Rattle.mir_machine.specs.declared.tasks.Task.{Task}
-use Rattle.mir_machine.specs.Left.{goes_on, walks}
+use Rattle.mir_machine.specs.Continuation.{goes_on, walks}
 use Rattle.mir_machine.specs.Tasks.{AtEntry, AtOutcome, AtTerm, DoingLeft, EndsByTerm, Keeps, Next, PostEnds, RunLeftFrom, chosen_doing, lost_end}
 use Rattle.machine_steps.specs.declared.actions.Outcome.{Outcome}
 use Rattle.machine_steps.specs.declared.world.World.{World}

@@ -20,7 +20,7 @@ use Rattle.mir_machine.proofs.TermsLeft.{AtOut, stuck_out, term_out}
 use Rattle.mir_machine.specs.declared.tasks.Doing.{Doing}
 use Rattle.mir_machine.specs.declared.tasks.Post.{Post}
 use Rattle.mir_machine.specs.declared.tasks.Task.{Task}
-use Rattle.mir_machine.specs.Left.{ForCall, goes_on, left, resumed, walks}
+use Rattle.mir_machine.specs.Continuation.{ForCall, goes_on, left, resumed, walks}
 use Rattle.mir_machine.specs.Tasks.{AtEntry, AtTerm, Keeps, Next, place_in, result_of}
 use Rattle.machine_steps.specs.declared.world.World.{World}
 use Rattle.machine_steps.specs.Worlds.{state_of, run_setting}

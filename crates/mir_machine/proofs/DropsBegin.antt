@@ -8,7 +8,7 @@ use Rattle.cfg_meaning.specs.Laws.{bodies_of}
 use Rattle.cfg_meaning.specs.Programs.{setting_of}
 use Rattle.machine_steps.specs.declared.drops.Drops.{Drops}
 use Rattle.machine_steps.specs.declared.drops.Turn.{Turn}
-use Rattle.machine_steps.specs.Left.{finished}
+use Rattle.machine_steps.specs.Continuation.{finished}
 use Rattle.machine_steps.specs.Turns.{TurnLeft}
 use Rattle.mir_base.specs.declared.trace.End.{End}
 use Rattle.mir_base.specs.declared.trace.Event.{Event}
@@ -18,7 +18,7 @@ use Rattle.mir_machine.proofs.TermsLeft.{AtOut, drop_begins, drops_no_part, drop
 use Rattle.mir_machine.specs.declared.tasks.Doing.{Doing}
 use Rattle.mir_machine.specs.declared.tasks.Post.{Post}
 use Rattle.mir_machine.specs.declared.tasks.Task.{Task}
-use Rattle.mir_machine.specs.Left.{ForDrop, goes_on, left}
+use Rattle.mir_machine.specs.Continuation.{ForDrop, goes_on, left}
 use Rattle.mir_machine.specs.Tasks.{AtEntry, AtOutcome, AtTerm, AtTurn, DoingLeft, DropsThat, Keeps, Next, PostEnds, drop_outcome, place_in}
 use Rattle.machine_steps.proofs.Operands.{whole_same}
 use Rattle.machine_steps.specs.declared.actions.Outcome.{Outcome}

@@ -12,8 +12,8 @@ use Rattle.cfg_meaning.specs.Programs.{setting_of, code_of}
 use Rattle.cfg_meaning.specs.Walk.{acts, renamed, stuck_in}
 use Rattle.machine_steps.specs.declared.drops.Drops.{Drops}
 use Rattle.machine_steps.specs.declared.drops.Turn.{Turn}
-use Rattle.machine_steps.specs.Left as dropping
-use Rattle.machine_steps.specs.Left.{Level, PartsOf, ContentOf, DropRest, AtEnd, after_by, HasLeft, IsAfter, Visits, AsRead, Again, Then, AwaitsLeft, finished, found_as, from_part, at_path}
+use Rattle.machine_steps.specs.Continuation as dropping
+use Rattle.machine_steps.specs.Continuation.{Level, PartsOf, ContentOf, DropRest, AtEnd, after_by, HasLeft, IsAfter, Visits, AsRead, Again, Then, AwaitsLeft, finished, found_as, from_part, at_path}
 use Rattle.machine_steps.specs.Turns.{TurnLeft, levels_of, mode_by, stage_by}
 use Rattle.mir_base.specs.declared.trace.End.{End}
 use Rattle.mir_base.specs.declared.trace.Event.{Event}
@@ -21,7 +21,7 @@ use Rattle.mir_base.specs.Trace.{Trace}
 use Rattle.mir_machine.specs.declared.tasks.Doing.{Doing}
 use Rattle.mir_machine.specs.declared.tasks.Post.{Post}
 use Rattle.mir_machine.specs.declared.tasks.Task.{Task}
-use Rattle.mir_machine.specs.Left.{WaitingBody, Waiting, ForCall, ForDrop, walks, goes_on, resumed, left}
+use Rattle.mir_machine.specs.Continuation.{WaitingBody, Waiting, ForCall, ForDrop, walks, goes_on, resumed, left}
 use Rattle.mir_machine.specs.Tasks.{AllWait, BodyEnds, DoingLeft, DropWaits, CallWaits, PostEnds, RunLeftFrom, WaitsFor, place_in}
 use Rattle.machine_steps.specs.Steps.{Seen, Goes, Panics, Halted, seen}
 use Rattle.machine_store.specs.Standing.{dynamic_of}

@@ -15,7 +15,7 @@ use Rattle.mir_machine.proofs.TermsLeft.{outcome_left}
 use Rattle.mir_machine.specs.declared.tasks.Doing.{Doing}
 use Rattle.mir_machine.specs.declared.tasks.Post.{Post}
 use Rattle.mir_machine.specs.declared.tasks.Task.{Task}
-use Rattle.mir_machine.specs.Left.{Waiting, ForCall, ForDrop, goes_on, left, resumed}
+use Rattle.mir_machine.specs.Continuation.{Waiting, ForCall, ForDrop, goes_on, left, resumed}
 use Rattle.mir_machine.specs.Tasks.{AllWait, AtOutcome, AtResult, AtReturn, AtUnwound, Keeps, Next, PostEnds, ResumesSo, destination_in, place_in}
 use Rattle.machine_steps.proofs.ActsDone.{stops}
 use Rattle.machine_steps.specs.Acting.{stopped}

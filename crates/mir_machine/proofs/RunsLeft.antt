@@ -5,7 +5,7 @@ use Rattle.cfg_meaning.proofs.Runs.{values_nested, values_walk_on}
 use Rattle.cfg_meaning.specs.Walk.{stuck_in}
 use Rattle.mir_base.specs.declared.trace.End.{End}
 use Rattle.mir_machine.specs.Laws.{BodyIsOneEquation, WalkIsOneEquation, CallIsOneEquation, HaltEndsTheRun, StuckBodyHasTheBlockOfItsCaller, IsPlaced, HaltsWithIt, place_of}
-use Rattle.mir_machine.specs.Left.{Waiting, ForCall, ForDrop, goes_on, resumed, left}
+use Rattle.mir_machine.specs.Continuation.{Waiting, ForCall, ForDrop, goes_on, resumed, left}
 use Rattle.store_model.specs.Concrete.Bodies.{outcome_of}
 use Rattle.store_model.specs.Concrete.State.{HaltsIn, State}
 use Rattle.store_model.specs.Effects.{Halt, Aborted, OutOfTicks, Stuck, StuckAt, BadUse, BadStore, NoChoice, Infeasible, Unreachable, Halts, halting_if}

@@ -15,7 +15,7 @@ use Rattle.mir_base.specs.Trace.{Trace}
 use Rattle.mir_machine.specs.declared.tasks.Doing.{Doing}
 use Rattle.mir_machine.specs.declared.tasks.Task.{Task}
 use Rattle.cfg_meaning.specs.Laws.{bodies_of}
-use Rattle.mir_machine.specs.Left.{left}
+use Rattle.mir_machine.specs.Continuation.{left}
 use Rattle.store_model.proofs.Concrete.Effects.{ticks_of}
 use Rattle.mir_edge.specs.Told.{WhereTold}
 use Rattle.mir_machine.proofs.FlowsOnward.{all_sent, flows_first, part_of}

@@ -5,7 +5,7 @@ use Rattle.cfg_graph.specs.declared.graph.Graph.{Graph}
 use Rattle.cfg_graph.specs.declared.terminator.Unwind.{Unwind}
 use Rattle.cfg_meaning.specs.Laws.{bodies_of}
 use Rattle.cfg_meaning.specs.Programs.{setting_of}
-use Rattle.machine_steps.specs.Left.{finished, found_as}
+use Rattle.machine_steps.specs.Continuation.{finished, found_as}
 use Rattle.machine_store.specs.Standing.{dynamic_of}
 use Rattle.store_model.specs.Values.Datum.{Gone}
 use Rattle.machine_steps.specs.Turns.{mode_by}
@@ -15,7 +15,7 @@ use Rattle.mir_machine.proofs.RunsLeft.{halts_end, stuck_ends}
 use Rattle.mir_machine.specs.declared.tasks.Post.{Post}
 use Rattle.mir_machine.specs.declared.tasks.Task.{Task}
 use Rattle.mir_machine.specs.Laws.{HaltsWithIt, IsPlaced, place_of}
-use Rattle.mir_machine.specs.Left.{Waiting, goes_on, left}
+use Rattle.mir_machine.specs.Continuation.{Waiting, goes_on, left}
 use Rattle.mir_machine.specs.Tasks.{place_in, WaitsFor, AllWait, RunLeft, RunLeftFrom, PostEnds, stuck_end, last_end, lost_end}
 use Rattle.store_model.specs.Concrete.Bodies.{outcome_of}
 use Rattle.store_model.specs.Concrete.Drops.{HasRun, drop_at, drop_body_out, in_mode}

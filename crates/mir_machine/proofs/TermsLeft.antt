@@ -9,7 +9,7 @@ use Rattle.cfg_meaning.specs.Laws.{bodies_of, concrete_effects_of}
 use Rattle.cfg_meaning.specs.Programs.{code_of, setting_of}
 use Rattle.cfg_meaning.specs.Walk.{naming, stuck_in, term_does}
 use Rattle.machine_steps.specs.declared.drops.Turn.{Turn}
-use Rattle.machine_steps.specs.Left.{found_as}
+use Rattle.machine_steps.specs.Continuation.{found_as}
 use Rattle.machine_steps.specs.Turns.{TurnLeft, mode_by}
 use Rattle.mir_base.specs.declared.trace.End.{End}
 use Rattle.mir_base.specs.Trace.{Trace}
@@ -17,7 +17,7 @@ use Rattle.mir_machine.proofs.TasksLeft.{ends_halted, moved}
 use Rattle.mir_machine.specs.declared.tasks.Doing.{Doing}
 use Rattle.mir_machine.specs.declared.tasks.Post.{Post}
 use Rattle.mir_machine.specs.declared.tasks.Task.{Task}
-use Rattle.mir_machine.specs.Left.{goes_on, walks}
+use Rattle.mir_machine.specs.Continuation.{goes_on, walks}
 use Rattle.mir_machine.specs.Tasks.{AtOutcome, AtTerm, DoingLeft, DropsThat, EndsByTerm, Keeps, Next, PostEnds, RunLeft, chosen_doing, place_in}
 use Rattle.machine_steps.specs.Acting.{DoesAct}
 use Rattle.machine_steps.specs.declared.actions.Outcome.{Outcome}

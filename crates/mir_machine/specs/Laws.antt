@@ -13,7 +13,7 @@ use Rattle.cfg_meaning.specs.Walk.{naming, stuck_in, term_does, unfolded}
 use Rattle.mir_base.specs.declared.trace.End.{End}
 use Rattle.mir_base.specs.declared.trace.Event.{Event}
 use Rattle.mir_base.specs.Trace.{Trace}
-use Rattle.mir_machine.specs.Left.{WaitingBody, Waiting, ForCall, ForDrop, walks, entered, resumed, left}
+use Rattle.mir_machine.specs.Continuation.{WaitingBody, Waiting, ForCall, ForDrop, walks, entered, resumed, left}
 use Rattle.store_model.specs.Concrete.Bodies.{ended, main_of, outcome_of}
 use Rattle.store_model.specs.Concrete.Effects.{evaluate_operands, never_at}
 use Rattle.store_model.specs.Concrete.State.{HaltsIn, State, beginning}

@@ -1,5 +1,5 @@
 pub mod Laws
-pub mod Left
+pub mod Continuation
 pub mod Runs
 pub mod Tasks
 pub mod Ways

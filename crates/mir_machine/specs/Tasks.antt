@@ -11,7 +11,7 @@ use Rattle.cfg_meaning.specs.Laws.{bodies_of, concrete_effects_of}
 use Rattle.cfg_meaning.specs.Programs.{setting_of}
 use Rattle.cfg_meaning.specs.Walk.{naming, stuck_in, term_does}
 use Rattle.machine_steps.specs.declared.drops.Drops.{Drops}
-use Rattle.machine_steps.specs.Left.{AwaitsLeft}
+use Rattle.machine_steps.specs.Continuation.{AwaitsLeft}
 use Rattle.cfg_meaning.specs.Actions.{mode_of}
 use Rattle.machine_steps.specs.Turns.{IsDropOf, IsResumedBy, TurnLeft, levels_of, mode_by}
 use Rattle.machine_store.specs.declared.types.Dynamic.{Dynamic}
@@ -21,7 +21,7 @@ use Rattle.mir_base.specs.Trace.{Trace}
 use Rattle.mir_machine.specs.declared.tasks.Doing.{Doing}
 use Rattle.mir_machine.specs.declared.tasks.Post.{Post}
 use Rattle.mir_machine.specs.declared.tasks.Task.{Task}
-use Rattle.mir_machine.specs.Left.{WaitingBody, Waiting, ForCall, ForDrop, walks, goes_on, left}
+use Rattle.mir_machine.specs.Continuation.{WaitingBody, Waiting, ForCall, ForDrop, walks, goes_on, left}
 use Rattle.machine_steps.specs.declared.actions.Outcome.{Outcome}
 use Rattle.machine_steps.specs.declared.world.World.{World}
 use Rattle.cfg_graph.specs.declared.place.Operand.{Operand}

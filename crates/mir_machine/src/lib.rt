@@ -6,7 +6,7 @@ mod control;
 mod drops;
 mod error;
 mod laws;
-mod running;
+mod runs;
 mod statements;
 mod tasks;
 mod text;
@@ -16,5 +16,5 @@ mod whole;
 
 pub use error::RunError;
 pub use laws::law_of_runs;
-pub use running::{run, run_raw};
+pub use runs::{run, run_raw};
 pub use trace_flow::TextFlow;

@@ -5,7 +5,7 @@ use mir_ty::{Items, event_line};
 use name_table::collect;
 use src_parse::parse;
 use src_token::{Spanned, Token, end_of, lex};
-use src_tree::{Tree, depth, levelled, spell};
+use src_tree::{Tree, depth, is_levelled, spell};
 use std::alloc::{AllocError, Global};
 use vtable_rows::rows;
 
@@ -96,7 +96,7 @@ fn is_spelled_back(alloc: Global, text: &[u8], count: u32, deepest: u32) -> Opti
         return None;
     }
     let tree = parse(alloc, tokens.as_slice(), end_of(text)).ok()?;
-    let stands = levelled(&tree) && depth(&tree) == deepest;
+    let stands = is_levelled(&tree) && depth(&tree) == deepest;
     let spelled = spell(alloc, &tree);
     drop(tree);
     Some(stands && are_spelled(&tokens, &spelled.ok()?))

@@ -1,7 +1,7 @@
 //! The items of a text by their names, or the first broken rule on items.
 #![tactic(auto)]
 
-mod collected;
+mod collection;
 mod containment;
 mod derives;
 mod finite_size;
@@ -12,5 +12,5 @@ mod items;
 mod known_names;
 mod order;
 
-pub use collected::collect;
+pub use collection::collect;
 pub use known_names::{NameSort, names_of};

@@ -21,7 +21,7 @@ use Rattle.scope_table.specs.Table.{nothing, named, both_in, inner, row, entry_i
 use Rattle.src_meaning.specs.Evaluation as evaluation
 use Rattle.src_meaning.specs.Evaluation.{Evaluates, values_of, in_number_order, to_own_key, a_value, a_place, drops, otherwise_unit, body_in, coerce, meaning, meaning_of, meanings, fields_of, meaning_if_any}
 use Rattle.src_meaning.specs.Forms as forms
-use Rattle.src_meaning.specs.Forms.{Destination, Into, coerced, Around, in_loop, loop_destination, Meaning, entry_of, bound_entry, site_of_key, moved, all_moved, pending_if, complete, operand, operands, acts, deliver, scrutinised, touched, arms_in_order, statements, tail_of, is_never, place_of, site_of}
+use Rattle.src_meaning.specs.Forms.{Destination, Into, coerced, LoopsAndGuards, in_loop, loop_destination, Meaning, entry_of, bound_entry, site_of_key, moved, all_moved, pending_if, complete, operand, operands, acts, deliver, scrutinised, touched, arms_in_order, statements, tail_of, is_never, place_of, site_of}
 use Rattle.src_meaning.specs.Locals.OfBody.{is_place_form}
 use Rattle.src_meaning.specs.Programs.{names_of_param, params_entered}
 use Rattle.src_meaning.specs.Scopes.{Entry, Scope, Scopes, innermost, around_innermost, nearest_from, nearest_temporary, with_entry, with_pending, without_pending, Value, Breaks, Returns, At, Does, ◌>>◌, changing}
@@ -230,21 +230,21 @@ module _ {W : Type 0} (items : ItemTable) (p : Effects W) (fuel : ℕ) where
   pub record Placed (n : Node) (m : Meaning W) : Type 0 where
     pub number : m.head.id ≡ number_of n
     pub shaped : m.shape ≡ shape items n
-    pub evaluated : (heads : List ScopeHead) (w : Within) → StandsIn w heads → Fresh heads (nodes_of n) → (around : Around) (to : Destination) →
+    pub evaluated : (heads : List ScopeHead) (w : Within) → StandsIn w heads → Fresh heads (nodes_of n) → (around : LoopsAndGuards) (to : Destination) →
         Enters heads (rows w nothing n) (m.evaluate around false to)
-    pub completed : (heads : List ScopeHead) (w : Within) → StandsIn w heads → Fresh heads (nodes_of n) → (made : MadeAround) → made.entry ≡ Some w.innermost → (b : Bool) (around : Around) →
+    pub completed : (heads : List ScopeHead) (w : Within) → StandsIn w heads → Fresh heads (nodes_of n) → (made : MadeAround) → made.entry ≡ Some w.innermost → (b : Bool) (around : LoopsAndGuards) →
         Enters heads (rows w made n) (pending_if items p b innermost m.head >> (m.evaluate around false (Into m.head.id) >> complete items p innermost m.head))
-    pub reached : (heads : List ScopeHead) (w : Within) → StandsIn w heads → Fresh heads (nodes_of n) → (made : MadeAround) → made.entry ≡ (reached_in w.temporary n).entry → (around : Around) →
+    pub reached : (heads : List ScopeHead) (w : Within) → StandsIn w heads → Fresh heads (nodes_of n) → (made : MadeAround) → made.entry ≡ (reached_in w.temporary n).entry → (around : LoopsAndGuards) →
         Enters heads (rows w made n) (m.reach around)
     pub waited : is_place_form (form_of n) ≡ false → m.reach ≡ forms.temporary items p m.head m.shape m.evaluate
-    pub taken : (matched : Place) (otherwise : Does W) → Nothing items p otherwise → (around : Around) (to : Destination) → Nothing items p (m.arm matched otherwise around to)
+    pub taken : (matched : Place) (otherwise : Does W) → Nothing items p otherwise → (around : LoopsAndGuards) (to : Destination) → Nothing items p (m.arm matched otherwise around to)
 
   -- The roles of a node, by what is in it.
 
   module _ (id : ℕ) (at : Pos) (ty : TyId) (by : Option Use) (form : Form) where
     -- what is in the node makes the entries of its rows
-    abbrev Inside : (Around → Does W) → Type 0
-    Inside f = (heads : List ScopeHead) (w : Within) → StandsIn w heads → Fresh heads (nodes_of (node id at ty by form)) → (around : Around) → Enters heads (rows_in w (named id) form) (f around)
+    abbrev Inside : (LoopsAndGuards → Does W) → Type 0
+    Inside f = (heads : List ScopeHead) (w : Within) → StandsIn w heads → Fresh heads (nodes_of (node id at ty by form)) → (around : LoopsAndGuards) → Enters heads (rows_in w (named id) form) (f around)
 
     with_own : (heads : List ScopeHead) (w : Within) (made : MadeAround) (f : Does W) → Enters heads (rows_in w (named id) form ++ row (named id) (temporary_of (named id) form w.temporary) made ∷ []) f → Enters heads (rows w made (node id at ty by form)) f
     with_own heads w made f enters =
@@ -258,7 +258,7 @@ module _ {W : Type 0} (items : ItemTable) (p : Effects W) (fuel : ℕ) where
         alike heads (rows_in w (named id) form) (rows w made (node id at ty by form)) f
         (λ H is. sym (ends_with (rows_in w (named id) form) (is_idle form) w.temporary (nodes_in form) own H ∙ ap (λ (o : Option NodeId). enter_if_any o (named id) (entered (rows_in w (named id) form) H)) none)) enters
 
-    completes : (e : Evaluates items p fuel) → ((to : Destination) → Inside (λ around. e around false to)) → (heads : List ScopeHead) (w : Within) → StandsIn w heads → Fresh heads (nodes_of (node id at ty by form)) → (made : MadeAround) → made.entry ≡ Some w.innermost → (b : Bool) (around : Around) →
+    completes : (e : Evaluates items p fuel) → ((to : Destination) → Inside (λ around. e around false to)) → (heads : List ScopeHead) (w : Within) → StandsIn w heads → Fresh heads (nodes_of (node id at ty by form)) → (made : MadeAround) → made.entry ≡ Some w.innermost → (b : Bool) (around : LoopsAndGuards) →
         Enters heads (rows w made (node id at ty by form)) (pending_if items p b innermost (head id ty by) >> (e around false (Into id) >> complete items p innermost (head id ty by)))
     completes e inside heads w st g made is b around =
         let h = head id ty by in
@@ -273,10 +273,10 @@ module _ {W : Type 0} (items : ItemTable) (p : Effects W) (fuel : ℕ) where
     own_meaning = meaning_of items p fuel form (head id ty by) (shape_of items form (head id ty by))
 
     abbrev TakenAsArm : Type 0
-    TakenAsArm = (matched : Place) (otherwise : Does W) → Nothing items p otherwise → (around : Around) (to : Destination) → Nothing items p (own_meaning.arm matched otherwise around to)
+    TakenAsArm = (matched : Place) (otherwise : Does W) → Nothing items p otherwise → (around : LoopsAndGuards) (to : Destination) → Nothing items p (own_meaning.arm matched otherwise around to)
 
     all_roles : own_meaning.head ≡ head id ty by → own_meaning.shape ≡ shape_of items form (head id ty by) → TakenAsArm → ((to : Destination) → Inside (λ around. own_meaning.evaluate around false to)) →
-        ((heads : List ScopeHead) (w : Within) → StandsIn w heads → Fresh heads (nodes_of (node id at ty by form)) → (made : MadeAround) → made.entry ≡ (reached_in w.temporary (node id at ty by form)).entry → (around : Around) → Enters heads (rows w made (node id at ty by form)) (own_meaning.reach around)) →
+        ((heads : List ScopeHead) (w : Within) → StandsIn w heads → Fresh heads (nodes_of (node id at ty by form)) → (made : MadeAround) → made.entry ≡ (reached_in w.temporary (node id at ty by form)).entry → (around : LoopsAndGuards) → Enters heads (rows w made (node id at ty by form)) (own_meaning.reach around)) →
         (is_place_form form ≡ false → own_meaning.reach ≡ forms.temporary items p own_meaning.head own_meaning.shape own_meaning.evaluate) →
         Placed (node id at ty by form) own_meaning
     all_roles is_head shaped arms inside reach waited = record {
@@ -303,7 +303,7 @@ module _ {W : Type 0} (items : ItemTable) (p : Effects W) (fuel : ℕ) where
         let own = row (named id) (temporary_of (named id) form w.temporary) made in
         let A = rows_in w (named id) form in
         let entry : made.entry ≡ Some w.temporary = is ∙ ap (λ (b : Bool). (made_if_value b (entry_in w.temporary (node id at ty by form))).entry) no_place in
-        subst (λ (r : Around → Does W). Enters heads (rows w made (node id at ty by form)) (r around)) (sym is_reach)
+        subst (λ (r : LoopsAndGuards → Does W). Enters heads (rows w made (node id at ty by form)) (r around)) (sym is_reach)
         (with_own heads w made (pending_if items p b nearest_temporary h >> (e around false (Into id) >> complete items p nearest_temporary h))
         (then_enters heads [] (A ++ own ∷ []) (pending_if items p b nearest_temporary h) (e around false (Into id) >> complete items p nearest_temporary h) (pending_nearest items p b h heads)
         (then_enters heads A (own ∷ []) (e around false (Into id)) (complete items p nearest_temporary h) (inside (Into id) heads w st g around)
@@ -317,7 +317,7 @@ module _ {W : Type 0} (items : ItemTable) (p : Effects W) (fuel : ℕ) where
         all_roles is_head shaped arms
         (λ to heads w st g around.
         let last = to_own_key (is_never items ty) id to in
-        let used = λ (around : Around) (site : EffectSite). effects.Put site (operand_at (head id ty by) (own_meaning.shape.place around.aliases)) in
+        let used = λ (around : LoopsAndGuards) (site : EffectSite). effects.Put site (operand_at (head id ty by) (own_meaning.shape.place around.aliases)) in
         subst (λ (e : Evaluates items p fuel). Enters heads (rows_in w (named id) form) (e around false to)) (sym is_use)
         (then_nothing heads (rows_in w (named id) form) (own_meaning.reach around) (deliver items p (head id ty by) (used around) last) (inside heads w st g around) (deliver_nothing items p (head id ty by) (used around) last heads)))
         (λ heads w st g made is around.
@@ -325,7 +325,7 @@ module _ {W : Type 0} (items : ItemTable) (p : Effects W) (fuel : ℕ) where
         (λ no_place. absurd (false≢true (sym no_place ∙ is_place)))
 
     -- what leaves the scopes around it as they were: what it makes goes into scopes of its own
-    of_closed : (f : Around → Does W) → ((heads : List ScopeHead) → Missing heads id × (Differs id (nodes_in form) × Fresh heads (nodes_in form)) → (around : Around) → Enters heads [] (f around)) →
+    of_closed : (f : LoopsAndGuards → Does W) → ((heads : List ScopeHead) → Missing heads id × (Differs id (nodes_in form) × Fresh heads (nodes_in form)) → (around : LoopsAndGuards) → Enters heads [] (f around)) →
         ((w : Within) → rows_in w (named id) form ≡ rows_in (both_in (named id)) (named id) form) → Inside f
     of_closed f made same heads w st g around =
         subst (λ (A : List ScopeRow). Enters heads A (f around)) (sym (same w))
@@ -344,19 +344,19 @@ module _ {W : Type 0} (items : ItemTable) (p : Effects W) (fuel : ℕ) where
   abbrev any : MaybeNode → Option (Meaning W)
   any o = meaning_if_any items p fuel o
 
-  operand_in : (n : Node) (m : Meaning W) → Placed n m → (heads : List ScopeHead) (w : Within) → StandsIn w heads → Fresh heads (nodes_of n) → (around : Around) → Enters heads (rows w (entry_in w.innermost n) n) (operand items p around m)
+  operand_in : (n : Node) (m : Meaning W) → Placed n m → (heads : List ScopeHead) (w : Within) → StandsIn w heads → Fresh heads (nodes_of n) → (around : LoopsAndGuards) → Enters heads (rows w (entry_in w.innermost n) n) (operand items p around m)
   operand_in n m placed heads w st g around = placed.completed heads w st g (entry_in w.innermost n) refl m.shape.in_destination around
 
-  one_operand : (n : Node) (m : Meaning W) → Placed n m → (heads : List ScopeHead) (w : Within) → StandsIn w heads → Fresh heads (nodes_of n) → (around : Around) → Enters heads (rows w (entry_in w.innermost n) n) (operands items p around (m ∷ []))
+  one_operand : (n : Node) (m : Meaning W) → Placed n m → (heads : List ScopeHead) (w : Within) → StandsIn w heads → Fresh heads (nodes_of n) → (around : LoopsAndGuards) → Enters heads (rows w (entry_in w.innermost n) n) (operands items p around (m ∷ []))
   one_operand n m placed heads w st g around =
       then_nothing heads (rows w (entry_in w.innermost n) n) (operand items p around m) (At Value) (operand_in n m placed heads w st g around) (at_value heads)
 
-  scrutinised_in : (n : Node) (m : Meaning W) → Placed n m → (heads : List ScopeHead) (w : Within) → StandsIn w heads → Fresh heads (nodes_of n) → (around : Around) → Enters heads (rows w (reached_in w.temporary n) n) (scrutinised items p around m)
+  scrutinised_in : (n : Node) (m : Meaning W) → Placed n m → (heads : List ScopeHead) (w : Within) → StandsIn w heads → Fresh heads (nodes_of n) → (around : LoopsAndGuards) → Enters heads (rows w (reached_in w.temporary n) n) (scrutinised items p around m)
   scrutinised_in n m placed heads w st g around =
       then_nothing heads (rows w (reached_in w.temporary n) n) (m.reach around) (touched items p m.shape.is_place (site_of m around)) (placed.reached heads w st g (reached_in w.temporary n) refl around)
       (touched_nothing items p m.shape.is_place (site_of m around) heads)
 
-  taken_closed : (h : NodeHead) (n : Node) (m : Meaning W) → Placed n m → (pattern : Meaning W) (body otherwise : Does W) → Nothing items p body → Nothing items p otherwise → (heads : List ScopeHead) → Missing heads h.id → Fresh heads (nodes_of n) → Fresh (record { node = h.id; for_temporaries = true } ∷ heads) (nodes_of n) → (around : Around) → Enters heads [] (forms.if_taken items p h around pattern m body otherwise)
+  taken_closed : (h : NodeHead) (n : Node) (m : Meaning W) → Placed n m → (pattern : Meaning W) (body otherwise : Does W) → Nothing items p body → Nothing items p otherwise → (heads : List ScopeHead) → Missing heads h.id → Fresh heads (nodes_of n) → Fresh (record { node = h.id; for_temporaries = true } ∷ heads) (nodes_of n) → (around : LoopsAndGuards) → Enters heads [] (forms.if_taken items p h around pattern m body otherwise)
   taken_closed h n m placed pattern body otherwise one another heads missing g inner_g around =
       let own = named h.id in
       let A = rows (both_in own) (reached_in own n) n in
@@ -365,7 +365,7 @@ module _ {W : Type 0} (items : ItemTable) (p : Effects W) (fuel : ℕ) where
       (taken_enters items p heads A h around pattern m body otherwise missing
       (placed.reached (record { node = h.id; for_temporaries = true } ∷ heads) (both_in own) (stands_alone heads h.id) inner_g (reached_in own n) refl around) one another)
 
-  tail_in : (h : NodeHead) (o : MaybeNode) (heads : List ScopeHead) → Fresh heads (nodes_if_any o) → (around : Around) (to : Destination) → Enters heads (alone_if_any o) (tail_of items p h (any o) around to)
+  tail_in : (h : NodeHead) (o : MaybeNode) (heads : List ScopeHead) → Fresh heads (nodes_if_any o) → (around : LoopsAndGuards) (to : Destination) → Enters heads (alone_if_any o) (tail_of items p h (any o) around to)
   tail_in h absent heads g around to = unit_if_nothing items p (is_never items h.ty) h to heads
   tail_in h (present n) heads g around to =
       of_missing heads (rows (alone n) nothing n) (forms.alone items p around (mean n) to) (of_alone (Missing heads) n (fresh_missing heads (nodes_of n) g)) (alone_nothing items p around (mean n) to heads)
@@ -391,7 +391,7 @@ module _ {W : Type 0} (items : ItemTable) (p : Effects W) (fuel : ℕ) where
   names_of t name scope is n m shaped place H =
       names items t name scope is n place H ∙ ap (λ (s : Shape). named_in scope.0 (s.bindings place) H) (sym shaped)
 
-  module _ (h : NodeHead) (value : Node) (pm m : Meaning W) (placed : Placed value m) (heads : List ScopeHead) (w : Within) (st : StandsIn w heads) (missing : Missing heads h.id) (g : Fresh (record { node = h.id; for_temporaries = true } ∷ heads) (nodes_of value)) (around : Around) where
+  module _ (h : NodeHead) (value : Node) (pm m : Meaning W) (placed : Placed value m) (heads : List ScopeHead) (w : Within) (st : StandsIn w heads) (missing : Missing heads h.id) (g : Fresh (record { node = h.id; for_temporaries = true } ∷ heads) (nodes_of value)) (around : LoopsAndGuards) where
     abbrev within_let : List ScopeHead
     within_let = record { node = h.id; for_temporaries = true } ∷ heads
 
@@ -444,33 +444,33 @@ module _ {W : Type 0} (items : ItemTable) (p : Effects W) (fuel : ℕ) where
     pub law : (n : Node) → Placed n (meaning items p fuel n)
     law (node id at ty by form) = law_of id at ty by form
 
-    operands_law : (nodes : Nodes) (heads : List ScopeHead) (w : Within) → StandsIn w heads → Fresh heads (nodes_among nodes) → (around : Around) → Enters heads (operand_rows w w.innermost nodes) (operands items p around (means nodes))
+    operands_law : (nodes : Nodes) (heads : List ScopeHead) (w : Within) → StandsIn w heads → Fresh heads (nodes_among nodes) → (around : LoopsAndGuards) → Enters heads (operand_rows w w.innermost nodes) (operands items p around (means nodes))
     operands_law no_node heads w st g around = at_value heads
     operands_law (a_node first rest) heads w st g around =
         then_enters heads (rows w (entry_in w.innermost first) first) (operand_rows w w.innermost rest) (operand items p around (mean first)) (operands items p around (means rest))
         (operand_in first (mean first) (law first) heads w st (fresh_left heads (nodes_of first) (nodes_among rest) g) around)
         (operands_law rest heads w st (fresh_right heads (nodes_of first) (nodes_among rest) g) around)
 
-    fields_law : (fields : Fields) (heads : List ScopeHead) (w : Within) → StandsIn w heads → Fresh heads (nodes_of_fields fields) → (around : Around) → Enters heads (field_rows w w.innermost fields) (operands items p around (values_of (fields_of items p fuel fields)))
+    fields_law : (fields : Fields) (heads : List ScopeHead) (w : Within) → StandsIn w heads → Fresh heads (nodes_of_fields fields) → (around : LoopsAndGuards) → Enters heads (field_rows w w.innermost fields) (operands items p around (values_of (fields_of items p fuel fields)))
     fields_law no_field heads w st g around = at_value heads
     fields_law (a_field number value rest) heads w st g around =
         then_enters heads (rows w (entry_in w.innermost value) value) (field_rows w w.innermost rest) (operand items p around (mean value)) (operands items p around (values_of (fields_of items p fuel rest)))
         (operand_in value (mean value) (law value) heads w st (fresh_left heads (nodes_of value) (nodes_of_fields rest) g) around)
         (fields_law rest heads w st (fresh_right heads (nodes_of value) (nodes_of_fields rest) g) around)
 
-    statements_law : (nodes : Nodes) (heads : List ScopeHead) (w : Within) → StandsIn w heads → Fresh heads (nodes_among nodes) → (around : Around) → Enters heads (statement_rows w nodes) (statements items p around (means nodes))
+    statements_law : (nodes : Nodes) (heads : List ScopeHead) (w : Within) → StandsIn w heads → Fresh heads (nodes_among nodes) → (around : LoopsAndGuards) → Enters heads (statement_rows w nodes) (statements items p around (means nodes))
     statements_law no_node heads w st g around = at_value heads
     statements_law (a_node first rest) heads w st g around =
         then_enters heads (rows w nothing first) (statement_rows w rest) ((mean first).evaluate around false (Into (mean first).head.id)) (statements items p around (means rest))
         ((law first).evaluated heads w st (fresh_left heads (nodes_of first) (nodes_among rest) g) around (Into (mean first).head.id))
         (statements_law rest heads w st (fresh_right heads (nodes_of first) (nodes_among rest) g) around)
 
-    arms_law : (nodes : Nodes) (matched : Place) (around : Around) (to : Destination) → Nothing items p (arms_in_order items p (means nodes) matched around to)
+    arms_law : (nodes : Nodes) (matched : Place) (around : LoopsAndGuards) (to : Destination) → Nothing items p (arms_in_order items p (means nodes) matched around to)
     arms_law no_node matched around to = panics_nothing items p Why.Match
     arms_law (a_node first rest) matched around to =
         (law first).taken matched (arms_in_order items p (means rest) matched around to) (arms_law rest matched around to) around to
 
-    let_law : (h : NodeHead) (pattern : Node) → Placed pattern (meaning items p fuel pattern) → (o : MaybeNode) (heads : List ScopeHead) (w : Within) → StandsIn w heads → Missing heads h.id → Fresh (record { node = h.id; for_temporaries = true } ∷ heads) (nodes_if_any o) → (around : Around) → Enters heads (let_rows (named h.id) w.innermost pattern o) (forms.letting items p h (mean pattern) (any o) around)
+    let_law : (h : NodeHead) (pattern : Node) → Placed pattern (meaning items p fuel pattern) → (o : MaybeNode) (heads : List ScopeHead) (w : Within) → StandsIn w heads → Missing heads h.id → Fresh (record { node = h.id; for_temporaries = true } ∷ heads) (nodes_if_any o) → (around : LoopsAndGuards) → Enters heads (let_rows (named h.id) w.innermost pattern o) (forms.letting items p h (mean pattern) (any o) around)
     let_law h pattern of_pattern absent heads w st missing g around =
         declared_enters items p heads w.innermost st.innermost (pattern_rows (named h.id) (name_in w.innermost) pattern) ((mean pattern).shape.bindings (whole_local 0))
         (λ H. names_of (named h.id) (name_in w.innermost) w.innermost refl pattern (mean pattern) of_pattern.shaped (whole_local 0) H)
@@ -628,7 +628,7 @@ module _ {W : Type 0} (items : ItemTable) (p : Effects W) (fuel : ℕ) where
         temporary_waits = λ around S is x no_place.
             let m = mean n in
             let same = ap (λ (s : Shape). s.in_destination) placed.shaped ∙ destination_same items n in
-            ap (λ (r : Around → Does W). r around S x) (placed.waited no_place)
+            ap (λ (r : LoopsAndGuards → Does W). r around S x) (placed.waited no_place)
             ∙ ap (λ (T : Scopes). made_in items p fuel n around nearest_temporary T x)
             (ap (λ (b : Bool). forms.changed_if b (nearest_temporary (with_pending (entry_of m.head))) S) same
             ∙ waits (has_destination (form_of n)) w.temporary (entry_of m.head) S _ (nearest_is (with_pending (entry_of m.head)) w.temporary S (subst (IsNearest w.temporary) (sym is) st.nearest)) nearest_temporary refl

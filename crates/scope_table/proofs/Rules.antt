@@ -12,7 +12,7 @@ use Rattle.scope_table.specs.declared.row.ScopeRow.{ScopeRow}
 use Rattle.scope_table.specs.declared.row.Within.{Within}
 use Rattle.scope_table.specs.Law.{ScopeHead, head_of, Held, held_by, held, enter, enter_if_any, entered, IsInnermost, IsOr, IsNearest, StandsIn, WithValue, Enters}
 use Rattle.scope_table.specs.Table.{named, both_in, inner, idle, where_true}
-use Rattle.src_meaning.specs.Forms.{Destination, Into, Coerced, Around, in_guard, Meaning, entry_of, bound_entry, site_in, site_of_key, moved, keys_of, acts, panics, deliver, put_unit, put_unit_if, alone, pending_if, complete, operand, operands, take, acting, dropping, stored, stored_after, dropped_first, replacing, assigning, condition, branch, all_hold, bind, touched, scrutinised, if_taken, taken_arm, guarded, arm, emptied, declared, ticked, turned, turns, ends_loop, site_of, place_of}
+use Rattle.src_meaning.specs.Forms.{Destination, Into, Coerced, LoopsAndGuards, in_guard, Meaning, entry_of, bound_entry, site_in, site_of_key, moved, keys_of, acts, panics, deliver, put_unit, put_unit_if, alone, pending_if, complete, operand, operands, take, acting, dropping, stored, stored_after, dropped_first, replacing, assigning, condition, branch, all_hold, bind, touched, scrutinised, if_taken, taken_arm, guarded, arm, emptied, declared, ticked, turned, turns, ends_loop, site_of, place_of}
 use Rattle.src_meaning.specs.Scopes.{Scope, Scopes, innermost, around_innermost, nearest_from, nearest_temporary, with_entry, with_pending, becomes_entry, without_operands, Exit, Value, Breaks, Continues, Returns, Panics, Run, At, Over, Does, on_value, ◌>>◌, in_scopes, changing, choosing, chosen, leaving}
 use Rattle.src_meaning.specs.Shape.{NodeHead, BoundName}
 use Rattle.store_model.specs.Effects.{EffectSite, Action, Put, UnitValue, IsTrue, Normal, Out, Go, Unwind, Halts, Choice, Yes, No, Neither, Effects}
@@ -112,7 +112,7 @@ module _ {W : Type 0} (items : ItemTable) (p : Effects W) where
   unit_if_nothing true h to heads = at_value heads
   unit_if_nothing false h to heads = unit_nothing h to heads
 
-  pub alone_nothing : (around : Around) (m : Meaning W) (to : Destination) → Nothing (alone items p around m to)
+  pub alone_nothing : (around : LoopsAndGuards) (m : Meaning W) (to : Destination) → Nothing (alone items p around m to)
   alone_nothing around m to heads = back_enters heads (m.evaluate around true to)
 
   pub pending_nothing : (b : Bool) (h : NodeHead) → Nothing (pending_if items p b innermost h)
@@ -143,13 +143,13 @@ module _ {W : Type 0} (items : ItemTable) (p : Effects W) where
   take_keeps keys = changing_keeps _ (rest_innermost (without_operands keys))
 
   -- operands in a scope of their own, which are taken
-  pub acting_enters : (heads : List ScopeHead) (A : List ScopeRow) (h : NodeHead) (around : Around) (ms : List (Meaning W)) (act : Does W) → Missing heads h.id → Enters (record { node = h.id; for_temporaries = false } ∷ heads) A (operands items p around ms) → Nothing act → Enters heads A (acting items p h around false ms act)
+  pub acting_enters : (heads : List ScopeHead) (A : List ScopeRow) (h : NodeHead) (around : LoopsAndGuards) (ms : List (Meaning W)) (act : Does W) → Missing heads h.id → Enters (record { node = h.id; for_temporaries = false } ∷ heads) A (operands items p around ms) → Nothing act → Enters heads A (acting items p h around false ms act)
   acting_enters heads A h around ms act missing made nothing =
       scope_enters items p heads A h.id false _ missing
       (then_keeps (record { node = h.id; for_temporaries = false } ∷ heads) A (operands items p around ms) (take items p (keys_of ms) >> act) made
       (keeps_then (take items p (keys_of ms)) act (take_keeps (keys_of ms)) (keeps_of act nothing)))
 
-  pub dropping_enters : (heads : List ScopeHead) (A : List ScopeRow) (h : NodeHead) (around : Around) (m : Meaning W) (act : Does W) → Missing heads h.id → Enters (record { node = h.id; for_temporaries = false } ∷ heads) A (operand items p around m) → Nothing act → Enters heads A (dropping items p h around false m act)
+  pub dropping_enters : (heads : List ScopeHead) (A : List ScopeRow) (h : NodeHead) (around : LoopsAndGuards) (m : Meaning W) (act : Does W) → Missing heads h.id → Enters (record { node = h.id; for_temporaries = false } ∷ heads) A (operand items p around m) → Nothing act → Enters heads A (dropping items p h around false m act)
   dropping_enters heads A h around m act missing made nothing =
       let inside = record { node = h.id; for_temporaries = false } ∷ heads in
       scope_enters items p heads A h.id false _ missing
@@ -167,7 +167,7 @@ module _ {W : Type 0} (items : ItemTable) (p : Effects W) where
           (more (λ after. rest (held after) ≡ rest (held S)) (λ after. Unit {0}) (λ after h. tt) (stored items p site key S x) (stored_keeps site key S x)) (λ S' x' h. tt)
       by (Halts halt x) = tt
 
-  pub assigning_enters : (heads : List ScopeHead) (A B : List ScopeRow) (h : NodeHead) (place value : Meaning W) (around : Around) (to : Destination) → Missing heads h.id → Enters (record { node = h.id; for_temporaries = false } ∷ heads) A (operand items p around value) → Enters (record { node = h.id; for_temporaries = false } ∷ heads) B (place.reach around) → Enters heads (A ++ B) (assigning items p h place value around false to)
+  pub assigning_enters : (heads : List ScopeHead) (A B : List ScopeRow) (h : NodeHead) (place value : Meaning W) (around : LoopsAndGuards) (to : Destination) → Missing heads h.id → Enters (record { node = h.id; for_temporaries = false } ∷ heads) A (operand items p around value) → Enters (record { node = h.id; for_temporaries = false } ∷ heads) B (place.reach around) → Enters heads (A ++ B) (assigning items p h place value around false to)
   assigning_enters heads A B h place value around to missing made reached =
       let inside = record { node = h.id; for_temporaries = false } ∷ heads in
       let last = replacing items p (needs_drop items place.head.ty) (site_of place around) value.head.id in
@@ -181,11 +181,11 @@ module _ {W : Type 0} (items : ItemTable) (p : Effects W) where
   pub either_nothing : (test : W → Choice W) (f g : Does W) → Nothing f → Nothing g → Nothing (choosing test f g)
   either_nothing test f g one another heads = choosing_enters heads [] test f g (one heads) (another heads)
 
-  pub condition_nothing : (around : Around) (m : Meaning W) (f g : Does W) → Nothing f → Nothing g → Nothing (condition items p around m f g)
+  pub condition_nothing : (around : LoopsAndGuards) (m : Meaning W) (f g : Does W) → Nothing f → Nothing g → Nothing (condition items p around m f g)
   condition_nothing around m f g one another =
       both_nothing (alone items p around m (Into m.head.id)) (choosing (p.choose (IsTrue (moved m.head.id m.head.id))) f g) (alone_nothing around m (Into m.head.id)) (either_nothing (p.choose (IsTrue (moved m.head.id m.head.id))) f g one another)
 
-  pub branch_nothing : (around : Around) (to : Destination) (o : Option (Meaning W)) (without : Does W) → Nothing without → Nothing (branch items p around to o without)
+  pub branch_nothing : (around : LoopsAndGuards) (to : Destination) (o : Option (Meaning W)) (without : Does W) → Nothing without → Nothing (branch items p around to o without)
   branch_nothing around to None without h = h
   branch_nothing around to (Some m) without h = alone_nothing around m to
 
@@ -245,16 +245,16 @@ module _ {W : Type 0} (items : ItemTable) (p : Effects W) where
   touched_nothing true site heads = acts_nothing _ heads
   touched_nothing false site heads = at_value heads
 
-  taken_nothing : (h : NodeHead) (around : Around) (bounds : List BoundName) (body : Meaning W) (to : Destination) → Nothing (taken_arm items p h around bounds body to)
+  taken_nothing : (h : NodeHead) (around : LoopsAndGuards) (bounds : List BoundName) (body : Meaning W) (to : Destination) → Nothing (taken_arm items p h around bounds body to)
   taken_nothing h around bounds body to heads =
       scope_keeps items p heads h.id false (bind items p innermost bounds >> alone items p around body to)
       (keeps_then (bind items p innermost bounds) (alone items p around body to) (bind_keeps bounds) (keeps_of _ (alone_nothing around body to)))
 
-  guarded_nothing : (around : Around) (bounds : List BoundName) (guard : Option (Meaning W)) (f g : Does W) → Nothing f → Nothing g → Nothing (guarded items p around bounds guard f g)
+  guarded_nothing : (around : LoopsAndGuards) (bounds : List BoundName) (guard : Option (Meaning W)) (f g : Does W) → Nothing f → Nothing g → Nothing (guarded items p around bounds guard f g)
   guarded_nothing around bounds None f g one another = one
   guarded_nothing around bounds (Some guard) f g one another = condition_nothing (in_guard bounds around) guard f g one another
 
-  pub arm_nothing : (h : NodeHead) (pattern : Meaning W) (guard : Option (Meaning W)) (body : Meaning W) (matched : Place) (otherwise : Does W) (around : Around) (to : Destination) → Nothing otherwise → Nothing (arm items p h pattern guard body matched otherwise around to)
+  pub arm_nothing : (h : NodeHead) (pattern : Meaning W) (guard : Option (Meaning W)) (body : Meaning W) (matched : Place) (otherwise : Does W) (around : LoopsAndGuards) (to : Destination) → Nothing otherwise → Nothing (arm items p h pattern guard body matched otherwise around to)
   arm_nothing h pattern guard body matched otherwise around to other =
       either_nothing (all_hold items p (pattern.shape.tests matched)) _ otherwise
       (guarded_nothing around (pattern.shape.bindings matched) guard (taken_arm items p h around (pattern.shape.bindings matched) body to) otherwise (taken_nothing h around (pattern.shape.bindings matched) body to) other)
@@ -273,7 +273,7 @@ module _ {W : Type 0} (items : ItemTable) (p : Effects W) where
       after_value (λ after. held after ≡ rest (held S)) (λ after. held after ≡ rest (held S)) g (f S x) (pops S x)
       (λ S' x' same. more (λ after. held after ≡ held S') (λ after. held after ≡ rest (held S)) (λ after h. h ∙ same) (g S' x') (nothing (map head_of S') S' refl x'))
 
-  pub taken_enters : (heads : List ScopeHead) (A : List ScopeRow) (h : NodeHead) (around : Around) (pattern scrutinee : Meaning W) (body otherwise : Does W) → Missing heads h.id → Enters (record { node = h.id; for_temporaries = true } ∷ heads) A (scrutinee.reach around) → Nothing body → Nothing otherwise → Enters heads A (if_taken items p h around pattern scrutinee body otherwise)
+  pub taken_enters : (heads : List ScopeHead) (A : List ScopeRow) (h : NodeHead) (around : LoopsAndGuards) (pattern scrutinee : Meaning W) (body otherwise : Does W) → Missing heads h.id → Enters (record { node = h.id; for_temporaries = true } ∷ heads) A (scrutinee.reach around) → Nothing body → Nothing otherwise → Enters heads A (if_taken items p h around pattern scrutinee body otherwise)
   taken_enters heads A h around pattern scrutinee body otherwise missing made one another =
       let inside = record { node = h.id; for_temporaries = true } ∷ heads in
       let bounds = pattern.shape.bindings (place_of scrutinee around) in

@@ -7,7 +7,7 @@ use Rattle.scope_table.specs.declared.row.ScopeRow.{ScopeRow}
 use Rattle.scope_table.specs.declared.row.Within.{Within}
 use Rattle.scope_table.specs.Table.{nothing, entry_in, form_of, reached_in, pending_in, name_in, rows, alone_rows, pattern_rows, rows_of_params}
 use Rattle.src_meaning.specs.Evaluation.{meaning}
-use Rattle.src_meaning.specs.Forms.{Destination, Into, Around, entry_of, pending_if, operand, complete, alone, bind}
+use Rattle.src_meaning.specs.Forms.{Destination, Into, LoopsAndGuards, entry_of, pending_if, operand, complete, alone, bind}
 use Rattle.src_meaning.specs.Locals.OfBody.{is_place_form}
 use Rattle.src_meaning.specs.Programs.{params_entered}
 use Rattle.src_meaning.specs.Scopes.{Entry, Scope, Scopes, innermost, nearest_temporary, with_pending, Value, Breaks, Continues, Returns, Panics, Run, At, Over, Does, ◌>>◌}
@@ -107,13 +107,13 @@ module _ {W : Type 0} (items : ItemTable) (p : Effects W) (fuel : ℕ) (n : Node
   entry_in_run = entry_of (meaning items p fuel n).head
 
   -- a node makes its value under its own number, and then its entry in a scope
-  abbrev pub made_in : Around → ((Scope → Scope) → Scopes → Scopes) → Does W
+  abbrev pub made_in : LoopsAndGuards → ((Scope → Scope) → Scopes → Scopes) → Does W
   made_in around in_that = do
     (meaning items p fuel n).evaluate around false (Into (meaning items p fuel n).head.id)
     complete items p in_that (meaning items p fuel n).head
 
   -- the value of an expression statement, in the scope of the statement
-  abbrev pub made_of_statement : Around → Does W
+  abbrev pub made_of_statement : LoopsAndGuards → Does W
   made_of_statement around = pending_if items p true innermost (meaning items p fuel n).head >> made_in around innermost
 
 -- A node as a statement or as another value that makes no entry, as an operand, as the value of an expression
@@ -122,28 +122,28 @@ module _ {W : Type 0} (items : ItemTable) (p : Effects W) (fuel : ℕ) (n : Node
 pub record Puts
     {W : Type 0} (items : ItemTable) (p : Effects W) (fuel : ℕ) (heads : List ScopeHead) (w : Within) (n : Node)
     : Type 0 where
-  pub evaluated : (around : Around) (to : Destination) →
+  pub evaluated : (around : LoopsAndGuards) (to : Destination) →
       Enters heads (rows w nothing n) ((meaning items p fuel n).evaluate around false to)
-  pub as_operand : (around : Around) →
+  pub as_operand : (around : LoopsAndGuards) →
       Enters heads (rows w (entry_in w.innermost n) n) (operand items p around (meaning items p fuel n))
-  pub of_statement : (around : Around) →
+  pub of_statement : (around : LoopsAndGuards) →
       Enters heads (rows w (pending_in w.innermost) n) (made_of_statement items p fuel n around)
-  pub reached : (around : Around) →
+  pub reached : (around : LoopsAndGuards) →
       Enters heads (rows w (reached_in w.temporary n) n) ((meaning items p fuel n).reach around)
-  pub by_itself : (around : Around) (to : Destination) →
+  pub by_itself : (around : LoopsAndGuards) (to : Destination) →
       Enters heads (alone_rows n) (alone items p around (meaning items p fuel n) to)
   pub names : (place : Place) →
       Enters heads (pattern_rows w.temporary (name_in w.innermost) n)
       (bind items p innermost ((shape items n).bindings place))
-  pub operand_waits : (around : Around) (S : Scopes) → map head_of S ≡ heads → (x : W) →
+  pub operand_waits : (around : LoopsAndGuards) (S : Scopes) → map head_of S ≡ heads → (x : W) →
       operand items p around (meaning items p fuel n) S x
       ≡ made_in items p fuel n around innermost
       (waiting (entry_in w.innermost n).destination (entry_in_run items p fuel n) S) x
-  pub statement_waits : (around : Around) (S : Scopes) → map head_of S ≡ heads → (x : W) →
+  pub statement_waits : (around : LoopsAndGuards) (S : Scopes) → map head_of S ≡ heads → (x : W) →
       made_of_statement items p fuel n around S x
       ≡ made_in items p fuel n around innermost
       (waiting (pending_in w.innermost).destination (entry_in_run items p fuel n) S) x
-  pub temporary_waits : (around : Around) (S : Scopes) → map head_of S ≡ heads → (x : W) →
+  pub temporary_waits : (around : LoopsAndGuards) (S : Scopes) → map head_of S ≡ heads → (x : W) →
       is_place_form (form_of n) ≡ false →
       (meaning items p fuel n).reach around S x
       ≡ made_in items p fuel n around nearest_temporary

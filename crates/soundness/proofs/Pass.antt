@@ -10,7 +10,7 @@ use Rattle.store_model.specs.Abstract.Presence.{all_present, itself_gone}
 use Rattle.store_model.specs.Effects.{Halt, Effects}
 use Rattle.store_model.specs.Places.Place.{Place}
 use Rattle.src_meaning.specs.Evaluation.{meaning}
-use Rattle.src_meaning.specs.Forms.{Destination, Into, Coerced, Around, loop_destination}
+use Rattle.src_meaning.specs.Forms.{Destination, Into, Coerced, LoopsAndGuards, loop_destination}
 use Rattle.src_meaning.specs.Locals.Effects.{at_locals, place_at}
 use Rattle.src_meaning.specs.Locals.OfBody.{cells, local_of, local_ty}
 use Rattle.src_meaning.specs.Scopes.{Entry, Scope, Scopes, all_entries, Exit, Value, Breaks, Continues, Returns, Panics}
@@ -78,7 +78,7 @@ module _ (items : ItemTable) (body : BodyTree) where
         ((p : Place) → Contains changed p → overlap (place_at local p) x.0 ≡ false) → Contains after.variants x
 
   -- what is in flight at an exit
-  abbrev pub flying : Around → ℕ → Exit → ℕ → Type 0
+  abbrev pub flying : LoopsAndGuards → ℕ → Exit → ℕ → Type 0
   flying around to Value key = key ≡ to
   flying around to (Breaks loop) key = key ≡ key_of (loop_destination loop around.loops)
   flying around to (Continues loop) key = ⊥
@@ -86,7 +86,7 @@ module _ (items : ItemTable) (body : BodyTree) where
   flying around to Panics key = ⊥
 
   -- At a value the destination is full; by another exit the scopes that are left to be left hold the rest.
-  pub record AtValue (n : Node) (own : Bool) (changed : List Place) (around : Around) (to : ℕ) (S : Scopes)
+  pub record AtValue (n : Node) (own : Bool) (changed : List Place) (around : LoopsAndGuards) (to : ℕ) (S : Scopes)
       (v : State)
       (S' : Scopes) (v' : State) : Type 0 where
     pub scopes : Grown S S'
@@ -95,14 +95,14 @@ module _ (items : ItemTable) (body : BodyTree) where
     pub stays : Stays n own changed v.facts v'.facts
     pub not_refilled : v'.facts.refilled ≡ None
 
-  pub record AtExit (around : Around) (to : ℕ) (S : Scopes) (exit : Exit) (S' : Scopes) (v' : State) : Type 0 where
+  pub record AtExit (around : LoopsAndGuards) (to : ℕ) (S : Scopes) (exit : Exit) (S' : Scopes) (v' : State) : Type 0 where
     pub inside : Scopes
     pub scopes : Outer inside S'
     pub grown : Grown S inside ⊎ Outer S inside
     pub held : Held (flying around to exit) S' v'
     pub not_refilled : v'.facts.refilled ≡ None
 
-  abbrev pub After : (n : Node) (own : Bool) (changed : List Place) → Around → ℕ → Scopes → State → Exit → Scopes →
+  abbrev pub After : (n : Node) (own : Bool) (changed : List Place) → LoopsAndGuards → ℕ → Scopes → State → Exit → Scopes →
       State → Type 0
   After n own changed around to S v Value S' v' = AtValue n own changed around to S v S' v'
   After n own changed around to S v exit S' v' = AtExit around to S exit S' v'
@@ -118,6 +118,6 @@ module _ (items : ItemTable) (body : BodyTree) where
   -- the statement of the pass for one node, by what it changes
   abbrev pub Passes : (fuel : ℕ) (n : Node) (own : Bool) (changed : List Place) → Type 0
   Passes fuel n own changed =
-      (around : Around) (scope : Bool) (to : Destination) (S : Scopes) (v : State) → Before n own (key_of to) S v →
+      (around : LoopsAndGuards) (scope : Bool) (to : Destination) (S : Scopes) (v : State) → Before n own (key_of to) S v →
       Shown over (After n own changed around (key_of to) S v)
       ((meaning items effects_of fuel n).evaluate around scope to S v)

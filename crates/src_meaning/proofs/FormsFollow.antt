@@ -8,27 +8,27 @@ use Rattle.store_model.proofs.Effects.Following.{Relation, FollowsOut, goes_on, 
 use Rattle.store_model.specs.Effects.{EffectSite, Operand, Copied, Number, Truth, UnitValue, Action, Put, Compare, Touch, Bounds as BoundsOf, Borrow, Unsize, IsTrue, HasVariant, Normal, Halt, Stuck, OutOfTicks, Out, Go, Unwind, Halts, Choice, Effects}
 use Rattle.store_model.specs.Places.Place.{Place, whole_local}
 use Rattle.src_meaning.proofs.RunsFollow.{Follows, is_at, is_over, lapsed_run, outlived_run, refused_run, FollowsDoes, run_after, within_run, stays, stops, then_follow, at_follow, changing_follow, doing_follow, choosing_follow, back_follow, leaving_follow, in_scope_follow, in_scope_with_follow}
-use Rattle.src_meaning.specs.Forms.{Destination, Into, Coerced, Around, aliases_with, Meaning, entry_of, bound_entry, site_in, site_of_key, moved, keys_of, all_moved, is_never, acts, panics, deliver, put_unit, put_unit_if, in_own_scope, alone, pending_if, complete, operand, operands, take, acting, dropping, temporary, use_of_place, array_around, reach_element, borrowing, stored, stored_after, dropped_first, replacing, assigning, condition, branch, tested, equals, tests_after, alternatives_after, holds, all_hold, any_holds, bind, touched, scrutinised, if_taken, arms_in_order, matching, taken_arm, guarded, arm, statements, tail_of, block, evaluating, let_name, let_parts, emptied, declared, let_value, letting, ticked, turned, turns, ends_loop, value_of_jump, jumping}
+use Rattle.src_meaning.specs.Forms.{Destination, Into, Coerced, LoopsAndGuards, aliases_with, Meaning, entry_of, bound_entry, site_in, site_of_key, moved, keys_of, all_moved, is_never, acts, panics, deliver, put_unit, put_unit_if, in_own_scope, alone, pending_if, complete, operand, operands, take, acting, dropping, temporary, use_of_place, array_around, reach_element, borrowing, stored, stored_after, dropped_first, replacing, assigning, condition, branch, tested, equals, tests_after, alternatives_after, holds, all_hold, any_holds, bind, touched, scrutinised, if_taken, arms_in_order, matching, taken_arm, guarded, arm, statements, tail_of, block, evaluating, let_name, let_parts, emptied, declared, let_value, letting, ticked, turned, turns, ends_loop, value_of_jump, jumping}
 use Rattle.src_meaning.specs.Scopes.{Scope, Scopes, innermost, around_innermost, nearest_temporary, with_entry, without_pending, Exit, Value, Breaks, Continues, Returns, Panics, Run, At, Over, Does, choosing}
 use Rattle.src_meaning.specs.Shape.{operand_of_bound, NodeHead, Shape, PatternTest, IsVariant, IsNumber, IsTruth, AnyOf, PatternTests, no_test, a_test, Alternatives, no_alternative, an_alternative, BoundName, site_at, operand_at}
 
-abbrev pub FollowsReach : {W V : Type 0} → Relation W V → (Around → Does W) → (Around → Does V) → Type 0
-FollowsReach rel r r' = (a : Around) → FollowsDoes rel (r a) (r' a)
+abbrev pub FollowsReach : {W V : Type 0} → Relation W V → (LoopsAndGuards → Does W) → (LoopsAndGuards → Does V) → Type 0
+FollowsReach rel r r' = (a : LoopsAndGuards) → FollowsDoes rel (r a) (r' a)
 
-abbrev pub FollowsInto : {W V : Type 0} → Relation W V → (Around → Destination → Does W) → (Around → Destination → Does V) → Type 0
-FollowsInto rel e e' = (a : Around) (to : Destination) → FollowsDoes rel (e a to) (e' a to)
+abbrev pub FollowsInto : {W V : Type 0} → Relation W V → (LoopsAndGuards → Destination → Does W) → (LoopsAndGuards → Destination → Does V) → Type 0
+FollowsInto rel e e' = (a : LoopsAndGuards) (to : Destination) → FollowsDoes rel (e a to) (e' a to)
 
-abbrev pub FollowsEvaluate : {W V : Type 0} → Relation W V → (Around → Bool → Destination → Does W) → (Around → Bool → Destination → Does V) → Type 0
-FollowsEvaluate rel e e' = (a : Around) (own : Bool) (to : Destination) → FollowsDoes rel (e a own to) (e' a own to)
+abbrev pub FollowsEvaluate : {W V : Type 0} → Relation W V → (LoopsAndGuards → Bool → Destination → Does W) → (LoopsAndGuards → Bool → Destination → Does V) → Type 0
+FollowsEvaluate rel e e' = (a : LoopsAndGuards) (own : Bool) (to : Destination) → FollowsDoes rel (e a own to) (e' a own to)
 
-abbrev pub FollowsArm : {W V : Type 0} → Relation W V → (Place → Does W → Around → Destination → Does W) → (Place → Does V → Around → Destination → Does V) → Type 0
+abbrev pub FollowsArm : {W V : Type 0} → Relation W V → (Place → Does W → LoopsAndGuards → Destination → Does W) → (Place → Does V → LoopsAndGuards → Destination → Does V) → Type 0
 FollowsArm {W} {V} rel x x' = (matched : Place) (f : Does W) (f' : Does V) → FollowsDoes rel f f' → FollowsInto rel (x matched f) (x' matched f')
 
 -- the same head and shape; evaluated, reached and taken as an arm one after the other
 pub data FollowsMeaning {W V : Type 0} (rel : Relation W V) : Meaning W → Meaning V → Type 0 where
-  means : (h : NodeHead) (s : Shape) (e : Around → Bool → Destination → Does W) (e' : Around → Bool → Destination → Does V)
-      (r : Around → Does W) (r' : Around → Does V)
-      (x : Place → Does W → Around → Destination → Does W) (x' : Place → Does V → Around → Destination → Does V) →
+  means : (h : NodeHead) (s : Shape) (e : LoopsAndGuards → Bool → Destination → Does W) (e' : LoopsAndGuards → Bool → Destination → Does V)
+      (r : LoopsAndGuards → Does W) (r' : LoopsAndGuards → Does V)
+      (x : Place → Does W → LoopsAndGuards → Destination → Does W) (x' : Place → Does V → LoopsAndGuards → Destination → Does V) →
       FollowsEvaluate rel e e' → FollowsReach rel r r' → FollowsArm rel x x' →
       FollowsMeaning rel (record { head = h; shape = s; evaluate = e; reach = r; arm = x }) (record { head = h; shape = s; evaluate = e'; reach = r'; arm = x' })
 
@@ -74,7 +74,7 @@ module _ {W V : Type 0} (rel : Relation W V) where
     own_scope_follow h true d = in_scope_follow rel items p q follow h.id true d
     own_scope_follow h false d = d
 
-    pub alone_follow : {m : Meaning W} {m' : Meaning V} (a : Around) → FollowsMeaning rel m m' → (to : Destination) →
+    pub alone_follow : {m : Meaning W} {m' : Meaning V} (a : LoopsAndGuards) → FollowsMeaning rel m m' → (to : Destination) →
         FollowsDoes rel (alone items p a m to) (alone items q a m' to)
     alone_follow a (means h s e e' r r' x x' ae ar ax) to =
         record { run = λ n S w c k. back_follow rel S ((ae a true to).run n S w c k) }
@@ -87,13 +87,13 @@ module _ {W V : Type 0} (rel : Relation W V) where
         FollowsDoes rel (complete items p in_that h) (complete items q in_that h)
     complete_follow in_that h = changing_follow rel _
 
-    operand_follow : {m : Meaning W} {m' : Meaning V} (a : Around) → FollowsMeaning rel m m' →
+    operand_follow : {m : Meaning W} {m' : Meaning V} (a : LoopsAndGuards) → FollowsMeaning rel m m' →
         FollowsDoes rel (operand items p a m) (operand items q a m')
     operand_follow a (means h s e e' r r' x x' ae ar ax) =
         then_follow rel (pending_follow s.in_destination innermost h)
         (then_follow rel (ae a false (Into h.id)) (complete_follow innermost h))
 
-    operands_follow : {ms : List (Meaning W)} {ms' : List (Meaning V)} (a : Around) → FollowsMeanings rel ms ms' →
+    operands_follow : {ms : List (Meaning W)} {ms' : List (Meaning V)} (a : LoopsAndGuards) → FollowsMeanings rel ms ms' →
         FollowsDoes rel (operands items p a ms) (operands items q a ms')
     operands_follow a no_meaning = at_follow rel Value
     operands_follow a (and_means _ _ ms ms' t ts) = then_follow rel (operand_follow a t) (operands_follow a ts)
@@ -101,24 +101,24 @@ module _ {W V : Type 0} (rel : Relation W V) where
     take_follow : (keys : List ℕ) → FollowsDoes rel (take items p keys) (take items q keys)
     take_follow keys = changing_follow rel _
 
-    pub acting_follow : {ms : List (Meaning W)} {ms' : List (Meaning V)} {act : Does W} {act' : Does V} (h : NodeHead) (a : Around) (own : Bool) →
+    pub acting_follow : {ms : List (Meaning W)} {ms' : List (Meaning V)} {act : Does W} {act' : Does V} (h : NodeHead) (a : LoopsAndGuards) (own : Bool) →
         FollowsMeanings rel ms ms' → FollowsDoes rel act act' → FollowsDoes rel (acting items p h a own ms act) (acting items q h a own ms' act')
     acting_follow {ms} {ms'} {act} {act'} h a own ts d =
         in_scope_follow rel items p q follow h.id own
         (then_follow rel (operands_follow a ts)
         (then_follow rel (subst (λ keys. FollowsDoes rel (take items p (keys_of ms)) (take items q keys)) (same_keys ts) (take_follow (keys_of ms))) d))
 
-    pub dropping_follow : {m : Meaning W} {m' : Meaning V} {act : Does W} {act' : Does V} (h : NodeHead) (a : Around) (own : Bool) →
+    pub dropping_follow : {m : Meaning W} {m' : Meaning V} {act : Does W} {act' : Does V} (h : NodeHead) (a : LoopsAndGuards) (own : Bool) →
         FollowsMeaning rel m m' → FollowsDoes rel act act' → FollowsDoes rel (dropping items p h a own m act) (dropping items q h a own m' act')
     dropping_follow h a own t d = in_scope_follow rel items p q follow h.id own (then_follow rel (operand_follow a t) d)
 
-    pub temporary_follow : {e : Around → Bool → Destination → Does W} {e' : Around → Bool → Destination → Does V} (h : NodeHead) (s : Shape) →
+    pub temporary_follow : {e : LoopsAndGuards → Bool → Destination → Does W} {e' : LoopsAndGuards → Bool → Destination → Does V} (h : NodeHead) (s : Shape) →
         FollowsEvaluate rel e e' → FollowsReach rel (temporary items p h s e) (temporary items q h s e')
     temporary_follow h s ae a =
         then_follow rel (pending_follow s.in_destination nearest_temporary h)
         (then_follow rel (ae a false (Into h.id)) (complete_follow nearest_temporary h))
 
-    pub use_follow : {r : Around → Does W} {r' : Around → Does V} (h : NodeHead) (s : Shape) → FollowsReach rel r r' →
+    pub use_follow : {r : LoopsAndGuards → Does W} {r' : LoopsAndGuards → Does V} (h : NodeHead) (s : Shape) → FollowsReach rel r r' →
         FollowsEvaluate rel (use_of_place items p h s r) (use_of_place items q h s r')
     use_follow h s ar a own to =
         own_scope_follow h own (then_follow rel (ar a) (deliver_follow h (λ site. Put site (operand_at h (s.place a.aliases))) to))
@@ -168,13 +168,13 @@ module _ {W V : Type 0} (rel : Relation W V) where
         (then_follow rel (replacing_follow (needs_drop items ph.ty) (site_at ph (ps.place a.aliases)) vh.id)
         (unit_follow h to))))
 
-    pub condition_follow : {m : Meaning W} {m' : Meaning V} {f o : Does W} {f' o' : Does V} (a : Around) → FollowsMeaning rel m m' →
+    pub condition_follow : {m : Meaning W} {m' : Meaning V} {f o : Does W} {f' o' : Does V} (a : LoopsAndGuards) → FollowsMeaning rel m m' →
         FollowsDoes rel f f' → FollowsDoes rel o o' → FollowsDoes rel (condition items p a m f o) (condition items q a m' f' o')
     condition_follow a (means h s e e' r r' x x' ae ar ax) d b =
         then_follow rel (alone_follow a (means h s e e' r r' x x' ae ar ax) (Into h.id))
         (choosing_follow rel (p.choose (IsTrue (moved h.id h.id))) (q.choose (IsTrue (moved h.id h.id))) (follow.choosing (IsTrue (moved h.id h.id))) d b)
 
-    pub branch_follow : {o : Option (Meaning W)} {o' : Option (Meaning V)} {f : Does W} {f' : Does V} (a : Around) (to : Destination) →
+    pub branch_follow : {o : Option (Meaning W)} {o' : Option (Meaning V)} {f : Does W} {f' : Does V} (a : LoopsAndGuards) (to : Destination) →
         FollowsIfAny rel o o' → FollowsDoes rel f f' → FollowsDoes rel (branch items p a to o f) (branch items q a to o' f')
     branch_follow a to without d = d
     branch_follow a to (with_one _ _ t) d = alone_follow a t to
@@ -243,10 +243,10 @@ module _ {W V : Type 0} (rel : Relation W V) where
     touched_follow true site = acts_follow (Touch site)
     touched_follow false site = at_follow rel Value
 
-    scrutinised_follow : {m : Meaning W} {m' : Meaning V} (a : Around) → FollowsMeaning rel m m' → FollowsDoes rel (scrutinised items p a m) (scrutinised items q a m')
+    scrutinised_follow : {m : Meaning W} {m' : Meaning V} (a : LoopsAndGuards) → FollowsMeaning rel m m' → FollowsDoes rel (scrutinised items p a m) (scrutinised items q a m')
     scrutinised_follow a (means h s e e' r r' x x' ae ar ax) = then_follow rel (ar a) (touched_follow s.is_place (site_at h (s.place a.aliases)))
 
-    pub if_taken_follow : {pattern m : Meaning W} {pattern' m' : Meaning V} {body o : Does W} {body' o' : Does V} (h : NodeHead) (a : Around) →
+    pub if_taken_follow : {pattern m : Meaning W} {pattern' m' : Meaning V} {body o : Does W} {body' o' : Does V} (h : NodeHead) (a : LoopsAndGuards) →
         FollowsMeaning rel pattern pattern' → FollowsMeaning rel m m' → FollowsDoes rel body body' → FollowsDoes rel o o' →
         FollowsDoes rel (if_taken items p h a pattern m body o) (if_taken items q h a pattern' m' body' o')
     if_taken_follow h a (means ph ps pe pe' pr pr' px px' ape apr pax) (means mh s e e' r r' x x' ae ar ax) b d =
@@ -265,12 +265,12 @@ module _ {W V : Type 0} (rel : Relation W V) where
     matching_follow h (means mh s e e' r r' x x' ae ar ax) ts a own to =
         own_scope_follow h own (then_follow rel (scrutinised_follow a (means mh s e e' r r' x x' ae ar ax)) (arms_follow ts (s.place a.aliases) a to))
 
-    taken_arm_follow : {m : Meaning W} {m' : Meaning V} (h : NodeHead) (a : Around) (bounds : List BoundName) → FollowsMeaning rel m m' → (to : Destination) →
+    taken_arm_follow : {m : Meaning W} {m' : Meaning V} (h : NodeHead) (a : LoopsAndGuards) (bounds : List BoundName) → FollowsMeaning rel m m' → (to : Destination) →
         FollowsDoes rel (taken_arm items p h a bounds m to) (taken_arm items q h a bounds m' to)
     taken_arm_follow h a bounds t to =
         in_scope_follow rel items p q follow h.id false (then_follow rel (bind_follow innermost bounds) (alone_follow a t to))
 
-    guarded_follow : {o : Option (Meaning W)} {o' : Option (Meaning V)} {h f : Does W} {h' f' : Does V} (a : Around) (bounds : List BoundName) →
+    guarded_follow : {o : Option (Meaning W)} {o' : Option (Meaning V)} {h f : Does W} {h' f' : Does V} (a : LoopsAndGuards) (bounds : List BoundName) →
         FollowsIfAny rel o o' → FollowsDoes rel h h' → FollowsDoes rel f f' → FollowsDoes rel (guarded items p a bounds o h f) (guarded items q a bounds o' h' f')
     guarded_follow a bounds without b d = b
     guarded_follow a bounds (with_one _ _ t) b d = condition_follow (record a { aliases = aliases_with bounds a.aliases }) t b d
@@ -285,7 +285,7 @@ module _ {W V : Type 0} (rel : Relation W V) where
 
     -- Blocks and statements.
 
-    statements_follow : {ms : List (Meaning W)} {ms' : List (Meaning V)} (a : Around) → FollowsMeanings rel ms ms' →
+    statements_follow : {ms : List (Meaning W)} {ms' : List (Meaning V)} (a : LoopsAndGuards) → FollowsMeanings rel ms ms' →
         FollowsDoes rel (statements items p a ms) (statements items q a ms')
     statements_follow a no_meaning = at_follow rel Value
     statements_follow a (and_means _ _ ms ms' (means h s e e' r r' x x' ae ar ax) ts) = then_follow rel (ae a false (Into h.id)) (statements_follow a ts)

@@ -11,7 +11,7 @@ use Rattle.src_meaning.proofs.FormsFollow.{FollowsReach, FollowsInto, FollowsEva
 use Rattle.src_meaning.proofs.RunsFollow.{Follows, is_at, is_over, lapsed_run, outlived_run, refused_run, FollowsDoes, then_follow, at_follow, changing_follow, in_scope_follow}
 use Rattle.src_meaning.specs.Evaluation.{insert_field, in_number_order, values_of, to_own_key, made_in, no_arm, a_value, a_place, in_scope_of_its_own, a_scope, effect, on_operands, on_one, on_two, on_all, on_fields, gives_unit, drops, a_pattern, shortcut, conjunction, disjunction, otherwise_unit, if_else, if_let, body_in, endless, while_true, while_taken, breaks, returns, coerce, meaning, meaning_of, meanings, fields_of, meaning_if_any}
 use Rattle.src_meaning.specs.Forms as forms
-use Rattle.src_meaning.specs.Forms.{Destination, Into, coerced, Around, in_loop, loop_destination, Meaning, moved, all_moved, is_never, site_of_key}
+use Rattle.src_meaning.specs.Forms.{Destination, Into, coerced, LoopsAndGuards, in_loop, loop_destination, Meaning, moved, all_moved, is_never, site_of_key}
 use Rattle.src_meaning.specs.Locals.OfBody.{param_key, answer_key}
 use Rattle.src_meaning.specs.Programs.{names_of_param, params_entered, unwinds as further_unwinds, body_end, around_body, answer_scope, entire_function, activation}
 use Rattle.src_meaning.specs.Scopes.{Entry, Value, Breaks, Continues, Returns, Panics, Run, At, Does, innermost, with_entry, entry_site, all_entries, needing_drop}
@@ -52,24 +52,24 @@ module _ {W V : Type 0} (rel : Relation W V) where
   evaluated (means h s e e' r r' x x' ae ar ax) = ae
 
   module _ (items : ItemTable) (p : Effects W) (q : Effects V) (follow : FollowsEffects rel p q) (fuel fuel' : ℕ) (bounds : Bounds rel p.tick q.tick fuel fuel') where
-    made_follow : (e : Around → Bool → Destination → Does W) (e' : Around → Bool → Destination → Does V) (h : NodeHead) → FollowsEvaluate rel e e' →
+    made_follow : (e : LoopsAndGuards → Bool → Destination → Does W) (e' : LoopsAndGuards → Bool → Destination → Does V) (h : NodeHead) → FollowsEvaluate rel e e' →
         FollowsEvaluate rel (made_in items p fuel h e) (made_in items q fuel' h e')
     made_follow e e' h ae a own to = ae a own (to_own_key (is_never items h.ty) h.id to)
 
     no_arm_follow : FollowsArm rel (no_arm items p fuel) (no_arm items q fuel')
     no_arm_follow matched f f' d a to = at_follow rel Value
 
-    value_follow : (e : Around → Bool → Destination → Does W) (e' : Around → Bool → Destination → Does V) (h : NodeHead) (s : Shape) → FollowsEvaluate rel e e' →
+    value_follow : (e : LoopsAndGuards → Bool → Destination → Does W) (e' : LoopsAndGuards → Bool → Destination → Does V) (h : NodeHead) (s : Shape) → FollowsEvaluate rel e e' →
         FollowsMeaning rel (a_value items p fuel h s e) (a_value items q fuel' h s e')
     value_follow e e' h s ae =
         means h s _ _ _ _ _ _ (made_follow e e' h ae) (temporary_follow rel items p q follow h s (made_follow e e' h ae)) no_arm_follow
 
-    place_follow : (r : Around → Does W) (r' : Around → Does V) (h : NodeHead) (s : Shape) → FollowsReach rel r r' →
+    place_follow : (r : LoopsAndGuards → Does W) (r' : LoopsAndGuards → Does V) (h : NodeHead) (s : Shape) → FollowsReach rel r r' →
         FollowsMeaning rel (a_place items p fuel h s r) (a_place items q fuel' h s r')
     place_follow r r' h s ar =
         means h s _ _ _ _ _ _ (made_follow (forms.use_of_place items p h s r) (forms.use_of_place items q h s r') h (use_follow rel items p q follow h s ar)) ar no_arm_follow
 
-    scope_follow : (e : Around → Destination → Does W) (e' : Around → Destination → Does V) (h : NodeHead) (s : Shape) → FollowsInto rel e e' →
+    scope_follow : (e : LoopsAndGuards → Destination → Does W) (e' : LoopsAndGuards → Destination → Does V) (h : NodeHead) (s : Shape) → FollowsInto rel e e' →
         FollowsMeaning rel (a_scope items p fuel h s e) (a_scope items q fuel' h s e')
     scope_follow e e' h s d =
         value_follow (in_scope_of_its_own items p fuel h e) (in_scope_of_its_own items q fuel' h e') h s (λ a own to. own_scope_follow rel items p q follow h own (d a to))

@@ -11,7 +11,7 @@ use Rattle.typed_tree.specs.Tree.{Node, node, Form, Nodes, no_node, a_node, Fiel
 use Rattle.src_meaning.specs.Scopes.{Value, Breaks, Continues, Returns, At, Does, ◌>>◌}
 use Rattle.src_meaning.specs.Shape.{NodeHead, head, Shape, kind_of, shape_of}
 use Rattle.src_meaning.specs.Forms as forms
-use Rattle.src_meaning.specs.Forms.{Destination, Into, coerced, Around, in_loop, loop_destination, Meaning, moved, all_moved, is_never}
+use Rattle.src_meaning.specs.Forms.{Destination, Into, coerced, LoopsAndGuards, in_loop, loop_destination, Meaning, moved, all_moved, is_never}
 
 -- fields in the order of their numbers, which is that of the parts
 abbrev pub insert_field : {A : Type 0} → ℕ → A → List (ℕ × A) → List (ℕ × A)
@@ -32,16 +32,16 @@ to_own_key false id to = to
 
 module _ {W : Type 0} (items : ItemTable) (p : Effects W) (fuel : ℕ) where
   abbrev pub Evaluates : Type 0
-  Evaluates = Around → Bool → Destination → Does W
+  Evaluates = LoopsAndGuards → Bool → Destination → Does W
 
   abbrev pub MakesInto : Type 0
-  MakesInto = Around → Destination → Does W
+  MakesInto = LoopsAndGuards → Destination → Does W
 
   abbrev pub made_in : NodeHead → Evaluates → Evaluates
   made_in h evaluate around own to = evaluate around own (to_own_key (is_never items h.ty) h.id to)
 
   -- only arms are arms
-  abbrev pub no_arm : Place → Does W → Around → Destination → Does W
+  abbrev pub no_arm : Place → Does W → LoopsAndGuards → Destination → Does W
   no_arm matched otherwise around to = At Value
 
   abbrev pub a_value : NodeHead → Shape → Evaluates → Meaning W
@@ -53,7 +53,7 @@ module _ {W : Type 0} (items : ItemTable) (p : Effects W) (fuel : ℕ) where
     arm = no_arm;
   }
 
-  abbrev pub a_place : NodeHead → Shape → (Around → Does W) → Meaning W
+  abbrev pub a_place : NodeHead → Shape → (LoopsAndGuards → Does W) → Meaning W
   a_place h s reach = record {
     head = h;
     shape = s;
@@ -105,7 +105,7 @@ module _ {W : Type 0} (items : ItemTable) (p : Effects W) (fuel : ℕ) where
   abbrev pub drops : NodeHead → Meaning W → Evaluates
   drops h m around own to = forms.dropping items p h around own m (forms.put_unit items p h to)
 
-  abbrev pub a_statement : NodeHead → Shape → (Around → Does W) → Meaning W
+  abbrev pub a_statement : NodeHead → Shape → (LoopsAndGuards → Does W) → Meaning W
   a_statement h s does = a_value h s (λ around own to. does around)
 
   -- a pattern is not evaluated: its shape has its tests and its names
@@ -139,7 +139,7 @@ module _ {W : Type 0} (items : ItemTable) (p : Effects W) (fuel : ℕ) where
       (otherwise_unit h otherwise around to)
 
   -- the body of a loop
-  abbrev pub body_in : Meaning W → Around → Does W
+  abbrev pub body_in : Meaning W → LoopsAndGuards → Does W
   body_in body around = forms.alone items p around body (Into body.head.id)
 
   abbrev pub endless : NodeHead → Meaning W → MakesInto

@@ -25,12 +25,12 @@ coerced key trait_no (Coerced other another to) = Coerced key trait_no to
 
 -- what a node is in: the destination of the body's result, the loops around it by number with their destinations, and
 -- the bindings that stand for parts of a scrutinee
-pub record Around : Type 0 where
+pub record LoopsAndGuards : Type 0 where
   pub answer : Destination
   pub loops : List (ℕ × Destination)
   pub aliases : Aliases
 
-abbrev pub in_loop : ℕ → Destination → Around → Around
+abbrev pub in_loop : ℕ → Destination → LoopsAndGuards → LoopsAndGuards
 in_loop id to around = record around { loops = (id, to) ∷ around.loops }
 
 abbrev pub loop_destination : ℕ → List (ℕ × Destination) → Destination
@@ -42,7 +42,7 @@ abbrev pub aliases_with : List BoundName → Aliases → Aliases
 aliases_with [] aliases = aliases
 aliases_with (b ∷ bounds) aliases = (b.key, b.site.place) ∷ aliases_with bounds aliases
 
-abbrev pub in_guard : List BoundName → Around → Around
+abbrev pub in_guard : List BoundName → LoopsAndGuards → LoopsAndGuards
 in_guard bounds around = record around { aliases = aliases_with bounds around.aliases }
 
 -- How a node is evaluated, as a scope for temporaries of its own or not, into a destination; how its place is reached,
@@ -51,9 +51,9 @@ in_guard bounds around = record around { aliases = aliases_with bounds around.al
 pub record Meaning (W : Type 0) : Type 0 where
   pub head : NodeHead
   pub shape : Shape
-  pub evaluate : Around → Bool → Destination → Does W
-  pub reach : Around → Does W
-  pub arm : Place → Does W → Around → Destination → Does W
+  pub evaluate : LoopsAndGuards → Bool → Destination → Does W
+  pub reach : LoopsAndGuards → Does W
+  pub arm : Place → Does W → LoopsAndGuards → Destination → Does W
 
 abbrev pub entry_of : NodeHead → Entry
 entry_of h = record { key = h.id; ty = h.ty }
@@ -78,10 +78,10 @@ keys_of ms = map (λ m. m.head.id) ms
 abbrev pub all_moved : {W : Type 0} → ℕ → List (Meaning W) → List Operand
 all_moved node ms = map (λ m. moved node m.head.id) ms
 
-abbrev pub place_of : {W : Type 0} → Meaning W → Around → Place
+abbrev pub place_of : {W : Type 0} → Meaning W → LoopsAndGuards → Place
 place_of m around = m.shape.place around.aliases
 
-abbrev pub site_of : {W : Type 0} → Meaning W → Around → EffectSite
+abbrev pub site_of : {W : Type 0} → Meaning W → LoopsAndGuards → EffectSite
 site_of m around = site_at m.head (place_of m around)
 
 abbrev pub is_never : ItemTable → TyId → Bool
@@ -120,7 +120,7 @@ module _ {W : Type 0} (items : ItemTable) (p : Effects W) where
   in_own_scope h false does = does
 
   -- a node is evaluated as a scope for temporaries of its own, and leaves the scopes around it as they were
-  abbrev pub alone : Around → Meaning W → Destination → Does W
+  abbrev pub alone : LoopsAndGuards → Meaning W → Destination → Does W
   alone around m to S w = back_in S (m.evaluate around true to S w)
 
   -- a destination is pending in a scope until it is complete; then it is the youngest entry there
@@ -131,13 +131,13 @@ module _ {W : Type 0} (items : ItemTable) (p : Effects W) where
   complete in_that h = changing (in_that (becomes_entry (entry_of h)))
 
   -- an operand is made, and becomes an entry of the innermost scope
-  abbrev pub operand : Around → Meaning W → Does W
+  abbrev pub operand : LoopsAndGuards → Meaning W → Does W
   operand around m = do
     pending_if m.shape.in_destination innermost m.head
     m.evaluate around false (Into m.head.id)
     complete innermost m.head
 
-  abbrev pub operands : Around → List (Meaning W) → Does W
+  abbrev pub operands : LoopsAndGuards → List (Meaning W) → Does W
   operands around [] = At Value
   operands around (m ∷ ms) = operand around m >> operands around ms
 
@@ -146,14 +146,14 @@ module _ {W : Type 0} (items : ItemTable) (p : Effects W) where
   take keys = changing (innermost (without_operands keys))
 
   -- a form with operands: they are made in order in its scope, and all taken at once as it acts
-  abbrev pub acting : NodeHead → Around → Bool → List (Meaning W) → Does W → Does W
+  abbrev pub acting : NodeHead → LoopsAndGuards → Bool → List (Meaning W) → Does W → Does W
   acting h around own ms act = in_scope items p h.id own do
     operands around ms
     take (keys_of ms)
     act
 
   -- `drop(e)` leaves its operand in the scope, which drops it
-  abbrev pub dropping : NodeHead → Around → Bool → Meaning W → Does W → Does W
+  abbrev pub dropping : NodeHead → LoopsAndGuards → Bool → Meaning W → Does W → Does W
   dropping h around own m act = in_scope items p h.id own do
     operand around m
     act
@@ -161,13 +161,13 @@ module _ {W : Type 0} (items : ItemTable) (p : Effects W) where
   -- Places.
 
   -- a value in the place of a place becomes an entry of the nearest scope for temporaries
-  abbrev pub temporary : NodeHead → Shape → (Around → Bool → Destination → Does W) → Around → Does W
+  abbrev pub temporary : NodeHead → Shape → (LoopsAndGuards → Bool → Destination → Does W) → LoopsAndGuards → Does W
   temporary h shape evaluate around = do
     pending_if shape.in_destination nearest_temporary h
     evaluate around false (Into h.id)
     complete nearest_temporary h
 
-  abbrev pub use_of_place : NodeHead → Shape → (Around → Does W) → Around → Bool → Destination → Does W
+  abbrev pub use_of_place : NodeHead → Shape → (LoopsAndGuards → Does W) → LoopsAndGuards → Bool → Destination → Does W
   use_of_place h shape reach around own to = in_own_scope h own do
     reach around
     deliver h (λ site. Put site (operand_at h (shape.place around.aliases))) to
@@ -176,14 +176,14 @@ module _ {W : Type 0} (items : ItemTable) (p : Effects W) where
   array_around place = record place { steps = before_element place.steps }
 
   -- the base, then the index, then the whole array is borrowed and the bounds are checked
-  abbrev pub reach_element : NodeHead → Shape → Meaning W → Meaning W → ℕ → Around → Does W
+  abbrev pub reach_element : NodeHead → Shape → Meaning W → Meaning W → ℕ → LoopsAndGuards → Does W
   reach_element h shape base index length around = do
     base.reach around
     index.evaluate around false (Into index.head.id)
     acts (Touch (site_at h (array_around (shape.place around.aliases))))
     acts (Bounds (Copied (site_of_key index.head.id)) length)
 
-  abbrev pub borrowing : NodeHead → Bool → Meaning W → Around → Bool → Destination → Does W
+  abbrev pub borrowing : NodeHead → Bool → Meaning W → LoopsAndGuards → Bool → Destination → Does W
   borrowing h unique base around own to = in_own_scope h own do
     base.reach around
     deliver h (λ site. Borrow (record site { node = base.head.id }) unique (site_of base around)) to
@@ -209,7 +209,7 @@ module _ {W : Type 0} (items : ItemTable) (p : Effects W) where
   abbrev pub replacing : Bool → EffectSite → ℕ → Does W
   replacing drops site key S w = stored_after site key S (dropped_first drops site w)
 
-  abbrev pub assigning : NodeHead → Meaning W → Meaning W → Around → Bool → Destination → Does W
+  abbrev pub assigning : NodeHead → Meaning W → Meaning W → LoopsAndGuards → Bool → Destination → Does W
   assigning h place value around own to = in_scope items p h.id own do
     operand around value
     place.reach around
@@ -219,12 +219,12 @@ module _ {W : Type 0} (items : ItemTable) (p : Effects W) where
   -- Conditions and branches.
 
   -- a condition is a scope for its temporaries, which is left before the branch
-  abbrev pub condition : Around → Meaning W → Does W → Does W → Does W
+  abbrev pub condition : LoopsAndGuards → Meaning W → Does W → Does W → Does W
   condition around m yes_does no_does = do
     alone around m (Into m.head.id)
     choosing (p.choose (IsTrue (moved m.head.id m.head.id))) yes_does no_does
 
-  abbrev pub branch : Around → Destination → Option (Meaning W) → Does W → Does W
+  abbrev pub branch : LoopsAndGuards → Destination → Option (Meaning W) → Does W → Does W
   branch around to None without = without
   branch around to (Some m) without = alone around m to
 
@@ -276,14 +276,14 @@ module _ {W : Type 0} (items : ItemTable) (p : Effects W) where
   touched false site = At Value
 
   -- a scrutinee is a place, which is borrowed whole before the first test, or a temporary
-  abbrev pub scrutinised : Around → Meaning W → Does W
+  abbrev pub scrutinised : LoopsAndGuards → Meaning W → Does W
   scrutinised around m = do
     m.reach around
     touched m.shape.is_place (site_of m around)
 
   -- `if let`, and a turn of `while let`: scrutinee, names and body are in one scope, which is left before what happens
   -- where the pattern does not take the scrutinee
-  abbrev pub if_taken : NodeHead → Around → Meaning W → Meaning W → Does W → Does W → Does W
+  abbrev pub if_taken : NodeHead → LoopsAndGuards → Meaning W → Meaning W → Does W → Does W → Does W
   if_taken h around pattern scrutinee body otherwise =
       in_scope_with items p h.id true (scrutinised around scrutinee)
       (choosing (all_hold (pattern.shape.tests (place_of scrutinee around)))
@@ -294,27 +294,27 @@ module _ {W : Type 0} (items : ItemTable) (p : Effects W) where
         leaving items p (At Value)
         otherwise))
 
-  abbrev pub arms_in_order : List (Meaning W) → Place → Around → Destination → Does W
+  abbrev pub arms_in_order : List (Meaning W) → Place → LoopsAndGuards → Destination → Does W
   arms_in_order [] matched around to = panics Why.Match
   arms_in_order (arm ∷ arms) matched around to = arm.arm matched (arms_in_order arms matched around to) around to
 
-  abbrev pub matching : NodeHead → Meaning W → List (Meaning W) → Around → Bool → Destination → Does W
+  abbrev pub matching : NodeHead → Meaning W → List (Meaning W) → LoopsAndGuards → Bool → Destination → Does W
   matching h scrutinee arms around own to = in_own_scope h own do
     scrutinised around scrutinee
     arms_in_order arms (place_of scrutinee around) around to
 
   -- an arm that is taken: its names are entries of the arm, and its body is a scope for temporaries
-  abbrev pub taken_arm : NodeHead → Around → List BoundName → Meaning W → Destination → Does W
+  abbrev pub taken_arm : NodeHead → LoopsAndGuards → List BoundName → Meaning W → Destination → Does W
   taken_arm h around bounds body to = in_scope items p h.id false do
     bind innermost bounds
     alone around body to
 
-  abbrev pub guarded : Around → List BoundName → Option (Meaning W) → Does W → Does W → Does W
+  abbrev pub guarded : LoopsAndGuards → List BoundName → Option (Meaning W) → Does W → Does W → Does W
   guarded around bounds None taken otherwise = taken
   guarded around bounds (Some guard) taken otherwise = condition (in_guard bounds around) guard taken otherwise
 
   -- an arm: its tests, then its guard, then its names and its body
-  abbrev pub arm : NodeHead → Meaning W → Option (Meaning W) → Meaning W → Place → Does W → Around → Destination →
+  abbrev pub arm : NodeHead → Meaning W → Option (Meaning W) → Meaning W → Place → Does W → LoopsAndGuards → Destination →
       Does W
   arm h pattern guard body matched otherwise around to =
       choosing (all_hold (pattern.shape.tests matched))
@@ -325,31 +325,31 @@ module _ {W : Type 0} (items : ItemTable) (p : Effects W) where
 
   -- Blocks and statements.
 
-  abbrev pub statements : Around → List (Meaning W) → Does W
+  abbrev pub statements : LoopsAndGuards → List (Meaning W) → Does W
   statements around [] = At Value
   statements around (m ∷ ms) = do
     m.evaluate around false (Into m.head.id)
     statements around ms
 
-  abbrev pub tail_of : NodeHead → Option (Meaning W) → Around → Destination → Does W
+  abbrev pub tail_of : NodeHead → Option (Meaning W) → LoopsAndGuards → Destination → Does W
   tail_of h None around to = put_unit_if (is_never items h.ty) h to
   tail_of h (Some m) around to = alone around m to
 
   -- a block is a scope, and its tail one for temporaries
-  abbrev pub block : NodeHead → List (Meaning W) → Option (Meaning W) → Around → Bool → Destination → Does W
+  abbrev pub block : NodeHead → List (Meaning W) → Option (Meaning W) → LoopsAndGuards → Bool → Destination → Does W
   block h ms tail around own to = in_scope items p h.id own do
     statements around ms
     tail_of h tail around to
 
   -- the value of an expression statement is an entry of the statement's scope
-  abbrev pub evaluating : NodeHead → Meaning W → Around → Does W
+  abbrev pub evaluating : NodeHead → Meaning W → LoopsAndGuards → Does W
   evaluating h m around = in_scope items p h.id true do
     pending_if true innermost m.head
     m.evaluate around false (Into m.head.id)
     complete innermost m.head
 
   -- `let` of one name: the value is pending in the statement's scope, and then the youngest entry of the block
-  abbrev pub let_name : NodeHead → NodeHead → Meaning W → Around → Does W
+  abbrev pub let_name : NodeHead → NodeHead → Meaning W → LoopsAndGuards → Does W
   let_name h x m around = in_scope items p h.id true do
     pending_if true innermost x
     m.evaluate around false (Into x.id)
@@ -357,7 +357,7 @@ module _ {W : Type 0} (items : ItemTable) (p : Effects W) where
     changing (around_innermost (with_entry (entry_of x)))
 
   -- `let` of another pattern: from a place, or from a temporary of the statement, which is pending until it is complete
-  abbrev pub let_parts : NodeHead → Meaning W → Meaning W → Around → Does W
+  abbrev pub let_parts : NodeHead → Meaning W → Meaning W → LoopsAndGuards → Does W
   let_parts h pattern m around = in_scope items p h.id true do
     pending_if (not (m.shape.is_place || m.shape.in_destination)) innermost m.head
     m.reach around
@@ -377,11 +377,11 @@ module _ {W : Type 0} (items : ItemTable) (p : Effects W) where
     changing (innermost (with_entry (bound_entry b)))
     declared bounds
 
-  abbrev pub let_value : Bool → NodeHead → Meaning W → Meaning W → Around → Does W
+  abbrev pub let_value : Bool → NodeHead → Meaning W → Meaning W → LoopsAndGuards → Does W
   let_value true h pattern m = let_name h pattern.head m
   let_value false h pattern m = let_parts h pattern m
 
-  abbrev pub letting : NodeHead → Meaning W → Option (Meaning W) → Around → Does W
+  abbrev pub letting : NodeHead → Meaning W → Option (Meaning W) → LoopsAndGuards → Does W
   letting h pattern None around = declared (pattern.shape.bindings (whole_local 0))
   letting h pattern (Some m) around = let_value pattern.shape.is_binding h pattern m around
 
@@ -411,11 +411,11 @@ module _ {W : Type 0} (items : ItemTable) (p : Effects W) where
     put_unit h to
     At (Breaks h.id)
 
-  abbrev pub value_of_jump : NodeHead → Option (Meaning W) → Around → Destination → Does W
+  abbrev pub value_of_jump : NodeHead → Option (Meaning W) → LoopsAndGuards → Destination → Does W
   value_of_jump h None around to = put_unit h to
   value_of_jump h (Some m) around to = m.evaluate around false to
 
-  abbrev pub jumping : Exit → NodeHead → Option (Meaning W) → Around → Destination → Does W
+  abbrev pub jumping : Exit → NodeHead → Option (Meaning W) → LoopsAndGuards → Destination → Does W
   jumping exit h m around to = do
     value_of_jump h m around to
     At exit

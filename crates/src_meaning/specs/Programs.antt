@@ -17,7 +17,7 @@ use Rattle.store_model.specs.Concrete.State.{Cells, State}
 use Rattle.typed_tree.specs.Tree.{ParamTree, BodyTree, ProgramTree}
 use Rattle.src_meaning.specs.Locals.Effects.{at_locals}
 use Rattle.src_meaning.specs.Evaluation.{meaning}
-use Rattle.src_meaning.specs.Forms.{Into, Around, bind, site_of_key}
+use Rattle.src_meaning.specs.Forms.{Into, LoopsAndGuards, bind, site_of_key}
 use Rattle.src_meaning.specs.Locals.OfBody.{param_key, answer_key, local_of, local_ty, local_tys}
 use Rattle.src_meaning.specs.Scopes.{Entry, Scopes, innermost, with_scope, with_entry, with_pending, all_entries, needing_drop, Value, Breaks, Continues, Returns, Panics, Run, At, Over, Does, ◌>>◌, changing, in_scope, entry_site}
 use Rattle.src_meaning.specs.Shape.{BoundName, shape}
@@ -50,7 +50,7 @@ module _ {W : Type 0} (items : ItemTable) (p : Effects W) (fuel : ℕ) where
   body_end answer (At Panics S w) = unwinds (needing_drop items (all_entries S)) w
   body_end answer (Over halt w) = Halts halt w
 
-  abbrev pub around_body : BodyTree → Around
+  abbrev pub around_body : BodyTree → LoopsAndGuards
   around_body body = record { answer = Into (answer_key body); loops = []; aliases = [] }
 
   -- the result is the oldest entry of an activation, older than the parameters, and pending until the body returns

@@ -10,7 +10,7 @@ use mir_base::{List, NoMemory, Pos};
 use src_token::Token;
 use src_tree::{
     GrammarPlace, GrammarPoint, GrammarRow, advance, due, entry, is_allowed, join_beginning,
-    may_begin, place_of, row_at_end, seen,
+    may_begin, place_of, row_at_end, seen_from,
 };
 use std::alloc::Global;
 use std::mem;
@@ -21,7 +21,7 @@ fn opens(head: bool, point: GrammarPoint, token: &Token) -> Option<(GrammarPlace
 {
     let part = due(point)?;
     let place = place_of(head, part);
-    let (row, at) = entry(seen(place), token)?;
+    let (row, at) = entry(seen_from(place), token)?;
     if may_begin(place, row) {
         Some((place, at))
     } else {
@@ -33,7 +33,7 @@ fn opens(head: bool, point: GrammarPoint, token: &Token) -> Option<(GrammarPlace
 fn joins(place: GrammarPlace, row: GrammarRow, token: &Token) -> Option<u16>
     ensures { option_map rest_at result ≡ joins_of place row token.now }
 {
-    let begun = join_beginning(seen(place), token)?;
+    let begun = join_beginning(seen_from(place), token)?;
     if may_begin(place, begun.row) && is_allowed(begun.place, row) {
         Some(begun.at)
     } else {

@@ -47,7 +47,7 @@ impl Cursor {
     }
 
     /// The place of one of some characters, from the place of an earlier one.
-    pub fn moved(self, characters: &[char], from: usize, to: usize) -> Cursor
+    pub fn advance(self, characters: &[char], from: usize, to: usize) -> Cursor
         requires begun { self ≡ cursor_after (take from characters.now) }
         requires onward { from ≤ to }
         requires within { to ≤ length characters.now }

@@ -90,7 +90,7 @@ fn lex_characters(alloc: Global, characters: &[char]) -> Result<List<Spanned>, L
     let mut passed = 0;
     while passed < characters.len() {
         let TokenPiece { length, reading } = next(alloc, &characters[passed..])?;
-        let after = cursor.moved(characters, passed, passed + length);
+        let after = cursor.advance(characters, passed, passed + length);
         match reading {
             Reading::Skipped => {}
             Reading::Reads(token) => tokens.push(Spanned {
@@ -100,7 +100,7 @@ fn lex_characters(alloc: Global, characters: &[char]) -> Result<List<Spanned>, L
                 end: after.bytes,
             })?,
             Reading::Fails(fault, before) => {
-                let place = cursor.moved(characters, passed, passed + before);
+                let place = cursor.advance(characters, passed, passed + before);
                 return Err(error(fault, place.at));
             }
         }

@@ -280,7 +280,7 @@ fn first(start: Start) -> Start
 }
 
 /// What the parts of a node see of its place.
-pub fn seen(place: GrammarPlace) -> Seen
+pub fn seen_from(place: GrammarPlace) -> Seen
     ensures { result ≡ seen_of place }
 {
     Seen {

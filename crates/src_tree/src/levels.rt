@@ -6,7 +6,7 @@ ghost use Rattle.src_tree.specs.Layout.{ItemsLevelled};
 ghost use Rattle.src_tree.specs.Table.{rest_of};
 ghost use Rattle.src_tree.specs.View.{layout_of, piece_of, parts_in, items_of};
 
-use crate::grammar::{is_allowed, place_of, seen};
+use crate::grammar::{is_allowed, place_of, seen_from};
 use crate::table::ITEMS;
 use crate::{
     GrammarPlace, GrammarPoint, GrammarRow, NodePiece, Seen, SyntaxNode, Tree, advance, behind,
@@ -30,7 +30,7 @@ fn is_row(row: GrammarRow, other: GrammarRow) -> bool
 fn node_levelled(place: GrammarPlace, node: &SyntaxNode) -> bool
     ensures { result ≡ levels (Some place) (layout_of node.now) }
 {
-    is_allowed(place, node.row) && makes_row(seen(place), node)
+    is_allowed(place, node.row) && makes_row(seen_from(place), node)
 }
 
 /// Whether the parts of a node make its row, where its parts see this of its place.
@@ -96,7 +96,7 @@ fn follows(head: bool, from: GrammarPoint, row: GrammarRow, pieces: &[NodePiece]
 /// Whether each part of a tree is one that its row has there, and each operand stands at its level. It takes no
 /// memory.
 #[tactic(auto, using(crate::proofs::Tests::levels_are, crate::proofs::Named::items_is))]
-pub fn levelled(tree: &Tree) -> bool
+pub fn is_levelled(tree: &Tree) -> bool
     ensures { IsTrue result ↔ ItemsLevelled (items_of tree.now) }
 {
     follows(

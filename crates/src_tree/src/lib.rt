@@ -16,10 +16,10 @@ mod spelling;
 mod table;
 
 pub use beginnings::{entry, join_beginning};
-pub use grammar::{is, is_allowed, may_begin, place_of, seen};
+pub use grammar::{is, is_allowed, may_begin, place_of, seen_from};
 pub use kind::TokenKind;
 pub use law::law_l1;
-pub use levels::levelled;
+pub use levels::is_levelled;
 pub use nesting::{counts, depth};
 pub use node::{NodePiece, SyntaxNode, Tree};
 pub use place::{GrammarPart, GrammarPlace, Seen, Start};

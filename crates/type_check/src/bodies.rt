@@ -2,7 +2,7 @@
 ghost use Rattle.std.specs.Prelude.{◌≡◌, [], OnOk};
 ghost use Rattle.src_ast.specs.Seen.{maybe_of, nodes_of, syn_of};
 ghost use Rattle.src_ast.specs.Syntax.{list_of};
-ghost use Rattle.typeck_checker.specs.Stand.{GivesValue, Same, env, state};
+ghost use Rattle.typeck_checker.specs.Stand.{GivesValue, ChangesNothing, env, state};
 ghost use Rattle.typing_rules.specs.Program as rules;
 ghost use Rattle.typing_rules.specs.Scope.{adt_named};
 ghost use Rattle.type_check.specs.Forms.{fn_check};
@@ -19,7 +19,7 @@ use typeck_items::{enter_impl, leave_impl};
 fn own_body(checker: &mut Checker, at: Pos, function: Function) -> Result<(), RuleError>
     requires { (env checker.old).variables ≡ [] }
     ensures gives { GivesValue (λ u. u) (fn_check (env checker.old) at (nodes_of function.entry.params) (maybe_of function.entry.answer) (maybe_of function.entry.block) (state checker.old)) result checker.new }
-    ensures same { OnOk result (Same checker.old checker.new) }
+    ensures same { OnOk result (ChangesNothing checker.old checker.new) }
 {
     fn_body(
         checker,
@@ -34,7 +34,7 @@ fn own_body(checker: &mut Checker, at: Pos, function: Function) -> Result<(), Ru
 fn method_body(checker: &mut Checker, node: &SyntaxNode) -> Result<(), RuleError>
     requires { (env checker.old).variables ≡ [] }
     ensures gives { GivesValue (λ u. u) (rules.fn_rules (env checker.old) (syn_of node.now) (state checker.old)) result checker.new }
-    ensures same { OnOk result (Same checker.old checker.new) }
+    ensures same { OnOk result (ChangesNothing checker.old checker.new) }
 {
     match item_form(node) {
         ItemForm::Fn(function) => own_body(checker, node.at, function),
@@ -46,7 +46,7 @@ fn method_body(checker: &mut Checker, node: &SyntaxNode) -> Result<(), RuleError
 fn method_bodies(checker: &mut Checker, nodes: Nodes) -> Result<(), RuleError>
     requires { (env checker.old).variables ≡ [] }
     ensures gives { GivesValue (λ u. u) (rules.all_fn_rules (env checker.old) (list_of (nodes_of nodes.entry)) (state checker.old)) result checker.new }
-    ensures same { OnOk result (Same checker.old checker.new) }
+    ensures same { OnOk result (ChangesNothing checker.old checker.new) }
 {
     let mut rest = nodes;
     while let Some(split) = rest.split_first() {
@@ -60,7 +60,7 @@ fn method_bodies(checker: &mut Checker, nodes: Nodes) -> Result<(), RuleError>
 fn impl_bodies(checker: &mut Checker, owner: &str, nodes: Nodes) -> Result<(), RuleError>
     requires { (env checker.old).variables ≡ [] }
     ensures gives { GivesValue (λ u. u) (rules.all_fn_rules (rules.in_impl (env checker.old) (adt_named checker.old.walk.items owner.now)) (list_of (nodes_of nodes.entry)) (state checker.old)) result checker.new }
-    ensures same { OnOk result (Same checker.old checker.new) }
+    ensures same { OnOk result (ChangesNothing checker.old checker.new) }
 {
     let before = enter_impl(checker, owner);
     method_bodies(checker, nodes)?;
@@ -72,7 +72,7 @@ fn impl_bodies(checker: &mut Checker, owner: &str, nodes: Nodes) -> Result<(), R
 pub fn bodies_of(checker: &mut Checker, node: &SyntaxNode) -> Result<(), RuleError>
     requires { (env checker.old).variables ≡ [] }
     ensures gives { GivesValue (λ u. u) (rules.bodies_of (env checker.old) (syn_of node.now) (state checker.old)) result checker.new }
-    ensures same { OnOk result (Same checker.old checker.new) }
+    ensures same { OnOk result (ChangesNothing checker.old checker.new) }
 {
     match item_form(node) {
         ItemForm::Impl {

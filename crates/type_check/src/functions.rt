@@ -3,7 +3,7 @@ ghost use Rattle.std.specs.Prelude.{◌≡◌, OnOk, Some};
 ghost use Rattle.typeck_bodies.specs.Aside.{alone};
 ghost use Rattle.typeck_bodies.specs.Heads.{unvalued};
 ghost use Rattle.src_ast.specs.Seen.{maybe_of, nodes_of};
-ghost use Rattle.typeck_checker.specs.Stand.{Gives, GivesValue, Keeps, Same, env, stack, state};
+ghost use Rattle.typeck_checker.specs.Stand.{Gives, GivesValue, KeepsStack, ChangesNothing, env, stack, state};
 ghost use Rattle.typing_rules.specs.Bodies as bodies;
 ghost use Rattle.typing_rules.specs.Program as program;
 
@@ -24,7 +24,7 @@ fn block_of(
     answer: TyId,
 ) -> Result<(), RuleError>
     ensures gives { Gives (program.block_of (maybe_of block.entry) at (env checker.old) (Some answer) (state checker.old)) result checker.new }
-    ensures kept { Keeps (stack checker.old) checker.old result checker.new }
+    ensures kept { KeepsStack (stack checker.old) checker.old result checker.new }
 {
     match block {
         Some(block) => check_expr(checker, block, Some(answer)),
@@ -48,7 +48,7 @@ pub fn fn_body(
     block: Option<&SyntaxNode>,
 ) -> Result<(), RuleError>
     ensures gives { GivesValue (λ u. u) (unvalued (bodies.fn_body (alone (env checker.old)) at (nodes_of params.entry) (maybe_of answer.entry) (program.block_of (maybe_of block.entry) at)) (state checker.old)) result checker.new }
-    ensures same { OnOk result (Same checker.old checker.new) }
+    ensures same { OnOk result (ChangesNothing checker.old checker.new) }
 {
     let head = fn_head(checker, at, params, answer)?;
     block_of(checker, at, block, head.answer)?;

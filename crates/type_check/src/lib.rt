@@ -3,14 +3,14 @@
 #![tactic(auto)]
 
 mod bodies;
-mod checked;
 mod drops;
 mod functions;
 mod items;
 mod kinds;
+mod program;
 mod start;
 mod walk;
 
-pub use checked::check;
 pub use functions::fn_body;
+pub use program::check;
 pub use start::checker_of;

@@ -2,7 +2,7 @@
 ghost use Rattle.std.specs.Prelude.{◌≡◌, [], OnOk};
 ghost use Rattle.src_ast.specs.Seen.{syn_of};
 ghost use Rattle.src_tree.specs.View.{parts_in, piece_of};
-ghost use Rattle.typeck_checker.specs.Stand.{GivesValue, Same, env, state};
+ghost use Rattle.typeck_checker.specs.Stand.{GivesValue, ChangesNothing, env, state};
 ghost use Rattle.typing_rules.specs.Items.{item_syns, items_of};
 ghost use Rattle.typing_rules.specs.Program as rules;
 ghost use Rattle.typeck_items.specs.Had.{had};
@@ -18,7 +18,7 @@ use typeck_items::{Before, NamePairs, item_rules};
 fn item(checker: &mut Checker, before: &mut Before, node: &SyntaxNode) -> Result<(), RuleError>
     requires { (env checker.old).variables ≡ [] }
     ensures gives { GivesValue (λ u. had before.new) (item_and_bodies (env checker.old) (had before.old) (syn_of node.now) (state checker.old)) result checker.new }
-    ensures same { OnOk result (Same checker.old checker.new) }
+    ensures same { OnOk result (ChangesNothing checker.old checker.new) }
 {
     item_rules(checker, before, node)?;
     bodies_of(checker, node)
@@ -32,7 +32,7 @@ fn piece_of_text(
 ) -> Result<(), RuleError>
     requires { (env checker.old).variables ≡ [] }
     ensures gives { GivesValue (λ u. had before.new) (piece_and_bodies (env checker.old) (had before.old) (piece_of piece.now) (state checker.old)) result checker.new }
-    ensures same { OnOk result (Same checker.old checker.new) }
+    ensures same { OnOk result (ChangesNothing checker.old checker.new) }
 {
     match piece {
         NodePiece::Node(node) => item(checker, before, node),
@@ -44,7 +44,7 @@ fn piece_of_text(
 pub fn all_items(checker: &mut Checker, pieces: &[NodePiece]) -> Result<(), RuleError>
     requires { (env checker.old).variables ≡ [] }
     ensures gives { GivesValue (λ u. u) (rules.all_items (env checker.old) (record { methods = []; impls = [] }) (item_syns (items_of (parts_in pieces.now))) (state checker.old)) result checker.new }
-    ensures same { OnOk result (Same checker.old checker.new) }
+    ensures same { OnOk result (ChangesNothing checker.old checker.new) }
 {
     let mut before = Before {
         methods: NamePairs::new(checker.alloc),

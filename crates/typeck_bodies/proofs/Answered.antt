@@ -11,7 +11,7 @@ use Rattle.typeck_bodies.specs.declared.nested_bodies.Outer.{Outer}
 use Rattle.typeck_checker.specs.Lists.{below_all}
 use Rattle.typeck_heads.specs.Answers.{Refuses}
 use Rattle.typeck_bodies.specs.ParamAnswers.{last_params}
-use Rattle.typeck_checker.specs.Stand.{Same, Stays, env, env_in, stack, state}
+use Rattle.typeck_checker.specs.Stand.{ChangesNothing, Stays, env, env_in, stack, state}
 use Rattle.typeck_checker.specs.declared.checker.Checker.{Checker}
 use Rattle.typeck_checker.specs.declared.body_scope.BodyScope.{BodyScope}
 use Rattle.typeck_checker.specs.declared.tables.Tables.{Tables}
@@ -85,7 +85,7 @@ head_kept begun before middle after (Ok head) stacks tables loops back kept = (
 )
 head_kept begun before middle after (Err e) stacks tables loops back kept = tt
 
-pub numbered_kept : (before middle after : Checker) (r : Result BodyHead RuleError) → Same before middle → KeepsHead middle r after → KeepsHead before r after
+pub numbered_kept : (before middle after : Checker) (r : Result BodyHead RuleError) → ChangesNothing before middle → KeepsHead middle r after → KeepsHead before r after
 numbered_kept before middle after (Ok head) same kept = (
   kept.0 ∙ same.0,
   ap (λ (t : Tables). env_in t head.aside) (sym same.1.1) ∙ kept.1 ∙ same.1.0,

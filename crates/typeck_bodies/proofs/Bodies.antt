@@ -21,7 +21,7 @@ use Rattle.typeck_heads.proofs.Sequences.{stopped}
 use Rattle.typeck_heads.specs.Answers.{Refuses}
 use Rattle.typeck_bodies.specs.ParamAnswers.{last_param, last_params}
 use Rattle.typeck_bodies.specs.ParamRests.{type_by}
-use Rattle.typeck_checker.specs.Stand.{Same, Stays, below, env_in, stack, top}
+use Rattle.typeck_checker.specs.Stand.{ChangesNothing, Stays, below, env_in, stack, top}
 use Rattle.typeck_checker.specs.declared.checker.Checker.{Checker}
 use Rattle.typeck_checker.specs.declared.tables.Tables.{Tables}
 use Rattle.typeck_bodies.specs.Aside.{alone, in_block}
@@ -176,13 +176,13 @@ block_refused head whole block e1 ns1 s1 err h here =
     (stopped (block e1 (Some head.answer) s1) (behind_block head ns1) err here))
 
 -- the walk stands where it stood before the body
-pub returned : (head : BodyHead) (c0 c1 c2 c3 : Checker) → KeepsHead c0 (Ok head) c1 → below (stack c2) ≡ stack c1 → Stays c1 c2 → Returns head c2 c3 → Same c0 c3
+pub returned : (head : BodyHead) (c0 c1 c2 c3 : Checker) → KeepsHead c0 (Ok head) c1 → below (stack c2) ≡ stack c1 → Stays c1 c2 → Returns head c2 c3 → ChangesNothing c0 c3
 returned head c0 c1 c2 c3 kept under stays back = (
   back.0 ∙ ap (below_all (length head.params)) under ∙ kept.0,
   (back.1 ∙ ap (λ (t : Tables). env_in t head.aside) (stays.1 ∙ kept.2) ∙ kept.1, back.2 ∙ stays.1 ∙ kept.2),
 )
 
 pub returned_if : (head : BodyHead) (c0 c1 c2 c3 : Checker) (r : Result (Unit {0}) RuleError) → KeepsHead c0 (Ok head) c1 → below (stack c2) ≡ stack c1 → Stays c1 c2 →
-    OnOk r (Returns head c2 c3) → OnOk r (Same c0 c3)
+    OnOk r (Returns head c2 c3) → OnOk r (ChangesNothing c0 c3)
 returned_if head c0 c1 c2 c3 (Ok u) kept under stays back = returned head c0 c1 c2 c3 kept under stays back
 returned_if head c0 c1 c2 c3 (Err e) kept under stays back = tt

@@ -53,9 +53,9 @@ started env captures = do
 
 -- the rest of the row
 abbrev pub closure_rest : Env → Pos → Start → Syns → MaybeSyn → (Env → Typer) → Option TyId → Check Node
-closure_rest env at begun params answer block want = do
+closure_rest env at begun params answer block expected = do
   _ ← closure_body env at begun.body begun.ty begun.entries params answer block
-  fitted want (a_node_of begun.id at begun.ty (tree.Closure begun.closure begun.captures))
+  fitted expected (a_node_of begun.id at begun.ty (tree.Closure begun.closure begun.captures))
 
 -- ---- what calls answer: the nodes of the captures are the last ones
 

@@ -7,7 +7,7 @@ use Rattle.mir_ty.specs.declared.ty.TyId.{TyId}
 use Rattle.src_ast.specs.Syntax.{Receiver, Syn}
 use Rattle.src_ast.specs.View.{self_name}
 use Rattle.typed_tree.specs.Tree.{ParamTree}
-use Rattle.typing_rules.specs.Bodies.{all_rules, is_name_or_wildcard, name_param, param_expected, receiver_ty, self_ty}
+use Rattle.typing_rules.specs.Bodies.{all_rules, is_name_or_wildcard, name_param, param_pattern_context, receiver_ty, self_ty}
 use Rattle.typing_rules.specs.Check.{Check, ◌>>=◌, ◌>>◌, pure, obeys, the_items, interned}
 use Rattle.typing_rules.specs.Patterns.{pattern}
 use Rattle.typing_rules.specs.Scope.{Env, NamedEntry}
@@ -39,7 +39,7 @@ type_by env may_refer ty = if may_refer then written_param (all_rules env) ty el
 
 abbrev pub part_rest : Env → TyId → Syn → List NamedEntry → Check (ParamTree × List NamedEntry)
 part_rest env ty p earlier = do
-  n ← pattern env param_expected ty p earlier
+  n ← pattern env param_pattern_context ty p earlier
   pure (record { pattern = n.0; ty = ty }, n.1)
 
 abbrev pub pattern_rest : Env → Pos → TyId → Syn → List NamedEntry → Check (ParamTree × List NamedEntry)

@@ -6,8 +6,8 @@ ghost use Rattle.src_ast.specs.Syntax.{syn, Ident};
 ghost use Rattle.src_ast.specs.View.{idents, syns_of};
 ghost use Rattle.typeck_checker.specs.Variables.{found_as};
 ghost use Rattle.typeck_bodies.specs.CaptureAnswers.{GivesCaptures, KeepsBelow};
-ghost use Rattle.typeck_patterns.specs.Expected.{GivesBound};
-ghost use Rattle.typeck_checker.specs.Stand.{Gives, Keeps, env, stack, state};
+ghost use Rattle.typeck_patterns.specs.PatternContext.{GivesBound};
+ghost use Rattle.typeck_checker.specs.Stand.{Gives, KeepsStack, env, stack, state};
 ghost use Rattle.typing_rules.specs.Bodies as bodies;
 ghost use Rattle.typing_rules.specs.Scope.{Capture};
 ghost use Rattle.typeck_bodies.specs.CaptureRests.{capture_rest, new_rest, taken_variable};
@@ -28,7 +28,7 @@ fn take_variable(
     found: FoundVariable,
 ) -> Result<(), RuleError>
     ensures gives { Gives (taken_variable (env checker.old) at (found_as name.now found) (state checker.old)) result checker.new }
-    ensures kept { Keeps (stack checker.old) checker.old result checker.new }
+    ensures kept { KeepsStack (stack checker.old) checker.old result checker.new }
 {
     put_variable(checker, at, name, found)?;
     checker.use_value(None)
@@ -68,7 +68,7 @@ fn capture_as(
     found: FoundVariable,
 ) -> Result<(), RuleError>
     ensures gives { GivesBound (capture_rest (env checker.old) part at (found_as name.now found) (reverse bound.old) (state checker.old)) result bound.new checker.new }
-    ensures kept { Keeps (stack checker.old) checker.old result checker.new }
+    ensures kept { KeepsStack (stack checker.old) checker.old result checker.new }
 {
     take_variable(checker, at, name, found)?;
     note(checker, bound, name, found.ty, part)
@@ -92,7 +92,7 @@ fn capture_found(
     found: FoundVariable,
 ) -> Result<(), RuleError>
     ensures gives { GivesBound (new_rest (env checker.old) part at (found_as name.now found) (reverse bound.old) (state checker.old)) result bound.new checker.new }
-    ensures kept { Keeps (stack checker.old) checker.old result checker.new }
+    ensures kept { KeepsStack (stack checker.old) checker.old result checker.new }
 {
     let is_new = !is_captured(bound, name);
     obeys(Rule::T02, at, is_new)?;
@@ -108,7 +108,7 @@ fn capture(
     name: &str,
 ) -> Result<(), RuleError>
     ensures gives { GivesBound (bodies.capture (env checker.old) part (syn at (Ident name.now)) (reverse bound.old) (state checker.old)) result bound.new checker.new }
-    ensures kept { Keeps (stack checker.old) checker.old result checker.new }
+    ensures kept { KeepsStack (stack checker.old) checker.old result checker.new }
 {
     match variable(checker, name) {
         Some(found) => capture_found(checker, bound, part, at, name, found),

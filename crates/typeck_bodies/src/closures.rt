@@ -6,7 +6,7 @@ ghost use Rattle.src_ast.specs.View.{idents, syns_of};
 ghost use Rattle.typed_tree.specs.Tree as tree;
 ghost use Rattle.typing_rules.specs.Places.{a_node_of};
 ghost use Rattle.typing_rules.specs.Rows as rows;
-ghost use Rattle.typeck_checker.specs.Stand.{Gives, GivesValue, Keeps, Same, env, stack, state};
+ghost use Rattle.typeck_checker.specs.Stand.{Gives, GivesValue, KeepsStack, ChangesNothing, env, stack, state};
 ghost use Rattle.typeck_bodies.specs.Closures.{GivesStart, KeepsStart, closure_ty as closure_ty_of, started, started_at, ty_seen};
 
 use crate::numbers::{body_number, closure_added};
@@ -45,7 +45,7 @@ fn closure_ty(
     body: u32,
 ) -> Result<ClosureTy, RuleError>
     ensures gives { GivesValue ty_seen (closure_ty_of (reverse captures.now) body (state checker.old)) result checker.new }
-    ensures same { Same checker.old checker.new }
+    ensures same { ChangesNothing checker.old checker.new }
 {
     let types = capture_types(checker.alloc, captures)?;
     let closure = closure_added(checker, types, body)?;
@@ -98,10 +98,10 @@ pub fn closure_end(
     checker: &mut Checker,
     at: Pos,
     begun: &ClosureBegun,
-    want: Option<TyId>,
+    expected: Option<TyId>,
 ) -> Result<(), RuleError>
-    ensures gives { Gives (rows.fitted want (a_node_of begun.now.id.0 at begun.now.ty (tree.Closure begun.now.closure (last_nodes begun.now.count (stack checker.old)))) (state checker.old)) result checker.new }
-    ensures kept { Keeps (below_all begun.now.count (stack checker.old)) checker.old result checker.new }
+    ensures gives { Gives (rows.fitted expected (a_node_of begun.now.id.0 at begun.now.ty (tree.Closure begun.now.closure (last_nodes begun.now.count (stack checker.old)))) (state checker.old)) result checker.new }
+    ensures kept { KeepsStack (below_all begun.now.count (stack checker.old)) checker.old result checker.new }
 {
     coerce_many(
         checker,
@@ -110,6 +110,6 @@ pub fn closure_end(
         begun.ty,
         Many::Closure(begun.closure),
         begun.count as usize,
-        want,
+        expected,
     )
 }

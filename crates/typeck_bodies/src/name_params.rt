@@ -3,7 +3,7 @@ ghost use Rattle.std.specs.Prelude.{◌≡◌, ◌∷◌, reverse, IfErr, OnOk};
 ghost use Rattle.mir_base.specs.declared.rule.RuleError.{RuleError};
 ghost use Rattle.src_ast.specs.PartForms.{receiver_seen};
 ghost use Rattle.src_ast.specs.View.{self_name};
-ghost use Rattle.typeck_checker.specs.Stand.{GivesValue, Keeps, Same, Stays, env, stack, state};
+ghost use Rattle.typeck_checker.specs.Stand.{GivesValue, KeepsStack, ChangesNothing, Stays, env, stack, state};
 ghost use Rattle.typed_tree.specs.Tree as tree;
 ghost use Rattle.typing_rules.specs.Bodies as bodies;
 ghost use Rattle.typing_rules.specs.Places.{a_node_of, used};
@@ -49,7 +49,7 @@ fn put_name(
 /// [`RuleError::Memory`] alone, where memory is wanted.
 pub fn name_param(checker: &mut Checker, at: Pos, name: &str, ty: TyId) -> Result<NodeId, RuleError>
     ensures gives { GivesNamed (bodies.name_param at name.now ty (state checker.old)) name.now ty result checker.new }
-    ensures kept { Keeps (stack checker.old) checker.old result checker.new }
+    ensures kept { KeepsStack (stack checker.old) checker.old result checker.new }
 {
     let id = checker.number()?;
     put_name(checker, id, at, name, ty)?;
@@ -88,7 +88,7 @@ fn self_named(
     ty: TyId,
 ) -> Result<TyId, RuleError>
     ensures gives { GivesParam (self_rest at ty (reverse bound.old) (state checker.old)) result bound.new checker.new }
-    ensures kept { Keeps (stack checker.old) checker.old result checker.new }
+    ensures kept { KeepsStack (stack checker.old) checker.old result checker.new }
 {
     let id = name_param(checker, at, "self", ty)?;
     enter_self(checker, bound, id, ty)?;
@@ -97,7 +97,7 @@ fn self_named(
 
 fn self_ty(checker: &mut Checker, receiver: Receiver, own: TyId) -> Result<TyId, RuleError>
     ensures gives { GivesValue (λ ty. ty) (bodies.self_ty (receiver_seen receiver) own (state checker.old)) result checker.new }
-    ensures same { Same checker.old checker.new }
+    ensures same { ChangesNothing checker.old checker.new }
 {
     match receiver {
         Receiver::Value => Ok(own),
@@ -108,7 +108,7 @@ fn self_ty(checker: &mut Checker, receiver: Receiver, own: TyId) -> Result<TyId,
 
 fn receiver_of(checker: &mut Checker, receiver: Receiver, adt: u32) -> Result<TyId, RuleError>
     ensures gives { GivesValue (λ ty. ty) (receiver_rest (receiver_seen receiver) adt (state checker.old)) result checker.new }
-    ensures same { Same checker.old checker.new }
+    ensures same { ChangesNothing checker.old checker.new }
 {
     let own = checker.intern(Ty::Adt(adt))?;
     self_ty(checker, receiver, own)
@@ -116,7 +116,7 @@ fn receiver_of(checker: &mut Checker, receiver: Receiver, adt: u32) -> Result<Ty
 
 fn receiver_ty(checker: &mut Checker, at: Pos, receiver: Receiver) -> Result<TyId, RuleError>
     ensures gives { GivesValue (λ ty. ty) (bodies.receiver_ty (env checker.old) at (receiver_seen receiver) (state checker.old)) result checker.new }
-    ensures same { Same checker.old checker.new }
+    ensures same { ChangesNothing checker.old checker.new }
 {
     match adt_at_head(checker, None) {
         Some(adt) => receiver_of(checker, receiver, adt),
@@ -136,7 +136,7 @@ pub fn self_param(
     receiver: Receiver,
 ) -> Result<TyId, RuleError>
     ensures gives { GivesParam (self_param_of (env checker.old) at (receiver_seen receiver) (reverse bound.old) (state checker.old)) result bound.new checker.new }
-    ensures kept { Keeps (stack checker.old) checker.old result checker.new }
+    ensures kept { KeepsStack (stack checker.old) checker.old result checker.new }
 {
     let ty = receiver_ty(checker, at, receiver)?;
     self_named(checker, bound, at, ty)

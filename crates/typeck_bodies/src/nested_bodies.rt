@@ -2,7 +2,7 @@
 ghost use Rattle.std.specs.Prelude.{◌≡◌, ◌++◌, ◌∷◌, [], IfErr, IfOk, OnOk, map};
 ghost use Rattle.mir_base.specs.declared.rule.RuleError.{RuleError};
 ghost use Rattle.typed_tree.specs.View.{body_of};
-ghost use Rattle.typeck_checker.specs.Stand.{Same, state};
+ghost use Rattle.typeck_checker.specs.Stand.{ChangesNothing, state};
 ghost use Rattle.typeck_bodies.specs.Around.{behind_body, in_body, with_outer};
 
 use mir_base::{List, RuleError};
@@ -51,7 +51,7 @@ impl Outer {
 pub fn begin_body(checker: &mut Checker) -> Outer
     ensures state { state checker.new ≡ in_body (state checker.old) }
     ensures outer { with_outer result (state checker.new) ≡ state checker.old }
-    ensures same { Same checker.old checker.new }
+    ensures same { ChangesNothing checker.old checker.new }
 {
     let alloc = checker.alloc;
     Outer {
@@ -88,7 +88,7 @@ fn join_bodies(
 /// [`RuleError::Memory`] alone, where memory is wanted.
 pub fn end_body(checker: &mut Checker, outer: Outer, body: TBody) -> Result<(), RuleError>
     ensures state { OnOk result (state checker.new ≡ behind_body outer (body_of body) (state checker.old)) }
-    ensures same { OnOk result (Same checker.old checker.new) }
+    ensures same { OnOk result (ChangesNothing checker.old checker.new) }
     ensures short { IfErr result (λ e. e ≡ RuleError.Memory) }
 {
     let (next_node, breaks, bodies) = outer.into_parts();

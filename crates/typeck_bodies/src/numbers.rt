@@ -2,7 +2,7 @@
 ghost use Rattle.std.specs.Prelude.{◌≡◌, true};
 ghost use Rattle.mir_ty.specs.AreItems.{AreTypes};
 ghost use Rattle.typeck_env.specs.Walked.{Gives, HasOnlyTypes, state_of};
-ghost use Rattle.typeck_checker.specs.Stand.{GivesValue, Same, state};
+ghost use Rattle.typeck_checker.specs.Stand.{GivesValue, ChangesNothing, state};
 ghost use Rattle.typing_rules.specs.Check as steps;
 
 use mir_base::{List, NoMemory, RuleError};
@@ -17,7 +17,7 @@ use typeck_env::Walk;
 /// [`RuleError::Memory`] alone, where there are 2^32 bodies.
 pub fn body_number(checker: &mut Checker) -> Result<u32, RuleError>
     ensures gives { GivesValue (λ n. n) (steps.body_number (state checker.old)) result checker.new }
-    ensures same { Same checker.old checker.new }
+    ensures same { ChangesNothing checker.old checker.new }
 {
     let Some(next) = checker.walk.next_body.checked_add(1) else {
         return Err(RuleError::past_32_bits());
@@ -57,7 +57,7 @@ pub fn closure_added(
     body: u32,
 ) -> Result<u32, RuleError>
     ensures gives { GivesValue (λ k. k) (steps.closure_added captures body (state checker.old)) result checker.new }
-    ensures same { Same checker.old checker.new }
+    ensures same { ChangesNothing checker.old checker.new }
 {
     if !are_known(&checker.walk.items, captures.as_slice()) {
         return Err(RuleError::cannot_be());

@@ -1,7 +1,7 @@
 //! The parameters of a function, a method or a closure.
 ghost use Rattle.std.specs.Prelude.{◌≡◌, reverse};
 ghost use Rattle.src_ast.specs.Seen.{nodes_of, syn_of};
-ghost use Rattle.typeck_checker.specs.Stand.{Keeps, env, stack, state};
+ghost use Rattle.typeck_checker.specs.Stand.{KeepsStack, env, stack, state};
 ghost use Rattle.typing_rules.specs.Bodies as bodies;
 ghost use Rattle.typeck_bodies.specs.ParamAnswers.{GivesParam, GivesParams, KeepsBelow};
 ghost use Rattle.typeck_bodies.specs.ParamRests.{type_by};
@@ -30,7 +30,7 @@ pub fn param(
     node: &SyntaxNode,
 ) -> Result<TyId, RuleError>
     ensures gives { GivesParam (bodies.param (env checker.old) (type_by (env checker.old) may_refer) (syn_of node.now) (reverse bound.old) (state checker.old)) result bound.new checker.new }
-    ensures kept { Keeps (stack checker.old) checker.old result checker.new }
+    ensures kept { KeepsStack (stack checker.old) checker.old result checker.new }
 {
     let at = node.at;
     match param_form(node) {

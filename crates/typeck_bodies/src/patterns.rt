@@ -1,7 +1,7 @@
 //! Parameters that are patterns (The Rust Reference, "Function parameters").
 ghost use Rattle.std.specs.Prelude.{◌≡◌, ◌||◌, not, reverse, OnOk};
 ghost use Rattle.src_ast.specs.Seen.{syn_of};
-ghost use Rattle.typeck_checker.specs.Stand.{GivesValue, Keeps, Same, env, stack, state};
+ghost use Rattle.typeck_checker.specs.Stand.{GivesValue, KeepsStack, ChangesNothing, env, stack, state};
 ghost use Rattle.typing_rules.specs.Bodies as bodies;
 ghost use Rattle.well_typed.specs.Types as types;
 ghost use Rattle.typeck_bodies.specs.ParamAnswers.{GivesParam};
@@ -14,7 +14,7 @@ use src_tree::SyntaxNode;
 use typeck_checker::{Checker, resolve_param_type, resolve_type};
 use typeck_env::{Variables, is_reference};
 use typeck_heads::obeys;
-use typeck_patterns::{Expected, pattern as check_pattern};
+use typeck_patterns::{PatternContext, pattern as check_pattern};
 
 /// Whether a pattern is one name or `_`, in parentheses or not.
 #[tactic(auto, using(crate::proofs::ParamShapes::plain_seen))]
@@ -43,9 +43,9 @@ fn part_param(
     pattern: &SyntaxNode,
 ) -> Result<TyId, RuleError>
     ensures gives { GivesParam (part_rest (env checker.old) ty (syn_of pattern.now) (reverse bound.old) (state checker.old)) result bound.new checker.new }
-    ensures kept { Keeps (stack checker.old) checker.old result checker.new }
+    ensures kept { KeepsStack (stack checker.old) checker.old result checker.new }
 {
-    let e = Expected {
+    let e = PatternContext {
         is_fixed: false,
         takes_all: true,
     };
@@ -61,7 +61,7 @@ fn pattern_param(
     pattern: &SyntaxNode,
 ) -> Result<TyId, RuleError>
     ensures gives { GivesParam (pattern_rest (env checker.old) at ty (syn_of pattern.now) (reverse bound.old) (state checker.old)) result bound.new checker.new }
-    ensures kept { Keeps (stack checker.old) checker.old result checker.new }
+    ensures kept { KeepsStack (stack checker.old) checker.old result checker.new }
 {
     let may = may_have(&checker.walk.items, ty, pattern);
     obeys(Rule::T08, at, may)?;
@@ -71,7 +71,7 @@ fn pattern_param(
 /// The type of a parameter, which may be a reference or not.
 fn param_ty(checker: &mut Checker, may_refer: bool, node: &SyntaxNode) -> Result<TyId, RuleError>
     ensures gives { GivesValue (λ ty. ty) (type_by (env checker.old) may_refer (syn_of node.now) (state checker.old)) result checker.new }
-    ensures same { OnOk result (Same checker.old checker.new) }
+    ensures same { OnOk result (ChangesNothing checker.old checker.new) }
 {
     if may_refer {
         resolve_param_type(checker, node)
@@ -90,7 +90,7 @@ pub fn typed_param(
     ty: &SyntaxNode,
 ) -> Result<TyId, RuleError>
     ensures gives { GivesParam (typed_param_of (env checker.old) at may_refer (syn_of pattern.now) (syn_of ty.now) (reverse bound.old) (state checker.old)) result bound.new checker.new }
-    ensures kept { Keeps (stack checker.old) checker.old result checker.new }
+    ensures kept { KeepsStack (stack checker.old) checker.old result checker.new }
 {
     let ty = param_ty(checker, may_refer, ty)?;
     pattern_param(checker, bound, at, ty, pattern)

@@ -47,16 +47,16 @@ self_none items own (first ∷ params) e = none_by _ first e
 -- ---- what is behind `&`
 
 -- a node that is fitted to a type leaves the items as they were
-by_fit : (want : TyId) (n m : Node) (s t : TypingState) (f : Fit) → fitted_by want n f s ≡ Ok (m, t) → s.items ≡ t.items
-by_fit want n m s t Fits e = ap (items_in s.items) e
-by_fit want n m s t (Coerced trait_no) e = ap (items_in s.items) e
-by_fit want n m s t Differs e = absurd (cc)
+by_fit : (expected : TyId) (n m : Node) (s t : TypingState) (f : Fit) → fitted_by expected n f s ≡ Ok (m, t) → s.items ≡ t.items
+by_fit expected n m s t Fits e = ap (items_in s.items) e
+by_fit expected n m s t (Coerced trait_no) e = ap (items_in s.items) e
+by_fit expected n m s t Differs e = absurd (cc)
 
-fitted_items : (want : Option TyId) (n m : Node) (s t : TypingState) → fitted want n s ≡ Ok (m, t) → s.items ≡ t.items
+fitted_items : (expected : Option TyId) (n m : Node) (s t : TypingState) → fitted expected n s ≡ Ok (m, t) → s.items ≡ t.items
 fitted_items None n m s t e = ap (items_in s.items) e
-fitted_items (Some want) n m s t e = by_fit want n m s t (fit s.items want (ty_of n)) e
+fitted_items (Some expected) n m s t e = by_fit expected n m s t (fit s.items expected (ty_of n)) e
 
-module _ (id : ℕ) (at : Pos) (called : Called) (want : Option TyId) (receiver : Node) (given : Nodes) (s : TypingState) where
+module _ (id : ℕ) (at : Pos) (called : Called) (expected : Option TyId) (receiver : Node) (given : Nodes) (s : TypingState) where
   abbrev counted : Bool → Node → Check Node
   counted is_count n = do
     obeys Rule.T04 at is_count
@@ -82,58 +82,58 @@ module _ (id : ℕ) (at : Pos) (called : Called) (want : Option TyId) (receiver 
   same_asked false (Ok x) same = refl
   same_asked is_count (Err e) same = refl
 
-  pub refused_as : (is_count : Bool) → refused_rest id at called is_count (called.is_unique && borrows_shared s.items receiver) want receiver given s ≡ called_rest id at called is_count want receiver given s
+  pub refused_as : (is_count : Bool) → refused_rest id at called is_count (called.is_unique && borrows_shared s.items receiver) expected receiver given s ≡ called_rest id at called is_count expected receiver given s
   refused_as is_count =
       let n = a_node_of id at called.answer (behind_form called.behind receiver given) in
-      same_asked is_count (fitted want n s) (λ m t e. fitted_items want n m s t e)
+      same_asked is_count (fitted expected n s) (λ m t e. fitted_items expected n m s t e)
 
 -- ---- what is called behind its receiver
 
-module _ (env : Env) (at : Pos) (id : ℕ) (base : Node) (f : Method) (count : ℕ) (args : Arguments) (want : Option TyId) (s : TypingState) where
+module _ (env : Env) (at : Pos) (id : ℕ) (base : Node) (f : Method) (count : ℕ) (args : Arguments) (expected : Option TyId) (s : TypingState) where
   -- the call where its method has `self`
   chosen : Bool → Check Node
-  chosen b = if b then with_self env at id base f count args want (head_of f).params else (args [] >> breaks Rule.T12 at)
+  chosen b = if b then with_self env at id base f count args expected (head_of f).params else (args [] >> breaks Rule.T12 at)
 
-  by_self : (b : Bool) → takes_self s.items (ty_of base) (head_of f).params ≡ b → with_method env at id base (Some f) count args want s ≡ chosen b s
+  by_self : (b : Bool) → takes_self s.items (ty_of base) (head_of f).params ≡ b → with_method env at id base (Some f) count args expected s ≡ chosen b s
   unfolding chosen
   by_self b e = ap (λ b. chosen b s) e
 
-  pub without_self : self_of s.items (ty_of base) (head_of f).params ≡ None → with_method env at id base (Some f) count args want s ≡ (args [] >>= (λ given. receiver_by id at None (count == 0) want base given)) s
+  pub without_self : self_of s.items (ty_of base) (head_of f).params ≡ None → with_method env at id base (Some f) count args expected s ≡ (args [] >>= (λ given. receiver_by id at None (count == 0) expected base given)) s
   unfolding chosen
   without_self e = by_self false (self_none s.items (ty_of base) (head_of f).params e)
 
   module _ (self : TyId) (is : self_of s.items (ty_of base) (head_of f).params ≡ Some self) where
-    begins : with_method env at id base (Some f) count args want s ≡ with_self env at id base f count args want (self ∷ drop 1 (head_of f).params) s
+    begins : with_method env at id base (Some f) count args expected s ≡ with_self env at id base f count args expected (self ∷ drop 1 (head_of f).params) s
     unfolding chosen
     begins =
         let both = self_some s.items (ty_of base) self (head_of f).params is in
-        by_self true both.0 ∙ ap (λ ps. with_self env at id base f count args want ps s) both.1
+        by_self true both.0 ∙ ap (λ ps. with_self env at id base f count args expected ps s) both.1
 
     -- the rest behind the receiver
     abbrev behind : Node → Check Node
     behind receiver = do
       given ← args (drop 1 (head_of f).params)
-      n ← fitted want (a_node_of id at (head_of f).result (method_form f receiver given))
+      n ← fitted expected (a_node_of id at (head_of f).result (method_form f receiver given))
       items ← the_items
       obeys Rule.T04 at (count == length (drop 1 (head_of f).params))
       obeys Rule.T08 at (not (is_unique_borrow (form_of receiver) && is_behind_shared items base))
       obeys Rule.T13 at (not (is_drop_method f))
       pure n
 
-    pub refuses : (e : Broken) → received env at base self s ≡ Err e → with_method env at id base (Some f) count args want s ≡ Err e
+    pub refuses : (e : Broken) → received env at base self s ≡ Err e → with_method env at id base (Some f) count args expected s ≡ Err e
     refuses e h = begins ∙ ap (λ r. and_then r behind) h
 
     pub given_behind : (called : Called) (params : List TyId) (r : Node) (t : TypingState) → received env at base self s ≡ Ok (r, t) →
         ((items : ItemTable) → (called.is_unique && borrows_shared items r) ≡ (is_unique_borrow (form_of r) && is_behind_shared items base)) →
         params ≡ drop 1 (head_of f).params → called.answer ≡ (head_of f).result → called.is_drop ≡ is_drop_method f →
         ((given : Nodes) → behind_form called.behind r given ≡ method_form f r given) →
-        with_method env at id base (Some f) count args want s ≡ (args params >>= (λ given. receiver_by id at (Some called) (count == length params) want r given)) t
+        with_method env at id base (Some f) count args expected s ≡ (args params >>= (λ given. receiver_by id at (Some called) (count == length params) expected r given)) t
     given_behind called params r t got shared same answer is_drop form =
         begins
         ∙ ap (λ o. and_then o behind) got
         ∙ sym (λ i. (do
           given ← args (same i)
-          n ← fitted want (a_node_of id at (answer i) (form given i))
+          n ← fitted expected (a_node_of id at (answer i) (form given i))
           items ← the_items
           obeys Rule.T04 at (count == length (same i))
           obeys Rule.T08 at (not (shared items i))
@@ -146,13 +146,13 @@ pub some_of : {A : Type 0} (o : Option A) → IsSome o → (x : A) × (o ≡ Som
 some_of None h = absurd (cc)
 some_of (Some x) h = (x, refl)
 
-pub receiver_as : (env env_after : Env) (id : ℕ) (at : Pos) (named : Member Method) (want : Option TyId) (base n : Node) (found : Option Method) (f : Method) (s t : TypingState) →
+pub receiver_as : (env env_after : Env) (id : ℕ) (at : Pos) (named : Member Method) (expected : Option TyId) (base n : Node) (found : Option Method) (f : Method) (s t : TypingState) →
     through named at base s ≡ Ok ((n, found), t) → found ≡ Some f → env_after ≡ env → (count : ℕ) (args : Arguments) →
-    method_rest env id at named want base count args s ≡ with_method env_after at id n (Some f) count args want t
-receiver_as env env_after id at named want base n found f s t e is same count args =
-    ap (λ r. and_then r (λ x. with_method env at id x.0 x.1 count args want)) e
-    ∙ ap (λ (m : Option Method). with_method env at id n m count args want t) is
-    ∙ sym (ap (λ (v : Env). with_method v at id n (Some f) count args want t) same)
+    method_rest env id at named expected base count args s ≡ with_method env_after at id n (Some f) count args expected t
+receiver_as env env_after id at named expected base n found f s t e is same count args =
+    ap (λ r. and_then r (λ x. with_method env at id x.0 x.1 count args expected)) e
+    ∙ ap (λ (m : Option Method). with_method env at id n m count args expected t) is
+    ∙ sym (ap (λ (v : Env). with_method v at id n (Some f) count args expected t) same)
 
 -- a check that gives the same
 pub gives_same : {B : Type 0} (check first : ℕ → Arguments → Check Node) (s t : TypingState) (params : B → List TyId) (rest : B → Node → ℕ → Nodes → Check Node) (r : Result B RuleError) (after : Checker) →

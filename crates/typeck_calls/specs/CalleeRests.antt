@@ -24,40 +24,40 @@ use Rattle.typeck_calls.specs.declared.closures.CalledClosure.{CalledClosure}
 
 -- a call by how it ends, with its arguments, of which there are so many, and whether that is as many as parameters
 abbrev pub ending_rest : ℕ → Pos → Option TyId → CallEnding → Bool → ℕ → Nodes → Check Node
-ending_rest id at want (CallEnding.Function body answer is_drop) is_count count given =
-    call_rest id at answer (tree.Call body given) is_count (not is_drop) want
-ending_rest id at want (CallEnding.Make adt variant ty) is_count count given =
-    call_rest id at ty (rows.make adt variant given) is_count true want
-ending_rest id at want CallEnding.Print is_count count given =
-    counted_rest id at unit (rows.print_form given) Rule.T04 (count == 1) want
-ending_rest id at want CallEnding.Ask is_count count given =
-    counted_rest id at (int IntKind.I32) (rows.ask_form given) Rule.T04 (count == 0) want
-ending_rest id at want CallEnding.DropValue is_count count given =
-    counted_rest id at unit (rows.drop_form given) Rule.T04 (count == 1) want
-ending_rest id at want CallEnding.Forget is_count count given =
-    counted_rest id at unit (rows.forget_form given) Rule.T04 (count == 1) want
-ending_rest id at want (CallEnding.NewBox content) is_count count given =
-    box_by at id count want content (first_node given)
-ending_rest id at want CallEnding.Refused is_count count given = breaks Rule.T13 at
+ending_rest id at expected (CallEnding.Function body answer is_drop) is_count count given =
+    call_rest id at answer (tree.Call body given) is_count (not is_drop) expected
+ending_rest id at expected (CallEnding.Make adt variant ty) is_count count given =
+    call_rest id at ty (rows.make adt variant given) is_count true expected
+ending_rest id at expected CallEnding.Print is_count count given =
+    counted_rest id at unit (rows.print_form given) Rule.T04 (count == 1) expected
+ending_rest id at expected CallEnding.Ask is_count count given =
+    counted_rest id at (int IntKind.I32) (rows.ask_form given) Rule.T04 (count == 0) expected
+ending_rest id at expected CallEnding.DropValue is_count count given =
+    counted_rest id at unit (rows.drop_form given) Rule.T04 (count == 1) expected
+ending_rest id at expected CallEnding.Forget is_count count given =
+    counted_rest id at unit (rows.forget_form given) Rule.T04 (count == 1) expected
+ending_rest id at expected (CallEnding.NewBox content) is_count count given =
+    box_by at id count expected content (first_node given)
+ending_rest id at expected CallEnding.Refused is_count count given = breaks Rule.T13 at
 
 abbrev pub begun_rest : Pos → Option TyId → ResolvedCall → Node → ℕ → Nodes → Check Node
-begun_rest at want b last count given = ending_rest b.id.0 at want b.ending (count == length b.params) count given
+begun_rest at expected b last count given = ending_rest b.id.0 at expected b.ending (count == length b.params) count given
 
 -- ---- closures
 
 -- a closure that was checked, with what checks its arguments
 abbrev pub closure_rest : ℕ → Pos → Option TyId → Node → ℕ → Arguments → Check Node
-closure_rest id at want c count args = do
+closure_rest id at expected c count args = do
   items ← the_items
   let def = option_and_then (slice_get items.closures) (closure_of items (ty_of c))
   let body = option_map_or (λ d. d.body) def 0
-  with_closure at id c count args want body (option_and_then (λ d. slice_get items.bodies d.body) def)
+  with_closure at id c count args expected body (option_and_then (λ d. slice_get items.bodies d.body) def)
 
 abbrev pub closure_by : ℕ → Pos → Option TyId → Option CalledClosure → Bool → Node → Nodes → Check Node
-closure_by id at want None is_count c given = breaks Rule.T13 at
-closure_by id at want (Some called) is_count c given =
-    counted_rest id at called.answer (tree.ClosureCall called.body c given) Rule.T04 is_count want
+closure_by id at expected None is_count c given = breaks Rule.T13 at
+closure_by id at expected (Some called) is_count c given =
+    counted_rest id at called.answer (tree.ClosureCall called.body c given) Rule.T04 is_count expected
 
 abbrev pub callee_rest : ℕ → Pos → Option TyId → ClosureCallee → Node → ℕ → Nodes → Check Node
-callee_rest id at want callee c count given = closure_by id at want callee.called (count == length callee.params) c
+callee_rest id at expected callee c count given = closure_by id at expected callee.called (count == length callee.params) c
     given

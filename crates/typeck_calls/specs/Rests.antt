@@ -28,14 +28,14 @@ field_rest member id at base = do
 
 -- a method of a value that was checked, with what checks its arguments
 abbrev pub method_rest : Env → ℕ → Pos → Member Method → Option TyId → Node → ℕ → Arguments → Check Node
-method_rest env id at named want base count args = do
+method_rest env id at named expected base count args = do
   found ← through named at base
-  with_method env at id found.0 found.1 count args want
+  with_method env at id found.0 found.1 count args expected
 
 -- the same behind its receiver and its arguments, of which there should be so many
 abbrev pub called_rest : ℕ → Pos → Called → Bool → Option TyId → Node → Nodes → Check Node
-called_rest id at called is_count want receiver given = do
-  n ← fitted want (a_node_of id at called.answer (behind_form called.behind receiver given))
+called_rest id at called is_count expected receiver given = do
+  n ← fitted expected (a_node_of id at called.answer (behind_form called.behind receiver given))
   items ← the_items
   obeys Rule.T04 at is_count
   obeys Rule.T08 at (not (called.is_unique && borrows_shared items receiver))
@@ -44,16 +44,16 @@ called_rest id at called is_count want receiver given = do
 
 -- the same, where it is known whether what is behind `&` is borrowed by `&mut`
 abbrev pub refused_rest : ℕ → Pos → Called → Bool → Bool → Option TyId → Node → Nodes → Check Node
-refused_rest id at called is_count is_refused want receiver given = do
-  n ← counted_rest id at called.answer (behind_form called.behind receiver given) Rule.T04 is_count want
+refused_rest id at called is_count is_refused expected receiver given = do
+  n ← counted_rest id at called.answer (behind_form called.behind receiver given) Rule.T04 is_count expected
   obeys Rule.T08 at (not is_refused)
   obeys Rule.T13 at (not called.is_drop)
   pure n
 
 abbrev pub receiver_by : ℕ → Pos → Option Called → Bool → Option TyId → Node → Nodes → Check Node
-receiver_by id at None is_count want receiver given = breaks Rule.T12 at
-receiver_by id at (Some called) is_count want receiver given = called_rest id at called is_count want receiver given
+receiver_by id at None is_count expected receiver given = breaks Rule.T12 at
+receiver_by id at (Some called) is_count expected receiver given = called_rest id at called is_count expected receiver given
 
 abbrev pub receiver_rest : ℕ → Pos → Option TyId → MethodReceiver → Node → ℕ → Nodes → Check Node
-receiver_rest id at want r receiver count given =
-    receiver_by id at r.called (count == length r.params) want receiver given
+receiver_rest id at expected r receiver count given =
+    receiver_by id at r.called (count == length r.params) expected receiver given

@@ -14,15 +14,15 @@ use Rattle.typing_rules.specs.Places.{a_node_of}
 use Rattle.typing_rules.specs.Rows.{Given, all_given, are_known, fitted}
 
 abbrev pub made_rest : ℕ → Pos → ℕ → ℕ → TyId → Bool → Option TyId → Fields × Given → Check Node
-made_rest id at adt variant ty is_whole want fs = do
-  n ← fitted want (a_node_of id at ty (tree.Make adt variant fs.0))
+made_rest id at adt variant ty is_whole expected fs = do
+  n ← fitted expected (a_node_of id at ty (tree.Make adt variant fs.0))
   obeys Rule.T04 at is_whole
   obeys Rule.T12 at (are_known fs.1)
   pure n
 
 abbrev pub struct_rest : ℕ → Pos → ℕ → ℕ → TyId → ℕ → Option TyId → Fields × Given → Check Node
-struct_rest id at adt variant ty count want fs =
-    made_rest id at adt variant ty (all_given count fs.1 && length fs.1 == count) want fs
+struct_rest id at adt variant ty count expected fs =
+    made_rest id at adt variant ty (all_given count fs.1 && length fs.1 == count) expected fs
 
 -- what a check gives with the fields of a value, whatever they are, is what they give, and then the rest behind them
 abbrev pub GivesFields : {B : Type 0} → (Check (Fields × Given) → Check Node) → TypingState →

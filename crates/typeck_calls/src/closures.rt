@@ -8,7 +8,7 @@ ghost use Rattle.typeck_checker.specs.Lists.{below_all, last_nodes};
 ghost use Rattle.typeck_calls.specs.Closures.{body_seen, closure_seen};
 ghost use Rattle.typeck_calls.specs.CalleeRests.{callee_rest, closure_rest};
 ghost use Rattle.typeck_calls.specs.Calls.{GivesCall};
-ghost use Rattle.typeck_checker.specs.Stand.{Gives, Keeps, below, stack, state, top};
+ghost use Rattle.typeck_checker.specs.Stand.{Gives, KeepsStack, below, stack, state, top};
 
 use crate::copy_types;
 use mir_base::{List, NodeId, Pos, Rule, RuleError};
@@ -84,7 +84,7 @@ fn with_body(checker: &Checker, body: u32) -> Result<ClosureCallee, RuleError>
 
 /// The last node as a value that is called. The arguments are checked behind it, and then [`closure_end`] ends the call.
 pub fn closure_callee(checker: &Checker) -> Result<ClosureCallee, RuleError>
-    ensures gives { (id : ℕ) (at : Pos) (want : Option TyId) → GivesCall (closure_rest id at want (top (stack checker.now))) (state checker.now) (λ callee. callee.params) (callee_rest id at want) result checker.now }
+    ensures gives { (id : ℕ) (at : Pos) (expected : Option TyId) → GivesCall (closure_rest id at expected (top (stack checker.now))) (state checker.now) (λ callee. callee.params) (callee_rest id at expected) result checker.now }
 {
     match body_of(&checker.walk.items, checker.last_ty()) {
         Some(body) => {
@@ -102,10 +102,10 @@ pub fn closure_end(
     at: Pos,
     callee: &ClosureCallee,
     count: usize,
-    want: Option<TyId>,
+    expected: Option<TyId>,
 ) -> Result<(), RuleError>
-    ensures gives { Gives (callee_rest id.0 at want callee.now (top (below_all count (stack checker.old))) count (last_nodes count (stack checker.old)) (state checker.old)) result checker.new }
-    ensures kept { Keeps (below (below_all count (stack checker.old))) checker.old result checker.new }
+    ensures gives { Gives (callee_rest id.0 at expected callee.now (top (below_all count (stack checker.old))) count (last_nodes count (stack checker.old)) (state checker.old)) result checker.new }
+    ensures kept { KeepsStack (below (below_all count (stack checker.old))) checker.old result checker.new }
 {
     let is_count = count == callee.params.len();
     match callee.called {
@@ -119,7 +119,7 @@ pub fn closure_end(
                 behind,
                 count,
                 is_count,
-                want,
+                expected,
             )
         }
         None => Err(broken_rule(Rule::T13, at)),

@@ -8,7 +8,7 @@ ghost use Rattle.typeck_exprs.specs.CallRests.{call_rest, counted_rest};
 ghost use Rattle.typeck_calls.specs.Numbers.{numbers_from};
 ghost use Rattle.typeck_calls.specs.CalleeRests.{begun_rest, ending_rest};
 ghost use Rattle.typeck_checker.specs.Forms.{one_form};
-ghost use Rattle.typeck_checker.specs.Stand.{Gives, Keeps, Stays, stack, state};
+ghost use Rattle.typeck_checker.specs.Stand.{Gives, KeepsStack, Stays, stack, state};
 ghost use Rattle.typed_tree.specs.Tree as tree;
 ghost use Rattle.typing_rules.specs.Places as places;
 ghost use Rattle.typing_rules.specs.Rows as rows;
@@ -67,13 +67,13 @@ fn coerce_make(
     adt: u32,
     variant: u32,
     count: usize,
-    want: Option<TyId>,
+    expected: Option<TyId>,
 ) -> Result<(), RuleError>
-    ensures gives { Gives (rows.fitted want (places.a_node_of id.0 at ty (rows.make adt variant (last_nodes count (stack checker.old)))) (state checker.old)) result checker.new }
-    ensures kept { Keeps (below_all count (stack checker.old)) checker.old result checker.new }
+    ensures gives { Gives (rows.fitted expected (places.a_node_of id.0 at ty (rows.make adt variant (last_nodes count (stack checker.old)))) (state checker.old)) result checker.new }
+    ensures kept { KeepsStack (below_all count (stack checker.old)) checker.old result checker.new }
 {
     wrap_parts(checker, id, at, ty, adt, variant, count)?;
-    checker.coerce(want)
+    checker.coerce(expected)
 }
 
 /// A value of a struct or a variant, whose parts are the last nodes, so many, in the order of its fields.
@@ -86,12 +86,12 @@ fn make_end(
     variant: u32,
     count: usize,
     is_count: bool,
-    want: Option<TyId>,
+    expected: Option<TyId>,
 ) -> Result<(), RuleError>
-    ensures gives { Gives (call_rest id.0 at ty (rows.make adt variant (last_nodes count (stack checker.old))) is_count true want (state checker.old)) result checker.new }
-    ensures kept { Keeps (below_all count (stack checker.old)) checker.old result checker.new }
+    ensures gives { Gives (call_rest id.0 at ty (rows.make adt variant (last_nodes count (stack checker.old))) is_count true expected (state checker.old)) result checker.new }
+    ensures kept { KeepsStack (below_all count (stack checker.old)) checker.old result checker.new }
 {
-    coerce_make(checker, id, at, ty, adt, variant, count, want)?;
+    coerce_make(checker, id, at, ty, adt, variant, count, expected)?;
     obeys(Rule::T04, at, is_count)
 }
 
@@ -114,16 +114,16 @@ fn coerce_given(
     at: Pos,
     one: One,
     count: usize,
-    want: Option<TyId>,
+    expected: Option<TyId>,
 ) -> Result<(), RuleError>
-    ensures gives { Gives (rows.fitted want (places.a_node_of id.0 at places.unit (rows.with_one (last_nodes count (stack checker.old)) (one_form one))) (state checker.old)) result checker.new }
-    ensures kept { Keeps (below_all count (stack checker.old)) checker.old result checker.new }
+    ensures gives { Gives (rows.fitted expected (places.a_node_of id.0 at places.unit (rows.with_one (last_nodes count (stack checker.old)) (one_form one))) (state checker.old)) result checker.new }
+    ensures kept { KeepsStack (below_all count (stack checker.old)) checker.old result checker.new }
 {
     if count == 0 {
-        return checker.coerce_leaf(id, at, UNIT, Leaf::UnitValue, want);
+        return checker.coerce_leaf(id, at, UNIT, Leaf::UnitValue, expected);
     }
     first_alone(checker, count)?;
-    checker.coerce_one(id, at, UNIT, one, want)
+    checker.coerce_one(id, at, UNIT, one, expected)
 }
 
 /// A built-in with one parameter.
@@ -133,12 +133,12 @@ fn one_end(
     at: Pos,
     one: One,
     count: usize,
-    want: Option<TyId>,
+    expected: Option<TyId>,
 ) -> Result<(), RuleError>
-    ensures gives { Gives (counted_rest id.0 at places.unit (rows.with_one (last_nodes count (stack checker.old)) (one_form one)) Rule.T04 (count == 1) want (state checker.old)) result checker.new }
-    ensures kept { Keeps (below_all count (stack checker.old)) checker.old result checker.new }
+    ensures gives { Gives (counted_rest id.0 at places.unit (rows.with_one (last_nodes count (stack checker.old)) (one_form one)) Rule.T04 (count == 1) expected (state checker.old)) result checker.new }
+    ensures kept { KeepsStack (below_all count (stack checker.old)) checker.old result checker.new }
 {
-    coerce_given(checker, id, at, one, count, want)?;
+    coerce_given(checker, id, at, one, count, expected)?;
     obeys(Rule::T04, at, count == 1)
 }
 
@@ -148,13 +148,13 @@ fn ask_end(
     id: NodeId,
     at: Pos,
     count: usize,
-    want: Option<TyId>,
+    expected: Option<TyId>,
 ) -> Result<(), RuleError>
-    ensures gives { Gives (counted_rest id.0 at (places.int IntKind.I32) tree.Ask Rule.T04 (count == 0) want (state checker.old)) result checker.new }
-    ensures kept { Keeps (below_all count (stack checker.old)) checker.old result checker.new }
+    ensures gives { Gives (counted_rest id.0 at (places.int IntKind.I32) tree.Ask Rule.T04 (count == 0) expected (state checker.old)) result checker.new }
+    ensures kept { KeepsStack (below_all count (stack checker.old)) checker.old result checker.new }
 {
     let_go(checker, count)?;
-    checker.coerce_leaf(id, at, I32, Leaf::Ask, want)?;
+    checker.coerce_leaf(id, at, I32, Leaf::Ask, expected)?;
     obeys(Rule::T04, at, count == 0)
 }
 
@@ -166,16 +166,16 @@ fn new_box_end(
     at: Pos,
     content: Option<TyId>,
     count: usize,
-    want: Option<TyId>,
+    expected: Option<TyId>,
 ) -> Result<(), RuleError>
-    ensures gives { Gives (rows.box_by at id.0 count want content (rows.first_node (last_nodes count (stack checker.old))) (state checker.old)) result checker.new }
-    ensures kept { Keeps (below_all count (stack checker.old)) checker.old result checker.new }
+    ensures gives { Gives (rows.box_by at id.0 count expected content (rows.first_node (last_nodes count (stack checker.old))) (state checker.old)) result checker.new }
+    ensures kept { KeepsStack (below_all count (stack checker.old)) checker.old result checker.new }
 {
     if count == 0 {
         return Err(broken_rule(Rule::T04, at));
     }
     first_alone(checker, count)?;
-    box_end(checker, id, at, count, content, want)
+    box_end(checker, id, at, count, content, expected)
 }
 
 fn end_call(
@@ -185,10 +185,10 @@ fn end_call(
     ending: CallEnding,
     is_count: bool,
     count: usize,
-    want: Option<TyId>,
+    expected: Option<TyId>,
 ) -> Result<(), RuleError>
-    ensures gives { Gives (ending_rest id.0 at want ending is_count count (last_nodes count (stack checker.old)) (state checker.old)) result checker.new }
-    ensures kept { Keeps (below_all count (stack checker.old)) checker.old result checker.new }
+    ensures gives { Gives (ending_rest id.0 at expected ending is_count count (last_nodes count (stack checker.old)) (state checker.old)) result checker.new }
+    ensures kept { KeepsStack (below_all count (stack checker.old)) checker.old result checker.new }
 {
     match ending {
         CallEnding::Function {
@@ -198,17 +198,17 @@ fn end_call(
         } => {
             let many = Many::Call(body);
             body_end(
-                checker, id, at, answer, many, count, is_count, !is_drop, want,
+                checker, id, at, answer, many, count, is_count, !is_drop, expected,
             )
         }
         CallEnding::Make { adt, variant, ty } => {
-            make_end(checker, id, at, ty, adt, variant, count, is_count, want)
+            make_end(checker, id, at, ty, adt, variant, count, is_count, expected)
         }
-        CallEnding::Print => one_end(checker, id, at, One::Print, count, want),
-        CallEnding::Ask => ask_end(checker, id, at, count, want),
-        CallEnding::DropValue => one_end(checker, id, at, One::DropValue, count, want),
-        CallEnding::Forget => one_end(checker, id, at, One::Forget, count, want),
-        CallEnding::NewBox(content) => new_box_end(checker, id, at, content, count, want),
+        CallEnding::Print => one_end(checker, id, at, One::Print, count, expected),
+        CallEnding::Ask => ask_end(checker, id, at, count, expected),
+        CallEnding::DropValue => one_end(checker, id, at, One::DropValue, count, expected),
+        CallEnding::Forget => one_end(checker, id, at, One::Forget, count, expected),
+        CallEnding::NewBox(content) => new_box_end(checker, id, at, content, count, expected),
         CallEnding::Refused => Err(broken_rule(Rule::T13, at)),
     }
 }
@@ -219,11 +219,19 @@ pub fn call_end(
     at: Pos,
     begun: &ResolvedCall,
     count: usize,
-    want: Option<TyId>,
+    expected: Option<TyId>,
 ) -> Result<(), RuleError>
-    ensures gives { (last : tree.Node) → Gives (begun_rest at want begun.now last count (last_nodes count (stack checker.old)) (state checker.old)) result checker.new }
-    ensures kept { Keeps (below_all count (stack checker.old)) checker.old result checker.new }
+    ensures gives { (last : tree.Node) → Gives (begun_rest at expected begun.now last count (last_nodes count (stack checker.old)) (state checker.old)) result checker.new }
+    ensures kept { KeepsStack (below_all count (stack checker.old)) checker.old result checker.new }
 {
     let is_count = count == begun.params.len();
-    end_call(checker, begun.id, at, begun.ending, is_count, count, want)
+    end_call(
+        checker,
+        begun.id,
+        at,
+        begun.ending,
+        is_count,
+        count,
+        expected,
+    )
 }

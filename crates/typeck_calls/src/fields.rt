@@ -6,7 +6,7 @@ ghost use Rattle.typeck_calls.specs.Fields.{number_in, numbered, part_seen, want
 ghost use Rattle.typeck_calls.specs.Going.{GivesFound};
 ghost use Rattle.typeck_calls.specs.Rests.{field_rest};
 ghost use Rattle.src_ast.specs.Syntax.{number_word};
-ghost use Rattle.typeck_checker.specs.Stand.{Gives, Keeps, below, stack, state, top};
+ghost use Rattle.typeck_checker.specs.Stand.{Gives, KeepsStack, below, stack, state, top};
 ghost use Rattle.typing_rules.specs.Places as places;
 ghost use Rattle.typing_rules.specs.Scope as scope;
 ghost use Rattle.well_typed.specs.Types as types;
@@ -142,7 +142,7 @@ fn through(
     wanted: WantedMember,
 ) -> Result<Option<MemberPart>, RuleError>
     ensures gives { GivesFound part_seen (places.through (wanted_by wanted.entry) at (top (stack checker.old)) (state checker.old)) result checker.new }
-    ensures kept { Keeps (below (stack checker.old)) checker.old result checker.new }
+    ensures kept { KeepsStack (below (stack checker.old)) checker.old result checker.new }
 {
     let count = most_steps(checker);
     for _step in 0..count {
@@ -166,7 +166,7 @@ fn wanted_end(
     wanted: WantedMember,
 ) -> Result<(), RuleError>
     ensures gives { Gives (field_rest (wanted_by wanted.entry) id.0 at (top (stack checker.old)) (state checker.old)) result checker.new }
-    ensures kept { Keeps (below (stack checker.old)) checker.old result checker.new }
+    ensures kept { KeepsStack (below (stack checker.old)) checker.old result checker.new }
 {
     match through(checker, at, wanted)? {
         Some(part) => checker.wrap_one(id, at, part.ty, One::Field(part.number)),
@@ -177,7 +177,7 @@ fn wanted_end(
 /// `e.f`, where `e` is the last node.
 pub fn field_end(checker: &mut Checker, id: NodeId, at: Pos, name: &str) -> Result<(), RuleError>
     ensures gives { Gives (field_rest (places.struct_field name.now) id.0 at (top (stack checker.old)) (state checker.old)) result checker.new }
-    ensures kept { Keeps (below (stack checker.old)) checker.old result checker.new }
+    ensures kept { KeepsStack (below (stack checker.old)) checker.old result checker.new }
 {
     wanted_end(checker, id, at, WantedMember::Named(name))
 }
@@ -195,7 +195,7 @@ fn digits(alloc: Global, number: u64) -> Result<Name, AllocError>
 /// `e.0`, where `e` is the last node.
 pub fn part_end(checker: &mut Checker, id: NodeId, at: Pos, number: u64) -> Result<(), RuleError>
     ensures gives { Gives (field_rest (places.numbered_part number) id.0 at (top (stack checker.old)) (state checker.old)) result checker.new }
-    ensures kept { Keeps (below (stack checker.old)) checker.old result checker.new }
+    ensures kept { KeepsStack (below (stack checker.old)) checker.old result checker.new }
 {
     match digits(checker.alloc, number) {
         Ok(word) => {

@@ -13,7 +13,7 @@ use typeck_checker::Checker;
 #[derive(Clone, Copy)]
 pub struct FieldWanted {
     pub number: Option<u32>,
-    pub want: Option<TyId>,
+    pub expected: Option<TyId>,
 }
 
 #[tactic(auto, using(crate::proofs::Tabled::named_by))]
@@ -32,11 +32,11 @@ pub fn field_wanted(
     name: &str,
 ) -> FieldWanted
     ensures number { (own : Word) → result.number ≡ scope.field_named (variant_by own checker.now.tables adt variant types.now) name.now }
-    ensures want { (own : Word) → result.want ≡ typed.field_want (variant_by own checker.now.tables adt variant types.now) result.number }
+    ensures expected { (own : Word) → result.expected ≡ typed.field_want (variant_by own checker.now.tables adt variant types.now) result.number }
 {
     let number = number_of(checker, adt, variant, types, name);
     FieldWanted {
         number,
-        want: field_want(types, number),
+        expected: field_want(types, number),
     }
 }

@@ -2,7 +2,7 @@
 ghost use Rattle.std.specs.Prelude.{◌≡◌, IfErr, IfOk, option_and_then, option_copied, option_map, slice_get};
 ghost use Rattle.mir_base.specs.declared.rule.RuleError.{RuleError};
 ghost use Rattle.typeck_calls.specs.Methods.{GivesMethod, IsMethod, is_drop_of, method_seen};
-ghost use Rattle.typeck_checker.specs.Stand.{Keeps, below, stack, state, top};
+ghost use Rattle.typeck_checker.specs.Stand.{KeepsStack, below, stack, state, top};
 ghost use Rattle.typing_rules.specs.Named as named;
 ghost use Rattle.typing_rules.specs.Places as places;
 ghost use Rattle.typing_rules.specs.Rows as rows;
@@ -84,7 +84,7 @@ fn method_named(checker: &Checker, ty: TyId, name: &str) -> Result<Option<Method
 /// The last node through boxes and references, up to the first type that has a method of this name.
 pub fn through(checker: &mut Checker, at: Pos, name: &str) -> Result<Option<Method>, RuleError>
     ensures gives { GivesMethod (places.through (named.method_named name.now) at (top (stack checker.old)) (state checker.old)) result checker.new }
-    ensures kept { Keeps (below (stack checker.old)) checker.old result checker.new }
+    ensures kept { KeepsStack (below (stack checker.old)) checker.old result checker.new }
 {
     let count = most_steps(checker);
     for _step in 0..count {

@@ -5,7 +5,7 @@ ghost use Rattle.mir_base.specs.declared.rule.Rule.{Rule};
 ghost use Rattle.mir_base.specs.declared.rule.RuleError.{RuleError};
 ghost use Rattle.typeck_calls.specs.Callees.{value_seen};
 ghost use Rattle.src_ast.specs.Seen.{word_of};
-ghost use Rattle.typeck_checker.specs.Stand.{Gives, Keeps, env, stack, state};
+ghost use Rattle.typeck_checker.specs.Stand.{Gives, KeepsStack, env, stack, state};
 ghost use Rattle.typed_tree.specs.Tree as tree;
 ghost use Rattle.typing_rules.specs.Named as named;
 ghost use Rattle.typing_rules.specs.Rows as rows;
@@ -171,10 +171,10 @@ fn unit_leaf(
     ty: TyId,
     adt: u32,
     variant: u32,
-    want: Option<TyId>,
+    expected: Option<TyId>,
 ) -> Result<(), RuleError>
-    ensures gives { Gives (rows.leaf at ty (tree.Make adt variant tree.no_field) want (state checker.old)) result checker.new }
-    ensures kept { Keeps (stack checker.old) checker.old result checker.new }
+    ensures gives { Gives (rows.leaf at ty (tree.Make adt variant tree.no_field) expected (state checker.old)) result checker.new }
+    ensures kept { KeepsStack (stack checker.old) checker.old result checker.new }
 {
     let id = checker.number()?;
     let fields = List::new(checker.alloc);
@@ -188,7 +188,7 @@ fn unit_leaf(
             fields,
         },
     )?;
-    checker.coerce(want)
+    checker.coerce(expected)
 }
 
 fn makes_unit(
@@ -196,13 +196,13 @@ fn makes_unit(
     at: Pos,
     adt: u32,
     variant: u32,
-    want: Option<TyId>,
+    expected: Option<TyId>,
 ) -> Result<(), RuleError>
-    ensures gives { Gives (typed.makes_unit at (named.Makes adt variant) want (state checker.old)) result checker.new }
-    ensures kept { Keeps (stack checker.old) checker.old result checker.new }
+    ensures gives { Gives (typed.makes_unit at (named.Makes adt variant) expected (state checker.old)) result checker.new }
+    ensures kept { KeepsStack (stack checker.old) checker.old result checker.new }
 {
     let ty = checker.intern(Ty::Adt(adt))?;
-    unit_leaf(checker, at, ty, adt, variant, want)
+    unit_leaf(checker, at, ty, adt, variant, expected)
 }
 
 /// A path that is no variable, as a value.
@@ -210,13 +210,13 @@ pub fn path_alone(
     checker: &mut Checker,
     at: Pos,
     path: PathForm,
-    want: Option<TyId>,
+    expected: Option<TyId>,
 ) -> Result<(), RuleError>
-    ensures gives { Gives (typed.path_alone (env checker.old) at (word_of path.entry.first) (word_of path.entry.second) want (state checker.old)) result checker.new }
-    ensures kept { Keeps (stack checker.old) checker.old result checker.new }
+    ensures gives { Gives (typed.path_alone (env checker.old) at (word_of path.entry.first) (word_of path.entry.second) expected (state checker.old)) result checker.new }
+    ensures kept { KeepsStack (stack checker.old) checker.old result checker.new }
 {
     match path_value(checker, path)? {
-        PathValue::Makes { adt, variant } => makes_unit(checker, at, adt, variant, want),
+        PathValue::Makes { adt, variant } => makes_unit(checker, at, adt, variant, expected),
         PathValue::IsBroken(rule) => Err(broken_rule(rule, at)),
     }
 }
@@ -226,15 +226,15 @@ fn name_path(
     checker: &mut Checker,
     at: Pos,
     name: &str,
-    want: Option<TyId>,
+    expected: Option<TyId>,
 ) -> Result<(), RuleError>
-    ensures gives { Gives (typed.path (env checker.old) at (Some name.now) None want (state checker.old)) result checker.new }
-    ensures kept { Keeps (stack checker.old) checker.old result checker.new }
+    ensures gives { Gives (typed.path (env checker.old) at (Some name.now) None expected (state checker.old)) result checker.new }
+    ensures kept { KeepsStack (stack checker.old) checker.old result checker.new }
 {
     match variable(checker, name) {
         Some(found) => {
             put_variable(checker, at, name, found)?;
-            checker.use_value(want)
+            checker.use_value(expected)
         }
         None => path_alone(
             checker,
@@ -243,7 +243,7 @@ fn name_path(
                 first: Some(name),
                 second: None,
             },
-            want,
+            expected,
         ),
     }
 }
@@ -253,13 +253,13 @@ pub fn path(
     checker: &mut Checker,
     at: Pos,
     path: PathForm,
-    want: Option<TyId>,
+    expected: Option<TyId>,
 ) -> Result<(), RuleError>
-    ensures gives { Gives (typed.path (env checker.old) at (word_of path.entry.first) (word_of path.entry.second) want (state checker.old)) result checker.new }
-    ensures kept { Keeps (stack checker.old) checker.old result checker.new }
+    ensures gives { Gives (typed.path (env checker.old) at (word_of path.entry.first) (word_of path.entry.second) expected (state checker.old)) result checker.new }
+    ensures kept { KeepsStack (stack checker.old) checker.old result checker.new }
 {
     match (path.first, path.second) {
-        (Some(name), None) => name_path(checker, at, name, want),
-        _ => path_alone(checker, at, path, want),
+        (Some(name), None) => name_path(checker, at, name, expected),
+        _ => path_alone(checker, at, path, expected),
     }
 }

@@ -10,7 +10,7 @@ ghost use Rattle.typeck_checker.specs.Lists.{behind_form, below_all, last_nodes}
 ghost use Rattle.typeck_calls.specs.Calls.{GivesCall};
 ghost use Rattle.typeck_calls.specs.Methods.{GivesReceiver, borrows_shared, form_shared, method_seen, self_of};
 ghost use Rattle.typeck_calls.specs.Rests.{called_rest, method_rest, receiver_rest, refused_rest};
-ghost use Rattle.typeck_checker.specs.Stand.{Gives, Keeps, below, env, node_if_any, stack, state, top};
+ghost use Rattle.typeck_checker.specs.Stand.{Gives, KeepsStack, below, env, node_if_any, stack, state, top};
 ghost use Rattle.typed_tree.specs.Tree as tree;
 ghost use Rattle.typed_tree.specs.View.{form_of};
 ghost use Rattle.typing_rules.specs.Named as named;
@@ -138,7 +138,7 @@ fn other_params(checker: &Checker, method: Method) -> Result<List<TyId>, RuleErr
 /// `self` by value: a place is taken.
 fn by_value(checker: &mut Checker) -> Result<bool, RuleError>
     ensures gives { (at : Pos) → GivesReceiver (rows.received_by (env checker.old) at (top (stack checker.old)) None (state checker.old)) (top (stack checker.old)) result checker.new }
-    ensures kept { Keeps (below (stack checker.old)) checker.old result checker.new }
+    ensures kept { KeepsStack (below (stack checker.old)) checker.old result checker.new }
 {
     if checker.is_last_place() {
         checker.use_value(None)?;
@@ -149,7 +149,7 @@ fn by_value(checker: &mut Checker) -> Result<bool, RuleError>
 /// `self` by reference: the place that was found is borrowed.
 fn by_reference(checker: &mut Checker, at: Pos, unique: bool) -> Result<bool, RuleError>
     ensures gives { (to : TyId) → GivesReceiver (rows.received_by (env checker.old) at (top (stack checker.old)) (Some (unique, to)) (state checker.old)) (top (stack checker.old)) result checker.new }
-    ensures kept { Keeps (below (stack checker.old)) checker.old result checker.new }
+    ensures kept { KeepsStack (below (stack checker.old)) checker.old result checker.new }
 {
     let id = checker.number()?;
     borrow_of(checker, id, at, unique)?;
@@ -159,7 +159,7 @@ fn by_reference(checker: &mut Checker, at: Pos, unique: bool) -> Result<bool, Ru
 /// The last node as a receiver of a method whose `self` has this type. Whether it is borrowed by `&mut`.
 fn check_receiver(checker: &mut Checker, at: Pos, self_ty: TyId) -> Result<bool, RuleError>
     ensures gives { GivesReceiver (rows.received (env checker.old) at (top (stack checker.old)) self_ty (state checker.old)) (top (stack checker.old)) result checker.new }
-    ensures kept { Keeps (below (stack checker.old)) checker.old result checker.new }
+    ensures kept { KeepsStack (below (stack checker.old)) checker.old result checker.new }
 {
     match reference_of(&checker.walk.items, self_ty) {
         Some((unique, _)) => by_reference(checker, at, unique),
@@ -175,8 +175,8 @@ fn with_self(
 ) -> Result<MethodReceiver, RuleError>
     ensures gives { (id : ℕ) (found : rows.Method) → method_seen checker.old.walk.items method ≡ Some found →
         self_of checker.old.walk.items (ty_of (top (stack checker.old))) (rows.head_of found).params ≡ Some self_ty →
-        (want : Option TyId) → GivesCall (λ count args. rows.with_method (env checker.old) at id (top (stack checker.old)) (Some found) count args want) (state checker.old) (λ r. r.params) (receiver_rest id at want) result checker.new }
-    ensures kept { Keeps (below (stack checker.old)) checker.old result checker.new }
+        (expected : Option TyId) → GivesCall (λ count args. rows.with_method (env checker.old) at id (top (stack checker.old)) (Some found) count args expected) (state checker.old) (λ r. r.params) (receiver_rest id at expected) result checker.new }
+    ensures kept { KeepsStack (below (stack checker.old)) checker.old result checker.new }
 {
     let answer = answer_of(&checker.walk.items, method);
     let is_drop = is_drop(checker, method);
@@ -204,8 +204,8 @@ fn no_method(checker: &Checker) -> MethodReceiver
 
 fn with_method(checker: &mut Checker, at: Pos, method: Method) -> Result<MethodReceiver, RuleError>
     ensures gives { (id : ℕ) (found : rows.Method) → method_seen checker.old.walk.items method ≡ Some found →
-        (want : Option TyId) → GivesCall (λ count args. rows.with_method (env checker.old) at id (top (stack checker.old)) (Some found) count args want) (state checker.old) (λ r. r.params) (receiver_rest id at want) result checker.new }
-    ensures kept { Keeps (below (stack checker.old)) checker.old result checker.new }
+        (expected : Option TyId) → GivesCall (λ count args. rows.with_method (env checker.old) at id (top (stack checker.old)) (Some found) count args expected) (state checker.old) (λ r. r.params) (receiver_rest id at expected) result checker.new }
+    ensures kept { KeepsStack (below (stack checker.old)) checker.old result checker.new }
 {
     match self_ty(&checker.walk.items, checker.last_ty(), method) {
         Some(self_ty) => with_self(checker, at, method, self_ty),
@@ -220,8 +220,8 @@ pub fn method_receiver(
     at: Pos,
     name: &str,
 ) -> Result<MethodReceiver, RuleError>
-    ensures gives { (id : ℕ) (want : Option TyId) → GivesCall (method_rest (env checker.old) id at (named.method_named name.now) want (top (stack checker.old))) (state checker.old) (λ r. r.params) (receiver_rest id at want) result checker.new }
-    ensures kept { Keeps (below (stack checker.old)) checker.old result checker.new }
+    ensures gives { (id : ℕ) (expected : Option TyId) → GivesCall (method_rest (env checker.old) id at (named.method_named name.now) expected (top (stack checker.old))) (state checker.old) (λ r. r.params) (receiver_rest id at expected) result checker.new }
+    ensures kept { KeepsStack (below (stack checker.old)) checker.old result checker.new }
 {
     match through(checker, at, name)? {
         Some(method) => with_method(checker, at, method),
@@ -272,10 +272,10 @@ fn refused_end(
     count: usize,
     is_count: bool,
     is_refused: bool,
-    want: Option<TyId>,
+    expected: Option<TyId>,
 ) -> Result<(), RuleError>
-    ensures gives { Gives (refused_rest id.0 at called is_count is_refused want (top (below_all count (stack checker.old))) (last_nodes count (stack checker.old)) (state checker.old)) result checker.new }
-    ensures kept { Keeps (below (below_all count (stack checker.old))) checker.old result checker.new }
+    ensures gives { Gives (refused_rest id.0 at called is_count is_refused expected (top (below_all count (stack checker.old))) (last_nodes count (stack checker.old)) (state checker.old)) result checker.new }
+    ensures kept { KeepsStack (below (below_all count (stack checker.old))) checker.old result checker.new }
 {
     counted_end(
         checker,
@@ -285,7 +285,7 @@ fn refused_end(
         called.behind,
         count,
         is_count,
-        want,
+        expected,
     )?;
     if is_refused {
         return Err(broken_rule(Rule::T08, at));
@@ -300,13 +300,15 @@ fn called_end(
     called: Called,
     count: usize,
     is_count: bool,
-    want: Option<TyId>,
+    expected: Option<TyId>,
 ) -> Result<(), RuleError>
-    ensures gives { Gives (called_rest id.0 at called is_count want (top (below_all count (stack checker.old))) (last_nodes count (stack checker.old)) (state checker.old)) result checker.new }
-    ensures kept { Keeps (below (below_all count (stack checker.old))) checker.old result checker.new }
+    ensures gives { Gives (called_rest id.0 at called is_count expected (top (below_all count (stack checker.old))) (last_nodes count (stack checker.old)) (state checker.old)) result checker.new }
+    ensures kept { KeepsStack (below (below_all count (stack checker.old))) checker.old result checker.new }
 {
     let is_refused = is_refused(checker, called, count);
-    refused_end(checker, id, at, called, count, is_count, is_refused, want)
+    refused_end(
+        checker, id, at, called, count, is_count, is_refused, expected,
+    )
 }
 
 /// A call of a method on a receiver, whose arguments are the last nodes, so many.
@@ -316,14 +318,14 @@ pub fn method_end(
     at: Pos,
     receiver: &MethodReceiver,
     count: usize,
-    want: Option<TyId>,
+    expected: Option<TyId>,
 ) -> Result<(), RuleError>
-    ensures gives { Gives (receiver_rest id.0 at want receiver.now (top (below_all count (stack checker.old))) count (last_nodes count (stack checker.old)) (state checker.old)) result checker.new }
-    ensures kept { Keeps (below (below_all count (stack checker.old))) checker.old result checker.new }
+    ensures gives { Gives (receiver_rest id.0 at expected receiver.now (top (below_all count (stack checker.old))) count (last_nodes count (stack checker.old)) (state checker.old)) result checker.new }
+    ensures kept { KeepsStack (below (below_all count (stack checker.old))) checker.old result checker.new }
 {
     let is_count = count == receiver.params.len();
     match receiver.called {
-        Some(called) => called_end(checker, id, at, called, count, is_count, want),
+        Some(called) => called_end(checker, id, at, called, count, is_count, expected),
         None => Err(broken_rule(Rule::T12, at)),
     }
 }

@@ -9,7 +9,7 @@ ghost use Rattle.mir_ty.specs.declared.ty.TyId.{TyId};
 ghost use Rattle.typeck_calls.specs.Callees.{callee_seen};
 ghost use Rattle.typeck_calls.specs.CalleeRests.{begun_rest};
 ghost use Rattle.typeck_calls.specs.Calls.{GivesCall};
-ghost use Rattle.typeck_checker.specs.Stand.{GivesValue, Same, state};
+ghost use Rattle.typeck_checker.specs.Stand.{GivesValue, ChangesNothing, state};
 ghost use Rattle.typed_tree.specs.Tree as tree;
 ghost use Rattle.typing_rules.specs.Check.{Check, number};
 ghost use Rattle.typing_rules.specs.Named as named;
@@ -71,7 +71,7 @@ fn start_call(
     ensures number { GivesValue (λ b. b.id.0) (number (state checker.old)) result checker.new }
     ensures params { IfOk result (λ b. b.params ≡ params) }
     ensures ending { IfOk result (λ b. b.ending ≡ ending) }
-    ensures same { Same checker.old checker.new }
+    ensures same { ChangesNothing checker.old checker.new }
 {
     let id = checker.number()?;
     Ok(ResolvedCall { id, params, ending })
@@ -97,9 +97,9 @@ fn is_drop(checker: &Checker, body: u32) -> bool
 }
 
 fn function(checker: &mut Checker, body: u32) -> Result<ResolvedCall, RuleError>
-    ensures gives { (at : Pos) (want : Option TyId) (value : Check tree.Node) →
-        GivesCall (λ count args. typed.called_by at count value args (named.function_by checker.old.walk.items body (slice_get checker.old.walk.items.bodies body)) want) (state checker.old) (λ b. b.params) (begun_rest at want) result checker.new }
-    ensures same { Same checker.old checker.new }
+    ensures gives { (at : Pos) (expected : Option TyId) (value : Check tree.Node) →
+        GivesCall (λ count args. typed.called_by at count value args (named.function_by checker.old.walk.items body (slice_get checker.old.walk.items.bodies body)) expected) (state checker.old) (λ b. b.params) (begun_rest at expected) result checker.new }
+    ensures same { ChangesNothing checker.old checker.new }
 {
     match checker.walk.items.body_sig(body) {
         Some(sig) => {
@@ -118,9 +118,9 @@ fn function(checker: &mut Checker, body: u32) -> Result<ResolvedCall, RuleError>
 }
 
 fn constructor(checker: &mut Checker, adt: u32, variant: u32) -> Result<ResolvedCall, RuleError>
-    ensures gives { (at : Pos) (want : Option TyId) (value : Check tree.Node) →
-        GivesCall (λ count args. typed.called_by at count value args (named.Constructor adt variant (option_map_or (λ v. v.fields) (types.variant_at checker.old.walk.items adt variant) [])) want) (state checker.old) (λ b. b.params) (begun_rest at want) result checker.new }
-    ensures same { Same checker.old checker.new }
+    ensures gives { (at : Pos) (expected : Option TyId) (value : Check tree.Node) →
+        GivesCall (λ count args. typed.called_by at count value args (named.Constructor adt variant (option_map_or (λ v. v.fields) (types.variant_at checker.old.walk.items adt variant) [])) expected) (state checker.old) (λ b. b.params) (begun_rest at expected) result checker.new }
+    ensures same { ChangesNothing checker.old checker.new }
 {
     let params = variant_types(checker, adt, variant)?;
     let ty = checker.intern(Ty::Adt(adt))?;
@@ -147,7 +147,7 @@ fn built_in(
     ensures number { GivesValue (λ b. b.id.0) (number (state checker.old)) result checker.new }
     ensures params { IfOk result (λ b. b.params ≡ rows.listed param) }
     ensures ending { IfOk result (λ b. b.ending ≡ ending) }
-    ensures same { Same checker.old checker.new }
+    ensures same { ChangesNothing checker.old checker.new }
 {
     let params = list_of_one(checker.alloc, param)?;
     start_call(checker, params, ending)
@@ -169,20 +169,20 @@ fn inside_wanted(items: &Items, ty: TyId) -> Option<TyId>
 }
 
 /// The type that is required of the content of a box.
-fn content_wanted(items: &Items, want: Option<TyId>) -> Option<TyId>
-    ensures { result ≡ places.wanted rows.box_wanted items.now want }
+fn content_wanted(items: &Items, expected: Option<TyId>) -> Option<TyId>
+    ensures { result ≡ places.wanted rows.box_wanted items.now expected }
 {
-    match want {
-        Some(want) => inside_wanted(items, want),
+    match expected {
+        Some(expected) => inside_wanted(items, expected),
         None => None,
     }
 }
 
-fn new_box(checker: &mut Checker, want: Option<TyId>) -> Result<ResolvedCall, RuleError>
-    ensures gives { (at : Pos) → GivesCall (λ count args. rows.new_box at count args want) (state checker.old) (λ b. b.params) (begun_rest at want) result checker.new }
-    ensures same { Same checker.old checker.new }
+fn new_box(checker: &mut Checker, expected: Option<TyId>) -> Result<ResolvedCall, RuleError>
+    ensures gives { (at : Pos) → GivesCall (λ count args. rows.new_box at count args expected) (state checker.old) (λ b. b.params) (begun_rest at expected) result checker.new }
+    ensures same { ChangesNothing checker.old checker.new }
 {
-    let content = content_wanted(&checker.walk.items, want);
+    let content = content_wanted(&checker.walk.items, expected);
     built_in(checker, CallEnding::NewBox(content), content)
 }
 
@@ -192,10 +192,10 @@ pub fn begin(
     checker: &mut Checker,
     at: Pos,
     callee: Callee,
-    want: Option<TyId>,
+    expected: Option<TyId>,
 ) -> Result<ResolvedCall, RuleError>
-    ensures gives { (value : Check tree.Node) → GivesCall (λ count args. typed.called_by at count value args (callee_seen checker.old.walk.items callee) want) (state checker.old) (λ b. b.params) (begun_rest at want) result checker.new }
-    ensures same { Same checker.old checker.new }
+    ensures gives { (value : Check tree.Node) → GivesCall (λ count args. typed.called_by at count value args (callee_seen checker.old.walk.items callee) expected) (state checker.old) (λ b. b.params) (begun_rest at expected) result checker.new }
+    ensures same { ChangesNothing checker.old checker.new }
 {
     match callee {
         Callee::Function(body) => function(checker, body),
@@ -204,7 +204,7 @@ pub fn begin(
         Callee::Asks => built_in(checker, CallEnding::Ask, None),
         Callee::Drops => built_in(checker, CallEnding::DropValue, None),
         Callee::Forgets => built_in(checker, CallEnding::Forget, None),
-        Callee::Boxes => new_box(checker, want),
+        Callee::Boxes => new_box(checker, expected),
         Callee::Unnamed(rule) => Err(broken_rule(rule, at)),
         Callee::NoCallee => Ok(refused_call(checker)),
         Callee::Value => Err(RuleError::cannot_be()),

@@ -11,7 +11,7 @@ ghost use Rattle.typed_tree.specs.Tree as tree;
 ghost use Rattle.typing_rules.specs.Places.{a_node_of};
 ghost use Rattle.typing_rules.specs.Rows as rows;
 ghost use Rattle.typing_rules.specs.Scope as scope;
-ghost use Rattle.typeck_checker.specs.Stand.{Gives, Keeps, Same, stack, state};
+ghost use Rattle.typeck_checker.specs.Stand.{Gives, KeepsStack, ChangesNothing, stack, state};
 
 use crate::given_fields::{are_known, is_whole};
 use crate::operand_fields::wrap_make;
@@ -34,11 +34,11 @@ pub struct StructBegun {
 /// How a struct expression begins, once it is known what it names.
 #[tactic(auto, using(crate::proofs::BegunCalls::names_at))]
 pub fn struct_begin(checker: &mut Checker, adt: u32, variant: u32) -> Result<StructBegun, RuleError>
-    ensures gives { (at : Pos) (want : Option TyId) → GivesFields (λ fields. rows.struct_row at adt variant (variant_of checker.old.walk.items adt variant).fields fields want) (state checker.old)
-        (λ b. struct_rest b.id.0 at adt variant b.ty (length b.types) want) result checker.new }
+    ensures gives { (at : Pos) (expected : Option TyId) → GivesFields (λ fields. rows.struct_row at adt variant (variant_of checker.old.walk.items adt variant).fields fields expected) (state checker.old)
+        (λ b. struct_rest b.id.0 at adt variant b.ty (length b.types) expected) result checker.new }
     ensures types { IfOk result (λ b. b.types ≡ (variant_of checker.old.walk.items adt variant).fields) }
     ensures names { (name : Word) → number_in checker.old.tables adt variant name ≡ scope.field_named (variant_of checker.old.walk.items adt variant) name }
-    ensures same { Same checker.old checker.new }
+    ensures same { ChangesNothing checker.old checker.new }
 {
     let types = variant_types(checker, adt, variant)?;
     let id = checker.number()?;
@@ -54,13 +54,13 @@ fn coerce_make(
     adt: u32,
     variant: u32,
     given: &[Option<u32>],
-    want: Option<TyId>,
+    expected: Option<TyId>,
 ) -> Result<(), RuleError>
-    ensures gives { Gives (rows.fitted want (a_node_of id.0 at ty (tree.Make adt variant (numbered_by given.now (last_nodes (length given.now) (stack checker.old))))) (state checker.old)) result checker.new }
-    ensures kept { Keeps (below_all (length given.now) (stack checker.old)) checker.old result checker.new }
+    ensures gives { Gives (rows.fitted expected (a_node_of id.0 at ty (tree.Make adt variant (numbered_by given.now (last_nodes (length given.now) (stack checker.old))))) (state checker.old)) result checker.new }
+    ensures kept { KeepsStack (below_all (length given.now) (stack checker.old)) checker.old result checker.new }
 {
     wrap_make(checker, id, at, ty, adt, variant, given)?;
-    checker.coerce(want)
+    checker.coerce(expected)
 }
 
 fn made_end(
@@ -72,12 +72,12 @@ fn made_end(
     variant: u32,
     given: &[Option<u32>],
     is_whole: bool,
-    want: Option<TyId>,
+    expected: Option<TyId>,
 ) -> Result<(), RuleError>
-    ensures gives { Gives (made_rest id.0 at adt variant ty is_whole want (numbered_by given.now (last_nodes (length given.now) (stack checker.old)), given.now) (state checker.old)) result checker.new }
-    ensures kept { Keeps (below_all (length given.now) (stack checker.old)) checker.old result checker.new }
+    ensures gives { Gives (made_rest id.0 at adt variant ty is_whole expected (numbered_by given.now (last_nodes (length given.now) (stack checker.old)), given.now) (state checker.old)) result checker.new }
+    ensures kept { KeepsStack (below_all (length given.now) (stack checker.old)) checker.old result checker.new }
 {
-    coerce_make(checker, id, at, ty, adt, variant, given, want)?;
+    coerce_make(checker, id, at, ty, adt, variant, given, expected)?;
     if !is_whole {
         return Err(broken_rule(Rule::T04, at));
     }
@@ -92,14 +92,14 @@ pub fn struct_end(
     adt: u32,
     variant: u32,
     given: &[Option<u32>],
-    want: Option<TyId>,
+    expected: Option<TyId>,
 ) -> Result<(), RuleError>
-    ensures gives { Gives (struct_rest begun.now.id.0 at adt variant begun.now.ty (length begun.now.types) want
+    ensures gives { Gives (struct_rest begun.now.id.0 at adt variant begun.now.ty (length begun.now.types) expected
         (numbered_by given.now (last_nodes (length given.now) (stack checker.old)), given.now) (state checker.old)) result checker.new }
-    ensures kept { Keeps (below_all (length given.now) (stack checker.old)) checker.old result checker.new }
+    ensures kept { KeepsStack (below_all (length given.now) (stack checker.old)) checker.old result checker.new }
 {
     let is_whole = is_whole(checker.alloc, given, begun.types.len())?;
     made_end(
-        checker, begun.id, at, begun.ty, adt, variant, given, is_whole, want,
+        checker, begun.id, at, begun.ty, adt, variant, given, is_whole, expected,
     )
 }

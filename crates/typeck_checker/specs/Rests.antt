@@ -16,9 +16,9 @@ use Rattle.well_typed.specs.Types.{is_dyn}
 
 -- a number of a type that was chosen
 abbrev pub literal_of : ℕ → Pos → IntKind → Bool → ℕ → Option TyId → Check Node
-literal_of id at kind is_negative value want = do
+literal_of id at kind is_negative value expected = do
   obeys Rule.T03 at (not is_negative || is_signed_kind kind)
-  n ← fitted want (a_node_of id at (int kind) (tree.Number (literal_value is_negative value)))
+  n ← fitted expected (a_node_of id at (int kind) (tree.Number (literal_value is_negative value)))
   obeys Rule.T17 at (nat_le value (most kind is_negative))
   pure n
 

@@ -73,13 +73,13 @@ abbrev pub Stays : Checker → Checker → Type 0
 Stays before after = (env after ≡ env before) × (after.tables ≡ before.tables)
 
 -- these nodes stand below the last one, and the expression stands where it stood
-abbrev pub Keeps : {B : Type 0} → List tree.Node → Checker → Result B RuleError → Checker → Type 0
-Keeps others before (Ok b) after = (below (stack after) ≡ others) × Stays before after
-Keeps others before (Err e) after = ⊤
+abbrev pub KeepsStack : {B : Type 0} → List tree.Node → Checker → Result B RuleError → Checker → Type 0
+KeepsStack others before (Ok b) after = (below (stack after) ≡ others) × Stays before after
+KeepsStack others before (Err e) after = ⊤
 
 -- no node is made, and the expression stands where it stood
-abbrev pub Same : Checker → Checker → Type 0
-Same before after = (stack after ≡ stack before) × Stays before after
+abbrev pub ChangesNothing : Checker → Checker → Type 0
+ChangesNothing before after = (stack after ≡ stack before) × Stays before after
 
 -- a step that makes no node
 abbrev pub GivesValue : {A B : Type 0} → (B → A) → Result (A × TypingState) Broken → Result B RuleError → Checker →

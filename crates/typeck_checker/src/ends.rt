@@ -3,7 +3,7 @@ ghost use Rattle.std.specs.Prelude.{◌≡◌};
 ghost use Rattle.typing_rules.specs.Places.{a_node_of};
 ghost use Rattle.typing_rules.specs.Rows as rows;
 ghost use Rattle.typeck_checker.specs.Forms.{four_form, leaf_form, one_form, three_form, two_form};
-ghost use Rattle.typeck_checker.specs.Stand.{Gives, Keeps, below, stack, state, top};
+ghost use Rattle.typeck_checker.specs.Stand.{Gives, KeepsStack, below, stack, state, top};
 
 use crate::checker::Checker;
 use crate::forms::{Four, Leaf, One, Three, TwoParts};
@@ -18,13 +18,13 @@ impl Checker {
         at: Pos,
         ty: TyId,
         leaf: Leaf,
-        want: Option<TyId>,
+        expected: Option<TyId>,
     ) -> Result<(), RuleError>
-        ensures gives { Gives (rows.fitted want (a_node_of id.0 at ty (leaf_form leaf)) (state self.old)) result self.new }
-        ensures kept { Keeps (stack self.old) self.old result self.new }
+        ensures gives { Gives (rows.fitted expected (a_node_of id.0 at ty (leaf_form leaf)) (state self.old)) result self.new }
+        ensures kept { KeepsStack (stack self.old) self.old result self.new }
     {
         self.put_leaf(id, at, ty, leaf)?;
-        self.coerce(want)
+        self.coerce(expected)
     }
 
     /// A node around the last one, fitted to the type that is required.
@@ -34,13 +34,13 @@ impl Checker {
         at: Pos,
         ty: TyId,
         one: One,
-        want: Option<TyId>,
+        expected: Option<TyId>,
     ) -> Result<(), RuleError>
-        ensures gives { Gives (rows.fitted want (a_node_of id.0 at ty (one_form one (top (stack self.old)))) (state self.old)) result self.new }
-        ensures kept { Keeps (below (stack self.old)) self.old result self.new }
+        ensures gives { Gives (rows.fitted expected (a_node_of id.0 at ty (one_form one (top (stack self.old)))) (state self.old)) result self.new }
+        ensures kept { KeepsStack (below (stack self.old)) self.old result self.new }
     {
         self.wrap_one(id, at, ty, one)?;
-        self.coerce(want)
+        self.coerce(expected)
     }
 
     /// A node around the last two, fitted to the type that is required.
@@ -50,14 +50,14 @@ impl Checker {
         at: Pos,
         ty: TyId,
         two: TwoParts,
-        want: Option<TyId>,
+        expected: Option<TyId>,
     ) -> Result<(), RuleError>
-        ensures gives { Gives (rows.fitted want (a_node_of id.0 at ty
+        ensures gives { Gives (rows.fitted expected (a_node_of id.0 at ty
             (two_form two (top (below (stack self.old))) (top (stack self.old)))) (state self.old)) result self.new }
-        ensures kept { Keeps (below (below (stack self.old))) self.old result self.new }
+        ensures kept { KeepsStack (below (below (stack self.old))) self.old result self.new }
     {
         self.wrap_two(id, at, ty, two)?;
-        self.coerce(want)
+        self.coerce(expected)
     }
 
     /// A leaf of a type, settled.
@@ -67,13 +67,13 @@ impl Checker {
         at: Pos,
         ty: TyId,
         leaf: Leaf,
-        want: Option<TyId>,
+        expected: Option<TyId>,
     ) -> Result<(), RuleError>
-        ensures gives { Gives (rows.settled want (a_node_of id.0 at ty (leaf_form leaf)) (state self.old)) result self.new }
-        ensures kept { Keeps (stack self.old) self.old result self.new }
+        ensures gives { Gives (rows.settled expected (a_node_of id.0 at ty (leaf_form leaf)) (state self.old)) result self.new }
+        ensures kept { KeepsStack (stack self.old) self.old result self.new }
     {
         self.put_leaf(id, at, ty, leaf)?;
-        self.unify(want)
+        self.unify(expected)
     }
 
     /// A node around the last one, settled.
@@ -83,13 +83,13 @@ impl Checker {
         at: Pos,
         ty: TyId,
         one: One,
-        want: Option<TyId>,
+        expected: Option<TyId>,
     ) -> Result<(), RuleError>
-        ensures gives { Gives (rows.settled want (a_node_of id.0 at ty (one_form one (top (stack self.old)))) (state self.old)) result self.new }
-        ensures kept { Keeps (below (stack self.old)) self.old result self.new }
+        ensures gives { Gives (rows.settled expected (a_node_of id.0 at ty (one_form one (top (stack self.old)))) (state self.old)) result self.new }
+        ensures kept { KeepsStack (below (stack self.old)) self.old result self.new }
     {
         self.wrap_one(id, at, ty, one)?;
-        self.unify(want)
+        self.unify(expected)
     }
 
     /// A node around the last two, settled.
@@ -99,14 +99,14 @@ impl Checker {
         at: Pos,
         ty: TyId,
         two: TwoParts,
-        want: Option<TyId>,
+        expected: Option<TyId>,
     ) -> Result<(), RuleError>
-        ensures gives { Gives (rows.settled want (a_node_of id.0 at ty
+        ensures gives { Gives (rows.settled expected (a_node_of id.0 at ty
             (two_form two (top (below (stack self.old))) (top (stack self.old)))) (state self.old)) result self.new }
-        ensures kept { Keeps (below (below (stack self.old))) self.old result self.new }
+        ensures kept { KeepsStack (below (below (stack self.old))) self.old result self.new }
     {
         self.wrap_two(id, at, ty, two)?;
-        self.unify(want)
+        self.unify(expected)
     }
 
     /// A node around the last three, settled.
@@ -116,14 +116,14 @@ impl Checker {
         at: Pos,
         ty: TyId,
         three: Three,
-        want: Option<TyId>,
+        expected: Option<TyId>,
     ) -> Result<(), RuleError>
-        ensures gives { Gives (rows.settled want (a_node_of id.0 at ty
+        ensures gives { Gives (rows.settled expected (a_node_of id.0 at ty
             (three_form three (top (below (below (stack self.old)))) (top (below (stack self.old))) (top (stack self.old)))) (state self.old)) result self.new }
-        ensures kept { Keeps (below (below (below (stack self.old)))) self.old result self.new }
+        ensures kept { KeepsStack (below (below (below (stack self.old)))) self.old result self.new }
     {
         self.wrap_three(id, at, ty, three)?;
-        self.unify(want)
+        self.unify(expected)
     }
 
     /// A node around the last four, settled.
@@ -133,13 +133,13 @@ impl Checker {
         at: Pos,
         ty: TyId,
         four: Four,
-        want: Option<TyId>,
+        expected: Option<TyId>,
     ) -> Result<(), RuleError>
-        ensures gives { Gives (rows.settled want (a_node_of id.0 at ty
+        ensures gives { Gives (rows.settled expected (a_node_of id.0 at ty
             (four_form four (top (below (below (below (stack self.old))))) (top (below (below (stack self.old)))) (top (below (stack self.old))) (top (stack self.old)))) (state self.old)) result self.new }
-        ensures kept { Keeps (below (below (below (below (stack self.old))))) self.old result self.new }
+        ensures kept { KeepsStack (below (below (below (below (stack self.old))))) self.old result self.new }
     {
         self.wrap_four(id, at, ty, four)?;
-        self.unify(want)
+        self.unify(expected)
     }
 }

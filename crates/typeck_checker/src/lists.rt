@@ -6,7 +6,7 @@ ghost use Rattle.typing_rules.specs.Places.{a_node_of};
 ghost use Rattle.typing_rules.specs.Rows as rows;
 ghost use Rattle.well_typed.specs.Places.{ty_of};
 ghost use Rattle.typeck_checker.specs.Lists.{behind_form, below_all, last_nodes, last_types, many_form, nodes_on};
-ghost use Rattle.typeck_checker.specs.Stand.{Gives, Keeps, Stays, below, node_if_any, stack, state, top};
+ghost use Rattle.typeck_checker.specs.Stand.{Gives, KeepsStack, Stays, below, node_if_any, stack, state, top};
 
 use crate::checker::Checker;
 use mir_base::{List, NoMemory, NodeId, Pos, RuleError};
@@ -240,11 +240,11 @@ pub fn coerce_many(
     ty: TyId,
     many: Many,
     count: usize,
-    want: Option<TyId>,
+    expected: Option<TyId>,
 ) -> Result<(), RuleError>
-    ensures gives { Gives (rows.fitted want (a_node_of id.0 at ty (many_form many (last_nodes count (stack checker.old)))) (state checker.old)) result checker.new }
-    ensures kept { Keeps (below_all count (stack checker.old)) checker.old result checker.new }
+    ensures gives { Gives (rows.fitted expected (a_node_of id.0 at ty (many_form many (last_nodes count (stack checker.old)))) (state checker.old)) result checker.new }
+    ensures kept { KeepsStack (below_all count (stack checker.old)) checker.old result checker.new }
 {
     wrap_many(checker, id, at, ty, many, count)?;
-    checker.coerce(want)
+    checker.coerce(expected)
 }

@@ -5,7 +5,7 @@ ghost use Rattle.typing_rules.specs.Rows as rows;
 ghost use Rattle.well_typed.specs.Types as types;
 ghost use Rattle.typeck_checker.specs.Forms.{leaf_form};
 ghost use Rattle.typeck_checker.specs.Rests.{literal_of};
-ghost use Rattle.typeck_checker.specs.Stand.{Gives, Keeps, stack, state};
+ghost use Rattle.typeck_checker.specs.Stand.{Gives, KeepsStack, stack, state};
 
 use crate::checker::Checker;
 use crate::forms::Leaf;
@@ -27,10 +27,10 @@ pub fn int(kind: IntKind) -> TyId
     }
 }
 
-fn literal_kind(suffix: Option<IntKind>, want: Option<IntKind>) -> IntKind
-    ensures { result ≡ rows.chosen suffix want }
+fn literal_kind(suffix: Option<IntKind>, expected: Option<IntKind>) -> IntKind
+    ensures { result ≡ rows.chosen suffix expected }
 {
-    match (suffix, want) {
+    match (suffix, expected) {
         (Some(kind), _) => kind,
         (None, Some(kind)) => kind,
         (None, None) => IntKind::I32,
@@ -78,11 +78,11 @@ pub fn literal_value(is_negative: bool, value: u64) -> i128
 
 impl Checker {
     /// The integer type that is required, if one is.
-    fn wanted_kind(&self, want: Option<TyId>) -> Option<IntKind>
-        ensures { result ≡ option_and_then (types.kind_of self.now.walk.items) want }
+    fn wanted_kind(&self, expected: Option<TyId>) -> Option<IntKind>
+        ensures { result ≡ option_and_then (types.kind_of self.now.walk.items) expected }
     {
-        match want {
-            Some(want) => kind_of(&self.walk.items, want),
+        match expected {
+            Some(expected) => kind_of(&self.walk.items, expected),
             None => None,
         }
     }
@@ -95,14 +95,14 @@ impl Checker {
         kind: IntKind,
         is_negative: bool,
         value: u64,
-        want: Option<TyId>,
+        expected: Option<TyId>,
     ) -> Result<(), RuleError>
-        ensures gives { Gives (literal_of id.0 at kind is_negative value want (state self.old)) result self.new }
-        ensures kept { Keeps (stack self.old) self.old result self.new }
+        ensures gives { Gives (literal_of id.0 at kind is_negative value expected (state self.old)) result self.new }
+        ensures kept { KeepsStack (stack self.old) self.old result self.new }
     {
         obeys(Rule::T03, at, !is_negative || is_signed(kind))?;
         let leaf = Leaf::Number(literal_value(is_negative, value));
-        self.coerce_leaf(id, at, int(kind), leaf, want)?;
+        self.coerce_leaf(id, at, int(kind), leaf, expected)?;
         obeys(Rule::T17, at, value <= most(kind, is_negative))
     }
 
@@ -114,14 +114,14 @@ impl Checker {
         is_negative: bool,
         value: u64,
         suffix: Option<IntKind>,
-        want: Option<TyId>,
+        expected: Option<TyId>,
     ) -> Result<(), RuleError>
-        ensures gives { Gives (rows.literal at is_negative value suffix want (state self.old)) result self.new }
-        ensures kept { Keeps (stack self.old) self.old result self.new }
+        ensures gives { Gives (rows.literal at is_negative value suffix expected (state self.old)) result self.new }
+        ensures kept { KeepsStack (stack self.old) self.old result self.new }
     {
         let id = self.number()?;
-        let kind = literal_kind(suffix, self.wanted_kind(want));
-        self.literal_of(id, at, kind, is_negative, value, want)
+        let kind = literal_kind(suffix, self.wanted_kind(expected));
+        self.literal_of(id, at, kind, is_negative, value, expected)
     }
 
     /// A leaf of a type that it has whatever is required.
@@ -130,12 +130,12 @@ impl Checker {
         at: Pos,
         ty: TyId,
         leaf: Leaf,
-        want: Option<TyId>,
+        expected: Option<TyId>,
     ) -> Result<(), RuleError>
-        ensures gives { Gives (rows.leaf at ty (leaf_form leaf) want (state self.old)) result self.new }
-        ensures kept { Keeps (stack self.old) self.old result self.new }
+        ensures gives { Gives (rows.leaf at ty (leaf_form leaf) expected (state self.old)) result self.new }
+        ensures kept { KeepsStack (stack self.old) self.old result self.new }
     {
         let id = self.number()?;
-        self.coerce_leaf(id, at, ty, leaf, want)
+        self.coerce_leaf(id, at, ty, leaf, expected)
     }
 }

@@ -44,9 +44,9 @@ pub fn enter_loop(
     label: Option<&str>,
     id: NodeId,
     has_value: bool,
-    want: Option<TyId>,
+    expected: Option<TyId>,
 ) -> Result<(), RuleError>
-    ensures entered { OnOk result (env checker.new ≡ within_loop (loop_around (word_in label.entry) id.0 has_value want) (env checker.old)) }
+    ensures entered { OnOk result (env checker.new ≡ within_loop (loop_around (word_in label.entry) id.0 has_value expected) (env checker.old)) }
     ensures others { OnlyPlace checker.old checker.new }
     ensures short { IfErr result (λ e. e ≡ RuleError.Memory) }
 {
@@ -57,7 +57,7 @@ pub fn enter_loop(
             label,
             id,
             has_value,
-            want,
+            expected,
         },
     )
 }

@@ -3,7 +3,7 @@ ghost use Rattle.std.specs.Prelude.{◌≡◌, ◌∷◌, [], IfErr, IfOk, OnOk,
 ghost use Rattle.mir_base.specs.declared.rule.RuleError.{RuleError};
 ghost use Rattle.mir_ty.specs.AreItems.{AreTypes, IsTy};
 ghost use Rattle.typeck_env.specs.Walked.{node_no};
-ghost use Rattle.typeck_checker.specs.Stand.{GivesValue, Same, state};
+ghost use Rattle.typeck_checker.specs.Stand.{GivesValue, ChangesNothing, state};
 ghost use Rattle.typing_rules.specs.Check as steps;
 
 use crate::checker::Checker;
@@ -33,7 +33,7 @@ impl Checker {
     /// The next number of a node.
     pub fn number(&mut self) -> Result<NodeId, RuleError>
         ensures number { GivesValue node_no (steps.number (state self.old)) result self.new }
-        ensures same { Same self.old self.new }
+        ensures same { ChangesNothing self.old self.new }
     {
         self.walk.number()
     }
@@ -42,7 +42,7 @@ impl Checker {
     /// answered as want of memory.
     pub fn intern(&mut self, ty: Ty) -> Result<TyId, RuleError>
         ensures number { GivesValue (λ id. id) (steps.interned ty (state self.old)) result self.new }
-        ensures same { Same self.old self.new }
+        ensures same { ChangesNothing self.old self.new }
     {
         if !is_known(&self.walk.items, &ty) {
             return Err(RuleError::cannot_be());
@@ -53,7 +53,7 @@ impl Checker {
     /// A `break` out of a loop, with a value of this type.
     pub fn breaks_out(&mut self, from: NodeId, ty: TyId) -> Result<(), RuleError>
         ensures added { GivesValue (λ u. u) (steps.breaks_out from.0 ty (state self.old)) result self.new }
-        ensures same { Same self.old self.new }
+        ensures same { ChangesNothing self.old self.new }
     {
         self.walk.breaks_out(from, ty)
     }

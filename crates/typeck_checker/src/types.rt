@@ -2,7 +2,7 @@
 ghost use Rattle.std.specs.Prelude.{◌≡◌, ◌≤◌, length, true, OnOk};
 ghost use Rattle.mir_ty.specs.ItemTable.{no_items};
 ghost use Rattle.src_ast.specs.Seen.{maybe_of, syn_of};
-ghost use Rattle.typeck_checker.specs.Stand.{GivesValue, Same, env, state};
+ghost use Rattle.typeck_checker.specs.Stand.{GivesValue, ChangesNothing, env, state};
 ghost use Rattle.typeck_checker.specs.Tables.{AreTablesOf};
 ghost use Rattle.typing_rules.specs.Bodies as bodies;
 ghost use Rattle.typing_rules.specs.Bodies.{all_rules};
@@ -55,7 +55,7 @@ fn has_scalars(items: &Items) -> bool
 /// A type as it is written. Behind an error the checker knows no items any more.
 pub fn resolve_type(checker: &mut Checker, node: &SyntaxNode) -> Result<TyId, RuleError>
     ensures gives { GivesValue (λ id. id) (types.written (all_rules (env checker.old)) (syn_of node.now) (state checker.old)) result checker.new }
-    ensures same { OnOk result (Same checker.old checker.new) }
+    ensures same { OnOk result (ChangesNothing checker.old checker.new) }
 {
     if !has_scalars(&checker.walk.items) {
         return Err(RuleError::cannot_be());
@@ -80,7 +80,7 @@ pub fn resolve_type(checker: &mut Checker, node: &SyntaxNode) -> Result<TyId, Ru
 /// more.
 pub fn resolve_param_type(checker: &mut Checker, node: &SyntaxNode) -> Result<TyId, RuleError>
     ensures gives { GivesValue (λ id. id) (types.written_param (all_rules (env checker.old)) (syn_of node.now) (state checker.old)) result checker.new }
-    ensures same { OnOk result (Same checker.old checker.new) }
+    ensures same { OnOk result (ChangesNothing checker.old checker.new) }
 {
     if !has_scalars(&checker.walk.items) {
         return Err(RuleError::cannot_be());
@@ -107,7 +107,7 @@ pub fn resolve_type_if(
     ty: Option<&SyntaxNode>,
 ) -> Result<Option<TyId>, RuleError>
     ensures gives { GivesValue (λ ty. ty) (typed.declared (env checker.old) (maybe_of ty.entry) (state checker.old)) result checker.new }
-    ensures same { OnOk result (Same checker.old checker.new) }
+    ensures same { OnOk result (ChangesNothing checker.old checker.new) }
 {
     match ty {
         Some(node) => {
@@ -121,7 +121,7 @@ pub fn resolve_type_if(
 /// The type of a body's result: the one that is written, or `()`.
 pub fn answer_of(checker: &mut Checker, ty: Option<&SyntaxNode>) -> Result<TyId, RuleError>
     ensures gives { GivesValue (λ ty. ty) (bodies.answer_of (env checker.old) (maybe_of ty.entry) (state checker.old)) result checker.new }
-    ensures same { OnOk result (Same checker.old checker.new) }
+    ensures same { OnOk result (ChangesNothing checker.old checker.new) }
 {
     match ty {
         Some(node) => resolve_type(checker, node),

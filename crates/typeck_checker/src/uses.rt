@@ -7,7 +7,7 @@ ghost use Rattle.well_typed.specs.Places as forms;
 ghost use Rattle.typeck_checker.specs.Rests.{may_be_stored, may_be_taken};
 ghost use Rattle.typing_rules.specs.Places as places;
 ghost use Rattle.typing_rules.specs.Rows as rows;
-ghost use Rattle.typeck_checker.specs.Stand.{Gives, Keeps, Stays, below, env, stack, state, top};
+ghost use Rattle.typeck_checker.specs.Stand.{Gives, KeepsStack, Stays, below, env, stack, state, top};
 
 use crate::checker::Checker;
 use mir_base::{Key, Rule, RuleError};
@@ -56,26 +56,26 @@ impl Checker {
         self.walk.items.is_copy(ty) || !(self.is_last_fixed() || is_dyn(&self.walk.items, ty))
     }
 
-    fn fit_used(&mut self, by: Use, want: Option<TyId>) -> Result<(), RuleError>
-        ensures gives { Gives (rows.fitted want (places.used by (top (stack self.old))) (state self.old)) result self.new }
-        ensures kept { Keeps (below (stack self.old)) self.old result self.new }
+    fn fit_used(&mut self, by: Use, expected: Option<TyId>) -> Result<(), RuleError>
+        ensures gives { Gives (rows.fitted expected (places.used by (top (stack self.old))) (state self.old)) result self.new }
+        ensures kept { KeepsStack (below (stack self.old)) self.old result self.new }
     {
         self.use_last(by)?;
-        self.coerce(want)
+        self.coerce(expected)
     }
 
     /// The last node, a place where a value is asked for: it is copied where its type is Copy, and moved out of
     /// otherwise.
-    pub fn use_value(&mut self, want: Option<TyId>) -> Result<(), RuleError>
-        ensures gives { Gives (rows.taken (env self.old) want (top (stack self.old)) (state self.old)) result self.new }
-        ensures kept { Keeps (below (stack self.old)) self.old result self.new }
+    pub fn use_value(&mut self, expected: Option<TyId>) -> Result<(), RuleError>
+        ensures gives { Gives (rows.taken (env self.old) expected (top (stack self.old)) (state self.old)) result self.new }
+        ensures kept { KeepsStack (below (stack self.old)) self.old result self.new }
     {
         let at = self.last_at();
         let ty = self.last_ty();
         let may_take = self.may_take_last();
         let is_value = !is_reference(&self.walk.items, ty);
         let by = taking(&self.walk.items, ty);
-        self.fit_used(by, want)?;
+        self.fit_used(by, expected)?;
         if !may_take {
             return Err(broken_rule(Rule::T07, at));
         }

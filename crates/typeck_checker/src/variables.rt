@@ -3,7 +3,7 @@ ghost use Rattle.std.specs.Prelude.{◌≡◌, ℕ, List, option_map};
 ghost use Rattle.typing_rules.specs.Places.{variable_place};
 ghost use Rattle.typing_rules.specs.Scope as scope;
 ghost use Rattle.typeck_checker.specs.Variables.{found_as};
-ghost use Rattle.typeck_checker.specs.Stand.{Gives, Keeps, env, stack, state};
+ghost use Rattle.typeck_checker.specs.Stand.{Gives, KeepsStack, env, stack, state};
 
 use crate::{Checker, Leaf};
 use mir_base::{Key, Name, Pos, RuleError};
@@ -41,7 +41,7 @@ fn put_captured(
     name: &str,
 ) -> Result<(), RuleError>
     ensures gives { Gives (variable_place at (record { name = name.now; ty = ty; meaning = scope.Capture closure.0 part }) (state checker.old)) result checker.new }
-    ensures kept { Keeps (stack checker.old) checker.old result checker.new }
+    ensures kept { KeepsStack (stack checker.old) checker.old result checker.new }
 {
     let id = checker.number()?;
     let Ok(name) = Name::from_str(checker.alloc, name) else {
@@ -61,7 +61,7 @@ fn put_captured(
 
 fn put_local(checker: &mut Checker, at: Pos, ty: TyId, key: Key) -> Result<(), RuleError>
     ensures gives { (name : List ℕ) → Gives (variable_place at (record { name = name; ty = ty; meaning = scope.Local key.0 }) (state checker.old)) result checker.new }
-    ensures kept { Keeps (stack checker.old) checker.old result checker.new }
+    ensures kept { KeepsStack (stack checker.old) checker.old result checker.new }
 {
     let id = checker.number()?;
     checker.put_leaf(id, at, ty, Leaf::Variable(key))
@@ -75,7 +75,7 @@ pub fn put_variable(
     found: FoundVariable,
 ) -> Result<(), RuleError>
     ensures gives { Gives (variable_place at (found_as name.now found) (state checker.old)) result checker.new }
-    ensures kept { Keeps (stack checker.old) checker.old result checker.new }
+    ensures kept { KeepsStack (stack checker.old) checker.old result checker.new }
 {
     match found.meaning {
         VariableMeaning::Local(key) | VariableMeaning::InGuard(key) => put_local(

@@ -47,7 +47,7 @@ word_in None = None
 word_in (Some word) = Some word.now
 
 abbrev pub around_of : LoopAround → LabelledLoop
-around_of l = record { label = l.label; loop = l.id.0; has_value = l.has_value; want = l.want }
+around_of l = record { label = l.label; loop = l.id.0; has_value = l.has_value; expected = l.expected }
 
 -- a label is this one; a loop may be left by a jump with this label, or by one without
 abbrev pub is_word : Option Word → Word → Bool

@@ -91,12 +91,17 @@ fn boxed_adt(items: &Items, ty: TyId) -> Option<u32>
 }
 
 /// How a type stands to the one that is required: a box of a struct or an enum becomes a box of `dyn` of a trait of it.
-pub fn how_it_fits(pairs: &HashSet<ImplPair>, items: &Items, want: TyId, ty: TyId) -> Fit
+pub fn how_it_fits(pairs: &HashSet<ImplPair>, items: &Items, expected: TyId, ty: TyId) -> Fit
     requires { HasImpls pairs.now items.now.impls }
-    ensures { fit_of result ≡ places.fit items.now want ty }
+    ensures { fit_of result ≡ places.fit items.now expected ty }
 {
-    if fits(items, want, ty) {
+    if fits(items, expected, ty) {
         return Fit::Fits;
     }
-    coercion_fit(pairs, items, boxed_trait(items, want), boxed_adt(items, ty))
+    coercion_fit(
+        pairs,
+        items,
+        boxed_trait(items, expected),
+        boxed_adt(items, ty),
+    )
 }

@@ -14,7 +14,7 @@ pub struct LoopAround {
     /// A `break` may carry a value: it is a `loop`.
     pub has_value: bool,
     /// The type that is required of its value.
-    pub want: Option<TyId>,
+    pub expected: Option<TyId>,
 }
 
 fn has_label(around: &LoopAround, label: &str) -> bool

@@ -145,18 +145,18 @@ pub fn is_enum(items: &Items, adt: u32) -> bool
 }
 
 /// Whether a type is the one that is required, or `!`, which fits every one.
-pub fn fits(items: &Items, want: TyId, ty: TyId) -> bool
-    ensures { result ≡ types.fits items.now want ty }
+pub fn fits(items: &Items, expected: TyId, ty: TyId) -> bool
+    ensures { result ≡ types.fits items.now expected ty }
 {
-    ty.0 == want.0 || is_never(items, ty)
+    ty.0 == expected.0 || is_never(items, ty)
 }
 
 /// Whether a type fits the one that is required, if one is.
-pub fn agrees(items: &Items, want: Option<TyId>, ty: TyId) -> bool
-    ensures { result ≡ places.agrees items.now want ty }
+pub fn agrees(items: &Items, expected: Option<TyId>, ty: TyId) -> bool
+    ensures { result ≡ places.agrees items.now expected ty }
 {
-    match want {
-        Some(want) => fits(items, want, ty),
+    match expected {
+        Some(expected) => fits(items, expected, ty),
         None => true,
     }
 }

@@ -38,11 +38,11 @@ first_dropped zero (x ∷ xs) = refl
 first_dropped (suc k) (x ∷ xs) = first_dropped k xs
 
 pub one_argument : (e : Env) (whole : Result (Nodes × TypingState) Broken) (k m : ℕ) (ns ms : List Node) (params : List TyId)
-    (want : Option TyId) (ss : Syns) (x : Syn) (xs : Syns) (s t : TypingState) →
-    whole ≡ behind_nodes k ns (typed_args e (drop k params) ss s) → a_syn x xs ≡ ss → want ≡ slice_get params k →
-    argument_at e want x s ≡ Ok (top ms, t) → below ms ≡ ns → m ≡ k + 1 →
+    (expected : Option TyId) (ss : Syns) (x : Syn) (xs : Syns) (s t : TypingState) →
+    whole ≡ behind_nodes k ns (typed_args e (drop k params) ss s) → a_syn x xs ≡ ss → expected ≡ slice_get params k →
+    argument_at e expected x s ≡ Ok (top ms, t) → below ms ≡ ns → m ≡ k + 1 →
     whole ≡ behind_nodes m ms (typed_args e (drop m params) xs t)
-one_argument e whole k m ns ms params want ss x xs s t h split wanted here under next =
+one_argument e whole k m ns ms params expected ss x xs s t h split wanted here under next =
     h ∙ ap (λ z. behind_nodes k ns (typed_args e (drop k params) z s)) (sym split)
     ∙ ap (behind_nodes k ns) (with_argument e (drop k params) x xs s)
     ∙ ap (λ w. behind_nodes k ns (and_then (argument_at e w x s) (λ n. λ u. and_then (typed_args e (drop 1 (drop k params)) xs u) (λ more. pure (a_node n more))))) (first_dropped k params ∙ sym wanted)
@@ -59,15 +59,15 @@ refuses_behind k ns o f RuleError.Memory h = tt
 
 -- an argument that is refused
 pub refused_argument : (e : Env) (whole : Result (Nodes × TypingState) Broken) (k : ℕ) (ns : List Node) (params : List TyId)
-    (want : Option TyId) (ss : Syns) (x : Syn) (xs : Syns) (s : TypingState) (err : RuleError) →
-    whole ≡ behind_nodes k ns (typed_args e (drop k params) ss s) → a_syn x xs ≡ ss → want ≡ slice_get params k →
-    Refuses (argument_at e want x s) err → Refuses whole err
-refused_argument e whole k ns params want ss x xs s err h split wanted here =
+    (expected : Option TyId) (ss : Syns) (x : Syn) (xs : Syns) (s : TypingState) (err : RuleError) →
+    whole ≡ behind_nodes k ns (typed_args e (drop k params) ss s) → a_syn x xs ≡ ss → expected ≡ slice_get params k →
+    Refuses (argument_at e expected x s) err → Refuses whole err
+refused_argument e whole k ns params expected ss x xs s err h split wanted here =
     subst (λ (o : Result (Nodes × TypingState) Broken). Refuses o err)
     (sym (h ∙ ap (λ z. behind_nodes k ns (typed_args e (drop k params) z s)) (sym split)
     ∙ ap (behind_nodes k ns) (with_argument e (drop k params) x xs s)
     ∙ ap (λ w. behind_nodes k ns (and_then (argument_at e w x s) (λ n. λ u. and_then (typed_args e (drop 1 (drop k params)) xs u) (λ more. pure (a_node n more))))) (first_dropped k params ∙ sym wanted)))
-    (refuses_behind k ns (argument_at e want x s) (λ n. λ u. and_then (typed_args e (drop 1 (drop k params)) xs u) (λ more. pure (a_node n more))) err here)
+    (refuses_behind k ns (argument_at e expected x s) (λ n. λ u. and_then (typed_args e (drop 1 (drop k params)) xs u) (λ more. pure (a_node n more))) err here)
 
 -- what stands below one node more
 pub below_next : (k m : ℕ) (ns ms others : List Node) → below_all k ns ≡ others → below ms ≡ ns → m ≡ k + 1 → below_all m ms ≡ others
@@ -83,15 +83,15 @@ one_typed k ns ms (Ok p) h =
 one_typed k ns ms (Err e) h = refl
 
 pub one_element : (e : Env) (whole : Result ((Nodes × List TyId) × TypingState) Broken) (k m : ℕ) (ns ms : List Node)
-    (want : Option TyId) (ss : Syns) (x : Syn) (xs : Syns) (s t : TypingState) →
-    whole ≡ behind_typed k ns (typed_elements e want ss s) → a_syn x xs ≡ ss →
-    typed e x want s ≡ Ok (top ms, t) → below ms ≡ ns → m ≡ k + 1 →
-    whole ≡ behind_typed m ms (typed_elements e want xs t)
-one_element e whole k m ns ms want ss x xs s t h split here under next =
-    h ∙ ap (λ z. behind_typed k ns (typed_elements e want z s)) (sym split)
-    ∙ ap (λ o. behind_typed k ns (and_then o (λ n. λ u. and_then (typed_elements e want xs u) (λ more. pure (a_node n more.0, ty_of n ∷ more.1))))) here
-    ∙ one_typed k ns ms (typed_elements e want xs t) under
-    ∙ ap (λ (n : ℕ). behind_typed n ms (typed_elements e want xs t)) (sym (next ∙ add-one k))
+    (expected : Option TyId) (ss : Syns) (x : Syn) (xs : Syns) (s t : TypingState) →
+    whole ≡ behind_typed k ns (typed_elements e expected ss s) → a_syn x xs ≡ ss →
+    typed e x expected s ≡ Ok (top ms, t) → below ms ≡ ns → m ≡ k + 1 →
+    whole ≡ behind_typed m ms (typed_elements e expected xs t)
+one_element e whole k m ns ms expected ss x xs s t h split here under next =
+    h ∙ ap (λ z. behind_typed k ns (typed_elements e expected z s)) (sym split)
+    ∙ ap (λ o. behind_typed k ns (and_then o (λ n. λ u. and_then (typed_elements e expected xs u) (λ more. pure (a_node n more.0, ty_of n ∷ more.1))))) here
+    ∙ one_typed k ns ms (typed_elements e expected xs t) under
+    ∙ ap (λ (n : ℕ). behind_typed n ms (typed_elements e expected xs t)) (sym (next ∙ add-one k))
 
 -- ---- parts
 
@@ -116,15 +116,15 @@ wants_behind [] = cc
 wants_behind (w ∷ ws) = cc
 
 pub one_part : (e : Env) (whole : Result ((Nodes × List TyId) × TypingState) Broken) (tys more : List TyId) (ty : TyId) (ns ms : List Node)
-    (wants : List TyId) (want : Option TyId) (ss : Syns) (x : Syn) (xs : Syns) (s t : TypingState) →
+    (wants : List TyId) (expected : Option TyId) (ss : Syns) (x : Syn) (xs : Syns) (s t : TypingState) →
     whole ≡ behind_parts tys ns (typed_parts e (drop (length tys) (map Some wants)) ss s) → a_syn x xs ≡ ss →
-    want ≡ slice_get wants (length tys) → typed e x want s ≡ Ok (top ms, t) → below ms ≡ ns →
-    ty ≡ part_ty want (top ms) → more ≡ tys ++ ty ∷ [] →
+    expected ≡ slice_get wants (length tys) → typed e x expected s ≡ Ok (top ms, t) → below ms ≡ ns →
+    ty ≡ part_ty expected (top ms) → more ≡ tys ++ ty ∷ [] →
     whole ≡ behind_parts more ms (typed_parts e (drop (length more) (map Some wants)) xs t)
-one_part e whole tys more ty ns ms wants want ss x xs s t h split wanted here under is pushed =
+one_part e whole tys more ty ns ms wants expected ss x xs s t h split wanted here under is pushed =
     h ∙ ap (λ z. behind_parts tys ns (typed_parts e (drop (length tys) (map Some wants)) z s)) (sym split)
     ∙ ap (λ (w : Option TyId). behind_parts tys ns (and_then (typed e x w s) (λ n. λ u. and_then (typed_parts e (other_wants (drop (length tys) (map Some wants))) xs u) (λ rest. pure (a_node n rest.0, part_ty w n ∷ rest.1))))) (wants_at (length tys) wants ∙ sym wanted)
-    ∙ ap (λ o. behind_parts tys ns (and_then o (λ n. λ u. and_then (typed_parts e (other_wants (drop (length tys) (map Some wants))) xs u) (λ rest. pure (a_node n rest.0, part_ty want n ∷ rest.1))))) here
+    ∙ ap (λ o. behind_parts tys ns (and_then o (λ n. λ u. and_then (typed_parts e (other_wants (drop (length tys) (map Some wants))) xs u) (λ rest. pure (a_node n rest.0, part_ty expected n ∷ rest.1))))) here
     ∙ ap (λ (y : TyId). behind_parts tys ns (and_then (typed_parts e (other_wants (drop (length tys) (map Some wants))) xs t) (λ rest. pure (a_node (top ms) rest.0, y ∷ rest.1)))) (sym is)
     ∙ one_part_behind tys more ty ns ms (typed_parts e (other_wants (drop (length tys) (map Some wants))) xs t) under pushed
     ∙ ap (λ ws. behind_parts more ms (typed_parts e ws xs t)) (wants_behind (drop (length tys) (map Some wants)) ∙ drop_more (length tys) (map Some wants))
@@ -137,14 +137,14 @@ refuses_parts tys ns o f RuleError.Memory h = tt
 
 -- a part that is refused
 pub refused_part : (e : Env) (whole : Result ((Nodes × List TyId) × TypingState) Broken) (tys : List TyId) (ns : List Node)
-    (wants : List TyId) (want : Option TyId) (ss : Syns) (x : Syn) (xs : Syns) (s : TypingState) (err : RuleError) →
+    (wants : List TyId) (expected : Option TyId) (ss : Syns) (x : Syn) (xs : Syns) (s : TypingState) (err : RuleError) →
     whole ≡ behind_parts tys ns (typed_parts e (drop (length tys) (map Some wants)) ss s) → a_syn x xs ≡ ss →
-    want ≡ slice_get wants (length tys) → Refuses (typed e x want s) err → Refuses whole err
-refused_part e whole tys ns wants want ss x xs s err h split wanted here =
+    expected ≡ slice_get wants (length tys) → Refuses (typed e x expected s) err → Refuses whole err
+refused_part e whole tys ns wants expected ss x xs s err h split wanted here =
     subst (λ (o : Result ((Nodes × List TyId) × TypingState) Broken). Refuses o err)
     (sym (h ∙ ap (λ z. behind_parts tys ns (typed_parts e (drop (length tys) (map Some wants)) z s)) (sym split)
     ∙ ap (λ (w : Option TyId). behind_parts tys ns (and_then (typed e x w s) (λ n. λ u. and_then (typed_parts e (other_wants (drop (length tys) (map Some wants))) xs u) (λ rest. pure (a_node n rest.0, part_ty w n ∷ rest.1))))) (wants_at (length tys) wants ∙ sym wanted)))
-    (refuses_parts tys ns (typed e x want s) (λ n. λ u. and_then (typed_parts e (other_wants (drop (length tys) (map Some wants))) xs u) (λ rest. pure (a_node n rest.0, part_ty want n ∷ rest.1))) err here)
+    (refuses_parts tys ns (typed e x expected s) (λ n. λ u. and_then (typed_parts e (other_wants (drop (length tys) (map Some wants))) xs u) (λ rest. pure (a_node n rest.0, part_ty expected n ∷ rest.1))) err here)
 
 -- what stands below one part more
 pub below_part : (tys more : List TyId) (ty : TyId) (ns ms others : List Node) → below_all (length tys) ns ≡ others → below ms ≡ ns →

@@ -25,11 +25,11 @@ use Rattle.typeck_exprs.specs.declared.place_forms.NamedVariable.{NamedVariable}
 
 -- ---- paths
 
-path_typed : (e : Env) (at : Pos) (f s : Option Word) (want : Option TyId) → path e at f s want ≡ typed e (syn at (Path f s)) want
-path_typed e at f s want = by (variable_of e f s)
+path_typed : (e : Env) (at : Pos) (f s : Option Word) (expected : Option TyId) → path e at f s expected ≡ typed e (syn at (Path f s)) expected
+path_typed e at f s expected = by (variable_of e f s)
   where
     by : (o : Option NamedEntry) →
-        path_by e at f s o want ≡ (if is_some o then variable_base e at f s o >>= taken e want else path_alone e at f s want)
+        path_by e at f s o expected ≡ (if is_some o then variable_base e at f s o >>= taken e expected else path_alone e at f s expected)
     by None = refl
     by (Some x) = refl
 
@@ -38,20 +38,20 @@ argument_of at node None = ArgumentForm.Value node
 argument_of at node (Some v) = ArgumentForm.Passed at v
 
 module _ (e : Env) (at : Pos) (f s : Option Word) (node : Bor SyntaxNode) (is : syn_of node.now ≡ syn at (Path f s)) (st : TypingState) where
-  as_value : (want : TyId) → path e at f s (Some want) st ≡ typed e (syn_of node.now) (Some want) st
-  as_value want = ap (λ (c : Check tree.Node). c st) (path_typed e at f s (Some want)) ∙ ap (λ (x : Syn). typed e x (Some want) st) (sym is)
+  as_value : (expected : TyId) → path e at f s (Some expected) st ≡ typed e (syn_of node.now) (Some expected) st
+  as_value expected = ap (λ (c : Check tree.Node). c st) (path_typed e at f s (Some expected)) ∙ ap (λ (x : Syn). typed e x (Some expected) st) (sym is)
 
-  by_entry : (v : NamedVariable) (b : Bool) (want : TyId) (unique : Bool) (to : TyId) →
-      (if b then passed_on at (entry_named v) want unique to else path e at f s (Some want)) st
-      ≡ referred_by e (argument_of at node (if b then Some v else None)) want unique to st
-  by_entry v true want unique to = refl
-  by_entry v false want unique to = as_value want
+  by_entry : (v : NamedVariable) (b : Bool) (expected : TyId) (unique : Bool) (to : TyId) →
+      (if b then passed_on at (entry_named v) expected unique to else path e at f s (Some expected)) st
+      ≡ referred_by e (argument_of at node (if b then Some v else None)) expected unique to st
+  by_entry v true expected unique to = refl
+  by_entry v false expected unique to = as_value expected
 
-  by_found : (v : Option NamedVariable) (want : TyId) (unique : Bool) (to : TyId) →
-      passed at (path e at f s) (option_map entry_named v) want unique to st
-      ≡ referred_by e (argument_of at node (reference_among st.items v)) want unique to st
-  by_found None want unique to = as_value want
-  by_found (Some v) want unique to = by_entry v (is_reference st.items v.found.ty) want unique to
+  by_found : (v : Option NamedVariable) (expected : TyId) (unique : Bool) (to : TyId) →
+      passed at (path e at f s) (option_map entry_named v) expected unique to st
+      ≡ referred_by e (argument_of at node (reference_among st.items v)) expected unique to st
+  by_found None expected unique to = as_value expected
+  by_found (Some v) expected unique to = by_entry v (is_reference st.items v.found.ty) expected unique to
 
   small : (o : Option NamedVariable) → argument_size (argument_of at node o) ≤ size (syn_of node.now)
   small None = omega arith
@@ -60,8 +60,8 @@ module _ (e : Env) (at : Pos) (f s : Option Word) (node : Bor SyntaxNode) (is : 
   pub by_path : (v : Option NamedVariable) → option_map entry_named v ≡ variable_of e f s →
       IsArgumentOf e (syn_of node.now) st (argument_of at node (reference_among st.items v))
   by_path v h = (
-    λ want unique to. ap (λ (x : Syn). by_reference e x want unique to st) is
-        ∙ ap (λ o. passed at (path e at f s) o want unique to st) (sym h) ∙ by_found v want unique to,
+    λ expected unique to. ap (λ (x : Syn). by_reference e x expected unique to st) is
+        ∙ ap (λ o. passed at (path e at f s) o expected unique to st) (sym h) ∙ by_found v expected unique to,
     small (reference_among st.items v),
   )
 
@@ -183,12 +183,12 @@ refers_to_none ExpressionForm.Panic hBorrow hPath hSelfValue hParens = refl
 refers_to_none ExpressionForm.Other hBorrow hPath hSelfValue hParens = refl
 
 -- what may not refer is a value
-pub by_value : (e : Env) (x : Syn) (want : TyId) (unique : Bool) (to : TyId) → may_refer_as (expression_part (shape_of x)) ≡ false →
-    by_reference e x want unique to ≡ typed e x (Some want)
-by_value e (syn at form) want unique to h = by (may_refer form) (may_refer_form form ∙ h)
+pub by_value : (e : Env) (x : Syn) (expected : TyId) (unique : Bool) (to : TyId) → may_refer_as (expression_part (shape_of x)) ≡ false →
+    by_reference e x expected unique to ≡ typed e x (Some expected)
+by_value e (syn at form) expected unique to h = by (may_refer form) (may_refer_form form ∙ h)
   where
     by : (b : Bool) → b ≡ false →
-        (if b then reference_form e at form want unique to else typed e (syn at form) (Some want)) ≡ typed e (syn at form) (Some want)
+        (if b then reference_form e at form expected unique to else typed e (syn at form) (Some expected)) ≡ typed e (syn at form) (Some expected)
     by true k = cc
     by false k = refl
 
@@ -198,21 +198,21 @@ module _ (e : Env) (n : SyntaxNode) (st : TypingState) where
   pub as_borrow : (unique : Bool) (base : Bor SyntaxNode) → Some (Ampersand unique (syn_of base.now)) ≡ expression_part (shape_of (syn_of n)) →
       IsArgumentOf e (syn_of n) st (ArgumentForm.Borrow n.at unique base)
   as_borrow unique base h = (
-    λ want is_unique to. ap (λ (x : Syn). by_reference e x want is_unique to st) (is_expression n (Ampersand unique (syn_of base.now)) (sym h)),
+    λ expected is_unique to. ap (λ (x : Syn). by_reference e x expected is_unique to st) (is_expression n (Ampersand unique (syn_of base.now)) (sym h)),
     omega (arith, part_size n (Ampersand unique (syn_of base.now)) (sym h)),
   )
 
   pub as_inside : (inside : Bor SyntaxNode) (form : ArgumentForm) → Some (Parens (syn_of inside.now)) ≡ expression_part (shape_of (syn_of n)) →
       IsArgumentOf e (syn_of inside.now) st form → IsArgumentOf e (syn_of n) st form
   as_inside inside form h (is, small) = (
-    λ want is_unique to. ap (λ (x : Syn). by_reference e x want is_unique to st) (is_expression n (Parens (syn_of inside.now)) (sym h)) ∙ is want is_unique to,
+    λ expected is_unique to. ap (λ (x : Syn). by_reference e x expected is_unique to st) (is_expression n (Parens (syn_of inside.now)) (sym h)) ∙ is expected is_unique to,
     omega (arith, part_size n (Parens (syn_of inside.now)) (sym h), small),
   )
 
   pub as_other : (node : Bor SyntaxNode) (f : ExpressionForm) → node.now ≡ n → expression_of f ≡ expression_part (shape_of (syn_of n)) → may_refer_as (expression_of f) ≡ false →
       IsArgumentOf e (syn_of n) st (ArgumentForm.Value node)
   as_other node f at h none = (
-    λ want is_unique to. ap (λ (c : Check tree.Node). c st) (by_value e (syn_of n) want is_unique to (ap may_refer_as (sym h) ∙ none))
-        ∙ ap (λ (m : SyntaxNode). typed e (syn_of m) (Some want) st) (sym at),
+    λ expected is_unique to. ap (λ (c : Check tree.Node). c st) (by_value e (syn_of n) expected is_unique to (ap may_refer_as (sym h) ∙ none))
+        ∙ ap (λ (m : SyntaxNode). typed e (syn_of m) (Some expected) st) (sym at),
     omega (arith, ap (λ (m : SyntaxNode). size (syn_of m)) at),
   )

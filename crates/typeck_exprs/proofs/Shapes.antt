@@ -89,78 +89,78 @@ is_place_form e (ParamOf a b) = refl
 is_place_form e (SelfParam a) = refl
 is_place_form e Odd = refl
 
-value_form : (e : Env) (at : Pos) (form : Shape) (want : Option TyId) → value e at form want ≡ value_as e at (expression_part form) want
-value_form e at (Ident a) want = refl
-value_form e at (LabelOf a) want = refl
-value_form e at (Literal a b) want = refl
-value_form e at (TruthLiteral a) want = refl
-value_form e at (Path a b) want = refl
-value_form e at (Minus a) want = refl
-value_form e at (Bang a) want = refl
-value_form e at (Star a) want = refl
-value_form e at (Ampersand a b) want = refl
-value_form e at (Calculate a b c) want = refl
-value_form e at (Compare a b c) want = refl
-value_form e at (Both a b) want = refl
-value_form e at (Either a b) want = refl
-value_form e at (Store a b) want = refl
-value_form e at (CallOf a b) want = refl
-value_form e at (MethodOf a b c) want = refl
-value_form e at (FieldOf a b) want = refl
-value_form e at (PartOf a b) want = refl
-value_form e at (ElementOf a b) want = refl
-value_form e at (StructOf a b c) want = refl
-value_form e at (FieldInit a b) want = refl
-value_form e at (Parens a) want = refl
-value_form e at (TupleOf a) want = refl
-value_form e at (ArrayOf a) want = refl
-value_form e at (Braces a b) want = refl
-value_form e at (IfElse a b c) want = refl
-value_form e at (IfLetElse a b c d) want = refl
-value_form e at (MatchOn a b) want = refl
-value_form e at (ArmOf a b c) want = refl
-value_form e at (LoopOf a b) want = refl
-value_form e at (WhileOf a b c) want = refl
-value_form e at (WhileLetOf a b c d) want = refl
-value_form e at (BreakOf a b) want = refl
-value_form e at (ContinueOf a) want = refl
-value_form e at (ReturnOf a) want = refl
-value_form e at (MoveOf a b c d) want = refl
-value_form e at PanicOf want = refl
-value_form e at (LetOf a b c) want = refl
-value_form e at Empty want = refl
-value_form e at (Semi a) want = refl
-value_form e at AnyPattern want = refl
-value_form e at (BindPattern a) want = refl
-value_form e at (LiteralPattern a b c) want = refl
-value_form e at (TruthPattern a) want = refl
-value_form e at (PathPattern a b) want = refl
-value_form e at (PartsPattern a b c d) want = refl
-value_form e at (FieldsPattern a b c d) want = refl
-value_form e at (FieldPattern a b) want = refl
-value_form e at (ParensPattern a) want = refl
-value_form e at (TuplePattern a b) want = refl
-value_form e at (ArrayPattern a b) want = refl
-value_form e at (Alternatives a) want = refl
-value_form e at (NamedType a) want = refl
-value_form e at (GenericType a b) want = refl
-value_form e at (DynType a b) want = refl
-value_form e at SelfType want = refl
-value_form e at (ParensType a) want = refl
-value_form e at (TupleType a) want = refl
-value_form e at (ArrayType a b c) want = refl
-value_form e at NeverType want = refl
-value_form e at (RefType a b) want = refl
-value_form e at (StructItem a b c d) want = refl
-value_form e at (EnumItem a b c) want = refl
-value_form e at (FieldDecl a b) want = refl
-value_form e at (VariantDecl a b c) want = refl
-value_form e at (TraitItem a b) want = refl
-value_form e at (ImplItem a b c) want = refl
-value_form e at (FnItem a b c d) want = refl
-value_form e at (ParamOf a b) want = refl
-value_form e at (SelfParam a) want = refl
-value_form e at Odd want = refl
+value_form : (e : Env) (at : Pos) (form : Shape) (expected : Option TyId) → value e at form expected ≡ value_as e at (expression_part form) expected
+value_form e at (Ident a) expected = refl
+value_form e at (LabelOf a) expected = refl
+value_form e at (Literal a b) expected = refl
+value_form e at (TruthLiteral a) expected = refl
+value_form e at (Path a b) expected = refl
+value_form e at (Minus a) expected = refl
+value_form e at (Bang a) expected = refl
+value_form e at (Star a) expected = refl
+value_form e at (Ampersand a b) expected = refl
+value_form e at (Calculate a b c) expected = refl
+value_form e at (Compare a b c) expected = refl
+value_form e at (Both a b) expected = refl
+value_form e at (Either a b) expected = refl
+value_form e at (Store a b) expected = refl
+value_form e at (CallOf a b) expected = refl
+value_form e at (MethodOf a b c) expected = refl
+value_form e at (FieldOf a b) expected = refl
+value_form e at (PartOf a b) expected = refl
+value_form e at (ElementOf a b) expected = refl
+value_form e at (StructOf a b c) expected = refl
+value_form e at (FieldInit a b) expected = refl
+value_form e at (Parens a) expected = refl
+value_form e at (TupleOf a) expected = refl
+value_form e at (ArrayOf a) expected = refl
+value_form e at (Braces a b) expected = refl
+value_form e at (IfElse a b c) expected = refl
+value_form e at (IfLetElse a b c d) expected = refl
+value_form e at (MatchOn a b) expected = refl
+value_form e at (ArmOf a b c) expected = refl
+value_form e at (LoopOf a b) expected = refl
+value_form e at (WhileOf a b c) expected = refl
+value_form e at (WhileLetOf a b c d) expected = refl
+value_form e at (BreakOf a b) expected = refl
+value_form e at (ContinueOf a) expected = refl
+value_form e at (ReturnOf a) expected = refl
+value_form e at (MoveOf a b c d) expected = refl
+value_form e at PanicOf expected = refl
+value_form e at (LetOf a b c) expected = refl
+value_form e at Empty expected = refl
+value_form e at (Semi a) expected = refl
+value_form e at AnyPattern expected = refl
+value_form e at (BindPattern a) expected = refl
+value_form e at (LiteralPattern a b c) expected = refl
+value_form e at (TruthPattern a) expected = refl
+value_form e at (PathPattern a b) expected = refl
+value_form e at (PartsPattern a b c d) expected = refl
+value_form e at (FieldsPattern a b c d) expected = refl
+value_form e at (FieldPattern a b) expected = refl
+value_form e at (ParensPattern a) expected = refl
+value_form e at (TuplePattern a b) expected = refl
+value_form e at (ArrayPattern a b) expected = refl
+value_form e at (Alternatives a) expected = refl
+value_form e at (NamedType a) expected = refl
+value_form e at (GenericType a b) expected = refl
+value_form e at (DynType a b) expected = refl
+value_form e at SelfType expected = refl
+value_form e at (ParensType a) expected = refl
+value_form e at (TupleType a) expected = refl
+value_form e at (ArrayType a b c) expected = refl
+value_form e at NeverType expected = refl
+value_form e at (RefType a b) expected = refl
+value_form e at (StructItem a b c d) expected = refl
+value_form e at (EnumItem a b c) expected = refl
+value_form e at (FieldDecl a b) expected = refl
+value_form e at (VariantDecl a b c) expected = refl
+value_form e at (TraitItem a b) expected = refl
+value_form e at (ImplItem a b c) expected = refl
+value_form e at (FnItem a b c d) expected = refl
+value_form e at (ParamOf a b) expected = refl
+value_form e at (SelfParam a) expected = refl
+value_form e at Odd expected = refl
 
 plain_form : (form : Shape) → is_plain_form form ≡ is_plain_as (expression_part form)
 plain_form (Ident a) = refl
@@ -264,20 +264,20 @@ is_expression n g h =
     of_syn : (x : Syn) → expression_part (shape_of x) ≡ Some g → shape_of x ≡ g
     of_syn (syn at form) h = is_form (sort_of form == 13) form g h
 
-pub typed_place : (e : Env) (x : Syn) (want : Option TyId) → is_place_syn e x ≡ true → typed e x want ≡ (base_of e x >>= taken e want)
-typed_place e (syn at form) want is = by (is_place e form) is
+pub typed_place : (e : Env) (x : Syn) (expected : Option TyId) → is_place_syn e x ≡ true → typed e x expected ≡ (base_of e x >>= taken e expected)
+typed_place e (syn at form) expected is = by (is_place e form) is
   where
     by : (b : Bool) → b ≡ true →
-        (if b then place e at form >>= taken e want else value e at form want) ≡ ((if b then place e at form else value e at form None) >>= taken e want)
+        (if b then place e at form >>= taken e expected else value e at form expected) ≡ ((if b then place e at form else value e at form None) >>= taken e expected)
     by true h = refl
     by false h = cc
 
-syn_value : (e : Env) (x : Syn) (want : Option TyId) → is_place_syn e x ≡ false →
-    typed e x want ≡ value_as e (at_of x) (expression_part (shape_of x)) want
-syn_value e (syn at form) want is = by (is_place e form) is ∙ value_form e at form want
+syn_value : (e : Env) (x : Syn) (expected : Option TyId) → is_place_syn e x ≡ false →
+    typed e x expected ≡ value_as e (at_of x) (expression_part (shape_of x)) expected
+syn_value e (syn at form) expected is = by (is_place e form) is ∙ value_form e at form expected
   where
     by : (b : Bool) → b ≡ false →
-        (if b then place e at form >>= taken e want else value e at form want) ≡ value e at form want
+        (if b then place e at form >>= taken e expected else value e at form expected) ≡ value e at form expected
     by true h = cc
     by false h = refl
 
@@ -306,13 +306,13 @@ base_seen e n =
     of_syn : (x : Syn) → base_of e x ≡ base_as e (at_of x) (expression_part (shape_of x))
     of_syn (syn at form) = of_form at form (expression_part form) refl
 
-at_node : (e : Env) (n : SyntaxNode) (want : Option TyId) →
-    value_as e (at_of (syn_of n)) (expression_part (shape_of (syn_of n))) want ≡ value_as e n.at (expression_part (shape_of (syn_of n))) want
-at_node e n want = ap (λ (x : Syn). value_as e (at_of x) (expression_part (shape_of (syn_of n))) want) (seen_as n)
+at_node : (e : Env) (n : SyntaxNode) (expected : Option TyId) →
+    value_as e (at_of (syn_of n)) (expression_part (shape_of (syn_of n))) expected ≡ value_as e n.at (expression_part (shape_of (syn_of n))) expected
+at_node e n expected = ap (λ (x : Syn). value_as e (at_of x) (expression_part (shape_of (syn_of n))) expected) (seen_as n)
 
-pub typed_value : (e : Env) (n : SyntaxNode) (want : Option TyId) → is_place_syn e (syn_of n) ≡ false →
-    typed e (syn_of n) want ≡ value_as e n.at (expression_part (shape_of (syn_of n))) want
-typed_value e n want is = syn_value e (syn_of n) want is ∙ at_node e n want
+pub typed_value : (e : Env) (n : SyntaxNode) (expected : Option TyId) → is_place_syn e (syn_of n) ≡ false →
+    typed e (syn_of n) expected ≡ value_as e n.at (expression_part (shape_of (syn_of n))) expected
+typed_value e n expected is = syn_value e (syn_of n) expected is ∙ at_node e n expected
 
 pub base_value : (e : Env) (n : SyntaxNode) → is_place_syn e (syn_of n) ≡ false →
     base_of e (syn_of n) ≡ value_as e n.at (expression_part (shape_of (syn_of n))) None

@@ -14,47 +14,47 @@ use Rattle.well_typed.specs.Places.{ty_of}
 use Rattle.well_typed.specs.Types.{is_unit, is_never}
 
 abbrev pub if_else_rest : ℕ → Pos → Option TyId → Node → Node → Node → Check Node
-if_else_rest id at want n b o = do
+if_else_rest id at expected n b o = do
   items ← the_items
   ty ← known Rule.T03 at (one_of_two items (ty_of b) (ty_of o))
-  settled want (a_node_of id at ty (tree.If n b (present o)))
+  settled expected (a_node_of id at ty (tree.If n b (present o)))
 
 abbrev pub if_let_else_rest : ℕ → Pos → Option TyId → Node → Node → Node → Node → Check Node
-if_let_else_rest id at want s p b o = do
+if_let_else_rest id at expected s p b o = do
   items ← the_items
   ty ← known Rule.T03 at (one_of_two items (ty_of b) (ty_of o))
-  settled want (a_node_of id at ty (tree.IfLet p s b (present o)))
+  settled expected (a_node_of id at ty (tree.IfLet p s b (present o)))
 
 abbrev pub loop_rest : ℕ → Pos → Option TyId → Node → Check Node
-loop_rest id at want b = do
+loop_rest id at expected b = do
   tys ← types_of_breaks id
   items ← the_items
   ty ← known Rule.T03 at (one_type items tys)
-  settled want (a_node_of id at ty (tree.Loop b))
+  settled expected (a_node_of id at ty (tree.Loop b))
 
 abbrev pub continue_rest : ℕ → Pos → Option TyId → Option LabelledLoop → Check Node
-continue_rest id at want to = do
+continue_rest id at expected to = do
   a ← known Rule.T06 at to
-  settled want (a_node_of id at never (tree.Continue a.loop))
+  settled expected (a_node_of id at never (tree.Continue a.loop))
 
 -- a jump out of the loop with this number, if it is known
 abbrev pub break_rest : ℕ → Pos → Option TyId → Option LabelledLoop → MaybeNode → Check Node
-break_rest id at want to v = do
+break_rest id at expected to v = do
   a ← known Rule.T06 at to
   obeys Rule.T06 at (may_carry v a)
   breaks_out a.loop (ty_carried v)
-  settled want (a_node_of id at never (tree.Break a.loop v))
+  settled expected (a_node_of id at never (tree.Break a.loop v))
 
 abbrev pub break_out_rest : ℕ → Pos → Option TyId → ℕ → MaybeNode → Check Node
-break_out_rest id at want loop v = do
+break_out_rest id at expected loop v = do
   breaks_out loop (ty_carried v)
-  settled want (a_node_of id at never (tree.Break loop v))
+  settled expected (a_node_of id at never (tree.Break loop v))
 
 abbrev pub return_alone_rest : ℕ → Pos → TyId → Option TyId → Check Node
-return_alone_rest id at answer want = do
+return_alone_rest id at answer expected = do
   items ← the_items
   obeys Rule.T03 at (is_unit items answer)
-  settled want (a_node_of id at never (tree.Return absent))
+  settled expected (a_node_of id at never (tree.Return absent))
 
 abbrev pub evaluate_rest : Env → ℕ → Pos → Bool → Node → Check (Node × Bool × Env)
 evaluate_rest env id at has_semicolon n = do

@@ -27,8 +27,8 @@ is_place_as env None = false
 is_place_as env (Some form) = is_place env form
 
 abbrev pub value_as : Env → Pos → Option Shape → Typer
-value_as env at None want = breaks Rule.T20 at
-value_as env at (Some form) want = value env at form want
+value_as env at None expected = breaks Rule.T20 at
+value_as env at (Some form) expected = value env at form expected
 
 abbrev pub base_as : Env → Pos → Option Shape → Check Node
 base_as env at None = breaks Rule.T20 at
@@ -96,11 +96,11 @@ reference_among items None = None
 reference_among items (Some v) = if is_reference items v.found.ty then Some v else None
 
 abbrev pub referred_by : Env → ArgumentForm → Referrer
-referred_by env (ArgumentForm.Borrow at unique base) want is_unique to =
-    rows.borrow at unique (base_of env (syn_of base.now)) want is_unique to
-referred_by env (ArgumentForm.Passed at variable) want is_unique to =
-    rows.passed_on at (entry_named variable) want is_unique to
-referred_by env (ArgumentForm.Value node) want is_unique to = typed env (syn_of node.now) (Some want)
+referred_by env (ArgumentForm.Borrow at unique base) expected is_unique to =
+    rows.borrow at unique (base_of env (syn_of base.now)) expected is_unique to
+referred_by env (ArgumentForm.Passed at variable) expected is_unique to =
+    rows.passed_on at (entry_named variable) expected is_unique to
+referred_by env (ArgumentForm.Value node) expected is_unique to = typed env (syn_of node.now) (Some expected)
 
 -- how large it is
 abbrev pub argument_size : ArgumentForm → ℕ
@@ -111,6 +111,6 @@ argument_size (ArgumentForm.Value node) = size (syn_of node.now)
 -- what an argument is, at a point of the walk
 abbrev pub IsArgumentOf : Env → Syn → TypingState → ArgumentForm → Type 0
 IsArgumentOf env x s form =
-    ((want : TyId) (is_unique : Bool) (to : TyId) →
-    by_reference env x want is_unique to s ≡ referred_by env form want is_unique to s)
+    ((expected : TyId) (is_unique : Bool) (to : TyId) →
+    by_reference env x expected is_unique to s ≡ referred_by env form expected is_unique to s)
     × (argument_size form ≤ size x)

@@ -7,4 +7,4 @@ abbrev pub unlabelled : LabelledLoop → LabelledLoop
 unlabelled a = record a { label = None }
 
 abbrev pub target_of : JumpTarget → LabelledLoop
-target_of t = record { label = None; loop = t.id.0; has_value = t.has_value; want = t.want }
+target_of t = record { label = None; loop = t.id.0; has_value = t.has_value; expected = t.expected }

@@ -25,12 +25,12 @@ if_as_many count types = if length types == count then map Some types else []
 
 -- an array, once its elements have a type, and once they are checked
 abbrev pub counted_array_rest : ℕ → Pos → ℕ → Bool → TyId → Nodes → Option TyId → Check Node
-counted_array_rest id at count has_type element elements want = do
+counted_array_rest id at count has_type element elements expected = do
   obeys Rule.T16 at (has_type || not (count == 0))
-  array_rest id at count element elements want
+  array_rest id at count element elements expected
 
 abbrev pub elements_rest : ℕ → Pos → ℕ → Option TyId → Nodes → List TyId → Option TyId → Check Node
-elements_rest id at count wants elements types want = do
+elements_rest id at count wants elements types expected = do
   items ← the_items
   element ← known Rule.T03 at (element_ty items wants types)
-  counted_array_rest id at count (is_some wants) element elements want
+  counted_array_rest id at count (is_some wants) element elements expected

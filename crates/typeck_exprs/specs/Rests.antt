@@ -19,39 +19,39 @@ use Rattle.well_typed.specs.Types.{fits, is_same, is_dyn, inside_of, array_of}
 -- ---- operators
 
 abbrev pub not_rest : ℕ → Pos → Option TyId → Node → Check Node
-not_rest id at want n = do
+not_rest id at expected n = do
   items ← the_items
   obeys Rule.T03 at (fits items bool (ty_of n))
-  fitted want (a_node_of id at bool (tree.Not n))
+  fitted expected (a_node_of id at bool (tree.Not n))
 
 abbrev pub negate_rest : ℕ → Pos → Option TyId → Node → Check Node
-negate_rest id at want n = do
+negate_rest id at expected n = do
   obeys Rule.T03 at (is_same (ty_of n) (int IntKind.I32) || is_same (ty_of n) (int IntKind.I64))
-  fitted want (a_node_of id at (ty_of n) (tree.Negate n))
+  fitted expected (a_node_of id at (ty_of n) (tree.Negate n))
 
 abbrev pub arithmetic_rest : ℕ → Pos → Math → Option TyId → Node → Node → Check Node
-arithmetic_rest id at operator want l r = do
+arithmetic_rest id at operator expected l r = do
   items ← the_items
   ty ← known Rule.T03 at (option_and_then (if_int items) (one_of_two items (ty_of l) (ty_of r)))
-  fitted want (a_node_of id at ty (tree.Arithmetic operator l r))
+  fitted expected (a_node_of id at ty (tree.Arithmetic operator l r))
 
 abbrev pub comparison_rest : ℕ → Pos → Cmp → Option TyId → Node → Node → Check Node
-comparison_rest id at operator want l r = do
+comparison_rest id at operator expected l r = do
   items ← the_items
   _ ← known Rule.T03 at (option_and_then (int_or_bool items) (one_of_two items (ty_of l) (ty_of r)))
-  fitted want (a_node_of id at bool (tree.Comparison operator l r))
+  fitted expected (a_node_of id at bool (tree.Comparison operator l r))
 
 abbrev pub logic_rest : ℕ → Pos → (Node → Node → Form) → Option TyId → Node → Node → Check Node
-logic_rest id at form want l r = do
+logic_rest id at form expected l r = do
   items ← the_items
   obeys Rule.T03 at (fits items bool (ty_of l) && fits items bool (ty_of r))
-  fitted want (a_node_of id at bool (form l r))
+  fitted expected (a_node_of id at bool (form l r))
 
 abbrev pub store_rest : Env → ℕ → Pos → Option TyId → Node → Node → Check Node
-store_rest env id at want p v = do
+store_rest env id at expected p v = do
   items ← the_items
   obeys Rule.T03 at (not (is_dyn items (ty_of p)))
-  n ← fitted want (a_node_of id at unit (tree.Assign (used Use.Store p) v))
+  n ← fitted expected (a_node_of id at unit (tree.Assign (used Use.Store p) v))
   obeys Rule.T05 at (is_place (form_of p) && not (own_in (in_own_guard env.variables) (form_of p)))
   obeys Rule.T08 (place_in_text p) (not (is_behind_shared items p))
   pure n

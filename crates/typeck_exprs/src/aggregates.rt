@@ -3,7 +3,7 @@ ghost use Rattle.std.specs.Prelude.{◌≡◌};
 ghost use Rattle.typing_rules.specs.Rows as rows;
 ghost use Rattle.typeck_checker.specs.Lists.{below_all, last_nodes};
 ghost use Rattle.typeck_exprs.specs.CallRests.{array_rest, box_of_rest, box_rest, tuple_rest};
-ghost use Rattle.typeck_checker.specs.Stand.{Gives, Keeps, below, stack, state, top};
+ghost use Rattle.typeck_checker.specs.Stand.{Gives, KeepsStack, below, stack, state, top};
 
 use mir_base::limits::{MAX_ARRAY_LENGTH, MAX_TUPLE_PARTS};
 use mir_base::{List, NodeId, Pos, Rule, RuleError};
@@ -18,13 +18,13 @@ pub fn tuple_end(
     at: Pos,
     types: List<TyId>,
     count: usize,
-    want: Option<TyId>,
+    expected: Option<TyId>,
 ) -> Result<(), RuleError>
-    ensures gives { Gives (tuple_rest id.0 at count types (last_nodes count (stack checker.old)) want (state checker.old)) result checker.new }
-    ensures kept { Keeps (below_all count (stack checker.old)) checker.old result checker.new }
+    ensures gives { Gives (tuple_rest id.0 at count types (last_nodes count (stack checker.old)) expected (state checker.old)) result checker.new }
+    ensures kept { KeepsStack (below_all count (stack checker.old)) checker.old result checker.new }
 {
     let ty = checker.intern(Ty::Tuple(types))?;
-    coerce_many(checker, id, at, ty, Many::Tuple, count, want)?;
+    coerce_many(checker, id, at, ty, Many::Tuple, count, expected)?;
     obeys(Rule::T19, at, count <= MAX_TUPLE_PARTS)
 }
 
@@ -35,13 +35,13 @@ pub fn array_end(
     at: Pos,
     element: TyId,
     count: u32,
-    want: Option<TyId>,
+    expected: Option<TyId>,
 ) -> Result<(), RuleError>
-    ensures gives { Gives (array_rest id.0 at count element (last_nodes count (stack checker.old)) want (state checker.old)) result checker.new }
-    ensures kept { Keeps (below_all count (stack checker.old)) checker.old result checker.new }
+    ensures gives { Gives (array_rest id.0 at count element (last_nodes count (stack checker.old)) expected (state checker.old)) result checker.new }
+    ensures kept { KeepsStack (below_all count (stack checker.old)) checker.old result checker.new }
 {
     let ty = checker.intern(Ty::Array(element, count))?;
-    coerce_many(checker, id, at, ty, Many::Array, count as usize, want)?;
+    coerce_many(checker, id, at, ty, Many::Array, count as usize, expected)?;
     obeys(Rule::T19, at, count <= MAX_ARRAY_LENGTH)
 }
 
@@ -61,13 +61,13 @@ fn box_of(
     at: Pos,
     count: usize,
     inside: TyId,
-    want: Option<TyId>,
+    expected: Option<TyId>,
 ) -> Result<(), RuleError>
-    ensures gives { Gives (box_of_rest id.0 at count want inside (top (stack checker.old)) (state checker.old)) result checker.new }
-    ensures kept { Keeps (below (stack checker.old)) checker.old result checker.new }
+    ensures gives { Gives (box_of_rest id.0 at count expected inside (top (stack checker.old)) (state checker.old)) result checker.new }
+    ensures kept { KeepsStack (below (stack checker.old)) checker.old result checker.new }
 {
     let ty = checker.intern(Ty::Boxed(inside))?;
-    checker.coerce_one(id, at, ty, One::NewBox, want)?;
+    checker.coerce_one(id, at, ty, One::NewBox, expected)?;
     obeys(Rule::T04, at, count == 1)
 }
 
@@ -78,11 +78,11 @@ pub fn box_end(
     at: Pos,
     count: usize,
     content: Option<TyId>,
-    want: Option<TyId>,
+    expected: Option<TyId>,
 ) -> Result<(), RuleError>
-    ensures gives { Gives (box_rest id.0 at count want content (top (stack checker.old)) (state checker.old)) result checker.new }
-    ensures kept { Keeps (below (stack checker.old)) checker.old result checker.new }
+    ensures gives { Gives (box_rest id.0 at count expected content (top (stack checker.old)) (state checker.old)) result checker.new }
+    ensures kept { KeepsStack (below (stack checker.old)) checker.old result checker.new }
 {
     let inside = part_ty(checker, content);
-    box_of(checker, id, at, count, inside, want)
+    box_of(checker, id, at, count, inside, expected)
 }

@@ -3,7 +3,7 @@ ghost use Rattle.std.specs.Prelude.{◌≡◌};
 ghost use Rattle.typeck_checker.specs.Variables.{found_as};
 ghost use Rattle.typing_rules.specs.Rows as rows;
 ghost use Rattle.typeck_exprs.specs.ListRests.{passed_rest};
-ghost use Rattle.typeck_checker.specs.Stand.{Gives, Keeps, stack, state};
+ghost use Rattle.typeck_checker.specs.Stand.{Gives, KeepsStack, stack, state};
 
 use crate::borrow_of;
 use mir_base::{Pos, Rule, RuleError};
@@ -31,7 +31,7 @@ fn pass_variable(
     to: TyId,
 ) -> Result<(), RuleError>
     ensures gives { Gives (passed_rest at (found_as name.now found) is_unique to (state checker.old)) result checker.new }
-    ensures kept { Keeps (stack checker.old) checker.old result checker.new }
+    ensures kept { KeepsStack (stack checker.old) checker.old result checker.new }
 {
     let id = checker.number()?;
     let through = checker.number()?;
@@ -50,7 +50,7 @@ pub fn passed_on(
     to: TyId,
 ) -> Result<(), RuleError>
     ensures gives { Gives (rows.passed_on at (found_as name.now found) to is_unique to (state checker.old)) result checker.new }
-    ensures kept { Keeps (stack checker.old) checker.old result checker.new }
+    ensures kept { KeepsStack (stack checker.old) checker.old result checker.new }
 {
     let may_pass = passes(reference_of(&checker.walk.items, found.ty), is_unique, to);
     obeys(Rule::T03, at, may_pass)?;

@@ -4,7 +4,7 @@ ghost use Rattle.typeck_checker.specs.Lists.{below_all, last_nodes, last_types};
 ghost use Rattle.typeck_exprs.specs.CallRests.{array_rest};
 ghost use Rattle.typing_rules.specs.Rows as rows;
 ghost use Rattle.typeck_exprs.specs.ListRests.{counted_array_rest, elements_rest};
-ghost use Rattle.typeck_checker.specs.Stand.{Gives, Keeps, stack, state};
+ghost use Rattle.typeck_checker.specs.Stand.{Gives, KeepsStack, stack, state};
 
 use crate::array_end;
 use crate::counts::as_length;
@@ -29,13 +29,13 @@ fn sized_array(
     at: Pos,
     element: TyId,
     count: usize,
-    want: Option<TyId>,
+    expected: Option<TyId>,
 ) -> Result<(), RuleError>
-    ensures gives { Gives (array_rest id.0 at count element (last_nodes count (stack checker.old)) want (state checker.old)) result checker.new }
-    ensures kept { Keeps (below_all count (stack checker.old)) checker.old result checker.new }
+    ensures gives { Gives (array_rest id.0 at count element (last_nodes count (stack checker.old)) expected (state checker.old)) result checker.new }
+    ensures kept { KeepsStack (below_all count (stack checker.old)) checker.old result checker.new }
 {
     let length = as_length(count)?;
-    array_end(checker, id, at, element, length, want)
+    array_end(checker, id, at, element, length, expected)
 }
 
 /// Whether the type of an array is known: it has elements, or one is required.
@@ -52,13 +52,13 @@ fn counted_array(
     element: TyId,
     has_type: bool,
     count: usize,
-    want: Option<TyId>,
+    expected: Option<TyId>,
 ) -> Result<(), RuleError>
-    ensures gives { Gives (counted_array_rest id.0 at count has_type element (last_nodes count (stack checker.old)) want (state checker.old)) result checker.new }
-    ensures kept { Keeps (below_all count (stack checker.old)) checker.old result checker.new }
+    ensures gives { Gives (counted_array_rest id.0 at count has_type element (last_nodes count (stack checker.old)) expected (state checker.old)) result checker.new }
+    ensures kept { KeepsStack (below_all count (stack checker.old)) checker.old result checker.new }
 {
     obeys(Rule::T16, at, is_known(has_type, count))?;
-    sized_array(checker, id, at, element, count, want)
+    sized_array(checker, id, at, element, count, expected)
 }
 
 /// `[a, b]`, whose elements are the last nodes, so many, each of the type that is required of it, if one is.
@@ -68,13 +68,13 @@ pub fn elements_end(
     at: Pos,
     wanted: Option<TyId>,
     count: usize,
-    want: Option<TyId>,
+    expected: Option<TyId>,
 ) -> Result<(), RuleError>
-    ensures gives { Gives (elements_rest id.0 at count wanted (last_nodes count (stack checker.old)) (last_types count (stack checker.old)) want (state checker.old)) result checker.new }
-    ensures kept { Keeps (below_all count (stack checker.old)) checker.old result checker.new }
+    ensures gives { Gives (elements_rest id.0 at count wanted (last_nodes count (stack checker.old)) (last_types count (stack checker.old)) expected (state checker.old)) result checker.new }
+    ensures kept { KeepsStack (below_all count (stack checker.old)) checker.old result checker.new }
 {
     match element_ty(checker, wanted, count) {
-        Some(element) => counted_array(checker, id, at, element, wanted.is_some(), count, want),
+        Some(element) => counted_array(checker, id, at, element, wanted.is_some(), count, expected),
         None => Err(broken_rule(Rule::T03, at)),
     }
 }

@@ -7,7 +7,7 @@ ghost use Rattle.typing_rules.specs.Places.{a_node_of};
 ghost use Rattle.typing_rules.specs.Rows as rows;
 ghost use Rattle.well_typed.specs.Places.{ty_of};
 ghost use Rattle.typeck_checker.specs.Lists.{below_all, last_nodes};
-ghost use Rattle.typeck_checker.specs.Stand.{Gives, Keeps, Stays, below, stack, state, top};
+ghost use Rattle.typeck_checker.specs.Stand.{Gives, KeepsStack, Stays, below, stack, state, top};
 
 use mir_base::{NodeId, Pos, RuleError};
 use mir_ty::{NEVER, TyId, UNIT};
@@ -74,15 +74,15 @@ pub fn block_end(
     at: Pos,
     count: usize,
     ends: bool,
-    want: Option<TyId>,
+    expected: Option<TyId>,
 ) -> Result<(), RuleError>
-    ensures gives { Gives (rows.settled want (a_node_of id.0 at (rows.block_ty absent ends)
+    ensures gives { Gives (rows.settled expected (a_node_of id.0 at (rows.block_ty absent ends)
         (tree.Block (last_nodes count (stack checker.old)) absent)) (state checker.old)) result checker.new }
-    ensures kept { Keeps (below_all count (stack checker.old)) checker.old result checker.new }
+    ensures kept { KeepsStack (below_all count (stack checker.old)) checker.old result checker.new }
 {
     let ty = if ends { NEVER } else { UNIT };
     wrap_statements(checker, id, at, ty, count)?;
-    checker.unify(want)
+    checker.unify(expected)
 }
 
 /// A block whose tail is the last node, behind its statements, so many: it has the type of its tail.
@@ -91,13 +91,13 @@ pub fn tail_end(
     id: NodeId,
     at: Pos,
     count: usize,
-    want: Option<TyId>,
+    expected: Option<TyId>,
 ) -> Result<(), RuleError>
-    ensures gives { Gives (rows.settled want (a_node_of id.0 at (ty_of (top (stack checker.old)))
+    ensures gives { Gives (rows.settled expected (a_node_of id.0 at (ty_of (top (stack checker.old)))
         (tree.Block (last_nodes count (below (stack checker.old))) (present (top (stack checker.old))))) (state checker.old)) result checker.new }
-    ensures kept { Keeps (below_all count (below (stack checker.old))) checker.old result checker.new }
+    ensures kept { KeepsStack (below_all count (below (stack checker.old))) checker.old result checker.new }
 {
     let ty = checker.last_ty();
     wrap_tail(checker, id, at, ty, count)?;
-    checker.unify(want)
+    checker.unify(expected)
 }

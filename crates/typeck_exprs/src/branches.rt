@@ -1,6 +1,6 @@
 //! Branches (The Rust Reference, "if and if let expressions").
 ghost use Rattle.typeck_exprs.specs.BranchRests.{if_else_rest, if_let_else_rest};
-ghost use Rattle.typeck_checker.specs.Stand.{Gives, Keeps, below, stack, state, top};
+ghost use Rattle.typeck_checker.specs.Stand.{Gives, KeepsStack, below, stack, state, top};
 
 use mir_base::{NodeId, Pos, Rule, RuleError};
 use mir_ty::TyId;
@@ -13,13 +13,13 @@ pub fn if_else_end(
     checker: &mut Checker,
     id: NodeId,
     at: Pos,
-    want: Option<TyId>,
+    expected: Option<TyId>,
 ) -> Result<(), RuleError>
-    ensures gives { Gives (if_else_rest id.0 at want (top (below (below (stack checker.old)))) (top (below (stack checker.old))) (top (stack checker.old)) (state checker.old)) result checker.new }
-    ensures kept { Keeps (below (below (below (stack checker.old)))) checker.old result checker.new }
+    ensures gives { Gives (if_else_rest id.0 at expected (top (below (below (stack checker.old)))) (top (below (stack checker.old))) (top (stack checker.old)) (state checker.old)) result checker.new }
+    ensures kept { KeepsStack (below (below (below (stack checker.old)))) checker.old result checker.new }
 {
     match one_of_two(&checker.walk.items, checker.second_ty(), checker.last_ty()) {
-        Some(ty) => checker.unify_three(id, at, ty, Three::If, want),
+        Some(ty) => checker.unify_three(id, at, ty, Three::If, expected),
         None => Err(broken_rule(Rule::T03, at)),
     }
 }
@@ -29,13 +29,13 @@ pub fn if_let_else_end(
     checker: &mut Checker,
     id: NodeId,
     at: Pos,
-    want: Option<TyId>,
+    expected: Option<TyId>,
 ) -> Result<(), RuleError>
-    ensures gives { Gives (if_let_else_rest id.0 at want (top (below (below (below (stack checker.old))))) (top (below (below (stack checker.old)))) (top (below (stack checker.old))) (top (stack checker.old)) (state checker.old)) result checker.new }
-    ensures kept { Keeps (below (below (below (below (stack checker.old))))) checker.old result checker.new }
+    ensures gives { Gives (if_let_else_rest id.0 at expected (top (below (below (below (stack checker.old))))) (top (below (below (stack checker.old)))) (top (below (stack checker.old))) (top (stack checker.old)) (state checker.old)) result checker.new }
+    ensures kept { KeepsStack (below (below (below (below (stack checker.old))))) checker.old result checker.new }
 {
     match one_of_two(&checker.walk.items, checker.second_ty(), checker.last_ty()) {
-        Some(ty) => checker.unify_four(id, at, ty, Four::IfLet, want),
+        Some(ty) => checker.unify_four(id, at, ty, Four::IfLet, expected),
         None => Err(broken_rule(Rule::T03, at)),
     }
 }

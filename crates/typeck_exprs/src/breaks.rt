@@ -3,7 +3,7 @@ ghost use Rattle.std.specs.Prelude.{◌≡◌, map, option_and_then};
 ghost use Rattle.typing_rules.specs.Rows as rows;
 ghost use Rattle.typeck_exprs.specs.BranchRests.{carried_by, loop_rest};
 ghost use Rattle.typeck_env.specs.Walked.{break_of};
-ghost use Rattle.typeck_checker.specs.Stand.{Gives, Keeps, below, stack, state, top};
+ghost use Rattle.typeck_checker.specs.Stand.{Gives, KeepsStack, below, stack, state, top};
 
 use mir_base::{NodeId, Pos, Rule, RuleError};
 use mir_ty::{Items, NEVER, TyId};
@@ -41,13 +41,13 @@ pub fn loop_end(
     checker: &mut Checker,
     id: NodeId,
     at: Pos,
-    want: Option<TyId>,
+    expected: Option<TyId>,
 ) -> Result<(), RuleError>
-    ensures gives { Gives (loop_rest id.0 at want (top (stack checker.old)) (state checker.old)) result checker.new }
-    ensures kept { Keeps (below (stack checker.old)) checker.old result checker.new }
+    ensures gives { Gives (loop_rest id.0 at expected (top (stack checker.old)) (state checker.old)) result checker.new }
+    ensures kept { KeepsStack (below (stack checker.old)) checker.old result checker.new }
 {
     match breaks_ty(&checker.walk.items, checker.walk.breaks.as_slice(), id) {
-        Some(ty) => checker.unify_one(id, at, ty, One::Loop, want),
+        Some(ty) => checker.unify_one(id, at, ty, One::Loop, expected),
         None => Err(broken_rule(Rule::T03, at)),
     }
 }

@@ -6,7 +6,7 @@ ghost use Rattle.typing_rules.specs.Places.{a_node_of};
 ghost use Rattle.typing_rules.specs.Rows as rows;
 ghost use Rattle.typeck_checker.specs.Lists.{behind_form, below_all, last_nodes, last_types, many_form};
 ghost use Rattle.typeck_exprs.specs.CallRests.{call_rest, counted_rest, match_rest};
-ghost use Rattle.typeck_checker.specs.Stand.{Gives, Keeps, below, stack, state, top};
+ghost use Rattle.typeck_checker.specs.Stand.{Gives, KeepsStack, below, stack, state, top};
 
 use mir_base::{NodeId, Pos, Rule, RuleError};
 use mir_ty::TyId;
@@ -20,14 +20,14 @@ fn coerce_behind(
     ty: TyId,
     behind: Behind,
     count: usize,
-    want: Option<TyId>,
+    expected: Option<TyId>,
 ) -> Result<(), RuleError>
-    ensures gives { Gives (rows.fitted want (a_node_of id.0 at ty
+    ensures gives { Gives (rows.fitted expected (a_node_of id.0 at ty
         (behind_form behind (top (below_all count (stack checker.old))) (last_nodes count (stack checker.old)))) (state checker.old)) result checker.new }
-    ensures kept { Keeps (below (below_all count (stack checker.old))) checker.old result checker.new }
+    ensures kept { KeepsStack (below (below_all count (stack checker.old))) checker.old result checker.new }
 {
     wrap_behind(checker, id, at, ty, behind, count)?;
-    checker.coerce(want)
+    checker.coerce(expected)
 }
 
 /// A call whose arguments are the last nodes, so many: whether there are as many as parameters, and whether it may be
@@ -41,12 +41,12 @@ pub fn call_end(
     count: usize,
     is_count: bool,
     may_be_called: bool,
-    want: Option<TyId>,
+    expected: Option<TyId>,
 ) -> Result<(), RuleError>
-    ensures gives { Gives (call_rest id.0 at answer (many_form many (last_nodes count (stack checker.old))) is_count may_be_called want (state checker.old)) result checker.new }
-    ensures kept { Keeps (below_all count (stack checker.old)) checker.old result checker.new }
+    ensures gives { Gives (call_rest id.0 at answer (many_form many (last_nodes count (stack checker.old))) is_count may_be_called expected (state checker.old)) result checker.new }
+    ensures kept { KeepsStack (below_all count (stack checker.old)) checker.old result checker.new }
 {
-    coerce_many(checker, id, at, answer, many, count, want)?;
+    coerce_many(checker, id, at, answer, many, count, expected)?;
     if !is_count {
         return Err(broken_rule(Rule::T04, at));
     }
@@ -62,12 +62,12 @@ pub fn counted_end(
     behind: Behind,
     count: usize,
     is_count: bool,
-    want: Option<TyId>,
+    expected: Option<TyId>,
 ) -> Result<(), RuleError>
-    ensures gives { Gives (counted_rest id.0 at answer (behind_form behind (top (below_all count (stack checker.old))) (last_nodes count (stack checker.old))) Rule.T04 is_count want (state checker.old)) result checker.new }
-    ensures kept { Keeps (below (below_all count (stack checker.old))) checker.old result checker.new }
+    ensures gives { Gives (counted_rest id.0 at answer (behind_form behind (top (below_all count (stack checker.old))) (last_nodes count (stack checker.old))) Rule.T04 is_count expected (state checker.old)) result checker.new }
+    ensures kept { KeepsStack (below (below_all count (stack checker.old))) checker.old result checker.new }
 {
-    coerce_behind(checker, id, at, answer, behind, count, want)?;
+    coerce_behind(checker, id, at, answer, behind, count, expected)?;
     obeys(Rule::T04, at, is_count)
 }
 
@@ -77,14 +77,14 @@ fn unify_match(
     at: Pos,
     ty: TyId,
     count: usize,
-    want: Option<TyId>,
+    expected: Option<TyId>,
 ) -> Result<(), RuleError>
-    ensures gives { Gives (rows.settled want (a_node_of id.0 at ty
+    ensures gives { Gives (rows.settled expected (a_node_of id.0 at ty
         (tree.Match (top (below_all count (stack checker.old))) (last_nodes count (stack checker.old)))) (state checker.old)) result checker.new }
-    ensures kept { Keeps (below (below_all count (stack checker.old))) checker.old result checker.new }
+    ensures kept { KeepsStack (below (below_all count (stack checker.old))) checker.old result checker.new }
 {
     wrap_behind(checker, id, at, ty, Behind::Match, count)?;
-    checker.unify(want)
+    checker.unify(expected)
 }
 
 /// `match`, whose arms are the last nodes, so many, behind its scrutinee: they have one type.
@@ -93,13 +93,13 @@ pub fn match_end(
     id: NodeId,
     at: Pos,
     count: usize,
-    want: Option<TyId>,
+    expected: Option<TyId>,
 ) -> Result<(), RuleError>
-    ensures gives { Gives (match_rest id.0 at want (top (below_all count (stack checker.old))) (last_nodes count (stack checker.old)) (last_types count (stack checker.old)) (state checker.old)) result checker.new }
-    ensures kept { Keeps (below (below_all count (stack checker.old))) checker.old result checker.new }
+    ensures gives { Gives (match_rest id.0 at expected (top (below_all count (stack checker.old))) (last_nodes count (stack checker.old)) (last_types count (stack checker.old)) (state checker.old)) result checker.new }
+    ensures kept { KeepsStack (below (below_all count (stack checker.old))) checker.old result checker.new }
 {
     match one_type_of(checker, count) {
-        Some(ty) => unify_match(checker, id, at, ty, count, want),
+        Some(ty) => unify_match(checker, id, at, ty, count, expected),
         None => Err(broken_rule(Rule::T03, at)),
     }
 }

@@ -22,11 +22,11 @@ pub fn wanted_at(types: &[TyId], number: usize) -> Option<TyId>
 }
 
 /// The type that is required of the elements of an array, if one is.
-pub fn element_wanted(items: &Items, want: Option<TyId>) -> Option<TyId>
-    ensures { result ≡ places.wanted rows.element_wanted items.now want }
+pub fn element_wanted(items: &Items, expected: Option<TyId>) -> Option<TyId>
+    ensures { result ≡ places.wanted rows.element_wanted items.now expected }
 {
-    match want {
-        Some(want) => match array_of(items, want) {
+    match expected {
+        Some(expected) => match array_of(items, expected) {
             Some((element, _)) => Some(element),
             None => None,
         },
@@ -35,10 +35,10 @@ pub fn element_wanted(items: &Items, want: Option<TyId>) -> Option<TyId>
 }
 
 /// A part has the type that is required of it, else its own; it is the last node.
-pub fn part_ty(checker: &Checker, want: Option<TyId>) -> TyId
-    ensures { result ≡ rules.part_ty want (top (stack checker.now)) }
+pub fn part_ty(checker: &Checker, expected: Option<TyId>) -> TyId
+    ensures { result ≡ rules.part_ty expected (top (stack checker.now)) }
 {
-    match want {
+    match expected {
         Some(ty) => ty,
         None => checker.last_ty(),
     }
@@ -70,13 +70,13 @@ fn copied_if(alloc: Global, types: &[TyId], count: usize) -> Result<List<TyId>, 
 pub fn parts_wanted(
     checker: &Checker,
     count: usize,
-    want: Option<TyId>,
+    expected: Option<TyId>,
 ) -> Result<List<TyId>, RuleError>
-    ensures made { IfOk result (λ types. map Some types ≡ rows.parts_wanted checker.now.walk.items count want) }
+    ensures made { IfOk result (λ types. map Some types ≡ rows.parts_wanted checker.now.walk.items count expected) }
     ensures short { IfErr result (λ e. e ≡ RuleError.Memory) }
 {
-    match want {
-        Some(want) => match checker.walk.items.ty(want) {
+    match expected {
+        Some(expected) => match checker.walk.items.ty(expected) {
             Some(Ty::Tuple(parts)) => copied_if(checker.alloc, parts.as_slice(), count),
             _ => Ok(List::new(checker.alloc)),
         },

@@ -7,7 +7,7 @@ ghost use Rattle.typing_rules.specs.Scope.{jumps_to};
 ghost use Rattle.typeck_exprs.specs.Jumps.{target_of, unlabelled};
 ghost use Rattle.typeck_exprs.specs.BranchRests.{break_out_rest, break_rest, continue_rest, return_alone_rest};
 ghost use Rattle.typeck_env.specs.Scope.{word_in};
-ghost use Rattle.typeck_checker.specs.Stand.{Gives, Keeps, below, env, stack, state, top};
+ghost use Rattle.typeck_checker.specs.Stand.{Gives, KeepsStack, below, env, stack, state, top};
 
 use mir_base::{NodeId, Pos, Rule, RuleError};
 use mir_ty::{NEVER, TyId, UNIT};
@@ -22,7 +22,7 @@ pub struct JumpTarget {
     /// A `break` may carry a value.
     pub has_value: bool,
     /// The type that is required of it.
-    pub want: Option<TyId>,
+    pub expected: Option<TyId>,
 }
 
 /// The loop that a `break` or `continue` leaves: the innermost, or the innermost of its label.
@@ -34,7 +34,7 @@ pub fn jump_target(checker: &Checker, label: Option<&str>) -> Option<JumpTarget>
         Some(around) => Some(JumpTarget {
             id: around.id,
             has_value: around.has_value,
-            want: around.want,
+            expected: around.expected,
         }),
         None => None,
     }
@@ -45,7 +45,7 @@ pub fn carried_type(target: Option<JumpTarget>) -> Option<TyId>
     ensures { result ≡ rows.carried (option_map target_of target) }
 {
     match target {
-        Some(target) => target.want,
+        Some(target) => target.expected,
         None => None,
     }
 }
@@ -56,13 +56,13 @@ pub fn continue_end(
     id: NodeId,
     at: Pos,
     target: Option<JumpTarget>,
-    want: Option<TyId>,
+    expected: Option<TyId>,
 ) -> Result<(), RuleError>
-    ensures gives { Gives (continue_rest id.0 at want (option_map target_of target) (state checker.old)) result checker.new }
-    ensures kept { Keeps (stack checker.old) checker.old result checker.new }
+    ensures gives { Gives (continue_rest id.0 at expected (option_map target_of target) (state checker.old)) result checker.new }
+    ensures kept { KeepsStack (stack checker.old) checker.old result checker.new }
 {
     match target {
-        Some(target) => checker.unify_leaf(id, at, NEVER, Leaf::Continue(target.id), want),
+        Some(target) => checker.unify_leaf(id, at, NEVER, Leaf::Continue(target.id), expected),
         None => Err(broken_rule(Rule::T06, at)),
     }
 }
@@ -73,13 +73,13 @@ pub fn break_alone_end(
     id: NodeId,
     at: Pos,
     target: Option<JumpTarget>,
-    want: Option<TyId>,
+    expected: Option<TyId>,
 ) -> Result<(), RuleError>
-    ensures gives { Gives (break_rest id.0 at want (option_map target_of target) absent (state checker.old)) result checker.new }
-    ensures kept { Keeps (stack checker.old) checker.old result checker.new }
+    ensures gives { Gives (break_rest id.0 at expected (option_map target_of target) absent (state checker.old)) result checker.new }
+    ensures kept { KeepsStack (stack checker.old) checker.old result checker.new }
 {
     match target {
-        Some(target) => break_out_alone(checker, id, at, target.id, want),
+        Some(target) => break_out_alone(checker, id, at, target.id, expected),
         None => Err(broken_rule(Rule::T06, at)),
     }
 }
@@ -89,13 +89,13 @@ fn break_out_alone(
     id: NodeId,
     at: Pos,
     from: NodeId,
-    want: Option<TyId>,
+    expected: Option<TyId>,
 ) -> Result<(), RuleError>
-    ensures gives { Gives (break_out_rest id.0 at want from.0 absent (state checker.old)) result checker.new }
-    ensures kept { Keeps (stack checker.old) checker.old result checker.new }
+    ensures gives { Gives (break_out_rest id.0 at expected from.0 absent (state checker.old)) result checker.new }
+    ensures kept { KeepsStack (stack checker.old) checker.old result checker.new }
 {
     checker.breaks_out(from, UNIT)?;
-    checker.unify_leaf(id, at, NEVER, Leaf::Break(from), want)
+    checker.unify_leaf(id, at, NEVER, Leaf::Break(from), expected)
 }
 
 /// `break` out of a loop with the last node as its value.
@@ -104,15 +104,15 @@ pub fn break_end(
     id: NodeId,
     at: Pos,
     target: Option<JumpTarget>,
-    want: Option<TyId>,
+    expected: Option<TyId>,
 ) -> Result<(), RuleError>
-    ensures gives { Gives (break_rest id.0 at want (option_map target_of target) (present (top (stack checker.old))) (state checker.old)) result checker.new }
-    ensures kept { Keeps (below (stack checker.old)) checker.old result checker.new }
+    ensures gives { Gives (break_rest id.0 at expected (option_map target_of target) (present (top (stack checker.old))) (state checker.old)) result checker.new }
+    ensures kept { KeepsStack (below (stack checker.old)) checker.old result checker.new }
 {
     match target {
         Some(target) => {
             obeys(Rule::T06, at, target.has_value)?;
-            break_out(checker, id, at, target.id, want)
+            break_out(checker, id, at, target.id, expected)
         }
         None => Err(broken_rule(Rule::T06, at)),
     }
@@ -123,13 +123,13 @@ fn break_out(
     id: NodeId,
     at: Pos,
     from: NodeId,
-    want: Option<TyId>,
+    expected: Option<TyId>,
 ) -> Result<(), RuleError>
-    ensures gives { Gives (break_out_rest id.0 at want from.0 (present (top (stack checker.old))) (state checker.old)) result checker.new }
-    ensures kept { Keeps (below (stack checker.old)) checker.old result checker.new }
+    ensures gives { Gives (break_out_rest id.0 at expected from.0 (present (top (stack checker.old))) (state checker.old)) result checker.new }
+    ensures kept { KeepsStack (below (stack checker.old)) checker.old result checker.new }
 {
     checker.breaks_out(from, checker.last_ty())?;
-    checker.unify_one(id, at, NEVER, One::Break(from), want)
+    checker.unify_one(id, at, NEVER, One::Break(from), expected)
 }
 
 /// `return` without a value.
@@ -138,12 +138,12 @@ pub fn return_alone_end(
     checker: &mut Checker,
     id: NodeId,
     at: Pos,
-    want: Option<TyId>,
+    expected: Option<TyId>,
 ) -> Result<(), RuleError>
-    ensures gives { Gives (return_alone_rest id.0 at (env checker.old).answer want (state checker.old)) result checker.new }
-    ensures kept { Keeps (stack checker.old) checker.old result checker.new }
+    ensures gives { Gives (return_alone_rest id.0 at (env checker.old).answer expected (state checker.old)) result checker.new }
+    ensures kept { KeepsStack (stack checker.old) checker.old result checker.new }
 {
     let is_nothing = is_unit(&checker.walk.items, checker.around.answer);
     obeys(Rule::T03, at, is_nothing)?;
-    checker.unify_leaf(id, at, NEVER, Leaf::Return, want)
+    checker.unify_leaf(id, at, NEVER, Leaf::Return, expected)
 }

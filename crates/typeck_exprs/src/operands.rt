@@ -3,7 +3,7 @@ ghost use Rattle.std.specs.Prelude.{◌≡◌};
 ghost use Rattle.typeck_exprs.specs.Rests.{arithmetic_rest, comparison_rest};
 ghost use Rattle.typing_rules.specs.Rows as rows;
 ghost use Rattle.typeck_exprs.specs.Pairs.{left_of, right_of};
-ghost use Rattle.typeck_checker.specs.Stand.{Gives, Keeps, below, stack, state};
+ghost use Rattle.typeck_checker.specs.Stand.{Gives, KeepsStack, below, stack, state};
 
 use crate::{arithmetic_end, arithmetic_last_end, comparison_end, comparison_last_end};
 use mir_base::{Cmp, Math, NodeId, Pos, RuleError};
@@ -25,15 +25,15 @@ pub fn arithmetic_of(
     at: Pos,
     operator: Math,
     swapped: bool,
-    want: Option<TyId>,
+    expected: Option<TyId>,
 ) -> Result<(), RuleError>
-    ensures gives { Gives (arithmetic_rest id.0 at operator want (left_of swapped (stack checker.old)) (right_of swapped (stack checker.old)) (state checker.old)) result checker.new }
-    ensures kept { Keeps (below (below (stack checker.old))) checker.old result checker.new }
+    ensures gives { Gives (arithmetic_rest id.0 at operator expected (left_of swapped (stack checker.old)) (right_of swapped (stack checker.old)) (state checker.old)) result checker.new }
+    ensures kept { KeepsStack (below (below (stack checker.old))) checker.old result checker.new }
 {
     if swapped {
-        arithmetic_last_end(checker, id, at, operator, want)
+        arithmetic_last_end(checker, id, at, operator, expected)
     } else {
-        arithmetic_end(checker, id, at, operator, want)
+        arithmetic_end(checker, id, at, operator, expected)
     }
 }
 
@@ -44,14 +44,14 @@ pub fn comparison_of(
     at: Pos,
     operator: Cmp,
     swapped: bool,
-    want: Option<TyId>,
+    expected: Option<TyId>,
 ) -> Result<(), RuleError>
-    ensures gives { Gives (comparison_rest id.0 at operator want (left_of swapped (stack checker.old)) (right_of swapped (stack checker.old)) (state checker.old)) result checker.new }
-    ensures kept { Keeps (below (below (stack checker.old))) checker.old result checker.new }
+    ensures gives { Gives (comparison_rest id.0 at operator expected (left_of swapped (stack checker.old)) (right_of swapped (stack checker.old)) (state checker.old)) result checker.new }
+    ensures kept { KeepsStack (below (below (stack checker.old))) checker.old result checker.new }
 {
     if swapped {
-        comparison_last_end(checker, id, at, operator, want)
+        comparison_last_end(checker, id, at, operator, expected)
     } else {
-        comparison_end(checker, id, at, operator, want)
+        comparison_end(checker, id, at, operator, expected)
     }
 }

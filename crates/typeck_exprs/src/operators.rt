@@ -4,7 +4,7 @@ ghost use Rattle.typing_rules.specs.Places as places;
 ghost use Rattle.typing_rules.specs.Rows as rows;
 ghost use Rattle.typeck_exprs.specs.Rests.{arithmetic_rest, comparison_rest, logic_rest, negate_rest, not_rest};
 ghost use Rattle.typeck_checker.specs.Forms.{two_form};
-ghost use Rattle.typeck_checker.specs.Stand.{Gives, Keeps, below, stack, state, top};
+ghost use Rattle.typeck_checker.specs.Stand.{Gives, KeepsStack, below, stack, state, top};
 
 use mir_base::{Cmp, Math, NodeId, Pos, Rule, RuleError};
 use mir_ty::{BOOL, Items, TyId};
@@ -20,11 +20,11 @@ pub fn if_int(items: &Items, ty: TyId) -> Option<TyId>
 }
 
 /// An integer type that is required, if one is.
-pub fn wanted_int(items: &Items, want: Option<TyId>) -> Option<TyId>
-    ensures { result ≡ places.wanted rows.if_int items.now want }
+pub fn wanted_int(items: &Items, expected: Option<TyId>) -> Option<TyId>
+    ensures { result ≡ places.wanted rows.if_int items.now expected }
 {
-    match want {
-        Some(want) => if_int(items, want),
+    match expected {
+        Some(expected) => if_int(items, expected),
         None => None,
     }
 }
@@ -64,14 +64,14 @@ pub fn not_end(
     checker: &mut Checker,
     id: NodeId,
     at: Pos,
-    want: Option<TyId>,
+    expected: Option<TyId>,
 ) -> Result<(), RuleError>
-    ensures gives { Gives (not_rest id.0 at want (top (stack checker.old)) (state checker.old)) result checker.new }
-    ensures kept { Keeps (below (stack checker.old)) checker.old result checker.new }
+    ensures gives { Gives (not_rest id.0 at expected (top (stack checker.old)) (state checker.old)) result checker.new }
+    ensures kept { KeepsStack (below (stack checker.old)) checker.old result checker.new }
 {
     let holds = fits(&checker.walk.items, BOOL, checker.last_ty());
     obeys(Rule::T03, at, holds)?;
-    checker.coerce_one(id, at, BOOL, One::Not, want)
+    checker.coerce_one(id, at, BOOL, One::Not, expected)
 }
 
 /// `-e`.
@@ -79,14 +79,14 @@ pub fn negate_end(
     checker: &mut Checker,
     id: NodeId,
     at: Pos,
-    want: Option<TyId>,
+    expected: Option<TyId>,
 ) -> Result<(), RuleError>
-    ensures gives { Gives (negate_rest id.0 at want (top (stack checker.old)) (state checker.old)) result checker.new }
-    ensures kept { Keeps (below (stack checker.old)) checker.old result checker.new }
+    ensures gives { Gives (negate_rest id.0 at expected (top (stack checker.old)) (state checker.old)) result checker.new }
+    ensures kept { KeepsStack (below (stack checker.old)) checker.old result checker.new }
 {
     let ty = checker.last_ty();
     obeys(Rule::T03, at, ty.is_signed())?;
-    checker.coerce_one(id, at, ty, One::Negate, want)
+    checker.coerce_one(id, at, ty, One::Negate, expected)
 }
 
 /// `+`, `-`, `*`, `/`, `%`.
@@ -95,13 +95,13 @@ pub fn arithmetic_end(
     id: NodeId,
     at: Pos,
     operator: Math,
-    want: Option<TyId>,
+    expected: Option<TyId>,
 ) -> Result<(), RuleError>
-    ensures gives { Gives (arithmetic_rest id.0 at operator want (top (below (stack checker.old))) (top (stack checker.old)) (state checker.old)) result checker.new }
-    ensures kept { Keeps (below (below (stack checker.old))) checker.old result checker.new }
+    ensures gives { Gives (arithmetic_rest id.0 at operator expected (top (below (stack checker.old))) (top (stack checker.old)) (state checker.old)) result checker.new }
+    ensures kept { KeepsStack (below (below (stack checker.old))) checker.old result checker.new }
 {
     match common_int(&checker.walk.items, checker.second_ty(), checker.last_ty()) {
-        Some(ty) => checker.coerce_two(id, at, ty, TwoParts::Arithmetic(operator), want),
+        Some(ty) => checker.coerce_two(id, at, ty, TwoParts::Arithmetic(operator), expected),
         None => Err(broken_rule(Rule::T03, at)),
     }
 }
@@ -112,13 +112,13 @@ pub fn arithmetic_last_end(
     id: NodeId,
     at: Pos,
     operator: Math,
-    want: Option<TyId>,
+    expected: Option<TyId>,
 ) -> Result<(), RuleError>
-    ensures gives { Gives (arithmetic_rest id.0 at operator want (top (stack checker.old)) (top (below (stack checker.old))) (state checker.old)) result checker.new }
-    ensures kept { Keeps (below (below (stack checker.old))) checker.old result checker.new }
+    ensures gives { Gives (arithmetic_rest id.0 at operator expected (top (stack checker.old)) (top (below (stack checker.old))) (state checker.old)) result checker.new }
+    ensures kept { KeepsStack (below (below (stack checker.old))) checker.old result checker.new }
 {
     match common_int(&checker.walk.items, checker.last_ty(), checker.second_ty()) {
-        Some(ty) => checker.coerce_two(id, at, ty, TwoParts::ArithmeticLast(operator), want),
+        Some(ty) => checker.coerce_two(id, at, ty, TwoParts::ArithmeticLast(operator), expected),
         None => Err(broken_rule(Rule::T03, at)),
     }
 }
@@ -129,13 +129,13 @@ pub fn comparison_end(
     id: NodeId,
     at: Pos,
     operator: Cmp,
-    want: Option<TyId>,
+    expected: Option<TyId>,
 ) -> Result<(), RuleError>
-    ensures gives { Gives (comparison_rest id.0 at operator want (top (below (stack checker.old))) (top (stack checker.old)) (state checker.old)) result checker.new }
-    ensures kept { Keeps (below (below (stack checker.old))) checker.old result checker.new }
+    ensures gives { Gives (comparison_rest id.0 at operator expected (top (below (stack checker.old))) (top (stack checker.old)) (state checker.old)) result checker.new }
+    ensures kept { KeepsStack (below (below (stack checker.old))) checker.old result checker.new }
 {
     match common(&checker.walk.items, checker.second_ty(), checker.last_ty()) {
-        Some(_) => checker.coerce_two(id, at, BOOL, TwoParts::Comparison(operator), want),
+        Some(_) => checker.coerce_two(id, at, BOOL, TwoParts::Comparison(operator), expected),
         None => Err(broken_rule(Rule::T03, at)),
     }
 }
@@ -146,13 +146,13 @@ pub fn comparison_last_end(
     id: NodeId,
     at: Pos,
     operator: Cmp,
-    want: Option<TyId>,
+    expected: Option<TyId>,
 ) -> Result<(), RuleError>
-    ensures gives { Gives (comparison_rest id.0 at operator want (top (stack checker.old)) (top (below (stack checker.old))) (state checker.old)) result checker.new }
-    ensures kept { Keeps (below (below (stack checker.old))) checker.old result checker.new }
+    ensures gives { Gives (comparison_rest id.0 at operator expected (top (stack checker.old)) (top (below (stack checker.old))) (state checker.old)) result checker.new }
+    ensures kept { KeepsStack (below (below (stack checker.old))) checker.old result checker.new }
 {
     match common(&checker.walk.items, checker.last_ty(), checker.second_ty()) {
-        Some(_) => checker.coerce_two(id, at, BOOL, TwoParts::ComparisonLast(operator), want),
+        Some(_) => checker.coerce_two(id, at, BOOL, TwoParts::ComparisonLast(operator), expected),
         None => Err(broken_rule(Rule::T03, at)),
     }
 }
@@ -163,13 +163,13 @@ pub fn logic_end(
     id: NodeId,
     at: Pos,
     two: TwoParts,
-    want: Option<TyId>,
+    expected: Option<TyId>,
 ) -> Result<(), RuleError>
-    ensures gives { Gives (logic_rest id.0 at (two_form two) want (top (below (stack checker.old))) (top (stack checker.old)) (state checker.old)) result checker.new }
-    ensures kept { Keeps (below (below (stack checker.old))) checker.old result checker.new }
+    ensures gives { Gives (logic_rest id.0 at (two_form two) expected (top (below (stack checker.old))) (top (stack checker.old)) (state checker.old)) result checker.new }
+    ensures kept { KeepsStack (below (below (stack checker.old))) checker.old result checker.new }
 {
     let left = fits(&checker.walk.items, BOOL, checker.second_ty());
     let right = fits(&checker.walk.items, BOOL, checker.last_ty());
     obeys(Rule::T03, at, left && right)?;
-    checker.coerce_two(id, at, BOOL, two, want)
+    checker.coerce_two(id, at, BOOL, two, expected)
 }

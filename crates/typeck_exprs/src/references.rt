@@ -4,7 +4,7 @@ ghost use Rattle.typing_rules.specs.Places as places;
 ghost use Rattle.typing_rules.specs.Rows as rows;
 ghost use Rattle.well_typed.specs.Types.{is_same};
 ghost use Rattle.typeck_exprs.specs.Rests.{borrow_allowed_rest, borrow_rest};
-ghost use Rattle.typeck_checker.specs.Stand.{Gives, Keeps, below, stack, state, top};
+ghost use Rattle.typeck_checker.specs.Stand.{Gives, KeepsStack, below, stack, state, top};
 
 use mir_base::{NodeId, Pos, Rule, RuleError};
 use mir_ty::{Ty, TyId};
@@ -31,7 +31,7 @@ fn borrow_by(unique: bool) -> Use
 /// A borrow of the last node.
 pub fn borrow_of(checker: &mut Checker, id: NodeId, at: Pos, unique: bool) -> Result<(), RuleError>
     ensures gives { Gives (rows.borrow_of id.0 at unique (top (stack checker.old)) (state checker.old)) result checker.new }
-    ensures kept { Keeps (below (stack checker.old)) checker.old result checker.new }
+    ensures kept { KeepsStack (below (stack checker.old)) checker.old result checker.new }
 {
     let ty = checker.intern(reference_ty(unique, checker.last_ty()))?;
     checker.use_if_place(borrow_by(unique))?;
@@ -55,7 +55,7 @@ fn may_borrow(checker: &Checker, unique: bool) -> bool
 /// A borrow of the last node, where it may be borrowed so.
 fn borrow_allowed(checker: &mut Checker, id: NodeId, at: Pos, unique: bool) -> Result<(), RuleError>
     ensures gives { Gives (borrow_allowed_rest id.0 at unique (top (stack checker.old)) (state checker.old)) result checker.new }
-    ensures kept { Keeps (below (stack checker.old)) checker.old result checker.new }
+    ensures kept { KeepsStack (below (stack checker.old)) checker.old result checker.new }
 {
     let is_allowed = may_borrow(checker, unique);
     obeys(Rule::T08, checker.last_at(), is_allowed)?;
@@ -72,7 +72,7 @@ pub fn borrow_end(
     to: TyId,
 ) -> Result<(), RuleError>
     ensures gives { Gives (borrow_rest id.0 at unique is_unique to (top (stack checker.old)) (state checker.old)) result checker.new }
-    ensures kept { Keeps (below (stack checker.old)) checker.old result checker.new }
+    ensures kept { KeepsStack (below (stack checker.old)) checker.old result checker.new }
 {
     let is_same = is_for(checker.last_ty(), to, unique, is_unique);
     obeys(Rule::T03, at, is_same)?;

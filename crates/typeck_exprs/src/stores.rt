@@ -4,7 +4,7 @@ ghost use Rattle.typing_rules.specs.Places as places;
 ghost use Rattle.typing_rules.specs.Rows as rows;
 ghost use Rattle.well_typed.specs.Places.{form_of, is_place};
 ghost use Rattle.typeck_exprs.specs.Rests.{store_rest};
-ghost use Rattle.typeck_checker.specs.Stand.{Gives, Keeps, below, env, stack, state, top};
+ghost use Rattle.typeck_checker.specs.Stand.{Gives, KeepsStack, below, env, stack, state, top};
 
 use mir_base::{NodeId, Pos, Rule, RuleError};
 use mir_ty::{TyId, UNIT};
@@ -17,17 +17,17 @@ pub fn store_end(
     checker: &mut Checker,
     id: NodeId,
     at: Pos,
-    want: Option<TyId>,
+    expected: Option<TyId>,
 ) -> Result<(), RuleError>
-    ensures gives { Gives (store_rest (env checker.old) id.0 at want (top (below (stack checker.old))) (top (stack checker.old)) (state checker.old)) result checker.new }
-    ensures kept { Keeps (below (below (stack checker.old))) checker.old result checker.new }
+    ensures gives { Gives (store_rest (env checker.old) id.0 at expected (top (below (stack checker.old))) (top (stack checker.old)) (state checker.old)) result checker.new }
+    ensures kept { KeepsStack (below (below (stack checker.old))) checker.old result checker.new }
 {
     let is_whole = !is_dyn(&checker.walk.items, checker.second_ty());
     let is_stored = checker.is_second_stored();
     let is_shared = checker.is_second_shared();
     let place_at = checker.second_at();
     obeys(Rule::T03, at, is_whole)?;
-    checker.coerce_two(id, at, UNIT, TwoParts::Assign, want)?;
+    checker.coerce_two(id, at, UNIT, TwoParts::Assign, expected)?;
     if !is_stored {
         return Err(broken_rule(Rule::T05, at));
     }

@@ -3,7 +3,7 @@
 ghost use Rattle.std.specs.Prelude.{◌≡◌, [], reverse, OnOk};
 ghost use Rattle.src_ast.specs.Seen.{nodes_of, syn_of};
 ghost use Rattle.src_ast.specs.Syntax.{list_of};
-ghost use Rattle.typeck_checker.specs.Stand.{GivesValue, Same, env, state};
+ghost use Rattle.typeck_checker.specs.Stand.{GivesValue, ChangesNothing, env, state};
 ghost use Rattle.typing_rules.specs.Program as rules;
 ghost use Rattle.typeck_items.specs.Forms.{named_field, once, plain_field};
 
@@ -35,7 +35,7 @@ fn field_with_name(
     ty: &SyntaxNode,
 ) -> Result<NameTable, RuleError>
     ensures gives { GivesValue reverse (named_field (env checker.old) at name.now (syn_of ty.now) (reverse names) (state checker.old)) result checker.new }
-    ensures same { OnOk result (Same checker.old checker.new) }
+    ensures same { OnOk result (ChangesNothing checker.old checker.new) }
 {
     resolve_type(checker, ty)?;
     add_once(checker, names, at, name)
@@ -47,7 +47,7 @@ fn field_by_order(
     ty: &SyntaxNode,
 ) -> Result<NameTable, RuleError>
     ensures gives { GivesValue reverse (plain_field (env checker.old) (syn_of ty.now) (reverse names) (state checker.old)) result checker.new }
-    ensures same { OnOk result (Same checker.old checker.new) }
+    ensures same { OnOk result (ChangesNothing checker.old checker.new) }
 {
     resolve_type(checker, ty)?;
     Ok(names)
@@ -56,7 +56,7 @@ fn field_by_order(
 /// One field: its type, and its name behind those so far, where it has one.
 fn field(checker: &mut Checker, names: NameTable, node: &SyntaxNode) -> Result<NameTable, RuleError>
     ensures gives { GivesValue reverse (rules.field (env checker.old) (reverse names) (syn_of node.now) (state checker.old)) result checker.new }
-    ensures same { OnOk result (Same checker.old checker.new) }
+    ensures same { OnOk result (ChangesNothing checker.old checker.new) }
 {
     match field_form(node) {
         Some(form) => field_with_name(checker, names, node.at, form.name, form.ty),
@@ -72,7 +72,7 @@ fn field(checker: &mut Checker, names: NameTable, node: &SyntaxNode) -> Result<N
 /// [`RuleError::Memory`] where memory is wanted.
 pub fn fields(checker: &mut Checker, nodes: Nodes) -> Result<(), RuleError>
     ensures gives { GivesValue (λ u. u) (rules.fields (env checker.old) [] (list_of (nodes_of nodes.entry)) (state checker.old)) result checker.new }
-    ensures same { OnOk result (Same checker.old checker.new) }
+    ensures same { OnOk result (ChangesNothing checker.old checker.new) }
 {
     let mut names = NameTable::new(checker.alloc);
     let mut rest = nodes;

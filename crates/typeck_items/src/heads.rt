@@ -3,7 +3,7 @@
 ghost use Rattle.std.specs.Prelude.{◌≡◌, [], map, OnOk};
 ghost use Rattle.src_ast.specs.Seen.{maybe_of, nodes_of};
 ghost use Rattle.typeck_env.specs.Walked.{break_of};
-ghost use Rattle.typeck_checker.specs.Stand.{GivesValue, Same, env, state};
+ghost use Rattle.typeck_checker.specs.Stand.{GivesValue, ChangesNothing, env, state};
 ghost use Rattle.typing_rules.specs.Bodies as bodies;
 ghost use Rattle.typing_rules.specs.Check.{in_new_body};
 ghost use Rattle.typing_rules.specs.Program as rules;
@@ -29,7 +29,7 @@ fn begin_head(checker: &mut Checker) -> Outside
     ensures state { state checker.new ≡ fresh (state checker.old) }
     ensures number { result.next_node ≡ (state checker.old).next_node }
     ensures breaks { map break_of result.breaks ≡ (state checker.old).breaks }
-    ensures same { Same checker.old checker.new }
+    ensures same { ChangesNothing checker.old checker.new }
 {
     let alloc = checker.alloc;
     Outside {
@@ -40,7 +40,7 @@ fn begin_head(checker: &mut Checker) -> Outside
 
 fn end_head(checker: &mut Checker, outside: Outside)
     ensures state { state checker.new ≡ with_outside outside.next_node (map break_of outside.breaks) (state checker.old) }
-    ensures same { Same checker.old checker.new }
+    ensures same { ChangesNothing checker.old checker.new }
 {
     let Outside { next_node, breaks } = outside;
     checker.walk.next_node = next_node;
@@ -50,7 +50,7 @@ fn end_head(checker: &mut Checker, outside: Outside)
 /// Parameters, whose patterns are not kept.
 fn params_alone(checker: &mut Checker, params: Nodes) -> Result<(), RuleError>
     ensures gives { GivesValue (λ u. u) (done (bodies.params_of (env checker.old) (written_param (bodies.all_rules (env checker.old))) (nodes_of params.entry) []) (state checker.old)) result checker.new }
-    ensures same { OnOk result (Same checker.old checker.new) }
+    ensures same { OnOk result (ChangesNothing checker.old checker.new) }
 {
     let mut bound = Variables::new(checker.alloc);
     let tys = params_of(checker, &mut bound, true, params)?;
@@ -60,7 +60,7 @@ fn params_alone(checker: &mut Checker, params: Nodes) -> Result<(), RuleError>
 /// The parameters of a head.
 fn head_params(checker: &mut Checker, params: Nodes) -> Result<(), RuleError>
     ensures gives { GivesValue (λ u. u) (done (in_new_body (bodies.params_of (env checker.old) (written_param (bodies.all_rules (env checker.old))) (nodes_of params.entry) [])) (state checker.old)) result checker.new }
-    ensures same { OnOk result (Same checker.old checker.new) }
+    ensures same { OnOk result (ChangesNothing checker.old checker.new) }
 {
     let outside = begin_head(checker);
     params_alone(checker, params)?;
@@ -79,7 +79,7 @@ pub fn head_rules(
     answer: Option<&SyntaxNode>,
 ) -> Result<(), RuleError>
     ensures gives { GivesValue (λ u. u) (rules.head_rules (env checker.old) (nodes_of params.entry) (maybe_of answer.entry) (state checker.old)) result checker.new }
-    ensures same { OnOk result (Same checker.old checker.new) }
+    ensures same { OnOk result (ChangesNothing checker.old checker.new) }
 {
     head_params(checker, params)?;
     answer_of(checker, answer)?;

@@ -4,7 +4,7 @@ ghost use Rattle.mir_base.specs.declared.rule.RuleError.{RuleError};
 ghost use Rattle.src_ast.specs.ItemForms.{name_seen};
 ghost use Rattle.src_ast.specs.Seen.{nodes_of};
 ghost use Rattle.src_ast.specs.Syntax.{list_of};
-ghost use Rattle.typeck_checker.specs.Stand.{GivesValue, Same, env, state};
+ghost use Rattle.typeck_checker.specs.Stand.{GivesValue, ChangesNothing, env, state};
 ghost use Rattle.typing_rules.specs.Program as rules;
 ghost use Rattle.typing_rules.specs.Scope.{adt_named};
 ghost use Rattle.typeck_items.specs.Forms.{asked_by, asked_of};
@@ -102,7 +102,7 @@ pub fn own_methods(
     nodes: Nodes,
 ) -> Result<(), RuleError>
     ensures gives { GivesValue (λ u. seen.new) (rules.method_heads (rules.in_impl (env checker.old) (adt_named checker.old.walk.items owner.now)) (name_seen trait_.entry) owner.now seen.old (list_of (nodes_of nodes.entry)) (state checker.old)) result checker.new }
-    ensures same { OnOk result (Same checker.old checker.new) }
+    ensures same { OnOk result (ChangesNothing checker.old checker.new) }
 {
     let before = enter_impl(checker, owner);
     method_heads(checker, seen, trait_, owner, nodes)?;

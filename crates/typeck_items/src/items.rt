@@ -2,7 +2,7 @@
 ghost use Rattle.std.specs.Prelude.{◌≡◌, ◌&&◌, OnOk};
 ghost use Rattle.src_ast.specs.ItemForms.{name_seen};
 ghost use Rattle.src_ast.specs.Seen.{maybe_of, nodes_of, syn_of};
-ghost use Rattle.typeck_checker.specs.Stand.{GivesValue, Same, env, state};
+ghost use Rattle.typeck_checker.specs.Stand.{GivesValue, ChangesNothing, env, state};
 ghost use Rattle.typing_rules.specs.Program as rules;
 ghost use Rattle.typeck_items.specs.Forms.{fn_rules, impl_rules};
 ghost use Rattle.typeck_items.specs.Had.{had};
@@ -35,7 +35,7 @@ fn impl_item(
     methods: Nodes,
 ) -> Result<(), RuleError>
     ensures gives { GivesValue (λ u. had before.new) (impl_rules (env checker.old) (had before.old) at (name_seen trait_.entry) owner.now (nodes_of methods.entry) (state checker.old)) result checker.new }
-    ensures same { OnOk result (Same checker.old checker.new) }
+    ensures same { OnOk result (ChangesNothing checker.old checker.new) }
 {
     let is_whole = is_whole(checker, trait_, methods)?;
     let is_new = note_impl(&mut before.impls, checker.alloc, trait_, owner)?;
@@ -52,7 +52,7 @@ fn fn_item(
     answer: Option<&SyntaxNode>,
 ) -> Result<(), RuleError>
     ensures gives { GivesValue (λ u. u) (fn_rules (env checker.old) at name.now (nodes_of params.entry) (maybe_of answer.entry) (state checker.old)) result checker.new }
-    ensures same { OnOk result (Same checker.old checker.new) }
+    ensures same { OnOk result (ChangesNothing checker.old checker.new) }
 {
     head_rules(checker, params, answer)?;
     main_rule(checker, at, name, params)
@@ -69,7 +69,7 @@ pub fn item_rules(
     node: &SyntaxNode,
 ) -> Result<(), RuleError>
     ensures gives { GivesValue (λ u. had before.new) (rules.item_rules (env checker.old) (had before.old) (syn_of node.now) (state checker.old)) result checker.new }
-    ensures same { OnOk result (Same checker.old checker.new) }
+    ensures same { OnOk result (ChangesNothing checker.old checker.new) }
 {
     let at = node.at;
     match item_form(node) {

@@ -7,7 +7,7 @@ ghost use Rattle.src_ast.specs.Seen.{maybe_of, nodes_of, syn_of};
 ghost use Rattle.src_ast.specs.Sorts.{item_part};
 ghost use Rattle.src_ast.specs.Syntax.{list_of, shape_of};
 ghost use Rattle.src_ast.specs.View.{named};
-ghost use Rattle.typeck_checker.specs.Stand.{GivesValue, Same, env, state};
+ghost use Rattle.typeck_checker.specs.Stand.{GivesValue, ChangesNothing, env, state};
 ghost use Rattle.typing_rules.specs.Check.{obeys as obeyed};
 ghost use Rattle.typing_rules.specs.Program as rules;
 ghost use Rattle.typeck_items.specs.Forms.{closed_method, method_by, method_fn};
@@ -104,7 +104,7 @@ fn with_head(
     function: Function,
 ) -> Result<(), RuleError>
     ensures gives { GivesValue (λ u. seen.new) (method_fn (env checker.old) (name_seen trait_.entry) owner.now at (named (syn_of function.entry.name.now)) (nodes_of function.entry.params) (maybe_of function.entry.answer) seen.old (state checker.old)) result checker.new }
-    ensures same { OnOk result (Same checker.old checker.new) }
+    ensures same { OnOk result (ChangesNothing checker.old checker.new) }
 {
     head_rules(checker, function.params, function.answer)?;
     close_method(
@@ -127,7 +127,7 @@ fn method(
     node: &SyntaxNode,
 ) -> Result<(), RuleError>
     ensures gives { GivesValue (λ u. seen.new) (method_by (env checker.old) (name_seen trait_.entry) owner.now seen.old node.now.at (item_part (shape_of (syn_of node.now))) (state checker.old)) result checker.new }
-    ensures same { OnOk result (Same checker.old checker.new) }
+    ensures same { OnOk result (ChangesNothing checker.old checker.new) }
 {
     match item_form(node) {
         ItemForm::Fn(function) => with_head(checker, seen, trait_, owner, node.at, function),
@@ -149,7 +149,7 @@ pub fn method_heads(
     nodes: Nodes,
 ) -> Result<(), RuleError>
     ensures gives { GivesValue (λ u. seen.new) (rules.method_heads (env checker.old) (name_seen trait_.entry) owner.now seen.old (list_of (nodes_of nodes.entry)) (state checker.old)) result checker.new }
-    ensures same { OnOk result (Same checker.old checker.new) }
+    ensures same { OnOk result (ChangesNothing checker.old checker.new) }
 {
     let mut rest = nodes;
     while let Some(split) = rest.split_first() {

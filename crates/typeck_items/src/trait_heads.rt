@@ -6,7 +6,7 @@ ghost use Rattle.src_ast.specs.Seen.{maybe_of, nodes_of, syn_of};
 ghost use Rattle.src_ast.specs.Sorts.{item_part};
 ghost use Rattle.src_ast.specs.Syntax.{list_of, shape_of};
 ghost use Rattle.src_ast.specs.View.{named};
-ghost use Rattle.typeck_checker.specs.Stand.{GivesValue, Same, env, state};
+ghost use Rattle.typeck_checker.specs.Stand.{GivesValue, ChangesNothing, env, state};
 ghost use Rattle.typing_rules.specs.Program as rules;
 ghost use Rattle.typeck_items.specs.Forms.{closed_head, named_head, trait_fn, trait_head_by};
 
@@ -80,7 +80,7 @@ fn method(
     function: Function,
 ) -> Result<NameTable, RuleError>
     ensures gives { GivesValue reverse (trait_fn (env checker.old) at (named (syn_of function.entry.name.now)) (nodes_of function.entry.params) (maybe_of function.entry.answer) (reverse names) (state checker.old)) result checker.new }
-    ensures same { OnOk result (Same checker.old checker.new) }
+    ensures same { OnOk result (ChangesNothing checker.old checker.new) }
 {
     head_rules(checker, behind_self(function.params), function.answer)?;
     close_head(checker, names, at, function.name, function.params)
@@ -89,7 +89,7 @@ fn method(
 /// One method, with its name behind those so far.
 fn head(checker: &mut Checker, names: NameTable, node: &SyntaxNode) -> Result<NameTable, RuleError>
     ensures gives { GivesValue reverse (trait_head_by (env checker.old) (reverse names) node.now.at (item_part (shape_of (syn_of node.now))) (state checker.old)) result checker.new }
-    ensures same { OnOk result (Same checker.old checker.new) }
+    ensures same { OnOk result (ChangesNothing checker.old checker.new) }
 {
     match item_form(node) {
         ItemForm::Fn(function) => method(checker, names, node.at, function),
@@ -108,7 +108,7 @@ fn head(checker: &mut Checker, names: NameTable, node: &SyntaxNode) -> Result<Na
 /// without `&self` or `&mut self`, or that is called `drop`; [`RuleError::Memory`] where memory is wanted.
 pub fn trait_heads(checker: &mut Checker, nodes: Nodes) -> Result<(), RuleError>
     ensures gives { GivesValue (λ u. u) (rules.trait_heads (env checker.old) [] (list_of (nodes_of nodes.entry)) (state checker.old)) result checker.new }
-    ensures same { OnOk result (Same checker.old checker.new) }
+    ensures same { OnOk result (ChangesNothing checker.old checker.new) }
 {
     let mut names = NameTable::new(checker.alloc);
     let mut rest = nodes;

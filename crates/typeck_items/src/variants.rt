@@ -3,7 +3,7 @@ ghost use Rattle.std.specs.Prelude.{◌≡◌, [], nat_le, reverse, OnOk};
 ghost use Rattle.src_ast.specs.Seen.{nodes_of, syn_of};
 ghost use Rattle.src_ast.specs.Syntax.{at_of, list_of, shape_of};
 ghost use Rattle.src_ast.specs.Sorts.{variant_part};
-ghost use Rattle.typeck_checker.specs.Stand.{GivesValue, Same, env, state};
+ghost use Rattle.typeck_checker.specs.Stand.{GivesValue, ChangesNothing, env, state};
 ghost use Rattle.typing_rules.specs.Program as rules;
 ghost use Rattle.typeck_items.specs.Forms.{closed_variant, limited_variant, one_variant, variant_by};
 
@@ -52,7 +52,7 @@ fn with_fields(
     parts: Nodes,
 ) -> Result<NameTable, RuleError>
     ensures gives { GivesValue reverse (one_variant (env checker.old) at name.now (nodes_of parts.entry) (reverse names) (state checker.old)) result checker.new }
-    ensures same { OnOk result (Same checker.old checker.new) }
+    ensures same { OnOk result (ChangesNothing checker.old checker.new) }
 {
     fields(checker, parts)?;
     close_variant(checker, names, at, name, parts)
@@ -65,7 +65,7 @@ fn variant(
     node: &SyntaxNode,
 ) -> Result<NameTable, RuleError>
     ensures gives { GivesValue reverse (variant_by (env checker.old) (reverse names) node.now.at (variant_part (shape_of (syn_of node.now))) (state checker.old)) result checker.new }
-    ensures same { OnOk result (Same checker.old checker.new) }
+    ensures same { OnOk result (ChangesNothing checker.old checker.new) }
 {
     match variant_form(node) {
         Some(form) => with_fields(checker, names, node.at, form.name, form.fields),
@@ -84,7 +84,7 @@ fn variant(
 /// more than 32 fields; [`RuleError::Memory`] where memory is wanted.
 pub fn variants(checker: &mut Checker, nodes: Nodes) -> Result<(), RuleError>
     ensures gives { GivesValue (λ u. u) (rules.variants (env checker.old) [] (list_of (nodes_of nodes.entry)) (state checker.old)) result checker.new }
-    ensures same { OnOk result (Same checker.old checker.new) }
+    ensures same { OnOk result (ChangesNothing checker.old checker.new) }
 {
     let mut names = NameTable::new(checker.alloc);
     let mut rest = nodes;

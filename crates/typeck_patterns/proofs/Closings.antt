@@ -8,7 +8,7 @@ use Rattle.mir_base.specs.declared.rule.Rule.{Rule}
 use Rattle.mir_base.specs.declared.rule.RuleError.{RuleError}
 use Rattle.mir_ty.specs.declared.adt.Variant.{Variant}
 use Rattle.mir_ty.specs.declared.ty.TyId.{TyId}
-use Rattle.typeck_patterns.specs.Expected.{GivesBeside}
+use Rattle.typeck_patterns.specs.PatternContext.{GivesBeside}
 use Rattle.typeck_patterns.specs.Fields.{below_given, below_on, fields_on, last_fields}
 use Rattle.typeck_patterns.specs.Rests.{begin_of, target_rest, target_tail}
 use Rattle.typeck_patterns.specs.Parts.{AreFirst, AreFirstIf}
@@ -23,7 +23,7 @@ use Rattle.typed_tree.specs.Tree.{Node, Nodes, a_node, Fields, no_field, a_field
 use Rattle.typing_rules.specs.Check.{Check, TypingState, Broken, and_then, ◌>>=◌, ◌>>◌, known, number, pure, obeys, the_items}
 use Rattle.typing_rules.specs.Patterns.{BoundPattern, PatternTarget, are_given_once, count_of, field_patterns, fields_from, fields_of, inside_of, is_count, of_target, part_patterns, pattern, pattern_form, tuple_types}
 use Rattle.typing_rules.specs.Places.{a_node_of}
-use Rattle.typing_rules.specs.Rows.{Expected, Given, all_given, are_known}
+use Rattle.typing_rules.specs.Rows.{PatternContext, Given, all_given, are_known}
 use Rattle.typing_rules.specs.Scope.{Env, NamedEntry}
 use Rattle.well_typed.specs.Types.{array_of}
 use Rattle.typeck_patterns.specs.Numbers.{numbers_below}
@@ -34,7 +34,7 @@ use Rattle.typeck_patterns.specs.EndRests.{alternatives_rest, counted_rest, is_t
 abbrev Parts : Type 0
 Parts = Fields × List NamedEntry × Bool × Bool
 
-module _ (w : Env) (id : ℕ) (at : Pos) (e : Expected) (ty : TyId) (t : PatternTarget) where
+module _ (w : Env) (id : ℕ) (at : Pos) (e : PatternContext) (ty : TyId) (t : PatternTarget) where
   abbrev closed : Parts → Check BoundPattern
   closed qs = target_bound id at e.takes_all ty t qs.0 qs.2 qs.3 qs.1
 
@@ -83,7 +83,7 @@ module _ (w : Env) (id : ℕ) (at : Pos) (e : Expected) (ty : TyId) (t : Pattern
   fields_stop v fields dots xs s RuleError.Memory h = tt
 
   -- once the type is known to be that of the place
-  pub target_begun : (parts : Expected → List TyId → Check Parts) (s u : TypingState) → begin_of at ty t s ≡ Ok (id, u) →
+  pub target_begun : (parts : PatternContext → List TyId → Check Parts) (s u : TypingState) → begin_of at ty t s ≡ Ok (id, u) →
       of_target at e ty t parts s ≡ target_tail id at e ty t parts u
   target_begun parts s u h = begins at e ty t parts s ∙ ap (λ o. and_then o (λ id. target_tail id at e ty t parts)) h
 
@@ -93,7 +93,7 @@ then_same : {A B : Type 0} (o : Result (A × TypingState) Broken) (f g : A → C
 then_same (Ok p) f g h = h p.0 p.1
 then_same (Err e) f g h = refl
 
-pub first_parts : (w : Env) (e : Expected) (tys : List TyId) (ps : Syns) (xs : List NamedEntry) (s : TypingState) →
+pub first_parts : (w : Env) (e : PatternContext) (tys : List TyId) (ps : Syns) (xs : List NamedEntry) (s : TypingState) →
     part_patterns w e (take (count_of ps) tys) ps xs s ≡ part_patterns w e tys ps xs s
 first_parts w e [] no_syn xs s = refl
 first_parts w e (ty ∷ tys) no_syn xs s = refl
@@ -128,7 +128,7 @@ counted_beside : (id : ℕ) (at : Pos) (ty : TyId) (form : Form) (ys : List Name
 counted_beside id at ty form ys true u = refl
 counted_beside id at ty form ys false u = refl
 
-pub order_close : (w : Env) (id : ℕ) (at : Pos) (e : Expected) (ty : TyId) (tys : List TyId) (n : ℕ) (form : Nodes → Form) (parts : Syns) (dots : Bool) (xs ys : List NamedEntry) (s u : TypingState) (ns : Nodes) (b : Bool) (r : Result (Unit {0}) RuleError) (c : Checker) →
+pub order_close : (w : Env) (id : ℕ) (at : Pos) (e : PatternContext) (ty : TyId) (tys : List TyId) (n : ℕ) (form : Nodes → Form) (parts : Syns) (dots : Bool) (xs ys : List NamedEntry) (s u : TypingState) (ns : Nodes) (b : Bool) (r : Result (Unit {0}) RuleError) (c : Checker) →
     part_patterns w e tys parts xs s ≡ Ok ((ns, ys), u) → b ≡ is_count dots (count_of parts) n → Gives (counted_rest id at ty (form ns) b u) r c →
     GivesBeside (order_rest w id at e ty tys n form parts dots xs s) r ys c
 order_close w id at e ty tys n form parts dots xs ys s u ns b r c here is gives =
@@ -146,14 +146,14 @@ first_if given (Some tys) None types h is = absurd h
 first_if given None (Some p) types h is = absurd h
 first_if given None None types h is = absurd (cc)
 
-pub tuple_is : (w : Env) (at : Pos) (e : Expected) (ty : TyId) (parts : Syns) (dots : Bool) (xs : List NamedEntry) (s t : TypingState) (id : ℕ) (tys : List TyId) →
+pub tuple_is : (w : Env) (at : Pos) (e : PatternContext) (ty : TyId) (parts : Syns) (dots : Bool) (xs : List NamedEntry) (s t : TypingState) (id : ℕ) (tys : List TyId) →
     number s ≡ Ok (id, t) → tuple_types t.items ty ≡ Some tys →
     pattern_form w e ty at (TuplePattern parts dots) xs s ≡ order_rest w id at e ty tys (length tys) tree.TuplePattern parts dots xs t
 tuple_is w at e ty parts dots xs s t id tys here is =
     numbered (λ id. the_items >>= (λ items. known Rule.T03 at (tuple_types items ty) >>= (λ tys. order_rest w id at e ty tys (length tys) tree.TuplePattern parts dots xs))) s t id here
     ∙ ap (λ o. and_then {B = BoundPattern} (known {A = List TyId} Rule.T03 at o t) (λ tys. order_rest w id at e ty tys (length tys) tree.TuplePattern parts dots xs)) is
 
-pub array_is : (w : Env) (at : Pos) (e : Expected) (ty : TyId) (parts : Syns) (dots : Bool) (xs : List NamedEntry) (s t : TypingState) (id : ℕ) (element : TyId) (count : ℕ) →
+pub array_is : (w : Env) (at : Pos) (e : PatternContext) (ty : TyId) (parts : Syns) (dots : Bool) (xs : List NamedEntry) (s t : TypingState) (id : ℕ) (element : TyId) (count : ℕ) →
     number s ≡ Ok (id, t) → array_of t.items ty ≡ Some (element, count) →
     pattern_form w e ty at (ArrayPattern parts dots) xs s ≡ order_rest w id at e ty (replicate count element) count tree.ArrayPattern parts dots xs t
 array_is w at e ty parts dots xs s t id element count here is =
@@ -161,7 +161,7 @@ array_is w at e ty parts dots xs s t id element count here is =
     ∙ ap (λ o. and_then {B = BoundPattern} (known {A = TyId × ℕ} Rule.T03 at o t) (λ a. order_rest w id at e ty (replicate a.1 a.0) a.1 tree.ArrayPattern parts dots xs)) is
 
 -- alternatives, where there are two or more
-pub or_is : (w : Env) (at : Pos) (e : Expected) (ty : TyId) (ps : Syns) (xs : List NamedEntry) (s t : TypingState) (id : ℕ) →
+pub or_is : (w : Env) (at : Pos) (e : PatternContext) (ty : TyId) (ps : Syns) (xs : List NamedEntry) (s t : TypingState) (id : ℕ) →
     number s ≡ Ok (id, t) → nat_lt 1 (count_of ps) ≡ true →
     pattern_form w e ty at (Alternatives ps) xs s ≡ alternatives_rest w id at e ty ps xs t
 or_is w at e ty ps xs s t id here several =

@@ -13,7 +13,7 @@ use Rattle.typeck_checker.specs.Stand.{below, top}
 use Rattle.typed_tree.specs.Tree.{Node, Nodes, no_node, a_node, Fields}
 use Rattle.typing_rules.specs.Check.{Check, TypingState, Broken, and_then, pure}
 use Rattle.typing_rules.specs.Patterns.{each_pattern, field_pattern, field_patterns, part_patterns, pattern, with_field}
-use Rattle.typing_rules.specs.Rows.{Expected, Given}
+use Rattle.typing_rules.specs.Rows.{PatternContext, Given}
 use Rattle.typing_rules.specs.Scope.{Env, NamedEntry}
 use Rattle.typeck_patterns.specs.Answers.{field_if}
 
@@ -48,7 +48,7 @@ stopped_behind : {A : Type 0} (k : ℕ) (ns : List Node) (o : Result (A × Typin
 stopped_behind k ns o f (RuleError.Broken rule at) h = ap (λ p. behind k ns (and_then p f)) h
 stopped_behind k ns o f RuleError.Memory h = tt
 
-module _ (w : Env) (e : Expected) (ty : TyId) where
+module _ (w : Env) (e : PatternContext) (ty : TyId) where
   pub each_step : (whole : Listed) (k m : ℕ) (ns more : List Node) (ss : Syns) (first : Syn) (rest : Syns) (xs ys : List NamedEntry) (s t : TypingState) →
       whole ≡ behind k ns (each_pattern w e ty ss xs s) → a_syn first rest ≡ ss → pattern w e ty first xs s ≡ Ok ((top more, ys), t) →
       below more ≡ ns → m ≡ k + 1 → whole ≡ behind m more (each_pattern w e ty rest ys t)
@@ -64,7 +64,7 @@ module _ (w : Env) (e : Expected) (ty : TyId) where
       ∙ stopped_behind k ns (pattern w e ty first xs s) (λ p. λ u. and_then (each_pattern w e ty rest p.1 u) (λ ps. pure (a_node p.0 ps.0, ps.1))) (RuleError.Broken rule at) here
   each_stop whole k ns ss first rest xs s RuleError.Memory h split here = tt
 
-module _ (w : Env) (e : Expected) where
+module _ (w : Env) (e : PatternContext) where
   pub part_step : (whole : Listed) (k m : ℕ) (ns more : List Node) (tys later : List TyId) (ty : TyId) (ss : Syns) (first : Syn) (rest : Syns) (xs ys : List NamedEntry) (s t : TypingState) →
       whole ≡ behind k ns (part_patterns w e tys ss xs s) → tys ≡ ty ∷ later → a_syn first rest ≡ ss → pattern w e ty first xs s ≡ Ok ((top more, ys), t) →
       below more ≡ ns → m ≡ k + 1 → whole ≡ behind m more (part_patterns w e later rest ys t)
@@ -139,7 +139,7 @@ stopped_fields : {A : Type 0} (given : Given) (ns : List Node) (o : Result (A ×
 stopped_fields given ns o f (RuleError.Broken rule at) h = ap (λ p. fields_behind given ns (and_then p f)) h
 stopped_fields given ns o f RuleError.Memory h = tt
 
-module _ (w : Env) (e : Expected) (v : Variant) where
+module _ (w : Env) (e : PatternContext) (v : Variant) where
   pub field_step : (whole : ListedFields) (given later : Given) (g : Option ℕ) (ns more : List Node) (ss : Syns) (first : Syn) (rest : Syns) (xs ys : List NamedEntry) (s t : TypingState) →
       whole ≡ fields_behind given ns (field_patterns w e v ss xs s) → a_syn first rest ≡ ss → field_pattern w e v first xs s ≡ Ok ((field_if g more, ys, g), t) →
       below_if g more ≡ ns → later ≡ given ++ g ∷ [] → whole ≡ fields_behind later more (field_patterns w e v rest ys t)

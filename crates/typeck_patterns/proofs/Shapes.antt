@@ -16,7 +16,7 @@ use Rattle.src_ast.specs.Syntax.{Word, MaybeSyn, Syn, syn, Shape, at_of, shape_o
 use Rattle.src_ast.proofs.Named.{seen_as}
 use Rattle.typing_rules.specs.Check.{TypingState}
 use Rattle.typing_rules.specs.Patterns.{field_at, field_pattern, pattern, pattern_form}
-use Rattle.typing_rules.specs.Rows.{Expected}
+use Rattle.typing_rules.specs.Rows.{PatternContext}
 use Rattle.typing_rules.specs.Scope.{Env, NamedEntry}
 use Rattle.typeck_patterns.specs.Members.{part_by, part_named}
 use Rattle.typeck_patterns.specs.Forms.{pattern_as, field_as, inside_as}
@@ -24,7 +24,7 @@ use Rattle.typeck_patterns.specs.Sizes.{size, form_size, seen_size}
 
 -- ---- patterns
 
-form_seen : (w : Env) (e : Expected) (ty : TyId) (at : Pos) (form : Shape) (xs : List NamedEntry) (s : TypingState) →
+form_seen : (w : Env) (e : PatternContext) (ty : TyId) (at : Pos) (form : Shape) (xs : List NamedEntry) (s : TypingState) →
     pattern_form w e ty at form xs s ≡ pattern_as w e ty at (pattern_part form) xs s
 form_seen w e ty at (Ident a) xs s = refl
 form_seen w e ty at (LabelOf a) xs s = refl
@@ -98,11 +98,11 @@ form_seen w e ty at (ParamOf a b) xs s = refl
 form_seen w e ty at (SelfParam a) xs s = refl
 form_seen w e ty at Odd xs s = refl
 
-as_form : (w : Env) (e : Expected) (ty : TyId) (x : Syn) (xs : List NamedEntry) (s : TypingState) →
+as_form : (w : Env) (e : PatternContext) (ty : TyId) (x : Syn) (xs : List NamedEntry) (s : TypingState) →
     pattern w e ty x xs s ≡ pattern_as w e ty (at_of x) (pattern_part (shape_of x)) xs s
 as_form w e ty (syn at form) xs s = form_seen w e ty at form xs s
 
-pub pattern_seen : (w : Env) (e : Expected) (ty : TyId) (n : SyntaxNode) (xs : List NamedEntry) (s : TypingState) →
+pub pattern_seen : (w : Env) (e : PatternContext) (ty : TyId) (n : SyntaxNode) (xs : List NamedEntry) (s : TypingState) →
     pattern w e ty (syn_of n) xs s ≡ pattern_as w e ty n.at (pattern_part (shape_of (syn_of n))) xs s
 pattern_seen w e ty n xs s =
     as_form w e ty (syn_of n) xs s
@@ -129,7 +129,7 @@ pattern_falls n seen form t k is_t is is_seen within =
 
 -- ---- patterns of fields
 
-field_form_seen : (w : Env) (e : Expected) (v : Variant) (at : Pos) (form : Shape) (xs : List NamedEntry) (s : TypingState) →
+field_form_seen : (w : Env) (e : PatternContext) (v : Variant) (at : Pos) (form : Shape) (xs : List NamedEntry) (s : TypingState) →
     field_pattern w e v (syn at form) xs s ≡ field_as w e v at (field_pattern_part form) xs s
 field_form_seen w e v at (Ident a) xs s = refl
 field_form_seen w e v at (LabelOf a) xs s = refl
@@ -204,11 +204,11 @@ field_form_seen w e v at (ParamOf a b) xs s = refl
 field_form_seen w e v at (SelfParam a) xs s = refl
 field_form_seen w e v at Odd xs s = refl
 
-as_field : (w : Env) (e : Expected) (v : Variant) (x : Syn) (xs : List NamedEntry) (s : TypingState) →
+as_field : (w : Env) (e : PatternContext) (v : Variant) (x : Syn) (xs : List NamedEntry) (s : TypingState) →
     field_pattern w e v x xs s ≡ field_as w e v (at_of x) (field_pattern_part (shape_of x)) xs s
 as_field w e v (syn at form) xs s = field_form_seen w e v at form xs s
 
-pub field_seen : (w : Env) (e : Expected) (v : Variant) (n : SyntaxNode) (xs : List NamedEntry) (s : TypingState) →
+pub field_seen : (w : Env) (e : PatternContext) (v : Variant) (n : SyntaxNode) (xs : List NamedEntry) (s : TypingState) →
     field_pattern w e v (syn_of n) xs s ≡ field_as w e v n.at (field_pattern_part (shape_of (syn_of n))) xs s
 field_seen w e v n xs s =
     as_field w e v (syn_of n) xs s
@@ -222,17 +222,17 @@ field_size n = field_size_of (syn_of n)
 
 -- ---- nodes by their forms
 
-pub seen_by : (w : Env) (e : Expected) (ty : TyId) (n : SyntaxNode) (xs : List NamedEntry) (s : TypingState) (f g : PatternForm) →
+pub seen_by : (w : Env) (e : PatternContext) (ty : TyId) (n : SyntaxNode) (xs : List NamedEntry) (s : TypingState) (f g : PatternForm) →
     pattern_of f ≡ pattern_part (shape_of (syn_of n)) → f ≡ g → pattern w e ty (syn_of n) xs s ≡ pattern_as w e ty n.at (pattern_of g) xs s
 seen_by w e ty n xs s f g h is =
     pattern_seen w e ty n xs s ∙ ap (λ o. pattern_as w e ty n.at o xs s) (sym h) ∙ ap (λ (z : PatternForm). pattern_as w e ty n.at (pattern_of z) xs s) is
 
-inside_seen : (w : Env) (e : Expected) (v : Variant) (at : Pos) (name : Word) (m : MaybeSyn) (xs : List NamedEntry) (s : TypingState) →
+inside_seen : (w : Env) (e : PatternContext) (v : Variant) (at : Pos) (name : Word) (m : MaybeSyn) (xs : List NamedEntry) (s : TypingState) →
     field_pattern w e v (syn at (FieldPattern name m)) xs s ≡ field_at xs (part_by v name) (λ ty. inside_as w at e ty name m xs) s
 inside_seen w e v at name nothing xs s = refl
 inside_seen w e v at name (just x) xs s = refl
 
-pub field_some : (w : Env) (e : Expected) (v : Variant) (n : SyntaxNode) (xs : List NamedEntry) (s : TypingState) (o : Option FieldPatternForm) (form : FieldPatternForm) (p : Option (ℕ × TyId)) →
+pub field_some : (w : Env) (e : PatternContext) (v : Variant) (n : SyntaxNode) (xs : List NamedEntry) (s : TypingState) (o : Option FieldPatternForm) (form : FieldPatternForm) (p : Option (ℕ × TyId)) →
     option_map field_pattern_of o ≡ field_pattern_part (shape_of (syn_of n)) → o ≡ Some form → p ≡ part_named v (field_pattern_part (shape_of (syn_of n))) →
     field_pattern w e v (syn_of n) xs s ≡ field_at xs p (λ ty. inside_as w n.at e ty form.name.now (maybe_of form.pattern) xs) s
 field_some w e v n xs s o form p h is part =
@@ -240,7 +240,7 @@ field_some w e v n xs s o form p h is part =
     field_seen w e v n xs s ∙ ap (λ z. field_as w e v n.at z xs s) seen ∙ inside_seen w e v n.at form.name.now (maybe_of form.pattern) xs s
     ∙ ap (λ (z : Option (ℕ × TyId)). field_at xs z (λ ty. inside_as w n.at e ty form.name.now (maybe_of form.pattern) xs) s) (sym (part ∙ ap (part_named v) seen))
 
-pub field_none : (w : Env) (e : Expected) (v : Variant) (n : SyntaxNode) (xs : List NamedEntry) (s : TypingState) (o : Option FieldPatternForm) →
+pub field_none : (w : Env) (e : PatternContext) (v : Variant) (n : SyntaxNode) (xs : List NamedEntry) (s : TypingState) (o : Option FieldPatternForm) →
     option_map field_pattern_of o ≡ field_pattern_part (shape_of (syn_of n)) → o ≡ None →
     field_pattern w e v (syn_of n) xs s ≡ Err (record { rule = Rule.T20; at = n.at })
 field_none w e v n xs s o h is =

@@ -13,7 +13,7 @@ use Rattle.typed_tree.specs.declared.node.Use.{Use}
 use Rattle.typing_rules.specs.Check.{Check, ◌>>=◌, ◌<$>◌, pure, known, the_items}
 use Rattle.typing_rules.specs.Patterns.{pattern}
 use Rattle.typing_rules.specs.Places.{a_node_of, place_in_text, unit}
-use Rattle.typing_rules.specs.Rows.{Expected, ends_by, let_ty, no_reference, of_value, used_if_place}
+use Rattle.typing_rules.specs.Rows.{PatternContext, ends_by, let_ty, no_reference, of_value, used_if_place}
 use Rattle.typing_rules.specs.Scope.{Env, with_variables}
 use Rattle.well_typed.specs.Places.{ty_of}
 
@@ -28,7 +28,7 @@ arm_rest id p g b = pure (a_node_of id (place_in_text p) (ty_of b) (tree.Arm p g
 -- ---- `let`
 
 -- once its place has a type
-abbrev pub let_typed : Env → ℕ → Pos → Expected → TyId → MaybeNode → Syn → Check (Node × Bool × Env)
+abbrev pub let_typed : Env → ℕ → Pos → PatternContext → TyId → MaybeNode → Syn → Check (Node × Bool × Env)
 let_typed env id at e ty v p = do
   n ← pattern env e ty p []
   after ← the_items

@@ -10,11 +10,11 @@ use Rattle.typed_tree.specs.Tree.{Node, Nodes, Fields, Form}
 use Rattle.typing_rules.specs.Check.{Check, ◌>>=◌, ◌>>◌, pure, obeys}
 use Rattle.typing_rules.specs.Patterns.{BoundPattern, PatternTarget, are_given_once, count_of, each_pattern, field_patterns, fields_from, has_named_parts, has_names, is_count, part_patterns}
 use Rattle.typing_rules.specs.Places.{a_node_of}
-use Rattle.typing_rules.specs.Rows.{Expected, all_given, are_known}
+use Rattle.typing_rules.specs.Rows.{PatternContext, all_given, are_known}
 use Rattle.typing_rules.specs.Scope.{Env, NamedEntry}
 
 -- the parts of a tuple or an array in their order
-abbrev pub order_rest : Env → ℕ → Pos → Expected → TyId → List TyId → ℕ → (Nodes → Form) → Syns → Bool →
+abbrev pub order_rest : Env → ℕ → Pos → PatternContext → TyId → List TyId → ℕ → (Nodes → Form) → Syns → Bool →
     List NamedEntry → Check
     BoundPattern
 order_rest env id at e ty tys count form parts dots earlier = do
@@ -27,7 +27,7 @@ counted_rest id at ty form is_whole = do
   obeys Rule.T04 at is_whole
   pure (a_node_of id at ty form)
 
-abbrev pub alternatives_rest : Env → ℕ → Pos → Expected → TyId → Syns → List NamedEntry → Check BoundPattern
+abbrev pub alternatives_rest : Env → ℕ → Pos → PatternContext → TyId → Syns → List NamedEntry → Check BoundPattern
 alternatives_rest env id at e ty patterns earlier = do
   ps ← each_pattern env e ty patterns earlier
   obeys Rule.T18 at (not (has_names earlier ps.1))
@@ -39,14 +39,14 @@ alternatives_rest env id at e ty patterns earlier = do
 abbrev pub is_tuple_count : Env → PatternTarget → ℕ → ℕ → Bool → Bool
 is_tuple_count env t given count dots = is_count dots given count && not (has_named_parts env t && not (given == 0))
 
-abbrev pub parts_in_order : Env → PatternTarget → Syns → Bool → List NamedEntry → Expected → List TyId →
+abbrev pub parts_in_order : Env → PatternTarget → Syns → Bool → List NamedEntry → PatternContext → List TyId →
     Check (Fields × List NamedEntry × Bool ×
     Bool)
 parts_in_order env t parts dots earlier inside tys = do
   ps ← part_patterns env inside tys parts earlier
   pure (fields_from 0 ps.0, ps.1, is_tuple_count env t (count_of parts) (length tys) dots, true)
 
-abbrev pub parts_by_name : Env → Variant → Syns → Bool → List NamedEntry → Expected → List TyId →
+abbrev pub parts_by_name : Env → Variant → Syns → Bool → List NamedEntry → PatternContext → List TyId →
     Check (Fields × List NamedEntry × Bool ×
     Bool)
 parts_by_name env v fields dots earlier inside tys = do

@@ -8,20 +8,20 @@ use Rattle.src_ast.specs.Syntax.{Word, syn, Shape, MaybeSyn, nothing, just}
 use Rattle.typed_tree.specs.Tree.{Node}
 use Rattle.typing_rules.specs.Check.{Check, breaks}
 use Rattle.typing_rules.specs.Patterns.{BoundPattern, bind, field_pattern, pattern, pattern_form}
-use Rattle.typing_rules.specs.Rows.{Expected}
+use Rattle.typing_rules.specs.Rows.{PatternContext}
 use Rattle.typing_rules.specs.Scope.{Env, NamedEntry}
 
-abbrev pub pattern_as : Env → Expected → TyId → Pos → Option Shape → List NamedEntry → Check BoundPattern
+abbrev pub pattern_as : Env → PatternContext → TyId → Pos → Option Shape → List NamedEntry → Check BoundPattern
 pattern_as env e ty at None earlier = breaks Rule.T20 at
 pattern_as env e ty at (Some form) earlier = pattern_form env e ty at form earlier
 
-abbrev pub field_as : Env → Expected → Variant → Pos → Option Shape → List NamedEntry →
+abbrev pub field_as : Env → PatternContext → Variant → Pos → Option Shape → List NamedEntry →
     Check (Option (ℕ × Node) × List NamedEntry ×
     Option ℕ)
 field_as env e v at None earlier = breaks Rule.T20 at
 field_as env e v at (Some form) earlier = field_pattern env e v (syn at form) earlier
 
 -- the pattern of a field; without one its name is bound
-abbrev pub inside_as : Env → Pos → Expected → TyId → Word → MaybeSyn → List NamedEntry → Check BoundPattern
+abbrev pub inside_as : Env → Pos → PatternContext → TyId → Word → MaybeSyn → List NamedEntry → Check BoundPattern
 inside_as env at e ty name nothing earlier = bind at e ty name earlier
 inside_as env at e ty name (just inside) earlier = pattern env e ty inside earlier

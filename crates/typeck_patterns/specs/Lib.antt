@@ -1,4 +1,4 @@
-pub mod Expected
+pub mod PatternContext
 pub mod Targets
 pub mod Parts
 pub mod Members

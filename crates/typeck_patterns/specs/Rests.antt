@@ -12,7 +12,7 @@ use Rattle.typed_tree.specs.Tree.{Node, Fields, no_field}
 use Rattle.typing_rules.specs.Check.{Check, ◌>>=◌, ◌>>◌, pure, obeys, known, the_items, number, interned}
 use Rattle.typing_rules.specs.Patterns.{BoundPattern, PatternTarget, agrees_kind, fields_of, inside_of, is_test, parts_form, tested_if}
 use Rattle.typing_rules.specs.Places.{used, a_node_of}
-use Rattle.typing_rules.specs.Rows.{Expected, taking, literal_value, is_signed_kind, most}
+use Rattle.typing_rules.specs.Rows.{PatternContext, taking, literal_value, is_signed_kind, most}
 use Rattle.typing_rules.specs.Scope.{NamedEntry, Local}
 use Rattle.src_ast.specs.Syntax.{Word}
 use Rattle.well_typed.specs.Types.{is_bool, is_dyn, is_same, kind_of}
@@ -87,8 +87,8 @@ target_rest id at takes_all ty t fields is_count is_known = do
   known_rest id at takes_all ty t fields is_known
 
 -- once the place is known to be of the type that the path names
-abbrev pub target_tail : ℕ → Pos → Expected → TyId → PatternTarget →
-    (Expected → List TyId → Check (Fields × List NamedEntry × Bool ×
+abbrev pub target_tail : ℕ → Pos → PatternContext → TyId → PatternTarget →
+    (PatternContext → List TyId → Check (Fields × List NamedEntry × Bool ×
     Bool)) → Check BoundPattern
 target_tail id at e ty t parts = do
   before ← the_items

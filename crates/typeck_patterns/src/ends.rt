@@ -6,7 +6,7 @@ ghost use Rattle.typeck_patterns.specs.Rests.{target_rest};
 ghost use Rattle.typeck_patterns.specs.Fields.{below_given, last_fields};
 ghost use Rattle.typeck_patterns.specs.Targets.{target_of as target_in};
 ghost use Rattle.src_ast.specs.ItemForms.{kind_seen};
-ghost use Rattle.typeck_checker.specs.Stand.{Gives, Keeps, env, stack, state};
+ghost use Rattle.typeck_checker.specs.Stand.{Gives, KeepsStack, env, stack, state};
 ghost use Rattle.typing_rules.specs.Patterns as rules;
 ghost use Rattle.typing_rules.specs.Patterns.{are_given_once, fields_from};
 ghost use Rattle.typing_rules.specs.Rows as rows;
@@ -49,7 +49,7 @@ pub fn counted_end(
     is_count: bool,
 ) -> Result<(), RuleError>
     ensures gives { Gives (counted_rest id.0 at ty (many_form many (last_nodes count (stack checker.old))) is_count (state checker.old)) result checker.new }
-    ensures kept { Keeps (below_all count (stack checker.old)) checker.old result checker.new }
+    ensures kept { KeepsStack (below_all count (stack checker.old)) checker.old result checker.new }
 {
     obeys(Rule::T04, at, is_count)?;
     wrap_many(checker, id, at, ty, many, count as usize)
@@ -92,7 +92,7 @@ pub fn ordered_end(
     is_count: bool,
 ) -> Result<(), RuleError>
     ensures gives { Gives (target_rest id.0 at takes_all ty (target_in target) (fields_from 0 (last_nodes count (stack checker.old))) is_count true (state checker.old)) result checker.new }
-    ensures kept { Keeps (below_all count (stack checker.old)) checker.old result checker.new }
+    ensures kept { KeepsStack (below_all count (stack checker.old)) checker.old result checker.new }
 {
     let given = numbers_up(checker.alloc, count)?;
     target_end(
@@ -114,7 +114,7 @@ pub fn named_end(
 ) -> Result<(), RuleError>
     ensures gives { Gives (target_rest id.0 at takes_all ty (target_in target) (last_fields given (stack checker.old))
         (are_given_once given && (dots || rows.all_given count given)) (rows.are_known given) (state checker.old)) result checker.new }
-    ensures kept { Keeps (below_given given (stack checker.old)) checker.old result checker.new }
+    ensures kept { KeepsStack (below_given given (stack checker.old)) checker.old result checker.new }
 {
     let is_count = is_whole(checker.alloc, given.as_slice(), count, dots)?;
     let is_known = are_known(given.as_slice());

@@ -8,7 +8,7 @@ ghost use Rattle.typing_rules.specs.Places.{a_node_of};
 ghost use Rattle.typeck_patterns.specs.Fields.{below_given, below_if, fields_on, last_fields, with_last};
 ghost use Rattle.typeck_patterns.specs.Rests.{known_rest, target_rest, test_rest};
 ghost use Rattle.typeck_patterns.specs.Targets.{target_of as target_in};
-ghost use Rattle.typeck_checker.specs.Stand.{Gives, Keeps, Stays, below, stack, state, top};
+ghost use Rattle.typeck_checker.specs.Stand.{Gives, KeepsStack, Stays, below, stack, state, top};
 
 use crate::targets::{PatternTarget, is_test};
 use mir_base::{List, NoMemory, NodeId, Pos, Rule, RuleError};
@@ -173,7 +173,7 @@ fn test_end(
     given: List<Option<u32>>,
 ) -> Result<(), RuleError>
     ensures gives { Gives (test_rest id.0 at takes_all ty (target_in target) (last_fields given (stack checker.old)) (state checker.old)) result checker.new }
-    ensures kept { Keeps (below_given given (stack checker.old)) checker.old result checker.new }
+    ensures kept { KeepsStack (below_given given (stack checker.old)) checker.old result checker.new }
 {
     let is_a_test = is_test(&checker.walk.items, target);
     obeys(Rule::T18, at, !(takes_all && is_a_test))?;
@@ -191,7 +191,7 @@ fn known_end(
     is_known: bool,
 ) -> Result<(), RuleError>
     ensures gives { Gives (known_rest id.0 at takes_all ty (target_in target) (last_fields given (stack checker.old)) is_known (state checker.old)) result checker.new }
-    ensures kept { Keeps (below_given given (stack checker.old)) checker.old result checker.new }
+    ensures kept { KeepsStack (below_given given (stack checker.old)) checker.old result checker.new }
 {
     obeys(Rule::T12, at, is_known)?;
     test_end(checker, id, at, takes_all, ty, target, given)
@@ -211,7 +211,7 @@ pub fn target_end(
     is_known: bool,
 ) -> Result<(), RuleError>
     ensures gives { Gives (target_rest id.0 at takes_all ty (target_in target) (last_fields given (stack checker.old)) is_count is_known (state checker.old)) result checker.new }
-    ensures kept { Keeps (below_given given (stack checker.old)) checker.old result checker.new }
+    ensures kept { KeepsStack (below_given given (stack checker.old)) checker.old result checker.new }
 {
     obeys(Rule::T04, at, is_count)?;
     known_end(checker, id, at, takes_all, ty, target, given, is_known)

@@ -8,12 +8,12 @@ ghost use Rattle.typing_rules.specs.Places.{a_node_of, used};
 ghost use Rattle.typing_rules.specs.Rows as rows;
 ghost use Rattle.typing_rules.specs.Scope.{Local, variable};
 ghost use Rattle.well_typed.specs.Types as types;
-ghost use Rattle.typeck_patterns.specs.Expected.{GivesBound, expected_of};
+ghost use Rattle.typeck_patterns.specs.PatternContext.{GivesBound, pattern_context_of};
 ghost use Rattle.typeck_patterns.specs.Rests.{bind_rest, kind_rest, literal_rest, number_rest, sized_rest, tested_rest, truth_rest, wildcard_rest};
 ghost use Rattle.typeck_checker.specs.Forms.{leaf_form};
-ghost use Rattle.typeck_checker.specs.Stand.{Gives, Keeps, Stays, stack, state};
+ghost use Rattle.typeck_checker.specs.Stand.{Gives, KeepsStack, Stays, stack, state};
 
-use crate::expected::Expected;
+use crate::pattern_context::PatternContext;
 use mir_base::{IntKind, Key, Name, NoMemory, NodeId, Pos, Rule, RuleError};
 use mir_ty::TyId;
 use typeck_checker::{Checker, Leaf, int, is_signed, literal_value, most};
@@ -24,7 +24,7 @@ use typed_tree::{Form, Use};
 /// `_`, which takes nothing of its place.
 pub fn wildcard(checker: &mut Checker, at: Pos, ty: TyId) -> Result<(), RuleError>
     ensures gives { Gives (wildcard_rest at ty (state checker.old)) result checker.new }
-    ensures kept { Keeps (stack checker.old) checker.old result checker.new }
+    ensures kept { KeepsStack (stack checker.old) checker.old result checker.new }
 {
     let id = checker.number()?;
     checker.put_leaf(id, at, ty, Leaf::Wildcard)
@@ -39,7 +39,7 @@ fn check_test(
     leaf: Leaf,
 ) -> Result<(), RuleError>
     ensures gives { Gives (tested_rest id.0 at takes_all ty (leaf_form leaf) (state checker.old)) result checker.new }
-    ensures kept { Keeps (stack checker.old) checker.old result checker.new }
+    ensures kept { KeepsStack (stack checker.old) checker.old result checker.new }
 {
     obeys(Rule::T18, at, !takes_all)?;
     checker.put_leaf(id, at, ty, leaf)?;
@@ -56,7 +56,7 @@ fn tested_number(
     value: u64,
 ) -> Result<(), RuleError>
     ensures gives { Gives (number_rest id.0 at takes_all ty is_negative value (state checker.old)) result checker.new }
-    ensures kept { Keeps (stack checker.old) checker.old result checker.new }
+    ensures kept { KeepsStack (stack checker.old) checker.old result checker.new }
 {
     obeys(Rule::T18, at, !takes_all)?;
     let leaf = Leaf::NumberPattern(literal_value(is_negative, value));
@@ -75,7 +75,7 @@ fn check_number(
     value: u64,
 ) -> Result<(), RuleError>
     ensures gives { Gives (sized_rest id.0 at takes_all ty kind is_negative value (state checker.old)) result checker.new }
-    ensures kept { Keeps (stack checker.old) checker.old result checker.new }
+    ensures kept { KeepsStack (stack checker.old) checker.old result checker.new }
 {
     obeys(Rule::T17, at, value <= most(kind, is_negative))?;
     tested_number(checker, id, at, takes_all, ty, is_negative, value)
@@ -108,7 +108,7 @@ fn of_kind(
     suffix: Option<IntKind>,
 ) -> Result<(), RuleError>
     ensures gives { Gives (kind_rest id.0 at takes_all ty kind is_negative value suffix (state checker.old)) result checker.new }
-    ensures kept { Keeps (stack checker.old) checker.old result checker.new }
+    ensures kept { KeepsStack (stack checker.old) checker.old result checker.new }
 {
     obeys(Rule::T03, at, is_of_kind(suffix, ty, is_negative, kind))?;
     check_number(checker, id, at, takes_all, ty, kind, is_negative, value)
@@ -125,7 +125,7 @@ fn literal_at(
     suffix: Option<IntKind>,
 ) -> Result<(), RuleError>
     ensures gives { Gives (literal_rest id.0 at takes_all ty is_negative value suffix (state checker.old)) result checker.new }
-    ensures kept { Keeps (stack checker.old) checker.old result checker.new }
+    ensures kept { KeepsStack (stack checker.old) checker.old result checker.new }
 {
     match kind_of(&checker.walk.items, ty) {
         Some(kind) => of_kind(
@@ -147,14 +147,14 @@ fn literal_at(
 pub fn literal_pattern(
     checker: &mut Checker,
     at: Pos,
-    e: Expected,
+    e: PatternContext,
     ty: TyId,
     is_negative: bool,
     value: u64,
     suffix: Option<IntKind>,
 ) -> Result<(), RuleError>
-    ensures gives { Gives (rules.literal_pattern at (expected_of e) ty is_negative value suffix (state checker.old)) result checker.new }
-    ensures kept { Keeps (stack checker.old) checker.old result checker.new }
+    ensures gives { Gives (rules.literal_pattern at (pattern_context_of e) ty is_negative value suffix (state checker.old)) result checker.new }
+    ensures kept { KeepsStack (stack checker.old) checker.old result checker.new }
 {
     let id = checker.number()?;
     literal_at(checker, id, at, e.takes_all, ty, is_negative, value, suffix)
@@ -169,7 +169,7 @@ fn of_bool(
     value: bool,
 ) -> Result<(), RuleError>
     ensures gives { Gives (truth_rest id.0 at takes_all ty value (state checker.old)) result checker.new }
-    ensures kept { Keeps (stack checker.old) checker.old result checker.new }
+    ensures kept { KeepsStack (stack checker.old) checker.old result checker.new }
 {
     let holds = is_bool(&checker.walk.items, ty);
     obeys(Rule::T03, at, holds)?;
@@ -180,12 +180,12 @@ fn of_bool(
 pub fn truth_pattern(
     checker: &mut Checker,
     at: Pos,
-    e: Expected,
+    e: PatternContext,
     ty: TyId,
     value: bool,
 ) -> Result<(), RuleError>
-    ensures gives { Gives (rules.truth_pattern at (expected_of e) ty value (state checker.old)) result checker.new }
-    ensures kept { Keeps (stack checker.old) checker.old result checker.new }
+    ensures gives { Gives (rules.truth_pattern at (pattern_context_of e) ty value (state checker.old)) result checker.new }
+    ensures kept { KeepsStack (stack checker.old) checker.old result checker.new }
 {
     let id = checker.number()?;
     of_bool(checker, id, at, e.takes_all, ty, value)
@@ -256,7 +256,7 @@ fn bind_new(
     name: &str,
 ) -> Result<(), RuleError>
     ensures gives { GivesBound (bind_rest id.0 at is_fixed ty name.now (reverse bound.old) (state checker.old)) result bound.new checker.new }
-    ensures kept { Keeps (stack checker.old) checker.old result checker.new }
+    ensures kept { KeepsStack (stack checker.old) checker.old result checker.new }
 {
     let may_take = may_bind(checker, is_fixed, ty);
     obeys(Rule::T07, at, may_take)?;
@@ -277,12 +277,12 @@ pub fn bind(
     checker: &mut Checker,
     bound: &mut Variables,
     at: Pos,
-    e: Expected,
+    e: PatternContext,
     ty: TyId,
     name: &str,
 ) -> Result<(), RuleError>
-    ensures gives { GivesBound (rules.bind at (expected_of e) ty name.now (reverse bound.old) (state checker.old)) result bound.new checker.new }
-    ensures kept { Keeps (stack checker.old) checker.old result checker.new }
+    ensures gives { GivesBound (rules.bind at (pattern_context_of e) ty name.now (reverse bound.old) (state checker.old)) result bound.new checker.new }
+    ensures kept { KeepsStack (stack checker.old) checker.old result checker.new }
 {
     let id = checker.number()?;
     let is_new = !is_bound(bound, name);

@@ -1,9 +1,9 @@
 //! `let` (The Rust Reference, "let statements").
 ghost use Rattle.std.specs.Prelude.{◌≡◌, ◌∷◌, ◌||◌, not, false, true, reverse, IfErr, OnOk, Some};
 ghost use Rattle.mir_base.specs.declared.rule.RuleError.{RuleError};
-ghost use Rattle.typeck_patterns.specs.Expected.{expected_of};
+ghost use Rattle.typeck_patterns.specs.PatternContext.{pattern_context_of};
 ghost use Rattle.src_ast.specs.Seen.{syn_of};
-ghost use Rattle.typeck_checker.specs.Stand.{Gives, GivesValue, Keeps, below, env, node_if_any, stack, state, top};
+ghost use Rattle.typeck_checker.specs.Stand.{Gives, GivesValue, KeepsStack, below, env, node_if_any, stack, state, top};
 ghost use Rattle.typed_tree.specs.Tree as tree;
 ghost use Rattle.typed_tree.specs.Tree.{present};
 ghost use Rattle.typing_rules.specs.Places.{a_node_of, unit};
@@ -16,9 +16,9 @@ ghost use Rattle.well_typed.specs.Types.{is_same};
 ghost use Rattle.well_typed.specs.Types as types;
 ghost use Rattle.typeck_patterns.specs.BindingRests.{KeepsTables, below_value, let_alone_rest, let_rest, let_typed, value_if};
 
-use crate::Expected;
-use crate::bound::{bindings, enter_bound};
-use crate::scrutinees::expected_of_last;
+use crate::PatternContext;
+use crate::bound_names::{bindings, enter_bound};
+use crate::scrutinees::pattern_context_of_last;
 use mir_base::{NodeId, Pos, Rule, RuleError};
 use mir_ty::{TyId, UNIT};
 use src_ast::{PatternForm, pattern_form};
@@ -49,40 +49,40 @@ pub fn is_one_name(checker: &Checker, node: &SyntaxNode) -> bool
     }
 }
 
-/// Whether the last node may be taken apart as a value of the type `want`: a place of type `!` has no parts.
-fn has_parts(checker: &Checker, want: TyId) -> bool
-    ensures { result ≡ (is_same (ty_of (top (stack checker.now))) want || not (types.is_never checker.now.walk.items (ty_of (top (stack checker.now))))) }
+/// Whether the last node may be taken apart as a value of the type `expected`: a place of type `!` has no parts.
+fn has_parts(checker: &Checker, expected: TyId) -> bool
+    ensures { result ≡ (is_same (ty_of (top (stack checker.now))) expected || not (types.is_never checker.now.walk.items (ty_of (top (stack checker.now))))) }
 {
     let ty = checker.last_ty();
-    ty == want || !is_never(&checker.walk.items, ty)
+    ty == expected || !is_never(&checker.walk.items, ty)
 }
 
-fn place_of(checker: &mut Checker, want: TyId) -> Result<(), RuleError>
-    ensures gives { Gives (rows.place_for_parts (env checker.old) (Some want) (top (stack checker.old)) (state checker.old)) result checker.new }
-    ensures kept { Keeps (below (stack checker.old)) checker.old result checker.new }
+fn place_of(checker: &mut Checker, expected: TyId) -> Result<(), RuleError>
+    ensures gives { Gives (rows.place_for_parts (env checker.old) (Some expected) (top (stack checker.old)) (state checker.old)) result checker.new }
+    ensures kept { KeepsStack (below (stack checker.old)) checker.old result checker.new }
 {
-    let has_parts = has_parts(checker, want);
+    let has_parts = has_parts(checker, expected);
     obeys(Rule::T03, checker.last_at(), has_parts)?;
     match how_it_fits(
         &checker.tables.pairs,
         &checker.walk.items,
-        want,
+        expected,
         checker.last_ty(),
     ) {
         Fit::Fits => checker.no_reference(),
-        Fit::Coerced(_) => checker.use_value(Some(want)),
-        Fit::Differs => checker.use_value(Some(want)),
+        Fit::Coerced(_) => checker.use_value(Some(expected)),
+        Fit::Differs => checker.use_value(Some(expected)),
     }
 }
 
 /// The last node, a place that is the initialiser of a pattern with parts: it is taken apart where it stands, unless it
 /// is coerced.
-pub fn place_for_parts(checker: &mut Checker, want: Option<TyId>) -> Result<(), RuleError>
-    ensures gives { Gives (rows.place_for_parts (env checker.old) want (top (stack checker.old)) (state checker.old)) result checker.new }
-    ensures kept { Keeps (below (stack checker.old)) checker.old result checker.new }
+pub fn place_for_parts(checker: &mut Checker, expected: Option<TyId>) -> Result<(), RuleError>
+    ensures gives { Gives (rows.place_for_parts (env checker.old) expected (top (stack checker.old)) (state checker.old)) result checker.new }
+    ensures kept { KeepsStack (below (stack checker.old)) checker.old result checker.new }
 {
-    match want {
-        Some(want) => place_of(checker, want),
+    match expected {
+        Some(expected) => place_of(checker, expected),
         None => checker.no_reference(),
     }
 }
@@ -136,12 +136,12 @@ fn let_typed_end(
     checker: &mut Checker,
     id: NodeId,
     at: Pos,
-    e: Expected,
+    e: PatternContext,
     ty: TyId,
     pattern: &SyntaxNode,
 ) -> Result<bool, RuleError>
     ensures gives { GivesValue (λ ends. (top (stack checker.new), ends, env checker.new))
-        (let_typed (env checker.old) id.0 at (expected_of e) ty (present (top (stack checker.old))) (syn_of pattern.now) (state checker.old)) result checker.new }
+        (let_typed (env checker.old) id.0 at (pattern_context_of e) ty (present (top (stack checker.old))) (syn_of pattern.now) (state checker.old)) result checker.new }
     ensures kept { KeepsTables (below (stack checker.old)) checker.old result checker.new }
 {
     let bound = bindings(checker, e, ty, pattern)?;
@@ -161,7 +161,7 @@ fn let_untyped_end(
         (let_typed (env checker.old) id.0 at (record { is_fixed = false; takes_all = true }) ty tree.absent (syn_of pattern.now) (state checker.old)) result checker.new }
     ensures kept { KeepsTables (stack checker.old) checker.old result checker.new }
 {
-    let e = Expected {
+    let e = PatternContext {
         is_fixed: false,
         takes_all: true,
     };
@@ -188,16 +188,16 @@ fn let_alone_end(
 }
 
 /// What the pattern of a `let` is told: one name takes the whole value.
-fn expected_of_value(checker: &Checker, is_one_name: bool) -> Expected
-    ensures { expected_of result ≡ rows.of_value (env checker.now) is_one_name (present (top (stack checker.now))) checker.now.walk.items }
+fn pattern_context_of_value(checker: &Checker, is_one_name: bool) -> PatternContext
+    ensures { pattern_context_of result ≡ rows.of_value (env checker.now) is_one_name (present (top (stack checker.now))) checker.now.walk.items }
 {
     if is_one_name {
-        Expected {
+        PatternContext {
             is_fixed: false,
             takes_all: true,
         }
     } else {
-        expected_of_last(checker, true)
+        pattern_context_of_last(checker, true)
     }
 }
 
@@ -213,7 +213,7 @@ fn let_value_end(
         (let_rest (env checker.old) id.0 at is_one_name declared (present (top (stack checker.old))) (syn_of pattern.now) (state checker.old)) result checker.new }
     ensures kept { KeepsTables (below (stack checker.old)) checker.old result checker.new }
 {
-    let e = expected_of_value(checker, is_one_name);
+    let e = pattern_context_of_value(checker, is_one_name);
     match declared {
         Some(ty) => let_typed_end(checker, id, at, e, ty, pattern),
         None => let_typed_end(checker, id, at, e, checker.last_ty(), pattern),

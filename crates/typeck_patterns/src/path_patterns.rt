@@ -5,14 +5,14 @@ ghost use Rattle.src_ast.specs.ItemForms.{kind_seen};
 ghost use Rattle.src_ast.specs.Seen.{word_of};
 ghost use Rattle.typeck_env.specs.Walked.{node_no};
 ghost use Rattle.typing_rules.specs.Patterns as rules;
-ghost use Rattle.typeck_patterns.specs.Expected.{GivesAnyhow, GivesBound, expected_of};
+ghost use Rattle.typeck_patterns.specs.PatternContext.{GivesAnyhow, GivesBound, pattern_context_of};
 ghost use Rattle.typeck_patterns.specs.Rests.{begin_of, unit_rest};
 ghost use Rattle.typeck_patterns.specs.Targets.{target_of as target_in};
-ghost use Rattle.typeck_checker.specs.Stand.{Gives, GivesValue, Keeps, Same, env, stack, state};
+ghost use Rattle.typeck_checker.specs.Stand.{Gives, GivesValue, KeepsStack, ChangesNothing, env, stack, state};
 
-use crate::expected::Expected;
 use crate::fields::target_end;
 use crate::leaves::bind;
+use crate::pattern_context::PatternContext;
 use crate::targets::{PatternTarget, target_of};
 use mir_base::{List, NodeId, Pos, Rule, RuleError};
 use mir_ty::{Ty, TyId};
@@ -29,7 +29,7 @@ pub fn target_begin(
     target: PatternTarget,
 ) -> Result<NodeId, RuleError>
     ensures gives { GivesValue node_no (begin_of at ty (target_in target) (state checker.old)) result checker.new }
-    ensures same { Same checker.old checker.new }
+    ensures same { ChangesNothing checker.old checker.new }
 {
     let id = checker.number()?;
     let own = checker.intern(Ty::Adt(target.adt))?;
@@ -46,7 +46,7 @@ fn unit_node(
     is_whole: bool,
 ) -> Result<(), RuleError>
     ensures gives { Gives (unit_rest at takes_all ty (target_in target) is_whole (state checker.old)) result checker.new }
-    ensures kept { Keeps (stack checker.old) checker.old result checker.new }
+    ensures kept { KeepsStack (stack checker.old) checker.old result checker.new }
 {
     let id = target_begin(checker, at, ty, target)?;
     let given = List::new(checker.alloc);
@@ -59,13 +59,13 @@ fn unit_node(
 fn unit_target(
     checker: &mut Checker,
     at: Pos,
-    e: Expected,
+    e: PatternContext,
     ty: TyId,
     target: PatternTarget,
     is_whole: bool,
 ) -> Result<(), RuleError>
-    ensures gives { GivesAnyhow (λ earlier. rules.of_target at (expected_of e) ty (target_in target) (rules.no_parts earlier is_whole) (state checker.old)) result checker.new }
-    ensures kept { Keeps (stack checker.old) checker.old result checker.new }
+    ensures gives { GivesAnyhow (λ earlier. rules.of_target at (pattern_context_of e) ty (target_in target) (rules.no_parts earlier is_whole) (state checker.old)) result checker.new }
+    ensures kept { KeepsStack (stack checker.old) checker.old result checker.new }
 {
     unit_node(checker, at, e.takes_all, ty, target, is_whole)
 }
@@ -82,12 +82,12 @@ fn is_unit_kind(kind: FieldKind) -> bool
 fn lone_struct(
     checker: &mut Checker,
     at: Pos,
-    e: Expected,
+    e: PatternContext,
     ty: TyId,
     adt: u32,
 ) -> Result<(), RuleError>
-    ensures gives { GivesAnyhow (λ earlier. rules.lone_struct (env checker.old) at (expected_of e) ty adt earlier (state checker.old)) result checker.new }
-    ensures kept { Keeps (stack checker.old) checker.old result checker.new }
+    ensures gives { GivesAnyhow (λ earlier. rules.lone_struct (env checker.old) at (pattern_context_of e) ty adt earlier (state checker.old)) result checker.new }
+    ensures kept { KeepsStack (stack checker.old) checker.old result checker.new }
 {
     if is_unit_kind(kind_at(checker, adt, 0)) {
         unit_target(checker, at, e, ty, PatternTarget { adt, variant: 0 }, true)
@@ -101,12 +101,12 @@ pub fn lone_name(
     checker: &mut Checker,
     bound: &mut Variables,
     at: Pos,
-    e: Expected,
+    e: PatternContext,
     ty: TyId,
     name: &str,
 ) -> Result<(), RuleError>
-    ensures gives { GivesBound (rules.lone_name (env checker.old) at (expected_of e) ty name.now (reverse bound.old) (state checker.old)) result bound.new checker.new }
-    ensures kept { Keeps (stack checker.old) checker.old result checker.new }
+    ensures gives { GivesBound (rules.lone_name (env checker.old) at (pattern_context_of e) ty name.now (reverse bound.old) (state checker.old)) result bound.new checker.new }
+    ensures kept { KeepsStack (stack checker.old) checker.old result checker.new }
 {
     match adt_named(checker, name) {
         Some(adt) => {
@@ -123,12 +123,12 @@ pub fn lone_name(
 fn self_alone(
     checker: &mut Checker,
     at: Pos,
-    e: Expected,
+    e: PatternContext,
     ty: TyId,
     first: Option<&str>,
 ) -> Result<(), RuleError>
-    ensures gives { GivesAnyhow (λ earlier. rules.path_alone (env checker.old) at (expected_of e) ty (word_of first.entry) None earlier (state checker.old)) result checker.new }
-    ensures kept { Keeps (stack checker.old) checker.old result checker.new }
+    ensures gives { GivesAnyhow (λ earlier. rules.path_alone (env checker.old) at (pattern_context_of e) ty (word_of first.entry) None earlier (state checker.old)) result checker.new }
+    ensures kept { KeepsStack (stack checker.old) checker.old result checker.new }
 {
     let Some(adt) = adt_at_head(checker, None) else {
         return Err(broken_rule(Rule::T01, at));
@@ -141,13 +141,13 @@ fn self_alone(
 fn variant_alone(
     checker: &mut Checker,
     at: Pos,
-    e: Expected,
+    e: PatternContext,
     ty: TyId,
     first: Option<&str>,
     second: &str,
 ) -> Result<(), RuleError>
-    ensures gives { GivesAnyhow (λ earlier. rules.path_alone (env checker.old) at (expected_of e) ty (word_of first.entry) (Some second.now) earlier (state checker.old)) result checker.new }
-    ensures kept { Keeps (stack checker.old) checker.old result checker.new }
+    ensures gives { GivesAnyhow (λ earlier. rules.path_alone (env checker.old) at (pattern_context_of e) ty (word_of first.entry) (Some second.now) earlier (state checker.old)) result checker.new }
+    ensures kept { KeepsStack (stack checker.old) checker.old result checker.new }
 {
     let Some(target) = target_of(checker, first, Some(second)) else {
         return Err(broken_rule(Rule::T01, at));
@@ -160,13 +160,13 @@ fn variant_alone(
 pub fn path_alone(
     checker: &mut Checker,
     at: Pos,
-    e: Expected,
+    e: PatternContext,
     ty: TyId,
     first: Option<&str>,
     second: Option<&str>,
 ) -> Result<(), RuleError>
-    ensures gives { GivesAnyhow (λ earlier. rules.path_alone (env checker.old) at (expected_of e) ty (word_of first.entry) (word_of second.entry) earlier (state checker.old)) result checker.new }
-    ensures kept { Keeps (stack checker.old) checker.old result checker.new }
+    ensures gives { GivesAnyhow (λ earlier. rules.path_alone (env checker.old) at (pattern_context_of e) ty (word_of first.entry) (word_of second.entry) earlier (state checker.old)) result checker.new }
+    ensures kept { KeepsStack (stack checker.old) checker.old result checker.new }
 {
     match second {
         Some(name) => variant_alone(checker, at, e, ty, first, name),

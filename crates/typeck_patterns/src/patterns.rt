@@ -4,7 +4,7 @@ ghost use Rattle.std.specs.Prelude.{◌≡◌, ◌==◌, List, length, map, not,
 ghost use Rattle.typeck_checker.specs.Lists.{many_form};
 ghost use Rattle.mir_ty.specs.declared.adt.Variant.{Variant};
 ghost use Rattle.mir_ty.specs.declared.ty.TyId.{TyId};
-ghost use Rattle.typeck_patterns.specs.Expected.{GivesBound, expected_of};
+ghost use Rattle.typeck_patterns.specs.PatternContext.{GivesBound, pattern_context_of};
 ghost use Rattle.typeck_patterns.specs.Members.{part_named, part_of, parts_named, variant_of};
 ghost use Rattle.typeck_patterns.specs.Parts.{AreFirst};
 ghost use Rattle.typeck_patterns.specs.Rests.{target_tail};
@@ -12,7 +12,7 @@ ghost use Rattle.typeck_patterns.specs.Targets.{target_of as target_in};
 ghost use Rattle.src_ast.specs.Seen.{maybe_of, nodes_of, syn_of, word_of};
 ghost use Rattle.src_ast.specs.Sorts.{field_pattern_part};
 ghost use Rattle.src_ast.specs.Syntax.{Alternatives, ArrayPattern, FieldsPattern, PartsPattern, TuplePattern, shape_of};
-ghost use Rattle.typeck_checker.specs.Stand.{Keeps, env, stack, state};
+ghost use Rattle.typeck_checker.specs.Stand.{KeepsStack, env, stack, state};
 ghost use Rattle.typed_tree.specs.Tree as tree;
 ghost use Rattle.typing_rules.specs.Patterns as rules;
 ghost use Rattle.typeck_patterns.specs.Answers.{GivesField, GivesFields, GivesNodes, KeepsBelow, KeepsGiven, KeepsIf};
@@ -22,9 +22,9 @@ ghost use Rattle.typeck_patterns.specs.EndRests.{alternatives_rest, order_rest, 
 use crate::counts::{are_several, count_of, is_count, one_more};
 use crate::ends::{counted_end, is_tuple_count, named_end, ordered_end};
 use crate::{
-    Expected, FieldPart, PartTypes, PatternTarget, bind, element_types, field_count, field_parts,
-    field_types, inside_of, literal_pattern, lone_name, path_alone, target_begin, target_of,
-    truth_pattern, tuple_types, wildcard,
+    FieldPart, PartTypes, PatternContext, PatternTarget, bind, element_types, field_count,
+    field_parts, field_types, inside_of, literal_pattern, lone_name, path_alone, target_begin,
+    target_of, truth_pattern, tuple_types, wildcard,
 };
 use mir_base::{List, NodeId, Pos, Rule, RuleError};
 use mir_ty::TyId;
@@ -39,11 +39,11 @@ use typeck_heads::{broken_rule, obeys, push_to};
 fn part_patterns(
     checker: &mut Checker,
     bound: &mut Variables,
-    e: Expected,
+    e: PatternContext,
     types: &[TyId],
     parts: Nodes,
 ) -> Result<u32, RuleError>
-    ensures gives { GivesNodes (rules.part_patterns (env checker.old) (expected_of e) types.now (nodes_of parts.entry) (reverse bound.old) (state checker.old)) result bound.new checker.new }
+    ensures gives { GivesNodes (rules.part_patterns (env checker.old) (pattern_context_of e) types.now (nodes_of parts.entry) (reverse bound.old) (state checker.old)) result bound.new checker.new }
     ensures kept { KeepsBelow (stack checker.old) checker.old result checker.new }
 {
     let mut count: u32 = 0;
@@ -64,14 +64,14 @@ fn part_patterns(
 fn first_patterns(
     checker: &mut Checker,
     bound: &mut Variables,
-    e: Expected,
+    e: PatternContext,
     types: &PartTypes,
     parts: Nodes,
     given: u32,
 ) -> Result<u32, RuleError>
     requires { given ≡ rules.count_of (nodes_of parts) }
     ensures gives { (tys : List TyId) → AreFirst given tys types.now →
-        GivesNodes (rules.part_patterns (env checker.old) (expected_of e) tys (nodes_of parts.entry) (reverse bound.old) (state checker.old)) result bound.new checker.new }
+        GivesNodes (rules.part_patterns (env checker.old) (pattern_context_of e) tys (nodes_of parts.entry) (reverse bound.old) (state checker.old)) result bound.new checker.new }
     ensures kept { KeepsBelow (stack checker.old) checker.old result checker.new }
 {
     part_patterns(checker, bound, e, types.first.as_slice(), parts)
@@ -82,11 +82,11 @@ fn first_patterns(
 fn each_pattern(
     checker: &mut Checker,
     bound: &mut Variables,
-    e: Expected,
+    e: PatternContext,
     ty: TyId,
     patterns: Nodes,
 ) -> Result<u32, RuleError>
-    ensures gives { GivesNodes (rules.each_pattern (env checker.old) (expected_of e) ty (nodes_of patterns.entry) (reverse bound.old) (state checker.old)) result bound.new checker.new }
+    ensures gives { GivesNodes (rules.each_pattern (env checker.old) (pattern_context_of e) ty (nodes_of patterns.entry) (reverse bound.old) (state checker.old)) result bound.new checker.new }
     ensures kept { KeepsBelow (stack checker.old) checker.old result checker.new }
 {
     let mut count: u32 = 0;
@@ -104,13 +104,13 @@ fn inside_field(
     checker: &mut Checker,
     bound: &mut Variables,
     at: Pos,
-    e: Expected,
+    e: PatternContext,
     ty: TyId,
     name: &str,
     inside: Option<&SyntaxNode>,
 ) -> Result<(), RuleError>
-    ensures gives { GivesBound (inside_as (env checker.old) at (expected_of e) ty name.now (maybe_of inside.entry) (reverse bound.old) (state checker.old)) result bound.new checker.new }
-    ensures kept { Keeps (stack checker.old) checker.old result checker.new }
+    ensures gives { GivesBound (inside_as (env checker.old) at (pattern_context_of e) ty name.now (maybe_of inside.entry) (reverse bound.old) (state checker.old)) result bound.new checker.new }
+    ensures kept { KeepsStack (stack checker.old) checker.old result checker.new }
 {
     match inside {
         Some(node) => pattern(checker, bound, e, ty, node),
@@ -123,13 +123,13 @@ fn known_field(
     checker: &mut Checker,
     bound: &mut Variables,
     at: Pos,
-    e: Expected,
+    e: PatternContext,
     part: Option<FieldPart>,
     name: &str,
     inside: Option<&SyntaxNode>,
 ) -> Result<Option<u32>, RuleError>
     ensures gives { GivesField (rules.field_at (reverse bound.old) (option_map part_of part)
-        (λ ty. inside_as (env checker.old) at (expected_of e) ty name.now (maybe_of inside.entry) (reverse bound.old)) (state checker.old)) result bound.new checker.new }
+        (λ ty. inside_as (env checker.old) at (pattern_context_of e) ty name.now (maybe_of inside.entry) (reverse bound.old)) (state checker.old)) result bound.new checker.new }
     ensures kept { KeepsIf (stack checker.old) checker.old result checker.new }
 {
     match part {
@@ -146,12 +146,12 @@ fn known_field(
 fn field_pattern(
     checker: &mut Checker,
     bound: &mut Variables,
-    e: Expected,
+    e: PatternContext,
     part: Option<FieldPart>,
     node: &SyntaxNode,
 ) -> Result<Option<u32>, RuleError>
     ensures gives { (v : Variant) → option_map part_of part ≡ part_named v (field_pattern_part (shape_of (syn_of node.now))) →
-        GivesField (rules.field_pattern (env checker.old) (expected_of e) v (syn_of node.now) (reverse bound.old) (state checker.old)) result bound.new checker.new }
+        GivesField (rules.field_pattern (env checker.old) (pattern_context_of e) v (syn_of node.now) (reverse bound.old) (state checker.old)) result bound.new checker.new }
     ensures kept { KeepsIf (stack checker.old) checker.old result checker.new }
 {
     match field_pattern_form(node) {
@@ -165,12 +165,12 @@ fn field_pattern(
 fn field_patterns(
     checker: &mut Checker,
     bound: &mut Variables,
-    e: Expected,
+    e: PatternContext,
     parts: &[Option<FieldPart>],
     fields: Nodes,
 ) -> Result<List<Option<u32>>, RuleError>
     ensures gives { (v : Variant) → map (option_map part_of) parts.now ≡ parts_named v (nodes_of fields.entry) →
-        GivesFields (rules.field_patterns (env checker.old) (expected_of e) v (nodes_of fields.entry) (reverse bound.old) (state checker.old)) result bound.new checker.new }
+        GivesFields (rules.field_patterns (env checker.old) (pattern_context_of e) v (nodes_of fields.entry) (reverse bound.old) (state checker.old)) result bound.new checker.new }
     ensures kept { KeepsGiven (stack checker.old) checker.old result checker.new }
 {
     let mut given = List::new(checker.alloc);
@@ -193,7 +193,7 @@ fn in_order(
     bound: &mut Variables,
     id: NodeId,
     at: Pos,
-    e: Expected,
+    e: PatternContext,
     ty: TyId,
     types: &PartTypes,
     parts: Nodes,
@@ -203,8 +203,8 @@ fn in_order(
 ) -> Result<(), RuleError>
     requires { given ≡ rules.count_of (nodes_of parts) }
     ensures gives { (tys : List TyId) → AreFirst given tys types.now →
-        GivesBound (order_rest (env checker.old) id.0 at (expected_of e) ty tys (length tys) (many_form many) (nodes_of parts.entry) dots (reverse bound.old) (state checker.old)) result bound.new checker.new }
-    ensures kept { Keeps (stack checker.old) checker.old result checker.new }
+        GivesBound (order_rest (env checker.old) id.0 at (pattern_context_of e) ty tys (length tys) (many_form many) (nodes_of parts.entry) dots (reverse bound.old) (state checker.old)) result bound.new checker.new }
+    ensures kept { KeepsStack (stack checker.old) checker.old result checker.new }
 {
     let is_count = is_count(dots, given, types.count);
     let count = first_patterns(checker, bound, e, types, parts, given)?;
@@ -216,13 +216,13 @@ fn tuple_pattern(
     checker: &mut Checker,
     bound: &mut Variables,
     at: Pos,
-    e: Expected,
+    e: PatternContext,
     ty: TyId,
     parts: Nodes,
     dots: bool,
 ) -> Result<(), RuleError>
-    ensures gives { GivesBound (rules.pattern_form (env checker.old) (expected_of e) ty at (TuplePattern (nodes_of parts.entry) dots) (reverse bound.old) (state checker.old)) result bound.new checker.new }
-    ensures kept { Keeps (stack checker.old) checker.old result checker.new }
+    ensures gives { GivesBound (rules.pattern_form (env checker.old) (pattern_context_of e) ty at (TuplePattern (nodes_of parts.entry) dots) (reverse bound.old) (state checker.old)) result bound.new checker.new }
+    ensures kept { KeepsStack (stack checker.old) checker.old result checker.new }
 {
     let id = checker.number()?;
     let given = count_of(parts)?;
@@ -250,15 +250,15 @@ fn elements_pattern(
     bound: &mut Variables,
     id: NodeId,
     at: Pos,
-    e: Expected,
+    e: PatternContext,
     ty: TyId,
     element: TyId,
     count: u32,
     elements: Nodes,
     dots: bool,
 ) -> Result<(), RuleError>
-    ensures gives { GivesBound (order_rest (env checker.old) id.0 at (expected_of e) ty (replicate count element) count tree.ArrayPattern (nodes_of elements.entry) dots (reverse bound.old) (state checker.old)) result bound.new checker.new }
-    ensures kept { Keeps (stack checker.old) checker.old result checker.new }
+    ensures gives { GivesBound (order_rest (env checker.old) id.0 at (pattern_context_of e) ty (replicate count element) count tree.ArrayPattern (nodes_of elements.entry) dots (reverse bound.old) (state checker.old)) result bound.new checker.new }
+    ensures kept { KeepsStack (stack checker.old) checker.old result checker.new }
 {
     let given = count_of(elements)?;
     let types = element_types(checker.alloc, element, count, given as usize)?;
@@ -282,13 +282,13 @@ fn array_pattern(
     checker: &mut Checker,
     bound: &mut Variables,
     at: Pos,
-    e: Expected,
+    e: PatternContext,
     ty: TyId,
     elements: Nodes,
     dots: bool,
 ) -> Result<(), RuleError>
-    ensures gives { GivesBound (rules.pattern_form (env checker.old) (expected_of e) ty at (ArrayPattern (nodes_of elements.entry) dots) (reverse bound.old) (state checker.old)) result bound.new checker.new }
-    ensures kept { Keeps (stack checker.old) checker.old result checker.new }
+    ensures gives { GivesBound (rules.pattern_form (env checker.old) (pattern_context_of e) ty at (ArrayPattern (nodes_of elements.entry) dots) (reverse bound.old) (state checker.old)) result bound.new checker.new }
+    ensures kept { KeepsStack (stack checker.old) checker.old result checker.new }
 {
     let id = checker.number()?;
     match array_of(&checker.walk.items, ty) {
@@ -311,12 +311,12 @@ fn alternatives(
     bound: &mut Variables,
     id: NodeId,
     at: Pos,
-    e: Expected,
+    e: PatternContext,
     ty: TyId,
     patterns: Nodes,
 ) -> Result<(), RuleError>
-    ensures gives { GivesBound (alternatives_rest (env checker.old) id.0 at (expected_of e) ty (nodes_of patterns.entry) (reverse bound.old) (state checker.old)) result bound.new checker.new }
-    ensures kept { Keeps (stack checker.old) checker.old result checker.new }
+    ensures gives { GivesBound (alternatives_rest (env checker.old) id.0 at (pattern_context_of e) ty (nodes_of patterns.entry) (reverse bound.old) (state checker.old)) result bound.new checker.new }
+    ensures kept { KeepsStack (stack checker.old) checker.old result checker.new }
 {
     let before = bound.len();
     let count = each_pattern(checker, bound, e, ty, patterns)?;
@@ -330,12 +330,12 @@ fn or_pattern(
     checker: &mut Checker,
     bound: &mut Variables,
     at: Pos,
-    e: Expected,
+    e: PatternContext,
     ty: TyId,
     patterns: Nodes,
 ) -> Result<(), RuleError>
-    ensures gives { GivesBound (rules.pattern_form (env checker.old) (expected_of e) ty at (Alternatives (nodes_of patterns.entry)) (reverse bound.old) (state checker.old)) result bound.new checker.new }
-    ensures kept { Keeps (stack checker.old) checker.old result checker.new }
+    ensures gives { GivesBound (rules.pattern_form (env checker.old) (pattern_context_of e) ty at (Alternatives (nodes_of patterns.entry)) (reverse bound.old) (state checker.old)) result bound.new checker.new }
+    ensures kept { KeepsStack (stack checker.old) checker.old result checker.new }
 {
     let id = checker.number()?;
     obeys(Rule::T20, at, are_several(patterns))?;
@@ -348,7 +348,7 @@ fn ordered_parts(
     bound: &mut Variables,
     id: NodeId,
     at: Pos,
-    e: Expected,
+    e: PatternContext,
     ty: TyId,
     target: PatternTarget,
     types: &PartTypes,
@@ -358,8 +358,8 @@ fn ordered_parts(
 ) -> Result<(), RuleError>
     requires given { given ≡ rules.count_of (nodes_of parts) }
     requires types { AreFirst given (rules.fields_of checker.old.walk.items (target_in target)) types.now }
-    ensures gives { GivesBound (target_tail id.0 at (expected_of e) ty (target_in target) (parts_in_order (env checker.old) (target_in target) (nodes_of parts.entry) dots (reverse bound.old)) (state checker.old)) result bound.new checker.new }
-    ensures kept { Keeps (stack checker.old) checker.old result checker.new }
+    ensures gives { GivesBound (target_tail id.0 at (pattern_context_of e) ty (target_in target) (parts_in_order (env checker.old) (target_in target) (nodes_of parts.entry) dots (reverse bound.old)) (state checker.old)) result bound.new checker.new }
+    ensures kept { KeepsStack (stack checker.old) checker.old result checker.new }
 {
     let inside = inside_of(&checker.walk.items, ty, e);
     let is_count = is_tuple_count(checker, target, given, types.count, dots);
@@ -373,14 +373,14 @@ fn parts_behind(
     bound: &mut Variables,
     id: NodeId,
     at: Pos,
-    e: Expected,
+    e: PatternContext,
     ty: TyId,
     target: PatternTarget,
     parts: Nodes,
     dots: bool,
 ) -> Result<(), RuleError>
-    ensures gives { GivesBound (target_tail id.0 at (expected_of e) ty (target_in target) (parts_in_order (env checker.old) (target_in target) (nodes_of parts.entry) dots (reverse bound.old)) (state checker.old)) result bound.new checker.new }
-    ensures kept { Keeps (stack checker.old) checker.old result checker.new }
+    ensures gives { GivesBound (target_tail id.0 at (pattern_context_of e) ty (target_in target) (parts_in_order (env checker.old) (target_in target) (nodes_of parts.entry) dots (reverse bound.old)) (state checker.old)) result bound.new checker.new }
+    ensures kept { KeepsStack (stack checker.old) checker.old result checker.new }
 {
     let given = count_of(parts)?;
     let types = field_types(checker.alloc, &checker.walk.items, target, given as usize)?;
@@ -394,14 +394,14 @@ fn parts_of_target(
     checker: &mut Checker,
     bound: &mut Variables,
     at: Pos,
-    e: Expected,
+    e: PatternContext,
     ty: TyId,
     target: PatternTarget,
     parts: Nodes,
     dots: bool,
 ) -> Result<(), RuleError>
-    ensures gives { GivesBound (rules.of_target at (expected_of e) ty (target_in target) (parts_in_order (env checker.old) (target_in target) (nodes_of parts.entry) dots (reverse bound.old)) (state checker.old)) result bound.new checker.new }
-    ensures kept { Keeps (stack checker.old) checker.old result checker.new }
+    ensures gives { GivesBound (rules.of_target at (pattern_context_of e) ty (target_in target) (parts_in_order (env checker.old) (target_in target) (nodes_of parts.entry) dots (reverse bound.old)) (state checker.old)) result bound.new checker.new }
+    ensures kept { KeepsStack (stack checker.old) checker.old result checker.new }
 {
     let id = target_begin(checker, at, ty, target)?;
     parts_behind(checker, bound, id, at, e, ty, target, parts, dots)
@@ -412,15 +412,15 @@ fn parts_pattern(
     checker: &mut Checker,
     bound: &mut Variables,
     at: Pos,
-    e: Expected,
+    e: PatternContext,
     ty: TyId,
     path: PathForm,
     parts: Nodes,
     dots: bool,
 ) -> Result<(), RuleError>
-    ensures gives { GivesBound (rules.pattern_form (env checker.old) (expected_of e) ty at
+    ensures gives { GivesBound (rules.pattern_form (env checker.old) (pattern_context_of e) ty at
         (PartsPattern (word_of path.entry.first) (word_of path.entry.second) (nodes_of parts.entry) dots) (reverse bound.old) (state checker.old)) result bound.new checker.new }
-    ensures kept { Keeps (stack checker.old) checker.old result checker.new }
+    ensures kept { KeepsStack (stack checker.old) checker.old result checker.new }
 {
     match target_of(checker, path.first, path.second) {
         Some(target) => parts_of_target(checker, bound, at, e, ty, target, parts, dots),
@@ -434,7 +434,7 @@ fn named_parts(
     bound: &mut Variables,
     id: NodeId,
     at: Pos,
-    e: Expected,
+    e: PatternContext,
     ty: TyId,
     target: PatternTarget,
     parts: &[Option<FieldPart>],
@@ -442,8 +442,8 @@ fn named_parts(
     dots: bool,
 ) -> Result<(), RuleError>
     ensures gives { (v : Variant) → map (option_map part_of) parts.now ≡ parts_named v (nodes_of fields.entry) →
-        GivesBound (target_tail id.0 at (expected_of e) ty (target_in target) (parts_by_name (env checker.old) v (nodes_of fields.entry) dots (reverse bound.old)) (state checker.old)) result bound.new checker.new }
-    ensures kept { Keeps (stack checker.old) checker.old result checker.new }
+        GivesBound (target_tail id.0 at (pattern_context_of e) ty (target_in target) (parts_by_name (env checker.old) v (nodes_of fields.entry) dots (reverse bound.old)) (state checker.old)) result bound.new checker.new }
+    ensures kept { KeepsStack (stack checker.old) checker.old result checker.new }
 {
     let inside = inside_of(&checker.walk.items, ty, e);
     let count = field_count(&checker.walk.items, target);
@@ -456,14 +456,14 @@ fn fields_of_target(
     checker: &mut Checker,
     bound: &mut Variables,
     at: Pos,
-    e: Expected,
+    e: PatternContext,
     ty: TyId,
     target: PatternTarget,
     fields: Nodes,
     dots: bool,
 ) -> Result<(), RuleError>
-    ensures gives { GivesBound (rules.of_target at (expected_of e) ty (target_in target) (parts_by_name (env checker.old) (variant_of checker.old.walk.items target) (nodes_of fields.entry) dots (reverse bound.old)) (state checker.old)) result bound.new checker.new }
-    ensures kept { Keeps (stack checker.old) checker.old result checker.new }
+    ensures gives { GivesBound (rules.of_target at (pattern_context_of e) ty (target_in target) (parts_by_name (env checker.old) (variant_of checker.old.walk.items target) (nodes_of fields.entry) dots (reverse bound.old)) (state checker.old)) result bound.new checker.new }
+    ensures kept { KeepsStack (stack checker.old) checker.old result checker.new }
 {
     let parts = field_parts(checker, target, fields)?;
     let id = target_begin(checker, at, ty, target)?;
@@ -486,15 +486,15 @@ fn fields_pattern(
     checker: &mut Checker,
     bound: &mut Variables,
     at: Pos,
-    e: Expected,
+    e: PatternContext,
     ty: TyId,
     path: PathForm,
     fields: Nodes,
     dots: bool,
 ) -> Result<(), RuleError>
-    ensures gives { GivesBound (rules.pattern_form (env checker.old) (expected_of e) ty at
+    ensures gives { GivesBound (rules.pattern_form (env checker.old) (pattern_context_of e) ty at
         (FieldsPattern (word_of path.entry.first) (word_of path.entry.second) (nodes_of fields.entry) dots) (reverse bound.old) (state checker.old)) result bound.new checker.new }
-    ensures kept { Keeps (stack checker.old) checker.old result checker.new }
+    ensures kept { KeepsStack (stack checker.old) checker.old result checker.new }
 {
     match target_of(checker, path.first, path.second) {
         Some(target) => fields_of_target(checker, bound, at, e, ty, target, fields, dots),
@@ -508,12 +508,12 @@ fn fields_pattern(
 pub fn pattern(
     checker: &mut Checker,
     bound: &mut Variables,
-    e: Expected,
+    e: PatternContext,
     ty: TyId,
     node: &SyntaxNode,
 ) -> Result<(), RuleError>
-    ensures gives { GivesBound (rules.pattern (env checker.old) (expected_of e) ty (syn_of node.now) (reverse bound.old) (state checker.old)) result bound.new checker.new }
-    ensures kept { Keeps (stack checker.old) checker.old result checker.new }
+    ensures gives { GivesBound (rules.pattern (env checker.old) (pattern_context_of e) ty (syn_of node.now) (reverse bound.old) (state checker.old)) result bound.new checker.new }
+    ensures kept { KeepsStack (stack checker.old) checker.old result checker.new }
 {
     let at = node.at;
     match pattern_form(node) {

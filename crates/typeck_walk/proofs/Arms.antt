@@ -11,7 +11,7 @@ use Rattle.src_ast.proofs.Named.{seen_as}
 use Rattle.typed_tree.specs.Tree as tree
 use Rattle.typed_tree.specs.Tree.{Nodes, a_node}
 use Rattle.typing_rules.specs.Check.{Check, TypingState, Broken, ◌>>=◌, and_then, breaks, number, pure}
-use Rattle.typing_rules.specs.Rows.{Expected, loop_around, match_row, no_reference, scrutinised, used_if_place}
+use Rattle.typing_rules.specs.Rows.{PatternContext, loop_around, match_row, no_reference, scrutinised, used_if_place}
 use Rattle.typing_rules.specs.Scope.{Env, within_loop}
 use Rattle.typing_rules.specs.Typed.{base_of, typed_arms, value}
 use Rattle.well_typed.specs.Places.{ty_of}
@@ -28,167 +28,167 @@ use Rattle.std.specs.Borrow.{Bor}
 use Rattle.typeck_env.specs.Scope.{word_in}
 use Rattle.typed_tree.specs.declared.node.Use.{Use}
 
-arm_form : (e : Env) (w : Expected) (ty : TyId) (want : Option TyId) (at : Pos) (form : Shape) →
-    arm_of_syn e w ty want (syn at form) ≡ arm_check e w ty want at (arm_part form)
-arm_form e w ty want at (Ident a) = refl
-arm_form e w ty want at (LabelOf a) = refl
-arm_form e w ty want at (Literal a b) = refl
-arm_form e w ty want at (TruthLiteral a) = refl
-arm_form e w ty want at (Path a b) = refl
-arm_form e w ty want at (Minus a) = refl
-arm_form e w ty want at (Bang a) = refl
-arm_form e w ty want at (Star a) = refl
-arm_form e w ty want at (Ampersand a b) = refl
-arm_form e w ty want at (Calculate a b c) = refl
-arm_form e w ty want at (Compare a b c) = refl
-arm_form e w ty want at (Both a b) = refl
-arm_form e w ty want at (Either a b) = refl
-arm_form e w ty want at (Store a b) = refl
-arm_form e w ty want at (CallOf a b) = refl
-arm_form e w ty want at (MethodOf a b c) = refl
-arm_form e w ty want at (FieldOf a b) = refl
-arm_form e w ty want at (PartOf a b) = refl
-arm_form e w ty want at (ElementOf a b) = refl
-arm_form e w ty want at (StructOf a b c) = refl
-arm_form e w ty want at (FieldInit a b) = refl
-arm_form e w ty want at (Parens a) = refl
-arm_form e w ty want at (TupleOf a) = refl
-arm_form e w ty want at (ArrayOf a) = refl
-arm_form e w ty want at (Braces a b) = refl
-arm_form e w ty want at (IfElse a b c) = refl
-arm_form e w ty want at (IfLetElse a b c d) = refl
-arm_form e w ty want at (MatchOn a b) = refl
-arm_form e w ty want at (ArmOf a b c) = refl
-arm_form e w ty want at (LoopOf a b) = refl
-arm_form e w ty want at (WhileOf a b c) = refl
-arm_form e w ty want at (WhileLetOf a b c d) = refl
-arm_form e w ty want at (BreakOf a b) = refl
-arm_form e w ty want at (ContinueOf a) = refl
-arm_form e w ty want at (ReturnOf a) = refl
-arm_form e w ty want at (MoveOf a b c d) = refl
-arm_form e w ty want at PanicOf = refl
-arm_form e w ty want at (LetOf a b c) = refl
-arm_form e w ty want at Empty = refl
-arm_form e w ty want at (Semi a) = refl
-arm_form e w ty want at AnyPattern = refl
-arm_form e w ty want at (BindPattern a) = refl
-arm_form e w ty want at (LiteralPattern a b c) = refl
-arm_form e w ty want at (TruthPattern a) = refl
-arm_form e w ty want at (PathPattern a b) = refl
-arm_form e w ty want at (PartsPattern a b c d) = refl
-arm_form e w ty want at (FieldsPattern a b c d) = refl
-arm_form e w ty want at (FieldPattern a b) = refl
-arm_form e w ty want at (ParensPattern a) = refl
-arm_form e w ty want at (TuplePattern a b) = refl
-arm_form e w ty want at (ArrayPattern a b) = refl
-arm_form e w ty want at (Alternatives a) = refl
-arm_form e w ty want at (NamedType a) = refl
-arm_form e w ty want at (GenericType a b) = refl
-arm_form e w ty want at (DynType a b) = refl
-arm_form e w ty want at SelfType = refl
-arm_form e w ty want at (ParensType a) = refl
-arm_form e w ty want at (TupleType a) = refl
-arm_form e w ty want at (ArrayType a b c) = refl
-arm_form e w ty want at NeverType = refl
-arm_form e w ty want at (RefType a b) = refl
-arm_form e w ty want at (StructItem a b c d) = refl
-arm_form e w ty want at (EnumItem a b c) = refl
-arm_form e w ty want at (FieldDecl a b) = refl
-arm_form e w ty want at (VariantDecl a b c) = refl
-arm_form e w ty want at (TraitItem a b) = refl
-arm_form e w ty want at (ImplItem a b c) = refl
-arm_form e w ty want at (FnItem a b c d) = refl
-arm_form e w ty want at (ParamOf a b) = refl
-arm_form e w ty want at (SelfParam a) = refl
-arm_form e w ty want at Odd = refl
+arm_form : (e : Env) (w : PatternContext) (ty : TyId) (expected : Option TyId) (at : Pos) (form : Shape) →
+    arm_of_syn e w ty expected (syn at form) ≡ arm_check e w ty expected at (arm_part form)
+arm_form e w ty expected at (Ident a) = refl
+arm_form e w ty expected at (LabelOf a) = refl
+arm_form e w ty expected at (Literal a b) = refl
+arm_form e w ty expected at (TruthLiteral a) = refl
+arm_form e w ty expected at (Path a b) = refl
+arm_form e w ty expected at (Minus a) = refl
+arm_form e w ty expected at (Bang a) = refl
+arm_form e w ty expected at (Star a) = refl
+arm_form e w ty expected at (Ampersand a b) = refl
+arm_form e w ty expected at (Calculate a b c) = refl
+arm_form e w ty expected at (Compare a b c) = refl
+arm_form e w ty expected at (Both a b) = refl
+arm_form e w ty expected at (Either a b) = refl
+arm_form e w ty expected at (Store a b) = refl
+arm_form e w ty expected at (CallOf a b) = refl
+arm_form e w ty expected at (MethodOf a b c) = refl
+arm_form e w ty expected at (FieldOf a b) = refl
+arm_form e w ty expected at (PartOf a b) = refl
+arm_form e w ty expected at (ElementOf a b) = refl
+arm_form e w ty expected at (StructOf a b c) = refl
+arm_form e w ty expected at (FieldInit a b) = refl
+arm_form e w ty expected at (Parens a) = refl
+arm_form e w ty expected at (TupleOf a) = refl
+arm_form e w ty expected at (ArrayOf a) = refl
+arm_form e w ty expected at (Braces a b) = refl
+arm_form e w ty expected at (IfElse a b c) = refl
+arm_form e w ty expected at (IfLetElse a b c d) = refl
+arm_form e w ty expected at (MatchOn a b) = refl
+arm_form e w ty expected at (ArmOf a b c) = refl
+arm_form e w ty expected at (LoopOf a b) = refl
+arm_form e w ty expected at (WhileOf a b c) = refl
+arm_form e w ty expected at (WhileLetOf a b c d) = refl
+arm_form e w ty expected at (BreakOf a b) = refl
+arm_form e w ty expected at (ContinueOf a) = refl
+arm_form e w ty expected at (ReturnOf a) = refl
+arm_form e w ty expected at (MoveOf a b c d) = refl
+arm_form e w ty expected at PanicOf = refl
+arm_form e w ty expected at (LetOf a b c) = refl
+arm_form e w ty expected at Empty = refl
+arm_form e w ty expected at (Semi a) = refl
+arm_form e w ty expected at AnyPattern = refl
+arm_form e w ty expected at (BindPattern a) = refl
+arm_form e w ty expected at (LiteralPattern a b c) = refl
+arm_form e w ty expected at (TruthPattern a) = refl
+arm_form e w ty expected at (PathPattern a b) = refl
+arm_form e w ty expected at (PartsPattern a b c d) = refl
+arm_form e w ty expected at (FieldsPattern a b c d) = refl
+arm_form e w ty expected at (FieldPattern a b) = refl
+arm_form e w ty expected at (ParensPattern a) = refl
+arm_form e w ty expected at (TuplePattern a b) = refl
+arm_form e w ty expected at (ArrayPattern a b) = refl
+arm_form e w ty expected at (Alternatives a) = refl
+arm_form e w ty expected at (NamedType a) = refl
+arm_form e w ty expected at (GenericType a b) = refl
+arm_form e w ty expected at (DynType a b) = refl
+arm_form e w ty expected at SelfType = refl
+arm_form e w ty expected at (ParensType a) = refl
+arm_form e w ty expected at (TupleType a) = refl
+arm_form e w ty expected at (ArrayType a b c) = refl
+arm_form e w ty expected at NeverType = refl
+arm_form e w ty expected at (RefType a b) = refl
+arm_form e w ty expected at (StructItem a b c d) = refl
+arm_form e w ty expected at (EnumItem a b c) = refl
+arm_form e w ty expected at (FieldDecl a b) = refl
+arm_form e w ty expected at (VariantDecl a b c) = refl
+arm_form e w ty expected at (TraitItem a b) = refl
+arm_form e w ty expected at (ImplItem a b c) = refl
+arm_form e w ty expected at (FnItem a b c d) = refl
+arm_form e w ty expected at (ParamOf a b) = refl
+arm_form e w ty expected at (SelfParam a) = refl
+arm_form e w ty expected at Odd = refl
 
-pub arm_seen : (e : Env) (w : Expected) (ty : TyId) (want : Option TyId) (n : SyntaxNode) →
-    arm_of_syn e w ty want (syn_of n) ≡ arm_check e w ty want n.at (arm_part (shape_of (syn_of n)))
-arm_seen e w ty want n =
-    of_syn (syn_of n) ∙ ap (λ (x : Syn). arm_check e w ty want (at_of x) (arm_part (shape_of (syn_of n)))) (seen_as n)
+pub arm_seen : (e : Env) (w : PatternContext) (ty : TyId) (expected : Option TyId) (n : SyntaxNode) →
+    arm_of_syn e w ty expected (syn_of n) ≡ arm_check e w ty expected n.at (arm_part (shape_of (syn_of n)))
+arm_seen e w ty expected n =
+    of_syn (syn_of n) ∙ ap (λ (x : Syn). arm_check e w ty expected (at_of x) (arm_part (shape_of (syn_of n)))) (seen_as n)
   where
-    of_syn : (x : Syn) → arm_of_syn e w ty want x ≡ arm_check e w ty want (at_of x) (arm_part (shape_of x))
-    of_syn (syn at form) = arm_form e w ty want at form
+    of_syn : (x : Syn) → arm_of_syn e w ty expected x ≡ arm_check e w ty expected (at_of x) (arm_part (shape_of x))
+    of_syn (syn at form) = arm_form e w ty expected at form
 
-arms_form : (e : Env) (w : Expected) (ty : TyId) (want : Option TyId) (at : Pos) (form : Shape) (xs : Syns) (s : TypingState) →
-    typed_arms e w ty want (a_syn (syn at form) xs) s
-    ≡ and_then (arm_of_syn e w ty want (syn at form) s) (λ n. λ t. and_then (typed_arms e w ty want xs t) (λ ns. pure (a_node n ns.0, ty_of n ∷ ns.1)))
-arms_form e w ty want at (Ident a) xs s = refl
-arms_form e w ty want at (LabelOf a) xs s = refl
-arms_form e w ty want at (Literal a b) xs s = refl
-arms_form e w ty want at (TruthLiteral a) xs s = refl
-arms_form e w ty want at (Path a b) xs s = refl
-arms_form e w ty want at (Minus a) xs s = refl
-arms_form e w ty want at (Bang a) xs s = refl
-arms_form e w ty want at (Star a) xs s = refl
-arms_form e w ty want at (Ampersand a b) xs s = refl
-arms_form e w ty want at (Calculate a b c) xs s = refl
-arms_form e w ty want at (Compare a b c) xs s = refl
-arms_form e w ty want at (Both a b) xs s = refl
-arms_form e w ty want at (Either a b) xs s = refl
-arms_form e w ty want at (Store a b) xs s = refl
-arms_form e w ty want at (CallOf a b) xs s = refl
-arms_form e w ty want at (MethodOf a b c) xs s = refl
-arms_form e w ty want at (FieldOf a b) xs s = refl
-arms_form e w ty want at (PartOf a b) xs s = refl
-arms_form e w ty want at (ElementOf a b) xs s = refl
-arms_form e w ty want at (StructOf a b c) xs s = refl
-arms_form e w ty want at (FieldInit a b) xs s = refl
-arms_form e w ty want at (Parens a) xs s = refl
-arms_form e w ty want at (TupleOf a) xs s = refl
-arms_form e w ty want at (ArrayOf a) xs s = refl
-arms_form e w ty want at (Braces a b) xs s = refl
-arms_form e w ty want at (IfElse a b c) xs s = refl
-arms_form e w ty want at (IfLetElse a b c d) xs s = refl
-arms_form e w ty want at (MatchOn a b) xs s = refl
-arms_form e w ty want at (ArmOf a b c) xs s = refl
-arms_form e w ty want at (LoopOf a b) xs s = refl
-arms_form e w ty want at (WhileOf a b c) xs s = refl
-arms_form e w ty want at (WhileLetOf a b c d) xs s = refl
-arms_form e w ty want at (BreakOf a b) xs s = refl
-arms_form e w ty want at (ContinueOf a) xs s = refl
-arms_form e w ty want at (ReturnOf a) xs s = refl
-arms_form e w ty want at (MoveOf a b c d) xs s = refl
-arms_form e w ty want at PanicOf xs s = refl
-arms_form e w ty want at (LetOf a b c) xs s = refl
-arms_form e w ty want at Empty xs s = refl
-arms_form e w ty want at (Semi a) xs s = refl
-arms_form e w ty want at AnyPattern xs s = refl
-arms_form e w ty want at (BindPattern a) xs s = refl
-arms_form e w ty want at (LiteralPattern a b c) xs s = refl
-arms_form e w ty want at (TruthPattern a) xs s = refl
-arms_form e w ty want at (PathPattern a b) xs s = refl
-arms_form e w ty want at (PartsPattern a b c d) xs s = refl
-arms_form e w ty want at (FieldsPattern a b c d) xs s = refl
-arms_form e w ty want at (FieldPattern a b) xs s = refl
-arms_form e w ty want at (ParensPattern a) xs s = refl
-arms_form e w ty want at (TuplePattern a b) xs s = refl
-arms_form e w ty want at (ArrayPattern a b) xs s = refl
-arms_form e w ty want at (Alternatives a) xs s = refl
-arms_form e w ty want at (NamedType a) xs s = refl
-arms_form e w ty want at (GenericType a b) xs s = refl
-arms_form e w ty want at (DynType a b) xs s = refl
-arms_form e w ty want at SelfType xs s = refl
-arms_form e w ty want at (ParensType a) xs s = refl
-arms_form e w ty want at (TupleType a) xs s = refl
-arms_form e w ty want at (ArrayType a b c) xs s = refl
-arms_form e w ty want at NeverType xs s = refl
-arms_form e w ty want at (RefType a b) xs s = refl
-arms_form e w ty want at (StructItem a b c d) xs s = refl
-arms_form e w ty want at (EnumItem a b c) xs s = refl
-arms_form e w ty want at (FieldDecl a b) xs s = refl
-arms_form e w ty want at (VariantDecl a b c) xs s = refl
-arms_form e w ty want at (TraitItem a b) xs s = refl
-arms_form e w ty want at (ImplItem a b c) xs s = refl
-arms_form e w ty want at (FnItem a b c d) xs s = refl
-arms_form e w ty want at (ParamOf a b) xs s = refl
-arms_form e w ty want at (SelfParam a) xs s = refl
-arms_form e w ty want at Odd xs s = refl
+arms_form : (e : Env) (w : PatternContext) (ty : TyId) (expected : Option TyId) (at : Pos) (form : Shape) (xs : Syns) (s : TypingState) →
+    typed_arms e w ty expected (a_syn (syn at form) xs) s
+    ≡ and_then (arm_of_syn e w ty expected (syn at form) s) (λ n. λ t. and_then (typed_arms e w ty expected xs t) (λ ns. pure (a_node n ns.0, ty_of n ∷ ns.1)))
+arms_form e w ty expected at (Ident a) xs s = refl
+arms_form e w ty expected at (LabelOf a) xs s = refl
+arms_form e w ty expected at (Literal a b) xs s = refl
+arms_form e w ty expected at (TruthLiteral a) xs s = refl
+arms_form e w ty expected at (Path a b) xs s = refl
+arms_form e w ty expected at (Minus a) xs s = refl
+arms_form e w ty expected at (Bang a) xs s = refl
+arms_form e w ty expected at (Star a) xs s = refl
+arms_form e w ty expected at (Ampersand a b) xs s = refl
+arms_form e w ty expected at (Calculate a b c) xs s = refl
+arms_form e w ty expected at (Compare a b c) xs s = refl
+arms_form e w ty expected at (Both a b) xs s = refl
+arms_form e w ty expected at (Either a b) xs s = refl
+arms_form e w ty expected at (Store a b) xs s = refl
+arms_form e w ty expected at (CallOf a b) xs s = refl
+arms_form e w ty expected at (MethodOf a b c) xs s = refl
+arms_form e w ty expected at (FieldOf a b) xs s = refl
+arms_form e w ty expected at (PartOf a b) xs s = refl
+arms_form e w ty expected at (ElementOf a b) xs s = refl
+arms_form e w ty expected at (StructOf a b c) xs s = refl
+arms_form e w ty expected at (FieldInit a b) xs s = refl
+arms_form e w ty expected at (Parens a) xs s = refl
+arms_form e w ty expected at (TupleOf a) xs s = refl
+arms_form e w ty expected at (ArrayOf a) xs s = refl
+arms_form e w ty expected at (Braces a b) xs s = refl
+arms_form e w ty expected at (IfElse a b c) xs s = refl
+arms_form e w ty expected at (IfLetElse a b c d) xs s = refl
+arms_form e w ty expected at (MatchOn a b) xs s = refl
+arms_form e w ty expected at (ArmOf a b c) xs s = refl
+arms_form e w ty expected at (LoopOf a b) xs s = refl
+arms_form e w ty expected at (WhileOf a b c) xs s = refl
+arms_form e w ty expected at (WhileLetOf a b c d) xs s = refl
+arms_form e w ty expected at (BreakOf a b) xs s = refl
+arms_form e w ty expected at (ContinueOf a) xs s = refl
+arms_form e w ty expected at (ReturnOf a) xs s = refl
+arms_form e w ty expected at (MoveOf a b c d) xs s = refl
+arms_form e w ty expected at PanicOf xs s = refl
+arms_form e w ty expected at (LetOf a b c) xs s = refl
+arms_form e w ty expected at Empty xs s = refl
+arms_form e w ty expected at (Semi a) xs s = refl
+arms_form e w ty expected at AnyPattern xs s = refl
+arms_form e w ty expected at (BindPattern a) xs s = refl
+arms_form e w ty expected at (LiteralPattern a b c) xs s = refl
+arms_form e w ty expected at (TruthPattern a) xs s = refl
+arms_form e w ty expected at (PathPattern a b) xs s = refl
+arms_form e w ty expected at (PartsPattern a b c d) xs s = refl
+arms_form e w ty expected at (FieldsPattern a b c d) xs s = refl
+arms_form e w ty expected at (FieldPattern a b) xs s = refl
+arms_form e w ty expected at (ParensPattern a) xs s = refl
+arms_form e w ty expected at (TuplePattern a b) xs s = refl
+arms_form e w ty expected at (ArrayPattern a b) xs s = refl
+arms_form e w ty expected at (Alternatives a) xs s = refl
+arms_form e w ty expected at (NamedType a) xs s = refl
+arms_form e w ty expected at (GenericType a b) xs s = refl
+arms_form e w ty expected at (DynType a b) xs s = refl
+arms_form e w ty expected at SelfType xs s = refl
+arms_form e w ty expected at (ParensType a) xs s = refl
+arms_form e w ty expected at (TupleType a) xs s = refl
+arms_form e w ty expected at (ArrayType a b c) xs s = refl
+arms_form e w ty expected at NeverType xs s = refl
+arms_form e w ty expected at (RefType a b) xs s = refl
+arms_form e w ty expected at (StructItem a b c d) xs s = refl
+arms_form e w ty expected at (EnumItem a b c) xs s = refl
+arms_form e w ty expected at (FieldDecl a b) xs s = refl
+arms_form e w ty expected at (VariantDecl a b c) xs s = refl
+arms_form e w ty expected at (TraitItem a b) xs s = refl
+arms_form e w ty expected at (ImplItem a b c) xs s = refl
+arms_form e w ty expected at (FnItem a b c d) xs s = refl
+arms_form e w ty expected at (ParamOf a b) xs s = refl
+arms_form e w ty expected at (SelfParam a) xs s = refl
+arms_form e w ty expected at Odd xs s = refl
 
-with_arm : (e : Env) (w : Expected) (ty : TyId) (want : Option TyId) (x : Syn) (xs : Syns) (s : TypingState) →
-    typed_arms e w ty want (a_syn x xs) s
-    ≡ and_then (arm_of_syn e w ty want x s) (λ n. λ t. and_then (typed_arms e w ty want xs t) (λ ns. pure (a_node n ns.0, ty_of n ∷ ns.1)))
-with_arm e w ty want (syn at form) xs s = arms_form e w ty want at form xs s
+with_arm : (e : Env) (w : PatternContext) (ty : TyId) (expected : Option TyId) (x : Syn) (xs : Syns) (s : TypingState) →
+    typed_arms e w ty expected (a_syn x xs) s
+    ≡ and_then (arm_of_syn e w ty expected x s) (λ n. λ t. and_then (typed_arms e w ty expected xs t) (λ ns. pure (a_node n ns.0, ty_of n ∷ ns.1)))
+with_arm e w ty expected (syn at form) xs s = arms_form e w ty expected at form xs s
 
 one_typed : (k : ℕ) (ns ms : List tree.Node) (o : Result ((Nodes × List TyId) × TypingState) Broken) → below ms ≡ ns →
     behind_typed k ns (and_then o (λ more. pure (a_node (top ms) more.0, ty_of (top ms) ∷ more.1))) ≡ behind_typed (suc k) ms o
@@ -196,27 +196,27 @@ one_typed k ns ms (Ok p) h =
     ap (λ (l : List tree.Node). Ok ((nodes_on k l (a_node (top ms) p.0.0), types_on k l (ty_of (top ms) ∷ p.0.1)), p.1)) (sym h)
 one_typed k ns ms (Err e) h = refl
 
-pub one_arm : (e : Env) (w : Expected) (ty : TyId) (want : Option TyId) (whole : Result ((Nodes × List TyId) × TypingState) Broken) (k m : ℕ)
+pub one_arm : (e : Env) (w : PatternContext) (ty : TyId) (expected : Option TyId) (whole : Result ((Nodes × List TyId) × TypingState) Broken) (k m : ℕ)
     (ns ms : List tree.Node) (ss : Syns) (x : Syn) (xs : Syns) (s t : TypingState) →
-    whole ≡ behind_typed k ns (typed_arms e w ty want ss s) → a_syn x xs ≡ ss →
-    arm_of_syn e w ty want x s ≡ Ok (top ms, t) → below ms ≡ ns → m ≡ k + 1 →
-    whole ≡ behind_typed m ms (typed_arms e w ty want xs t)
-one_arm e w ty want whole k m ns ms ss x xs s t h split here under next =
-    h ∙ ap (λ z. behind_typed k ns (typed_arms e w ty want z s)) (sym split)
-    ∙ ap (behind_typed k ns) (with_arm e w ty want x xs s)
-    ∙ ap (λ o. behind_typed k ns (and_then o (λ n. λ u. and_then (typed_arms e w ty want xs u) (λ more. pure (a_node n more.0, ty_of n ∷ more.1))))) here
-    ∙ one_typed k ns ms (typed_arms e w ty want xs t) under
-    ∙ ap (λ (n : ℕ). behind_typed n ms (typed_arms e w ty want xs t)) (sym (next ∙ add-one k))
+    whole ≡ behind_typed k ns (typed_arms e w ty expected ss s) → a_syn x xs ≡ ss →
+    arm_of_syn e w ty expected x s ≡ Ok (top ms, t) → below ms ≡ ns → m ≡ k + 1 →
+    whole ≡ behind_typed m ms (typed_arms e w ty expected xs t)
+one_arm e w ty expected whole k m ns ms ss x xs s t h split here under next =
+    h ∙ ap (λ z. behind_typed k ns (typed_arms e w ty expected z s)) (sym split)
+    ∙ ap (behind_typed k ns) (with_arm e w ty expected x xs s)
+    ∙ ap (λ o. behind_typed k ns (and_then o (λ n. λ u. and_then (typed_arms e w ty expected xs u) (λ more. pure (a_node n more.0, ty_of n ∷ more.1))))) here
+    ∙ one_typed k ns ms (typed_arms e w ty expected xs t) under
+    ∙ ap (λ (n : ℕ). behind_typed n ms (typed_arms e w ty expected xs t)) (sym (next ∙ add-one k))
 
-pub no_arms : (e : Env) (at : Pos) (x : Syn) (ss : Syns) (want : Option TyId) (s : TypingState) → is_none ss ≡ true →
-    value e at (MatchOn x ss) want s ≡ breaks Rule.T20 at s
-no_arms e at x no_syn want s h = refl
-no_arms e at x (a_syn y ys) want s h = absurd (cc)
+pub no_arms : (e : Env) (at : Pos) (x : Syn) (ss : Syns) (expected : Option TyId) (s : TypingState) → is_none ss ≡ true →
+    value e at (MatchOn x ss) expected s ≡ breaks Rule.T20 at s
+no_arms e at x no_syn expected s h = refl
+no_arms e at x (a_syn y ys) expected s h = absurd (cc)
 
-pub some_arms : (e : Env) (at : Pos) (x : Syn) (ss : Syns) (want : Option TyId) (s : TypingState) → is_none ss ≡ false →
-    value e at (MatchOn x ss) want s ≡ match_row e at (base_of e x) (λ w ty want. typed_arms e w ty want ss) want s
-some_arms e at x no_syn want s h = absurd (cc)
-some_arms e at x (a_syn y ys) want s h = refl
+pub some_arms : (e : Env) (at : Pos) (x : Syn) (ss : Syns) (expected : Option TyId) (s : TypingState) → is_none ss ≡ false →
+    value e at (MatchOn x ss) expected s ≡ match_row e at (base_of e x) (λ w ty expected. typed_arms e w ty expected ss) expected s
+some_arms e at x no_syn expected s h = absurd (cc)
+some_arms e at x (a_syn y ys) expected s h = refl
 
 refuses_behind : (k : ℕ) (ns : List tree.Node) (o : Result (tree.Node × TypingState) Broken) (f : tree.Node → Check (Nodes × List TyId)) (err : RuleError) → Refuses o err →
     Refuses (behind_typed k ns (and_then o f)) err
@@ -224,13 +224,13 @@ refuses_behind k ns o f (RuleError.Broken rule at) h = ap (λ r. behind_typed k 
 refuses_behind k ns o f RuleError.Memory h = tt
 
 -- an arm that is refused
-pub refused_arm : (e : Env) (w : Expected) (ty : TyId) (want : Option TyId) (whole : Result ((Nodes × List TyId) × TypingState) Broken) (k : ℕ)
+pub refused_arm : (e : Env) (w : PatternContext) (ty : TyId) (expected : Option TyId) (whole : Result ((Nodes × List TyId) × TypingState) Broken) (k : ℕ)
     (ns : List tree.Node) (ss : Syns) (x : Syn) (xs : Syns) (s : TypingState) (err : RuleError) →
-    whole ≡ behind_typed k ns (typed_arms e w ty want ss s) → a_syn x xs ≡ ss → Refuses (arm_of_syn e w ty want x s) err → Refuses whole err
-refused_arm e w ty want whole k ns ss x xs s err h split here =
+    whole ≡ behind_typed k ns (typed_arms e w ty expected ss s) → a_syn x xs ≡ ss → Refuses (arm_of_syn e w ty expected x s) err → Refuses whole err
+refused_arm e w ty expected whole k ns ss x xs s err h split here =
     subst (λ (o : Result ((Nodes × List TyId) × TypingState) Broken). Refuses o err)
-    (sym (h ∙ ap (λ z. behind_typed k ns (typed_arms e w ty want z s)) (sym split) ∙ ap (behind_typed k ns) (with_arm e w ty want x xs s)))
-    (refuses_behind k ns (arm_of_syn e w ty want x s) (λ n. λ t. and_then (typed_arms e w ty want xs t) (λ ns. pure (a_node n ns.0, ty_of n ∷ ns.1))) err here)
+    (sym (h ∙ ap (λ z. behind_typed k ns (typed_arms e w ty expected z s)) (sym split) ∙ ap (behind_typed k ns) (with_arm e w ty expected x xs s)))
+    (refuses_behind k ns (arm_of_syn e w ty expected x s) (λ n. λ t. and_then (typed_arms e w ty expected xs t) (λ ns. pure (a_node n ns.0, ty_of n ∷ ns.1))) err here)
 
 -- before the first
 pub none_yet : (ns : List tree.Node) (o : Result ((Nodes × List TyId) × TypingState) Broken) → o ≡ behind_typed 0 ns o
@@ -239,45 +239,45 @@ none_yet ns (Err e) = refl
 
 -- ---- what was looked at
 
-pub matched : (e f : Env) (at : Pos) (sc : Check tree.Node) (ss : Syns) (want : Option TyId) (id : ℕ) (n : tree.Node) (s s1 s2 : TypingState) →
+pub matched : (e f : Env) (at : Pos) (sc : Check tree.Node) (ss : Syns) (expected : Option TyId) (id : ℕ) (n : tree.Node) (s s1 s2 : TypingState) →
     number s ≡ Ok (id, s1) → scrutinised sc s1 ≡ Ok (n, s2) → f ≡ e →
-    match_row e at sc (λ w ty want. typed_arms e w ty want ss) want s ≡ arms_rest f id at n ss want s2
-matched e f at sc ss want id n s s1 s2 h1 h2 same =
-    ap (λ o. and_then o (λ i. scrutinised sc >>= (λ n. arms_rest e i at n ss want))) h1
-    ∙ ap (λ o. and_then o (λ n. arms_rest e id at n ss want)) h2
-    ∙ ap (λ (g : Env). arms_rest g id at n ss want s2) (sym same)
+    match_row e at sc (λ w ty expected. typed_arms e w ty expected ss) expected s ≡ arms_rest f id at n ss expected s2
+matched e f at sc ss expected id n s s1 s2 h1 h2 same =
+    ap (λ o. and_then o (λ i. scrutinised sc >>= (λ n. arms_rest e i at n ss expected))) h1
+    ∙ ap (λ o. and_then o (λ n. arms_rest e id at n ss expected)) h2
+    ∙ ap (λ (g : Env). arms_rest g id at n ss expected s2) (sym same)
 
 abbrev if_let_from : Env → Pos → Syn → Syn → Syn → MaybeSyn → Option TyId → Check tree.Node
-if_let_from e at p x b o want = number >>= (λ i. scrutinised (base_of e x) >>= (λ n. if_let_rest e i at n p b o want))
+if_let_from e at p x b o expected = number >>= (λ i. scrutinised (base_of e x) >>= (λ n. if_let_rest e i at n p b o expected))
 
-if_let_is : (e : Env) (at : Pos) (p x b : Syn) (o : MaybeSyn) (want : Option TyId) (s : TypingState) →
-    value e at (IfLetElse p x b o) want s ≡ if_let_from e at p x b o want s
-if_let_is e at p x b nothing want s = refl
-if_let_is e at p x b (just y) want s = refl
+if_let_is : (e : Env) (at : Pos) (p x b : Syn) (o : MaybeSyn) (expected : Option TyId) (s : TypingState) →
+    value e at (IfLetElse p x b o) expected s ≡ if_let_from e at p x b o expected s
+if_let_is e at p x b nothing expected s = refl
+if_let_is e at p x b (just y) expected s = refl
 
-pub if_let_looked : (e f : Env) (at : Pos) (p x b : Syn) (o : MaybeSyn) (want : Option TyId) (id : ℕ) (n : tree.Node) (s s1 s2 : TypingState) →
+pub if_let_looked : (e f : Env) (at : Pos) (p x b : Syn) (o : MaybeSyn) (expected : Option TyId) (id : ℕ) (n : tree.Node) (s s1 s2 : TypingState) →
     number s ≡ Ok (id, s1) → scrutinised (base_of e x) s1 ≡ Ok (n, s2) → f ≡ e →
-    value e at (IfLetElse p x b o) want s ≡ if_let_rest f id at n p b o want s2
-if_let_looked e f at p x b o want id n s s1 s2 h1 h2 same =
-    if_let_is e at p x b o want s
-    ∙ ap (λ r. and_then r (λ i. scrutinised (base_of e x) >>= (λ n. if_let_rest e i at n p b o want))) h1
-    ∙ ap (λ r. and_then r (λ n. if_let_rest e id at n p b o want)) h2
-    ∙ ap (λ (g : Env). if_let_rest g id at n p b o want s2) (sym same)
+    value e at (IfLetElse p x b o) expected s ≡ if_let_rest f id at n p b o expected s2
+if_let_looked e f at p x b o expected id n s s1 s2 h1 h2 same =
+    if_let_is e at p x b o expected s
+    ∙ ap (λ r. and_then r (λ i. scrutinised (base_of e x) >>= (λ n. if_let_rest e i at n p b o expected))) h1
+    ∙ ap (λ r. and_then r (λ n. if_let_rest e id at n p b o expected)) h2
+    ∙ ap (λ (g : Env). if_let_rest g id at n p b o expected s2) (sym same)
 
-pub if_let_refused : (e : Env) (at : Pos) (p x b : Syn) (o : MaybeSyn) (want : Option TyId) (id : ℕ) (s s1 : TypingState) (err : RuleError) →
-    number s ≡ Ok (id, s1) → Refuses (scrutinised (base_of e x) s1) err → Refuses (value e at (IfLetElse p x b o) want s) err
-if_let_refused e at p x b o want id s s1 err h1 here =
+pub if_let_refused : (e : Env) (at : Pos) (p x b : Syn) (o : MaybeSyn) (expected : Option TyId) (id : ℕ) (s s1 : TypingState) (err : RuleError) →
+    number s ≡ Ok (id, s1) → Refuses (scrutinised (base_of e x) s1) err → Refuses (value e at (IfLetElse p x b o) expected s) err
+if_let_refused e at p x b o expected id s s1 err h1 here =
     subst (λ (r : Result (tree.Node × TypingState) Broken). Refuses r err)
-    (sym (if_let_is e at p x b o want s ∙ ap (λ r. and_then r (λ i. scrutinised (base_of e x) >>= (λ n. if_let_rest e i at n p b o want))) h1))
-    (stopped (scrutinised (base_of e x) s1) (λ n. if_let_rest e id at n p b o want) err here)
+    (sym (if_let_is e at p x b o expected s ∙ ap (λ r. and_then r (λ i. scrutinised (base_of e x) >>= (λ n. if_let_rest e i at n p b o expected))) h1))
+    (stopped (scrutinised (base_of e x) s1) (λ n. if_let_rest e id at n p b o expected) err here)
 
-pub while_let_looked : (e f : Env) (at : Pos) (label : Option (Bor (List ℕ))) (p x b : Syn) (want : Option TyId) (id : ℕ) (n m : tree.Node) (s s1 s2 s3 : TypingState) →
+pub while_let_looked : (e f : Env) (at : Pos) (label : Option (Bor (List ℕ))) (p x b : Syn) (expected : Option TyId) (id : ℕ) (n m : tree.Node) (s s1 s2 s3 : TypingState) →
     number s ≡ Ok (id, s1) → base_of (within_loop (loop_around (word_in label) id false None) e) x s1 ≡ Ok (n, s2) →
     scrutinised_rest n s2 ≡ Ok (m, s3) → f ≡ e →
-    value e at (WhileLetOf (word_of label) p x b) want s ≡ while_let_rest f id at (word_in label) m p b want s3
-while_let_looked e f at label p x b want id n m s s1 s2 s3 h1 h2 h3 same =
-    ap (λ l. value e at (WhileLetOf l p x b) want s) (words_are label)
-    ∙ ap (λ r. and_then r (λ i. scrutinised (base_of (within_loop (loop_around (word_in label) i false None) e) x) >>= (λ m. while_let_rest e i at (word_in label) m p b want))) h1
-    ∙ ap (λ r. and_then (and_then (and_then r no_reference) (λ a. pure (used_if_place Use.Borrow a))) (λ m. while_let_rest e id at (word_in label) m p b want)) h2
-    ∙ ap (λ r. and_then r (λ m. while_let_rest e id at (word_in label) m p b want)) h3
-    ∙ ap (λ (g : Env). while_let_rest g id at (word_in label) m p b want s3) (sym same)
+    value e at (WhileLetOf (word_of label) p x b) expected s ≡ while_let_rest f id at (word_in label) m p b expected s3
+while_let_looked e f at label p x b expected id n m s s1 s2 s3 h1 h2 h3 same =
+    ap (λ l. value e at (WhileLetOf l p x b) expected s) (words_are label)
+    ∙ ap (λ r. and_then r (λ i. scrutinised (base_of (within_loop (loop_around (word_in label) i false None) e) x) >>= (λ m. while_let_rest e i at (word_in label) m p b expected))) h1
+    ∙ ap (λ r. and_then (and_then (and_then r no_reference) (λ a. pure (used_if_place Use.Borrow a))) (λ m. while_let_rest e id at (word_in label) m p b expected)) h2
+    ∙ ap (λ r. and_then r (λ m. while_let_rest e id at (word_in label) m p b expected)) h3
+    ∙ ap (λ (g : Env). while_let_rest g id at (word_in label) m p b expected s3) (sym same)

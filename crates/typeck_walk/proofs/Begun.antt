@@ -19,11 +19,11 @@ use Rattle.typeck_exprs.specs.Sizes.{seen_size, size}
 use Rattle.typeck_exprs.proofs.Shapes.{node_size}
 
 -- what is given for the form that a value has is given for the value
-pub of_form : (before : Checker) (at : Pos) (want : Option TyId) (form seen : ExpressionForm) (result : Result Unit RuleError) (after : Checker) → form ≡ seen →
-    Gives (value_as (env before) at (expression_of seen) want (state before)) result after →
-    Gives (value_as (env before) at (expression_of form) want (state before)) result after
-of_form before at want form seen result after is =
-    subst (λ (f : ExpressionForm). Gives (value_as (env before) at (expression_of f) want (state before)) result after) (sym is)
+pub of_form : (before : Checker) (at : Pos) (expected : Option TyId) (form seen : ExpressionForm) (result : Result Unit RuleError) (after : Checker) → form ≡ seen →
+    Gives (value_as (env before) at (expression_of seen) expected (state before)) result after →
+    Gives (value_as (env before) at (expression_of form) expected (state before)) result after
+of_form before at expected form seen result after is =
+    subst (λ (f : ExpressionForm). Gives (value_as (env before) at (expression_of f) expected (state before)) result after) (sym is)
 
 pub value_falls : (n : SyntaxNode) (g : ExpressionForm) (t : ℕ) → 16 * size (syn_of n) ≡ t → expression_of g ≡ expression_part (shape_of (syn_of n)) →
     16 * seen_size (expression_of g) + 15 < t

@@ -22,20 +22,20 @@ behind_args check args params rest n count m given s t u h here is =
     h ∙ ap (λ o. and_then o (rest n count)) here ∙ ap (λ (k : ℕ). rest n k given u) (sym is)
 
 -- a value that is called, once it is checked
-pub closure_called : (at : Pos) (count : ℕ) (callee : Check Node) (args : Arguments) (want : Option TyId) (id : ℕ) (c : Node) (s s1 s2 : TypingState) →
-    number s ≡ Ok (id, s1) → callee s1 ≡ Ok (c, s2) → closure_call at count callee args want s ≡ closure_rest id at want c count args s2
-closure_called at count callee args want id c s s1 s2 h1 h2 =
-    ap (λ o. and_then o (λ i. callee >>= (λ c. closure_rest i at want c count args))) h1
-    ∙ ap (λ o. and_then o (λ c. closure_rest id at want c count args)) h2
+pub closure_called : (at : Pos) (count : ℕ) (callee : Check Node) (args : Arguments) (expected : Option TyId) (id : ℕ) (c : Node) (s s1 s2 : TypingState) →
+    number s ≡ Ok (id, s1) → callee s1 ≡ Ok (c, s2) → closure_call at count callee args expected s ≡ closure_rest id at expected c count args s2
+closure_called at count callee args expected id c s s1 s2 h1 h2 =
+    ap (λ o. and_then o (λ i. callee >>= (λ c. closure_rest i at expected c count args))) h1
+    ∙ ap (λ o. and_then o (λ c. closure_rest id at expected c count args)) h2
 
 -- a method that is called, once its receiver is checked
-pub method_called : (e f : Env) (at : Pos) (named : Member Method) (count : ℕ) (receiver : Check Node) (args : Arguments) (want : Option TyId) (id : ℕ) (b : Node) (s s1 s2 : TypingState) →
+pub method_called : (e f : Env) (at : Pos) (named : Member Method) (count : ℕ) (receiver : Check Node) (args : Arguments) (expected : Option TyId) (id : ℕ) (b : Node) (s s1 s2 : TypingState) →
     number s ≡ Ok (id, s1) → receiver s1 ≡ Ok (b, s2) → f ≡ e →
-    method_call e at named count receiver args want s ≡ method_rest f id at named want b count args s2
-method_called e f at named count receiver args want id b s s1 s2 h1 h2 same =
-    ap (λ o. and_then o (λ i. receiver >>= (λ b. method_rest e i at named want b count args))) h1
-    ∙ ap (λ o. and_then o (λ b. method_rest e id at named want b count args)) h2
-    ∙ ap (λ (g : Env). method_rest g id at named want b count args s2) (sym same)
+    method_call e at named count receiver args expected s ≡ method_rest f id at named expected b count args s2
+method_called e f at named count receiver args expected id b s s1 s2 h1 h2 same =
+    ap (λ o. and_then o (λ i. receiver >>= (λ b. method_rest e i at named expected b count args))) h1
+    ∙ ap (λ o. and_then o (λ b. method_rest e id at named expected b count args)) h2
+    ∙ ap (λ (g : Env). method_rest g id at named expected b count args s2) (sym same)
 
 -- arguments that are refused
 pub refused_args : (check : ℕ → Arguments → Check Node) (args : Arguments) (params : List TyId) (rest : Node → ℕ → Nodes → Check Node)

@@ -25,26 +25,26 @@ none_given ns (Ok p) = refl
 none_given ns (Err e) = refl
 
 -- the value of a field, whose number and type are known
-wanted_by : (v : Variant) (name : Word) (want : Option TyId) (number : Option ℕ) → number ≡ field_named v name → want ≡ field_want v number →
-    field_want v (field_named v name) ≡ want
-wanted_by v name want number is_number is_want = sym (is_want ∙ ap (field_want v) is_number)
+wanted_by : (v : Variant) (name : Word) (expected : Option TyId) (number : Option ℕ) → number ≡ field_named v name → expected ≡ field_want v number →
+    field_want v (field_named v name) ≡ expected
+wanted_by v name expected number is_number is_want = sym (is_want ∙ ap (field_want v) is_number)
 
 abbrev with_number : Option ℕ → Node → Check (Option ℕ × Node)
 with_number number n = pure (number, n)
 
-pub named_init : (e : Env) (v : Variant) (at : Pos) (name : Word) (init : MaybeSyn) (want : Option TyId) (number : Option ℕ) (n : Node) (s t : TypingState) →
-    number ≡ field_named v name → want ≡ field_want v number → init_value e at name init want s ≡ Ok (n, t) →
+pub named_init : (e : Env) (v : Variant) (at : Pos) (name : Word) (init : MaybeSyn) (expected : Option TyId) (number : Option ℕ) (n : Node) (s t : TypingState) →
+    number ≡ field_named v name → expected ≡ field_want v number → init_value e at name init expected s ≡ Ok (n, t) →
     and_then (init_value e at name init (field_want v (field_named v name)) s) (with_number (field_named v name)) ≡ Ok ((number, n), t)
-named_init e v at name init want number n s t is_number is_want here =
-    ap (λ w. and_then (init_value e at name init w s) (with_number (field_named v name))) (wanted_by v name want number is_number is_want)
+named_init e v at name init expected number n s t is_number is_want here =
+    ap (λ w. and_then (init_value e at name init w s) (with_number (field_named v name))) (wanted_by v name expected number is_number is_want)
     ∙ ap (λ o. and_then o (with_number (field_named v name))) here ∙ ap (λ k. Ok ((k, n), t)) (sym is_number)
 
-pub refused_value : (e : Env) (v : Variant) (at : Pos) (name : Word) (init : MaybeSyn) (want : Option TyId) (number : Option ℕ) (s : TypingState) (err : RuleError) →
-    number ≡ field_named v name → want ≡ field_want v number → Refuses (init_value e at name init want s) err →
+pub refused_value : (e : Env) (v : Variant) (at : Pos) (name : Word) (init : MaybeSyn) (expected : Option TyId) (number : Option ℕ) (s : TypingState) (err : RuleError) →
+    number ≡ field_named v name → expected ≡ field_want v number → Refuses (init_value e at name init expected s) err →
     Refuses (and_then (init_value e at name init (field_want v (field_named v name)) s) (with_number (field_named v name))) err
-refused_value e v at name init want number s err is_number is_want here =
-    subst (λ (w : Option TyId). Refuses (and_then (init_value e at name init w s) (with_number (field_named v name))) err) (sym (wanted_by v name want number is_number is_want))
-    (stopped (init_value e at name init want s) (with_number (field_named v name)) err here)
+refused_value e v at name init expected number s err is_number is_want here =
+    subst (λ (w : Option TyId). Refuses (and_then (init_value e at name init w s) (with_number (field_named v name))) err) (sym (wanted_by v name expected number is_number is_want))
+    (stopped (init_value e at name init expected s) (with_number (field_named v name)) err here)
 
 -- the fields of a variant, by the tables
 pub by_tables : (items : ItemTable) (t u : Tables) (adt variant : ℕ) (types : List TyId) (e f : Env) (is : Syns) (s : TypingState) → AreTablesOf items t →

@@ -19,31 +19,31 @@ pub words_are : (label : Option (Bor (List ℕ))) → word_of label ≡ word_in 
 words_are None = refl
 words_are (Some label) = refl
 
-pub break_unlabelled : (at : Pos) (to : Option LabelledLoop) (value : Option TyId → Check MaybeNode) (want : Option TyId) (s : TypingState) →
-    break_row at to value want s ≡ break_row at (option_map unlabelled to) value want s
-break_unlabelled at None value want s = refl
-break_unlabelled at (Some a) value want s = by (value a.want (record s { next_node = suc s.next_node }))
+pub break_unlabelled : (at : Pos) (to : Option LabelledLoop) (value : Option TyId → Check MaybeNode) (expected : Option TyId) (s : TypingState) →
+    break_row at to value expected s ≡ break_row at (option_map unlabelled to) value expected s
+break_unlabelled at None value expected s = refl
+break_unlabelled at (Some a) value expected s = by (value a.expected (record s { next_node = suc s.next_node }))
   where
     by : (o : Result (MaybeNode × TypingState) Broken) →
-        and_then o (λ v. break_rest s.next_node at want (Some a) v) ≡ and_then o (λ v. break_rest s.next_node at want (Some (unlabelled a)) v)
+        and_then o (λ v. break_rest s.next_node at expected (Some a) v) ≡ and_then o (λ v. break_rest s.next_node at expected (Some (unlabelled a)) v)
     by (Ok (absent, t)) = refl
     by (Ok (present n, t)) = refl
     by (Err e) = refl
 
-pub continue_unlabelled : (at : Pos) (to : Option LabelledLoop) (want : Option TyId) →
-    continue_row at to want ≡ continue_row at (option_map unlabelled to) want
-continue_unlabelled at None want = refl
-continue_unlabelled at (Some a) want = refl
+pub continue_unlabelled : (at : Pos) (to : Option LabelledLoop) (expected : Option TyId) →
+    continue_row at to expected ≡ continue_row at (option_map unlabelled to) expected
+continue_unlabelled at None expected = refl
+continue_unlabelled at (Some a) expected = refl
 
 -- `break` with a value that was checked
-pub broken_out : (e : Env) (at : Pos) (label : Option (Bor (List ℕ))) (x : Syn) (want w : Option TyId) (id : ℕ) (n : Node) (to : Option LabelledLoop)
+pub broken_out : (e : Env) (at : Pos) (label : Option (Bor (List ℕ))) (x : Syn) (expected w : Option TyId) (id : ℕ) (n : Node) (to : Option LabelledLoop)
     (s s1 s2 : TypingState) → number s ≡ Ok (id, s1) → to ≡ option_map unlabelled (jumps_to e.loops (word_in label)) → w ≡ carried to →
     typed e x w s1 ≡ Ok (n, s2) →
-    break_row at (jumps_to e.loops (word_of label)) (typed_maybe e (just x)) want s ≡ break_rest id at want to (present n) s2
-broken_out e at label x want w id n to s s1 s2 h1 is wanted here =
-    ap (λ l. break_row at (jumps_to e.loops l) (typed_maybe e (just x)) want s) (words_are label)
-    ∙ break_unlabelled at (jumps_to e.loops (word_in label)) (typed_maybe e (just x)) want s
-    ∙ ap (λ (j : Option LabelledLoop). break_row at j (typed_maybe e (just x)) want s) (sym is)
-    ∙ ap (λ o. and_then o (λ i. typed_maybe e (just x) (carried to) >>= (λ v. break_rest i at want to v))) h1
-    ∙ ap (λ (k : Option TyId). and_then (and_then (typed e x k s1) (λ a. pure (present a))) (λ v. break_rest id at want to v)) (sym wanted)
-    ∙ ap (λ o. and_then (and_then o (λ a. pure (present a))) (λ v. break_rest id at want to v)) here
+    break_row at (jumps_to e.loops (word_of label)) (typed_maybe e (just x)) expected s ≡ break_rest id at expected to (present n) s2
+broken_out e at label x expected w id n to s s1 s2 h1 is wanted here =
+    ap (λ l. break_row at (jumps_to e.loops l) (typed_maybe e (just x)) expected s) (words_are label)
+    ∙ break_unlabelled at (jumps_to e.loops (word_in label)) (typed_maybe e (just x)) expected s
+    ∙ ap (λ (j : Option LabelledLoop). break_row at j (typed_maybe e (just x)) expected s) (sym is)
+    ∙ ap (λ o. and_then o (λ i. typed_maybe e (just x) (carried to) >>= (λ v. break_rest i at expected to v))) h1
+    ∙ ap (λ (k : Option TyId). and_then (and_then (typed e x k s1) (λ a. pure (present a))) (λ v. break_rest id at expected to v)) (sym wanted)
+    ∙ ap (λ o. and_then (and_then o (λ a. pure (present a))) (λ v. break_rest id at expected to v)) here

@@ -25,25 +25,25 @@ use Rattle.typeck_exprs.proofs.Shapes.{typed_value}
 
 -- ---- the initialiser of a pattern with parts
 
-pub parts_of_place : (e : Env) (x : Syn) (want : Option TyId) → is_place_syn e x ≡ true → for_parts e want x ≡ (base_of e x >>= place_for_parts e want)
-parts_of_place e (syn at form) want is = by (is_place e form) is
+pub parts_of_place : (e : Env) (x : Syn) (expected : Option TyId) → is_place_syn e x ≡ true → for_parts e expected x ≡ (base_of e x >>= place_for_parts e expected)
+parts_of_place e (syn at form) expected is = by (is_place e form) is
   where
     by : (b : Bool) → b ≡ true →
-        (if b then place e at form >>= place_for_parts e want else value e at form want) ≡ ((if b then place e at form else value e at form None) >>= place_for_parts e want)
+        (if b then place e at form >>= place_for_parts e expected else value e at form expected) ≡ ((if b then place e at form else value e at form None) >>= place_for_parts e expected)
     by true h = refl
     by false h = absurd (false≢true h)
 
-as_typed : (e : Env) (x : Syn) (want : Option TyId) → is_place_syn e x ≡ false → for_parts e want x ≡ typed e x want
-as_typed e (syn at form) want is = by (is_place e form) is
+as_typed : (e : Env) (x : Syn) (expected : Option TyId) → is_place_syn e x ≡ false → for_parts e expected x ≡ typed e x expected
+as_typed e (syn at form) expected is = by (is_place e form) is
   where
     by : (b : Bool) → b ≡ false →
-        (if b then place e at form >>= place_for_parts e want else value e at form want) ≡ (if b then place e at form >>= taken e want else value e at form want)
+        (if b then place e at form >>= place_for_parts e expected else value e at form expected) ≡ (if b then place e at form >>= taken e expected else value e at form expected)
     by true h = absurd (false≢true (sym h))
     by false h = refl
 
-pub parts_of_value : (e : Env) (n : SyntaxNode) (want : Option TyId) → is_place_syn e (syn_of n) ≡ false →
-    for_parts e want (syn_of n) ≡ value_as e n.at (expression_part (shape_of (syn_of n))) want
-parts_of_value e n want is = as_typed e (syn_of n) want is ∙ typed_value e n want is
+pub parts_of_value : (e : Env) (n : SyntaxNode) (expected : Option TyId) → is_place_syn e (syn_of n) ≡ false →
+    for_parts e expected (syn_of n) ≡ value_as e n.at (expression_part (shape_of (syn_of n))) expected
+parts_of_value e n expected is = as_typed e (syn_of n) expected is ∙ typed_value e n expected is
 
 -- ---- a `let` as a whole
 

@@ -12,14 +12,14 @@ use Rattle.typing_rules.specs.Places.{wanted}
 use Rattle.typing_rules.specs.Scope.{Env}
 use Rattle.well_typed.specs.Places.{ty_of}
 
-pub stored : (e f : Env) (at : Pos) (p : Check Node) (v : Typer) (want : Option TyId) (id : ℕ) (b n : Node) (s s1 s2 s3 : TypingState) →
+pub stored : (e f : Env) (at : Pos) (p : Check Node) (v : Typer) (expected : Option TyId) (id : ℕ) (b n : Node) (s s1 s2 s3 : TypingState) →
     number s ≡ Ok (id, s1) → (p >>= no_reference) s1 ≡ Ok (b, s2) → v (Some (ty_of b)) s2 ≡ Ok (n, s3) → f ≡ e →
-    store e at p v want s ≡ store_rest f id at want b n s3
-stored e f at p v want id b n s s1 s2 s3 h1 h2 h3 same =
-    ap (λ o. and_then o (λ i. (p >>= no_reference) >>= (λ b. v (Some (ty_of b)) >>= (λ n. store_rest e i at want b n)))) h1
-    ∙ ap (λ o. and_then o (λ b. v (Some (ty_of b)) >>= (λ n. store_rest e id at want b n))) h2
-    ∙ ap (λ o. and_then o (λ n. store_rest e id at want b n)) h3
-    ∙ ap (λ (g : Env). store_rest g id at want b n s3) (sym same)
+    store e at p v expected s ≡ store_rest f id at expected b n s3
+stored e f at p v expected id b n s s1 s2 s3 h1 h2 h3 same =
+    ap (λ o. and_then o (λ i. (p >>= no_reference) >>= (λ b. v (Some (ty_of b)) >>= (λ n. store_rest e i at expected b n)))) h1
+    ∙ ap (λ o. and_then o (λ b. v (Some (ty_of b)) >>= (λ n. store_rest e id at expected b n))) h2
+    ∙ ap (λ o. and_then o (λ n. store_rest e id at expected b n)) h3
+    ∙ ap (λ (g : Env). store_rest g id at expected b n s3) (sym same)
 
 pub borrowed : (at : Pos) (unique : Bool) (p : Check Node) (is_unique : Bool) (to : TyId) (id : ℕ) (b : Node) (s s1 s2 : TypingState) →
     number s ≡ Ok (id, s1) → (p >>= no_reference) s1 ≡ Ok (b, s2) →
@@ -29,16 +29,16 @@ borrowed at unique p is_unique to id b s s1 s2 h1 h2 =
     ∙ ap (λ o. and_then o (borrow_rest id at unique is_unique to)) h2
 
 -- two operands, once they are checked
-pub calculated : (at : Pos) (operator : Math) (is_literal : Bool) (left right : Typer) (want : Option TyId) (id : ℕ) (l r : Node) (s s1 s2 : TypingState) →
-    number s ≡ Ok (id, s1) → operands is_literal (wanted if_int s1.items want) left right s1 ≡ Ok ((l, r), s2) →
-    arithmetic at operator is_literal left right want s ≡ arithmetic_rest id at operator want l r s2
-calculated at operator is_literal left right want id l r s s1 s2 h1 h2 =
-    ap (λ o. and_then o (λ i. the_items >>= (λ before. operands is_literal (wanted if_int before want) left right >>= (λ both. arithmetic_rest i at operator want both.0 both.1)))) h1
-    ∙ ap (λ o. and_then o (λ both. arithmetic_rest id at operator want both.0 both.1)) h2
+pub calculated : (at : Pos) (operator : Math) (is_literal : Bool) (left right : Typer) (expected : Option TyId) (id : ℕ) (l r : Node) (s s1 s2 : TypingState) →
+    number s ≡ Ok (id, s1) → operands is_literal (wanted if_int s1.items expected) left right s1 ≡ Ok ((l, r), s2) →
+    arithmetic at operator is_literal left right expected s ≡ arithmetic_rest id at operator expected l r s2
+calculated at operator is_literal left right expected id l r s s1 s2 h1 h2 =
+    ap (λ o. and_then o (λ i. the_items >>= (λ before. operands is_literal (wanted if_int before expected) left right >>= (λ both. arithmetic_rest i at operator expected both.0 both.1)))) h1
+    ∙ ap (λ o. and_then o (λ both. arithmetic_rest id at operator expected both.0 both.1)) h2
 
-pub compared : (at : Pos) (operator : Cmp) (is_literal : Bool) (left right : Typer) (want : Option TyId) (id : ℕ) (l r : Node) (s s1 s2 : TypingState) →
+pub compared : (at : Pos) (operator : Cmp) (is_literal : Bool) (left right : Typer) (expected : Option TyId) (id : ℕ) (l r : Node) (s s1 s2 : TypingState) →
     number s ≡ Ok (id, s1) → operands is_literal None left right s1 ≡ Ok ((l, r), s2) →
-    comparison at operator is_literal left right want s ≡ comparison_rest id at operator want l r s2
-compared at operator is_literal left right want id l r s s1 s2 h1 h2 =
-    ap (λ o. and_then o (λ i. operands is_literal None left right >>= (λ both. comparison_rest i at operator want both.0 both.1))) h1
-    ∙ ap (λ o. and_then o (λ both. comparison_rest id at operator want both.0 both.1)) h2
+    comparison at operator is_literal left right expected s ≡ comparison_rest id at operator expected l r s2
+compared at operator is_literal left right expected id l r s s1 s2 h1 h2 =
+    ap (λ o. and_then o (λ i. operands is_literal None left right >>= (λ both. comparison_rest i at operator expected both.0 both.1))) h1
+    ∙ ap (λ o. and_then o (λ both. comparison_rest id at operator expected both.0 both.1)) h2

@@ -12,12 +12,12 @@ use Rattle.typing_rules.specs.Places.{unit}
 use Rattle.typing_rules.specs.Rows.{leaf, tuple_row}
 use Rattle.typing_rules.specs.Typed.{tuple}
 
-pub no_parts : (at : Pos) (ss : Syns) (f : List (Option TyId) → Check (Nodes × List TyId)) (want : Option TyId) →
-    is_none ss ≡ true → tuple at ss f want ≡ leaf at unit tree.UnitValue want
-no_parts at no_syn f want h = refl
-no_parts at (a_syn x xs) f want h = absurd (cc)
+pub no_parts : (at : Pos) (ss : Syns) (f : List (Option TyId) → Check (Nodes × List TyId)) (expected : Option TyId) →
+    is_none ss ≡ true → tuple at ss f expected ≡ leaf at unit tree.UnitValue expected
+no_parts at no_syn f expected h = refl
+no_parts at (a_syn x xs) f expected h = absurd (cc)
 
-pub some_parts : (at : Pos) (ss : Syns) (f : List (Option TyId) → Check (Nodes × List TyId)) (want : Option TyId) →
-    is_none ss ≡ false → tuple at ss f want ≡ tuple_row at (count_of ss) f want
-some_parts at no_syn f want h = absurd (cc)
-some_parts at (a_syn x xs) f want h = refl
+pub some_parts : (at : Pos) (ss : Syns) (f : List (Option TyId) → Check (Nodes × List TyId)) (expected : Option TyId) →
+    is_none ss ≡ false → tuple at ss f expected ≡ tuple_row at (count_of ss) f expected
+some_parts at no_syn f expected h = absurd (cc)
+some_parts at (a_syn x xs) f expected h = refl

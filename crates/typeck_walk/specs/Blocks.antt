@@ -78,13 +78,13 @@ statement_as env x at (Some form) = other_statement env at form
 
 -- a block, once its statements are checked
 abbrev pub block_rest : ℕ → Pos → Nodes → Bool → (Option TyId → Check MaybeNode) → Option TyId → Check Node
-block_rest id at statements ends tail want = do
-  last ← tail want
-  settled want (a_node_of id at (block_ty last ends) (tree.Block statements last))
+block_rest id at statements ends tail expected = do
+  last ← tail expected
+  settled expected (a_node_of id at (block_ty last ends) (tree.Block statements last))
 
 -- the initialiser of a `let`
 abbrev pub initialiser_of : Env → Bool → Option TyId → Syn → Check Node
-initialiser_of env is_one_name want e = if is_one_name then typed env e want else for_parts env want e
+initialiser_of env is_one_name expected e = if is_one_name then typed env e expected else for_parts env expected e
 
 abbrev pub KeepsValue : List Node → Checker → Result Bool RuleError → Checker → Type 0
 KeepsValue others before (Ok has_value) after = (below_value has_value (stack after) ≡ others) × Stays before after

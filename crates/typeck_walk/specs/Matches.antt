@@ -12,7 +12,7 @@ use Rattle.typed_tree.specs.Tree.{Node, absent}
 use Rattle.typing_rules.specs.Check.{Check, ◌>>=◌, breaks, the_items}
 use Rattle.typing_rules.specs.Patterns.{pattern}
 use Rattle.typing_rules.specs.Places.{a_node_of, bool, unit}
-use Rattle.typing_rules.specs.Rows.{Expected, arm, expected, loop_around, settled}
+use Rattle.typing_rules.specs.Rows.{PatternContext, arm, pattern_context, loop_around, settled}
 use Rattle.typing_rules.specs.Scope.{Env, NamedEntry, in_guard, with_variables, within_loop}
 use Rattle.typing_rules.specs.Typed.{matcher, typed, typed_arms, typed_maybe}
 use Rattle.well_typed.specs.Places.{ty_of}
@@ -20,53 +20,53 @@ use Rattle.well_typed.specs.Places.{ty_of}
 -- ---- arms
 
 -- an arm by its form: `None` is none
-abbrev pub arm_check : Env → Expected → TyId → Option TyId → Pos → Option Shape → Check Node
-arm_check env e ty want at (Some (ArmOf p guard body)) =
+abbrev pub arm_check : Env → PatternContext → TyId → Option TyId → Pos → Option Shape → Check Node
+arm_check env e ty expected at (Some (ArmOf p guard body)) =
     arm (pattern env e ty p []) (λ xs. typed_maybe (with_variables (in_guard xs) env) guard (Some bool))
-    (λ xs. typed (with_variables xs env) body) want
-arm_check env e ty want at _ = breaks Rule.T20 at
+    (λ xs. typed (with_variables xs env) body) expected
+arm_check env e ty expected at _ = breaks Rule.T20 at
 
-abbrev pub arm_of_syn : Env → Expected → TyId → Option TyId → Syn → Check Node
-arm_of_syn env e ty want (syn at form) = arm_check env e ty want at (Some form)
+abbrev pub arm_of_syn : Env → PatternContext → TyId → Option TyId → Syn → Check Node
+arm_of_syn env e ty expected (syn at form) = arm_check env e ty expected at (Some form)
 
 -- an arm, once its pattern is checked
 abbrev pub arm_parts : Env → ℕ → Node → List NamedEntry → MaybeSyn → Syn → Option TyId → Check Node
-arm_parts env id p xs guard body want = do
+arm_parts env id p xs guard body expected = do
   g ← typed_maybe (with_variables (in_guard xs) env) guard (Some bool)
-  b ← typed (with_variables xs env) body want
+  b ← typed (with_variables xs env) body expected
   arm_rest id p g b
 
 -- a `match`, once its scrutinee is checked
 abbrev pub arms_rest : Env → ℕ → Pos → Node → Syns → Option TyId → Check Node
-arms_rest env id at s arms want = do
+arms_rest env id at s arms expected = do
   before ← the_items
-  rows ← typed_arms env (expected env false s before) (ty_of s) want arms
-  match_rest id at want s rows.0 rows.1
+  rows ← typed_arms env (pattern_context env false s before) (ty_of s) expected arms
+  match_rest id at expected s rows.0 rows.1
 
 -- ---- `if let`
 
 -- once its pattern is checked, and once its scrutinee is
 abbrev pub if_let_parts : Env → ℕ → Pos → Node → Node → List NamedEntry → Syn → MaybeSyn → Option TyId → Check Node
-if_let_parts env id at s p xs body nothing want = do
+if_let_parts env id at s p xs body nothing expected = do
   b ← typed (with_variables xs env) body (Some unit)
-  settled want (a_node_of id at unit (tree.IfLet p s b absent))
-if_let_parts env id at s p xs body (just otherwise) want = do
-  b ← typed (with_variables xs env) body want
-  o ← typed env otherwise want
-  if_let_else_rest id at want s p b o
+  settled expected (a_node_of id at unit (tree.IfLet p s b absent))
+if_let_parts env id at s p xs body (just otherwise) expected = do
+  b ← typed (with_variables xs env) body expected
+  o ← typed env otherwise expected
+  if_let_else_rest id at expected s p b o
 
 abbrev pub if_let_rest : Env → ℕ → Pos → Node → Syn → Syn → MaybeSyn → Option TyId → Check Node
-if_let_rest env id at s p body otherwise want = do
+if_let_rest env id at s p body otherwise expected = do
   before ← the_items
-  n ← matcher env p (expected env false s before) (ty_of s)
-  if_let_parts env id at s n.0 n.1 body otherwise want
+  n ← matcher env p (pattern_context env false s before) (ty_of s)
+  if_let_parts env id at s n.0 n.1 body otherwise expected
 
 -- ---- `while let`
 
 -- once its scrutinee is checked
 abbrev pub while_let_rest : Env → ℕ → Pos → Option Word → Node → Syn → Syn → Option TyId → Check Node
-while_let_rest env id at label s p body want = do
+while_let_rest env id at label s p body expected = do
   items ← the_items
-  n ← matcher env p (expected env false s items) (ty_of s)
+  n ← matcher env p (pattern_context env false s items) (ty_of s)
   b ← typed (with_variables n.1 (within_loop (loop_around label id false None) env)) body (Some unit)
-  settled want (a_node_of id at unit (tree.WhileLet n.0 s b))
+  settled expected (a_node_of id at unit (tree.WhileLet n.0 s b))

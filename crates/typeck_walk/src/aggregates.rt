@@ -5,7 +5,7 @@ ghost use Rattle.typing_rules.specs.Patterns.{count_of as count_of_};
 ghost use Rattle.typing_rules.specs.Rows as rows;
 ghost use Rattle.typing_rules.specs.Typed as rules;
 ghost use Rattle.typeck_exprs.specs.Lists.{GivesParts, GivesTyped, KeepsBelow, KeepsBelowParts};
-ghost use Rattle.typeck_checker.specs.Stand.{Gives, Keeps, env, stack, state};
+ghost use Rattle.typeck_checker.specs.Stand.{Gives, KeepsStack, env, stack, state};
 
 use crate::expressions::check_expr;
 use mir_base::{List, Pos, RuleError};
@@ -27,9 +27,9 @@ fn check_parts(checker: &mut Checker, wants: &[TyId], parts: Nodes) -> Result<Li
     let mut types = List::new(checker.alloc);
     let mut rest = parts;
     while let Some(split) = rest.split_first() {
-        let want = wanted_at(wants, types.len());
-        check_expr(checker, split.first, want)?;
-        push_to(&mut types, part_ty(checker, want))?;
+        let expected = wanted_at(wants, types.len());
+        check_expr(checker, split.first, expected)?;
+        push_to(&mut types, part_ty(checker, expected))?;
         rest = split.rest;
     }
     Ok(types)
@@ -41,16 +41,16 @@ fn tuple_row(
     at: Pos,
     parts: Nodes,
     count: usize,
-    want: Option<TyId>,
+    expected: Option<TyId>,
 ) -> Result<(), RuleError>
     requires { count ≡ count_of_ (nodes_of parts) }
-    ensures gives { Gives (rows.tuple_row at count (λ wants. rules.typed_parts (env checker.old) wants (nodes_of parts.entry)) want (state checker.old)) result checker.new }
-    ensures kept { Keeps (stack checker.old) checker.old result checker.new }
+    ensures gives { Gives (rows.tuple_row at count (λ wants. rules.typed_parts (env checker.old) wants (nodes_of parts.entry)) expected (state checker.old)) result checker.new }
+    ensures kept { KeepsStack (stack checker.old) checker.old result checker.new }
 {
     let id = checker.number()?;
-    let wants = parts_wanted(checker, count, want)?;
+    let wants = parts_wanted(checker, count, expected)?;
     let types = check_parts(checker, wants.as_slice(), parts)?;
-    tuple_end(checker, id, at, types, count, want)
+    tuple_end(checker, id, at, types, count, expected)
 }
 
 /// `(a, b)`, and `()`.
@@ -60,33 +60,33 @@ pub fn check_tuple(
     checker: &mut Checker,
     at: Pos,
     parts: Nodes,
-    want: Option<TyId>,
+    expected: Option<TyId>,
 ) -> Result<(), RuleError>
-    ensures gives { Gives (rules.tuple at (nodes_of parts.entry) (λ wants. rules.typed_parts (env checker.old) wants (nodes_of parts.entry)) want (state checker.old)) result checker.new }
-    ensures kept { Keeps (stack checker.old) checker.old result checker.new }
+    ensures gives { Gives (rules.tuple at (nodes_of parts.entry) (λ wants. rules.typed_parts (env checker.old) wants (nodes_of parts.entry)) expected (state checker.old)) result checker.new }
+    ensures kept { KeepsStack (stack checker.old) checker.old result checker.new }
 {
     if parts.is_empty() {
-        return checker.leaf(at, UNIT, Leaf::UnitValue, want);
+        return checker.leaf(at, UNIT, Leaf::UnitValue, expected);
     }
     let count = count_of(parts)?;
-    tuple_row(checker, at, parts, count, want)
+    tuple_row(checker, at, parts, count, expected)
 }
 
 /// Elements, each of the type that is required of them, if one is; answers how many there are.
 #[cycle(check_expr)]
 fn check_elements(
     checker: &mut Checker,
-    want: Option<TyId>,
+    expected: Option<TyId>,
     elements: Nodes,
 ) -> Result<usize, RuleError>
-    ensures gives { GivesTyped (rules.typed_elements (env checker.old) want (nodes_of elements.entry) (state checker.old)) result checker.new }
+    ensures gives { GivesTyped (rules.typed_elements (env checker.old) expected (nodes_of elements.entry) (state checker.old)) result checker.new }
     ensures kept { KeepsBelow (stack checker.old) checker.old result checker.new }
     ensures counted { IfOk result (λ count. count ≡ count_of_ (nodes_of elements.entry)) }
 {
     let mut count: usize = 0;
     let mut rest = elements;
     while let Some(split) = rest.split_first() {
-        check_expr(checker, split.first, want)?;
+        check_expr(checker, split.first, expected)?;
         count = one_more(count)?;
         rest = split.rest;
     }
@@ -99,13 +99,13 @@ pub fn check_array(
     checker: &mut Checker,
     at: Pos,
     elements: Nodes,
-    want: Option<TyId>,
+    expected: Option<TyId>,
 ) -> Result<(), RuleError>
-    ensures gives { Gives (rows.array_row at (count_of_ (nodes_of elements.entry)) (λ wants. rules.typed_elements (env checker.old) wants (nodes_of elements.entry)) want (state checker.old)) result checker.new }
-    ensures kept { Keeps (stack checker.old) checker.old result checker.new }
+    ensures gives { Gives (rows.array_row at (count_of_ (nodes_of elements.entry)) (λ wants. rules.typed_elements (env checker.old) wants (nodes_of elements.entry)) expected (state checker.old)) result checker.new }
+    ensures kept { KeepsStack (stack checker.old) checker.old result checker.new }
 {
     let id = checker.number()?;
-    let wanted = element_wanted(&checker.walk.items, want);
+    let wanted = element_wanted(&checker.walk.items, expected);
     let count = check_elements(checker, wanted, elements)?;
-    elements_end(checker, id, at, wanted, count, want)
+    elements_end(checker, id, at, wanted, count, expected)
 }

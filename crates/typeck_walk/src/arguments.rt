@@ -6,7 +6,7 @@ ghost use Rattle.typing_rules.specs.Rows as rows;
 ghost use Rattle.typing_rules.specs.Typed as rules;
 ghost use Rattle.typeck_exprs.specs.Forms.{referred_by};
 ghost use Rattle.typeck_exprs.specs.Lists.{GivesNodes, KeepsBelow, argument_at};
-ghost use Rattle.typeck_checker.specs.Stand.{Gives, Keeps, env, stack, state};
+ghost use Rattle.typeck_checker.specs.Stand.{Gives, KeepsStack, env, stack, state};
 
 use crate::expressions::{check_expr, check_plain_base};
 use mir_base::{Pos, RuleError};
@@ -28,7 +28,7 @@ fn borrow(
     to: TyId,
 ) -> Result<(), RuleError>
     ensures gives { Gives (rows.borrow at unique (rules.base_of (env checker.old) (syn_of base.now)) to is_unique to (state checker.old)) result checker.new }
-    ensures kept { Keeps (stack checker.old) checker.old result checker.new }
+    ensures kept { KeepsStack (stack checker.old) checker.old result checker.new }
 {
     let id = checker.number()?;
     check_plain_base(checker, base)?;
@@ -39,12 +39,12 @@ fn borrow(
 fn check_reference(
     checker: &mut Checker,
     form: ArgumentForm,
-    want: TyId,
+    expected: TyId,
     is_unique: bool,
     to: TyId,
 ) -> Result<(), RuleError>
-    ensures gives { Gives (referred_by (env checker.old) form.entry want is_unique to (state checker.old)) result checker.new }
-    ensures kept { Keeps (stack checker.old) checker.old result checker.new }
+    ensures gives { Gives (referred_by (env checker.old) form.entry expected is_unique to (state checker.old)) result checker.new }
+    ensures kept { KeepsStack (stack checker.old) checker.old result checker.new }
 {
     match form {
         ArgumentForm::Borrow { at, unique, base } => {
@@ -53,7 +53,7 @@ fn check_reference(
         ArgumentForm::Passed { at, variable } => {
             passed_on(checker, at, variable.name, variable.found, is_unique, to)
         }
-        ArgumentForm::Value(node) => check_expr(checker, node, Some(want)),
+        ArgumentForm::Value(node) => check_expr(checker, node, Some(expected)),
     }
 }
 
@@ -62,21 +62,21 @@ fn check_reference(
 fn by_reference(
     checker: &mut Checker,
     node: &SyntaxNode,
-    want: TyId,
+    expected: TyId,
     is_unique: bool,
     to: TyId,
 ) -> Result<(), RuleError>
-    ensures gives { Gives (rules.by_reference (env checker.old) (syn_of node.now) want is_unique to (state checker.old)) result checker.new }
-    ensures kept { Keeps (stack checker.old) checker.old result checker.new }
+    ensures gives { Gives (rules.by_reference (env checker.old) (syn_of node.now) expected is_unique to (state checker.old)) result checker.new }
+    ensures kept { KeepsStack (stack checker.old) checker.old result checker.new }
 {
     let form = argument_form(checker, node);
-    check_reference(checker, form, want, is_unique, to)
+    check_reference(checker, form, expected, is_unique, to)
 }
 
 #[cycle(check_expr)]
 fn check_argument(checker: &mut Checker, node: &SyntaxNode, param: TyId) -> Result<(), RuleError>
     ensures gives { Gives (rows.argument param (rules.typed (env checker.old) (syn_of node.now)) (rules.by_reference (env checker.old) (syn_of node.now)) (state checker.old)) result checker.new }
-    ensures kept { Keeps (stack checker.old) checker.old result checker.new }
+    ensures kept { KeepsStack (stack checker.old) checker.old result checker.new }
 {
     match reference_of(&checker.walk.items, param) {
         Some((is_unique, to)) => by_reference(checker, node, param, is_unique, to),
@@ -92,7 +92,7 @@ fn check_argument_if(
     param: Option<TyId>,
 ) -> Result<(), RuleError>
     ensures gives { Gives (argument_at (env checker.old) param (syn_of node.now) (state checker.old)) result checker.new }
-    ensures kept { Keeps (stack checker.old) checker.old result checker.new }
+    ensures kept { KeepsStack (stack checker.old) checker.old result checker.new }
 {
     match param {
         Some(param) => check_argument(checker, node, param),

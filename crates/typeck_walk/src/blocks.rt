@@ -7,7 +7,7 @@ ghost use Rattle.typing_rules.specs.Typed as rules;
 ghost use Rattle.typeck_patterns.specs.BindingRests.{value_if};
 ghost use Rattle.typeck_checker.specs.Lists.{below_all, last_nodes};
 ghost use Rattle.typeck_walk.specs.Blocks.{GivesStatement, GivesStatements, KeepsGrown, KeepsStatement, KeepsStatements, KeepsValue, block_rest, evaluated, initialiser_of, more_if};
-ghost use Rattle.typeck_checker.specs.Stand.{Gives, GivesValue, Keeps, env, stack, state};
+ghost use Rattle.typeck_checker.specs.Stand.{Gives, GivesValue, KeepsStack, env, stack, state};
 
 use crate::expressions::{check_expr, check_for_parts};
 use mir_base::{NodeId, Pos, RuleError};
@@ -57,15 +57,15 @@ fn initialiser(
     checker: &mut Checker,
     is_one_name: bool,
     value: &SyntaxNode,
-    want: Option<TyId>,
+    expected: Option<TyId>,
 ) -> Result<(), RuleError>
-    ensures gives { Gives (initialiser_of (env checker.old) is_one_name want (syn_of value.now) (state checker.old)) result checker.new }
-    ensures kept { Keeps (stack checker.old) checker.old result checker.new }
+    ensures gives { Gives (initialiser_of (env checker.old) is_one_name expected (syn_of value.now) (state checker.old)) result checker.new }
+    ensures kept { KeepsStack (stack checker.old) checker.old result checker.new }
 {
     if is_one_name {
-        check_expr(checker, value, want)
+        check_expr(checker, value, expected)
     } else {
-        check_for_parts(checker, value, want)
+        check_for_parts(checker, value, expected)
     }
 }
 
@@ -75,14 +75,14 @@ fn check_let_value(
     checker: &mut Checker,
     is_one_name: bool,
     value: Option<&SyntaxNode>,
-    want: Option<TyId>,
+    expected: Option<TyId>,
 ) -> Result<bool, RuleError>
-    ensures gives { GivesValue (λ has_value. value_if has_value (stack checker.new)) (rules.initialised (env checker.old) is_one_name (maybe_of value.entry) want (state checker.old)) result checker.new }
+    ensures gives { GivesValue (λ has_value. value_if has_value (stack checker.new)) (rules.initialised (env checker.old) is_one_name (maybe_of value.entry) expected (state checker.old)) result checker.new }
     ensures kept { KeepsValue (stack checker.old) checker.old result checker.new }
 {
     match value {
         Some(value) => {
-            initialiser(checker, is_one_name, value, want)?;
+            initialiser(checker, is_one_name, value, expected)?;
             Ok(true)
         }
         None => Ok(false),
@@ -165,17 +165,17 @@ fn block_behind(
     at: Pos,
     done: Statements,
     tail: Option<&SyntaxNode>,
-    want: Option<TyId>,
+    expected: Option<TyId>,
 ) -> Result<(), RuleError>
-    ensures gives { Gives (block_rest id.0 at (last_nodes done.count (stack checker.old)) done.ends (rules.typed_maybe (env checker.old) (maybe_of tail.entry)) want (state checker.old)) result checker.new }
-    ensures kept { Keeps (below_all done.count (stack checker.old)) checker.old result checker.new }
+    ensures gives { Gives (block_rest id.0 at (last_nodes done.count (stack checker.old)) done.ends (rules.typed_maybe (env checker.old) (maybe_of tail.entry)) expected (state checker.old)) result checker.new }
+    ensures kept { KeepsStack (below_all done.count (stack checker.old)) checker.old result checker.new }
 {
     match tail {
         Some(tail) => {
-            check_expr(checker, tail, want)?;
-            tail_end(checker, id, at, done.count, want)
+            check_expr(checker, tail, expected)?;
+            tail_end(checker, id, at, done.count, expected)
         }
-        None => block_end(checker, id, at, done.count, done.ends, want),
+        None => block_end(checker, id, at, done.count, done.ends, expected),
     }
 }
 
@@ -185,14 +185,14 @@ fn block_inside(
     at: Pos,
     statements: Nodes,
     tail: Option<&SyntaxNode>,
-    want: Option<TyId>,
+    expected: Option<TyId>,
 ) -> Result<(), RuleError>
-    ensures gives { Gives (rules.value (env checker.old) at (Braces (nodes_of statements.entry) (maybe_of tail.entry)) want (state checker.old)) result checker.new }
+    ensures gives { Gives (rules.value (env checker.old) at (Braces (nodes_of statements.entry) (maybe_of tail.entry)) expected (state checker.old)) result checker.new }
     ensures kept { KeepsGrown (stack checker.old) checker.old result checker.new }
 {
     let id = checker.number()?;
     let done = check_statements(checker, statements)?;
-    block_behind(checker, id, at, done, tail, want)
+    block_behind(checker, id, at, done, tail, expected)
 }
 
 /// A block: the variables that its statements bring end with it.
@@ -202,13 +202,13 @@ pub fn check_block(
     at: Pos,
     statements: Nodes,
     tail: Option<&SyntaxNode>,
-    want: Option<TyId>,
+    expected: Option<TyId>,
 ) -> Result<(), RuleError>
-    ensures gives { Gives (rules.value (env checker.old) at (Braces (nodes_of statements.entry) (maybe_of tail.entry)) want (state checker.old)) result checker.new }
-    ensures kept { Keeps (stack checker.old) checker.old result checker.new }
+    ensures gives { Gives (rules.value (env checker.old) at (Braces (nodes_of statements.entry) (maybe_of tail.entry)) expected (state checker.old)) result checker.new }
+    ensures kept { KeepsStack (stack checker.old) checker.old result checker.new }
 {
     let outer = count(checker);
-    block_inside(checker, at, statements, tail, want)?;
+    block_inside(checker, at, statements, tail, expected)?;
     leave(checker, outer);
     Ok(())
 }

@@ -5,7 +5,7 @@ ghost use Rattle.src_ast.specs.Syntax.{IfElse};
 ghost use Rattle.typing_rules.specs.Rows as rows;
 ghost use Rattle.typing_rules.specs.Typed as rules;
 ghost use Rattle.typeck_exprs.specs.Pairs.{KeepsTwo};
-ghost use Rattle.typeck_checker.specs.Stand.{Gives, GivesValue, Keeps, below, env, stack, state, top};
+ghost use Rattle.typeck_checker.specs.Stand.{Gives, GivesValue, KeepsStack, below, env, stack, state, top};
 
 use crate::expressions::check_expr;
 use mir_base::{Pos, RuleError};
@@ -21,15 +21,15 @@ fn if_alone(
     at: Pos,
     condition: &SyntaxNode,
     body: &SyntaxNode,
-    want: Option<TyId>,
+    expected: Option<TyId>,
 ) -> Result<(), RuleError>
-    ensures gives { Gives (rows.if_alone at (rules.typed (env checker.old) (syn_of condition.now)) (rules.typed (env checker.old) (syn_of body.now)) want (state checker.old)) result checker.new }
-    ensures kept { Keeps (stack checker.old) checker.old result checker.new }
+    ensures gives { Gives (rows.if_alone at (rules.typed (env checker.old) (syn_of condition.now)) (rules.typed (env checker.old) (syn_of body.now)) expected (state checker.old)) result checker.new }
+    ensures kept { KeepsStack (stack checker.old) checker.old result checker.new }
 {
     let id = checker.number()?;
     check_expr(checker, condition, Some(BOOL))?;
     check_expr(checker, body, Some(UNIT))?;
-    checker.unify_two(id, at, UNIT, TwoParts::If, want)
+    checker.unify_two(id, at, UNIT, TwoParts::If, expected)
 }
 
 /// `if` with `else`.
@@ -40,16 +40,16 @@ fn if_else(
     condition: &SyntaxNode,
     body: &SyntaxNode,
     otherwise: &SyntaxNode,
-    want: Option<TyId>,
+    expected: Option<TyId>,
 ) -> Result<(), RuleError>
-    ensures gives { Gives (rows.if_else at (rules.typed (env checker.old) (syn_of condition.now)) (rules.typed (env checker.old) (syn_of body.now)) (rules.typed (env checker.old) (syn_of otherwise.now)) want (state checker.old)) result checker.new }
-    ensures kept { Keeps (stack checker.old) checker.old result checker.new }
+    ensures gives { Gives (rows.if_else at (rules.typed (env checker.old) (syn_of condition.now)) (rules.typed (env checker.old) (syn_of body.now)) (rules.typed (env checker.old) (syn_of otherwise.now)) expected (state checker.old)) result checker.new }
+    ensures kept { KeepsStack (stack checker.old) checker.old result checker.new }
 {
     let id = checker.number()?;
     check_expr(checker, condition, Some(BOOL))?;
-    check_expr(checker, body, want)?;
-    check_expr(checker, otherwise, want)?;
-    if_else_end(checker, id, at, want)
+    check_expr(checker, body, expected)?;
+    check_expr(checker, otherwise, expected)?;
+    if_else_end(checker, id, at, expected)
 }
 
 /// `if`.
@@ -60,13 +60,13 @@ pub fn check_if(
     condition: &SyntaxNode,
     body: &SyntaxNode,
     otherwise: Option<&SyntaxNode>,
-    want: Option<TyId>,
+    expected: Option<TyId>,
 ) -> Result<(), RuleError>
-    ensures gives { Gives (rules.value (env checker.old) at (IfElse (syn_of condition.now) (syn_of body.now) (maybe_of otherwise.entry)) want (state checker.old)) result checker.new }
-    ensures kept { Keeps (stack checker.old) checker.old result checker.new }
+    ensures gives { Gives (rules.value (env checker.old) at (IfElse (syn_of condition.now) (syn_of body.now) (maybe_of otherwise.entry)) expected (state checker.old)) result checker.new }
+    ensures kept { KeepsStack (stack checker.old) checker.old result checker.new }
 {
     match otherwise {
-        Some(otherwise) => if_else(checker, at, condition, body, otherwise, want),
-        None => if_alone(checker, at, condition, body, want),
+        Some(otherwise) => if_else(checker, at, condition, body, otherwise, expected),
+        None => if_alone(checker, at, condition, body, expected),
     }
 }

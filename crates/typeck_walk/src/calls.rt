@@ -10,7 +10,7 @@ ghost use Rattle.typing_rules.specs.Named as named;
 ghost use Rattle.typing_rules.specs.Patterns.{count_of};
 ghost use Rattle.typing_rules.specs.Rows as rows;
 ghost use Rattle.typing_rules.specs.Typed as rules;
-ghost use Rattle.typeck_checker.specs.Stand.{Gives, Keeps, below, env, stack, state, top};
+ghost use Rattle.typeck_checker.specs.Stand.{Gives, KeepsStack, below, env, stack, state, top};
 
 use crate::arguments::check_arguments;
 use crate::expressions::{check_expr, check_place_base};
@@ -30,14 +30,14 @@ fn call_of(
     at: Pos,
     callee: Callee,
     args: Nodes,
-    want: Option<TyId>,
+    expected: Option<TyId>,
 ) -> Result<(), RuleError>
-    ensures gives { (value : Check tree.Node) → Gives (rules.called_by at (count_of (nodes_of args.entry)) value (λ params. rules.typed_args (env checker.old) params (nodes_of args.entry)) (callee_seen checker.old.walk.items callee) want (state checker.old)) result checker.new }
-    ensures kept { Keeps (stack checker.old) checker.old result checker.new }
+    ensures gives { (value : Check tree.Node) → Gives (rules.called_by at (count_of (nodes_of args.entry)) value (λ params. rules.typed_args (env checker.old) params (nodes_of args.entry)) (callee_seen checker.old.walk.items callee) expected (state checker.old)) result checker.new }
+    ensures kept { KeepsStack (stack checker.old) checker.old result checker.new }
 {
-    let begun = begin(checker, at, callee, want)?;
+    let begun = begin(checker, at, callee, expected)?;
     let count = check_arguments(checker, begun.params.as_slice(), args)?;
-    call_end(checker, at, &begun, count, want)
+    call_end(checker, at, &begun, count, expected)
 }
 
 /// The arguments of a value that is called, which is the last node.
@@ -47,14 +47,14 @@ fn closure_behind(
     id: NodeId,
     at: Pos,
     args: Nodes,
-    want: Option<TyId>,
+    expected: Option<TyId>,
 ) -> Result<(), RuleError>
-    ensures gives { Gives (closure_rest id.0 at want (top (stack checker.old)) (count_of (nodes_of args.entry)) (λ params. rules.typed_args (env checker.old) params (nodes_of args.entry)) (state checker.old)) result checker.new }
-    ensures kept { Keeps (below (stack checker.old)) checker.old result checker.new }
+    ensures gives { Gives (closure_rest id.0 at expected (top (stack checker.old)) (count_of (nodes_of args.entry)) (λ params. rules.typed_args (env checker.old) params (nodes_of args.entry)) (state checker.old)) result checker.new }
+    ensures kept { KeepsStack (below (stack checker.old)) checker.old result checker.new }
 {
     let callee = closure_callee(checker)?;
     let count = check_arguments(checker, callee.params.as_slice(), args)?;
-    closure_end(checker, id, at, &callee, count, want)
+    closure_end(checker, id, at, &callee, count, expected)
 }
 
 /// A call of a value, which has to be a closure.
@@ -64,14 +64,14 @@ fn closure_call(
     at: Pos,
     callee: &SyntaxNode,
     args: Nodes,
-    want: Option<TyId>,
+    expected: Option<TyId>,
 ) -> Result<(), RuleError>
-    ensures gives { Gives (rows.closure_call at (count_of (nodes_of args.entry)) (rules.typed (env checker.old) (syn_of callee.now) None) (λ params. rules.typed_args (env checker.old) params (nodes_of args.entry)) want (state checker.old)) result checker.new }
-    ensures kept { Keeps (stack checker.old) checker.old result checker.new }
+    ensures gives { Gives (rows.closure_call at (count_of (nodes_of args.entry)) (rules.typed (env checker.old) (syn_of callee.now) None) (λ params. rules.typed_args (env checker.old) params (nodes_of args.entry)) expected (state checker.old)) result checker.new }
+    ensures kept { KeepsStack (stack checker.old) checker.old result checker.new }
 {
     let id = checker.number()?;
     check_expr(checker, callee, None)?;
-    closure_behind(checker, id, at, args, want)
+    closure_behind(checker, id, at, args, expected)
 }
 
 /// A call of what was found.
@@ -82,14 +82,14 @@ fn found_call(
     found: Callee,
     callee: &SyntaxNode,
     args: Nodes,
-    want: Option<TyId>,
+    expected: Option<TyId>,
 ) -> Result<(), RuleError>
-    ensures gives { Gives (rules.called_by at (count_of (nodes_of args.entry)) (rules.typed (env checker.old) (syn_of callee.now) None) (λ params. rules.typed_args (env checker.old) params (nodes_of args.entry)) (callee_seen checker.old.walk.items found) want (state checker.old)) result checker.new }
-    ensures kept { Keeps (stack checker.old) checker.old result checker.new }
+    ensures gives { Gives (rules.called_by at (count_of (nodes_of args.entry)) (rules.typed (env checker.old) (syn_of callee.now) None) (λ params. rules.typed_args (env checker.old) params (nodes_of args.entry)) (callee_seen checker.old.walk.items found) expected (state checker.old)) result checker.new }
+    ensures kept { KeepsStack (stack checker.old) checker.old result checker.new }
 {
     match found {
-        Callee::Value => closure_call(checker, at, callee, args, want),
-        _ => call_of(checker, at, found, args, want),
+        Callee::Value => closure_call(checker, at, callee, args, expected),
+        _ => call_of(checker, at, found, args, expected),
     }
 }
 
@@ -100,13 +100,13 @@ pub fn check_call(
     at: Pos,
     callee: &SyntaxNode,
     args: Nodes,
-    want: Option<TyId>,
+    expected: Option<TyId>,
 ) -> Result<(), RuleError>
-    ensures gives { Gives (rules.called (env checker.old) at (syn_of callee.now) (count_of (nodes_of args.entry)) (rules.typed (env checker.old) (syn_of callee.now) None) (λ params. rules.typed_args (env checker.old) params (nodes_of args.entry)) want (state checker.old)) result checker.new }
-    ensures kept { Keeps (stack checker.old) checker.old result checker.new }
+    ensures gives { Gives (rules.called (env checker.old) at (syn_of callee.now) (count_of (nodes_of args.entry)) (rules.typed (env checker.old) (syn_of callee.now) None) (λ params. rules.typed_args (env checker.old) params (nodes_of args.entry)) expected (state checker.old)) result checker.new }
+    ensures kept { KeepsStack (stack checker.old) checker.old result checker.new }
 {
     let found = callee_of(checker, callee)?;
-    found_call(checker, at, found, callee, args, want)
+    found_call(checker, at, found, callee, args, expected)
 }
 
 /// The arguments of a method, of which the last node is the receiver.
@@ -117,14 +117,14 @@ fn method_behind(
     at: Pos,
     name: &str,
     args: Nodes,
-    want: Option<TyId>,
+    expected: Option<TyId>,
 ) -> Result<(), RuleError>
-    ensures gives { Gives (method_rest (env checker.old) id.0 at (named.method_named name.now) want (top (stack checker.old)) (count_of (nodes_of args.entry)) (λ params. rules.typed_args (env checker.old) params (nodes_of args.entry)) (state checker.old)) result checker.new }
-    ensures kept { Keeps (below (stack checker.old)) checker.old result checker.new }
+    ensures gives { Gives (method_rest (env checker.old) id.0 at (named.method_named name.now) expected (top (stack checker.old)) (count_of (nodes_of args.entry)) (λ params. rules.typed_args (env checker.old) params (nodes_of args.entry)) (state checker.old)) result checker.new }
+    ensures kept { KeepsStack (below (stack checker.old)) checker.old result checker.new }
 {
     let receiver = method_receiver(checker, at, name)?;
     let count = check_arguments(checker, receiver.params.as_slice(), args)?;
-    method_end(checker, id, at, &receiver, count, want)
+    method_end(checker, id, at, &receiver, count, expected)
 }
 
 /// A call of a method.
@@ -135,12 +135,12 @@ pub fn check_method_call(
     receiver: &SyntaxNode,
     name: &str,
     args: Nodes,
-    want: Option<TyId>,
+    expected: Option<TyId>,
 ) -> Result<(), RuleError>
-    ensures gives { Gives (rows.method_call (env checker.old) at (named.method_named name.now) (count_of (nodes_of args.entry)) (rules.base_of (env checker.old) (syn_of receiver.now)) (λ params. rules.typed_args (env checker.old) params (nodes_of args.entry)) want (state checker.old)) result checker.new }
-    ensures kept { Keeps (stack checker.old) checker.old result checker.new }
+    ensures gives { Gives (rows.method_call (env checker.old) at (named.method_named name.now) (count_of (nodes_of args.entry)) (rules.base_of (env checker.old) (syn_of receiver.now)) (λ params. rules.typed_args (env checker.old) params (nodes_of args.entry)) expected (state checker.old)) result checker.new }
+    ensures kept { KeepsStack (stack checker.old) checker.old result checker.new }
 {
     let id = checker.number()?;
     check_place_base(checker, receiver)?;
-    method_behind(checker, id, at, name, args, want)
+    method_behind(checker, id, at, name, args, expected)
 }

@@ -7,7 +7,7 @@ ghost use Rattle.src_ast.specs.View.{idents, syns_of};
 ghost use Rattle.typing_rules.specs.Bodies as bodies;
 ghost use Rattle.typing_rules.specs.Scope.{Env};
 ghost use Rattle.typing_rules.specs.Typed as rules;
-ghost use Rattle.typeck_checker.specs.Stand.{Gives, GivesValue, Keeps, Same, env, stack, state};
+ghost use Rattle.typeck_checker.specs.Stand.{Gives, GivesValue, KeepsStack, ChangesNothing, env, stack, state};
 
 use crate::expressions::check_expr;
 use mir_base::{Pos, RuleError};
@@ -29,7 +29,7 @@ fn check_closure_body(
 ) -> Result<(), RuleError>
     ensures gives { GivesValue (λ u. u) (unvalued (bodies.closure_body (env checker.old) at begun.now.body begun.now.ty (reverse begun.now.captures) (nodes_of params.entry) (maybe_of answer.entry)
         (λ (inner : Env). rules.typed inner (syn_of block.now))) (state checker.old)) result checker.new }
-    ensures same { OnOk result (Same checker.old checker.new) }
+    ensures same { OnOk result (ChangesNothing checker.old checker.new) }
 {
     let head = closure_head(
         checker,
@@ -53,12 +53,12 @@ pub fn check_closure(
     params: Nodes,
     answer: Option<&SyntaxNode>,
     block: &SyntaxNode,
-    want: Option<TyId>,
+    expected: Option<TyId>,
 ) -> Result<(), RuleError>
-    ensures gives { Gives (rules.value (env checker.old) at (MoveOf (syns_of (idents (nodes_of captures.entry))) (nodes_of params.entry) (maybe_of answer.entry) (syn_of block.now)) want (state checker.old)) result checker.new }
-    ensures kept { Keeps (stack checker.old) checker.old result checker.new }
+    ensures gives { Gives (rules.value (env checker.old) at (MoveOf (syns_of (idents (nodes_of captures.entry))) (nodes_of params.entry) (maybe_of answer.entry) (syn_of block.now)) expected (state checker.old)) result checker.new }
+    ensures kept { KeepsStack (stack checker.old) checker.old result checker.new }
 {
     let begun = closure_begin(checker, captures)?;
     check_closure_body(checker, at, &begun, params, answer, block)?;
-    closure_end(checker, at, &begun, want)
+    closure_end(checker, at, &begun, expected)
 }

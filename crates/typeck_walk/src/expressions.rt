@@ -5,7 +5,7 @@ ghost use Rattle.src_ast.specs.Seen.{syn_of};
 ghost use Rattle.typing_rules.specs.Typed as rules;
 ghost use Rattle.typeck_walk.specs.Bases as bases;
 ghost use Rattle.typeck_exprs.specs.Forms.{place_by, value_as};
-ghost use Rattle.typeck_checker.specs.Stand.{Gives, Keeps, env, stack, state};
+ghost use Rattle.typeck_checker.specs.Stand.{Gives, KeepsStack, env, stack, state};
 
 use crate::aggregates::{check_array, check_tuple};
 use crate::blocks::check_block;
@@ -35,17 +35,17 @@ use typeck_patterns::place_for_parts;
 pub fn check_expr(
     checker: &mut Checker,
     node: &SyntaxNode,
-    want: Option<TyId>,
+    expected: Option<TyId>,
 ) -> Result<(), RuleError>
-    ensures gives { Gives (rules.typed (env checker.old) (syn_of node.now) want (state checker.old)) result checker.new }
-    ensures kept { Keeps (stack checker.old) checker.old result checker.new }
+    ensures gives { Gives (rules.typed (env checker.old) (syn_of node.now) expected (state checker.old)) result checker.new }
+    ensures kept { KeepsStack (stack checker.old) checker.old result checker.new }
 {
     match place_form(checker, node) {
         Some(form) => {
             check_place(checker, form)?;
-            checker.use_value(want)
+            checker.use_value(expected)
         }
-        None => check_value(checker, node.at, expression_form(node), want),
+        None => check_value(checker, node.at, expression_form(node), expected),
     }
 }
 
@@ -54,7 +54,7 @@ pub fn check_expr(
 #[tactic(auto, using(typeck_exprs::proofs::Shapes::base_value))]
 pub fn check_place_base(checker: &mut Checker, node: &SyntaxNode) -> Result<(), RuleError>
     ensures gives { Gives (rules.base_of (env checker.old) (syn_of node.now) (state checker.old)) result checker.new }
-    ensures kept { Keeps (stack checker.old) checker.old result checker.new }
+    ensures kept { KeepsStack (stack checker.old) checker.old result checker.new }
 {
     match place_form(checker, node) {
         Some(form) => check_place(checker, form),
@@ -68,17 +68,17 @@ pub fn check_place_base(checker: &mut Checker, node: &SyntaxNode) -> Result<(), 
 pub fn check_for_parts(
     checker: &mut Checker,
     node: &SyntaxNode,
-    want: Option<TyId>,
+    expected: Option<TyId>,
 ) -> Result<(), RuleError>
-    ensures gives { Gives (rules.for_parts (env checker.old) want (syn_of node.now) (state checker.old)) result checker.new }
-    ensures kept { Keeps (stack checker.old) checker.old result checker.new }
+    ensures gives { Gives (rules.for_parts (env checker.old) expected (syn_of node.now) (state checker.old)) result checker.new }
+    ensures kept { KeepsStack (stack checker.old) checker.old result checker.new }
 {
     match place_form(checker, node) {
         Some(form) => {
             check_place(checker, form)?;
-            place_for_parts(checker, want)
+            place_for_parts(checker, expected)
         }
-        None => check_value(checker, node.at, expression_form(node), want),
+        None => check_value(checker, node.at, expression_form(node), expected),
     }
 }
 
@@ -86,7 +86,7 @@ pub fn check_for_parts(
 #[cycle(check_expr)]
 pub fn check_plain_base(checker: &mut Checker, node: &SyntaxNode) -> Result<(), RuleError>
     ensures gives { Gives (bases.plain_base (env checker.old) (syn_of node.now) (state checker.old)) result checker.new }
-    ensures kept { Keeps (stack checker.old) checker.old result checker.new }
+    ensures kept { KeepsStack (stack checker.old) checker.old result checker.new }
 {
     check_place_base(checker, node)?;
     checker.no_reference()
@@ -96,7 +96,7 @@ pub fn check_plain_base(checker: &mut Checker, node: &SyntaxNode) -> Result<(), 
 #[cycle(check_expr)]
 fn check_place(checker: &mut Checker, form: PlaceForm) -> Result<(), RuleError>
     ensures gives { Gives (place_by (env checker.old) form.entry (state checker.old)) result checker.new }
-    ensures kept { Keeps (stack checker.old) checker.old result checker.new }
+    ensures kept { KeepsStack (stack checker.old) checker.old result checker.new }
 {
     match form {
         PlaceForm::Variable { at, variable } => {
@@ -115,15 +115,17 @@ fn check_value(
     checker: &mut Checker,
     at: Pos,
     form: ExpressionForm,
-    want: Option<TyId>,
+    expected: Option<TyId>,
 ) -> Result<(), RuleError>
-    ensures gives { Gives (value_as (env checker.old) at (expression_of form.entry) want (state checker.old)) result checker.new }
-    ensures kept { Keeps (stack checker.old) checker.old result checker.new }
+    ensures gives { Gives (value_as (env checker.old) at (expression_of form.entry) expected (state checker.old)) result checker.new }
+    ensures kept { KeepsStack (stack checker.old) checker.old result checker.new }
 {
     match form {
-        ExpressionForm::Number { value, suffix } => checker.literal(at, false, value, suffix, want),
-        ExpressionForm::Truth(truth) => checker.leaf(at, BOOL, Leaf::Truth(truth), want),
-        ExpressionForm::Path(path) => path_alone(checker, at, path, want),
+        ExpressionForm::Number { value, suffix } => checker.literal(
+            at, false, value, suffix, expected,
+        ),
+        ExpressionForm::Truth(truth) => checker.leaf(at, BOOL, Leaf::Truth(truth), expected),
+        ExpressionForm::Path(path) => path_alone(checker, at, path, expected),
         ExpressionForm::SelfValue => path_alone(
             checker,
             at,
@@ -131,28 +133,28 @@ fn check_value(
                 first: Some("self"),
                 second: None,
             },
-            want,
+            expected,
         ),
-        ExpressionForm::Negate(operand) => check_minus(checker, at, operand, want),
-        ExpressionForm::Not(operand) => check_not(checker, at, operand, want),
+        ExpressionForm::Negate(operand) => check_minus(checker, at, operand, expected),
+        ExpressionForm::Not(operand) => check_not(checker, at, operand, expected),
         ExpressionForm::Borrow { operand, .. } => check_borrow(checker, at, operand),
         ExpressionForm::Math {
             operator,
             left,
             right,
-        } => check_arithmetic(checker, at, operator, left, right, want),
+        } => check_arithmetic(checker, at, operator, left, right, expected),
         ExpressionForm::Compare {
             operator,
             left,
             right,
-        } => check_comparison(checker, at, operator, left, right, want),
+        } => check_comparison(checker, at, operator, left, right, expected),
         ExpressionForm::And { left, right } => check_logic(
             checker,
             at,
             TwoParts::And,
             left,
             right,
-            want,
+            expected,
         ),
         ExpressionForm::Or { left, right } => check_logic(
             checker,
@@ -160,60 +162,62 @@ fn check_value(
             TwoParts::Or,
             left,
             right,
-            want,
+            expected,
         ),
         ExpressionForm::Assign { place, value } => check_assignment(
-            checker, at, place, value, want,
+            checker, at, place, value, expected,
         ),
-        ExpressionForm::Parens(inside) => check_expr(checker, inside, want),
-        ExpressionForm::Tuple(parts) => check_tuple(checker, at, parts, want),
-        ExpressionForm::Array(elements) => check_array(checker, at, elements, want),
+        ExpressionForm::Parens(inside) => check_expr(checker, inside, expected),
+        ExpressionForm::Tuple(parts) => check_tuple(checker, at, parts, expected),
+        ExpressionForm::Array(elements) => check_array(checker, at, elements, expected),
         ExpressionForm::Block { statements, tail } => check_block(
-            checker, at, statements, tail, want,
+            checker, at, statements, tail, expected,
         ),
         ExpressionForm::If {
             condition,
             body,
             otherwise,
-        } => check_if(checker, at, condition, body, otherwise, want),
-        ExpressionForm::Loop { label, body } => check_loop(checker, at, label, body, want),
+        } => check_if(checker, at, condition, body, otherwise, expected),
+        ExpressionForm::Loop { label, body } => check_loop(checker, at, label, body, expected),
         ExpressionForm::While {
             label,
             condition,
             body,
-        } => check_while(checker, at, label, condition, body, want),
-        ExpressionForm::Break { label, value } => check_break(checker, at, label, value, want),
-        ExpressionForm::Continue { label } => check_continue(checker, at, label, want),
-        ExpressionForm::Return(value) => check_return(checker, at, value, want),
-        ExpressionForm::Panic => checker.leaf(at, NEVER, Leaf::Panic, want),
-        ExpressionForm::Call { callee, args } => check_call(checker, at, callee, args, want),
+        } => check_while(checker, at, label, condition, body, expected),
+        ExpressionForm::Break { label, value } => check_break(checker, at, label, value, expected),
+        ExpressionForm::Continue { label } => check_continue(checker, at, label, expected),
+        ExpressionForm::Return(value) => check_return(checker, at, value, expected),
+        ExpressionForm::Panic => checker.leaf(at, NEVER, Leaf::Panic, expected),
+        ExpressionForm::Call { callee, args } => check_call(checker, at, callee, args, expected),
         ExpressionForm::MethodCall {
             receiver,
             name,
             args,
-        } => check_method_call(checker, at, receiver, name, args, want),
+        } => check_method_call(checker, at, receiver, name, args, expected),
         ExpressionForm::IfLet {
             pattern,
             scrutinee,
             body,
             otherwise,
-        } => check_if_let(checker, at, pattern, scrutinee, body, otherwise, want),
+        } => check_if_let(checker, at, pattern, scrutinee, body, otherwise, expected),
         ExpressionForm::Match { scrutinee, arms } => check_match(
-            checker, at, scrutinee, arms, want,
+            checker, at, scrutinee, arms, expected,
         ),
         ExpressionForm::WhileLet {
             label,
             pattern,
             scrutinee,
             body,
-        } => check_while_let(checker, at, label, pattern, scrutinee, body, want),
-        ExpressionForm::Struct { path, fields } => check_struct(checker, at, path, fields, want),
+        } => check_while_let(checker, at, label, pattern, scrutinee, body, expected),
+        ExpressionForm::Struct { path, fields } => check_struct(
+            checker, at, path, fields, expected,
+        ),
         ExpressionForm::Closure {
             captures,
             params,
             answer,
             block,
-        } => check_closure(checker, at, captures, params, answer, block, want),
+        } => check_closure(checker, at, captures, params, answer, block, expected),
         ExpressionForm::Field { .. }
         | ExpressionForm::Part { .. }
         | ExpressionForm::Index { .. }

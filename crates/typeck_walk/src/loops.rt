@@ -7,7 +7,7 @@ ghost use Rattle.typing_rules.specs.Rows as rows;
 ghost use Rattle.typing_rules.specs.Rows.{loop_around};
 ghost use Rattle.typing_rules.specs.Scope.{within_loop};
 ghost use Rattle.typing_rules.specs.Typed as rules;
-ghost use Rattle.typeck_checker.specs.Stand.{Gives, Keeps, env, stack, state};
+ghost use Rattle.typeck_checker.specs.Stand.{Gives, KeepsStack, env, stack, state};
 
 use crate::expressions::check_expr;
 use mir_base::{NodeId, Pos, RuleError};
@@ -26,13 +26,19 @@ fn inside_loop(
     id: NodeId,
     breaks_with: Breaks,
     node: &SyntaxNode,
-    want: Option<TyId>,
+    expected: Option<TyId>,
 ) -> Result<(), RuleError>
-    ensures gives { Gives (rules.typed (within_loop (loop_around (word_in label.entry) id.0 breaks_with.has_value breaks_with.want) (env checker.old)) (syn_of node.now) want (state checker.old)) result checker.new }
-    ensures kept { Keeps (stack checker.old) checker.old result checker.new }
+    ensures gives { Gives (rules.typed (within_loop (loop_around (word_in label.entry) id.0 breaks_with.has_value breaks_with.expected) (env checker.old)) (syn_of node.now) expected (state checker.old)) result checker.new }
+    ensures kept { KeepsStack (stack checker.old) checker.old result checker.new }
 {
-    enter_loop(checker, label, id, breaks_with.has_value, breaks_with.want)?;
-    check_expr(checker, node, want)?;
+    enter_loop(
+        checker,
+        label,
+        id,
+        breaks_with.has_value,
+        breaks_with.expected,
+    )?;
+    check_expr(checker, node, expected)?;
     leave_loop(checker);
     Ok(())
 }
@@ -41,7 +47,7 @@ fn inside_loop(
 #[derive(Clone, Copy)]
 pub struct Breaks {
     pub has_value: bool,
-    pub want: Option<TyId>,
+    pub expected: Option<TyId>,
 }
 
 /// `loop`.
@@ -51,18 +57,18 @@ pub fn check_loop(
     at: Pos,
     label: Option<&str>,
     body: &SyntaxNode,
-    want: Option<TyId>,
+    expected: Option<TyId>,
 ) -> Result<(), RuleError>
-    ensures gives { Gives (rules.value (env checker.old) at (LoopOf (word_of label.entry) (syn_of body.now)) want (state checker.old)) result checker.new }
-    ensures kept { Keeps (stack checker.old) checker.old result checker.new }
+    ensures gives { Gives (rules.value (env checker.old) at (LoopOf (word_of label.entry) (syn_of body.now)) expected (state checker.old)) result checker.new }
+    ensures kept { KeepsStack (stack checker.old) checker.old result checker.new }
 {
     let id = checker.number()?;
     let breaks = Breaks {
         has_value: true,
-        want,
+        expected,
     };
     inside_loop(checker, label, id, breaks, body, Some(UNIT))?;
-    loop_end(checker, id, at, want)
+    loop_end(checker, id, at, expected)
 }
 
 /// `while`.
@@ -73,19 +79,19 @@ pub fn check_while(
     label: Option<&str>,
     condition: &SyntaxNode,
     body: &SyntaxNode,
-    want: Option<TyId>,
+    expected: Option<TyId>,
 ) -> Result<(), RuleError>
-    ensures gives { Gives (rules.value (env checker.old) at (WhileOf (word_of label.entry) (syn_of condition.now) (syn_of body.now)) want (state checker.old)) result checker.new }
-    ensures kept { Keeps (stack checker.old) checker.old result checker.new }
+    ensures gives { Gives (rules.value (env checker.old) at (WhileOf (word_of label.entry) (syn_of condition.now) (syn_of body.now)) expected (state checker.old)) result checker.new }
+    ensures kept { KeepsStack (stack checker.old) checker.old result checker.new }
 {
     let id = checker.number()?;
     let breaks = Breaks {
         has_value: false,
-        want: None,
+        expected: None,
     };
     inside_loop(checker, label, id, breaks, condition, Some(BOOL))?;
     inside_loop(checker, label, id, breaks, body, Some(UNIT))?;
-    checker.unify_two(id, at, UNIT, TwoParts::While, want)
+    checker.unify_two(id, at, UNIT, TwoParts::While, expected)
 }
 
 /// `break`.
@@ -95,19 +101,19 @@ pub fn check_break(
     at: Pos,
     label: Option<&str>,
     value: Option<&SyntaxNode>,
-    want: Option<TyId>,
+    expected: Option<TyId>,
 ) -> Result<(), RuleError>
-    ensures gives { Gives (rules.value (env checker.old) at (BreakOf (word_of label.entry) (maybe_of value.entry)) want (state checker.old)) result checker.new }
-    ensures kept { Keeps (stack checker.old) checker.old result checker.new }
+    ensures gives { Gives (rules.value (env checker.old) at (BreakOf (word_of label.entry) (maybe_of value.entry)) expected (state checker.old)) result checker.new }
+    ensures kept { KeepsStack (stack checker.old) checker.old result checker.new }
 {
     let id = checker.number()?;
     let target = jump_target(checker, label);
     match value {
         Some(value) => {
             check_expr(checker, value, carried_type(target))?;
-            break_end(checker, id, at, target, want)
+            break_end(checker, id, at, target, expected)
         }
-        None => break_alone_end(checker, id, at, target, want),
+        None => break_alone_end(checker, id, at, target, expected),
     }
 }
 
@@ -116,14 +122,14 @@ pub fn check_continue(
     checker: &mut Checker,
     at: Pos,
     label: Option<&str>,
-    want: Option<TyId>,
+    expected: Option<TyId>,
 ) -> Result<(), RuleError>
-    ensures gives { Gives (rules.value (env checker.old) at (ContinueOf (word_of label.entry)) want (state checker.old)) result checker.new }
-    ensures kept { Keeps (stack checker.old) checker.old result checker.new }
+    ensures gives { Gives (rules.value (env checker.old) at (ContinueOf (word_of label.entry)) expected (state checker.old)) result checker.new }
+    ensures kept { KeepsStack (stack checker.old) checker.old result checker.new }
 {
     let id = checker.number()?;
     let target = jump_target(checker, label);
-    continue_end(checker, id, at, target, want)
+    continue_end(checker, id, at, target, expected)
 }
 
 #[tactic(auto, unfolding(typeck_checker::specs::Stand::env_in))]
@@ -139,17 +145,17 @@ pub fn check_return(
     checker: &mut Checker,
     at: Pos,
     value: Option<&SyntaxNode>,
-    want: Option<TyId>,
+    expected: Option<TyId>,
 ) -> Result<(), RuleError>
-    ensures gives { Gives (rules.value (env checker.old) at (ReturnOf (maybe_of value.entry)) want (state checker.old)) result checker.new }
-    ensures kept { Keeps (stack checker.old) checker.old result checker.new }
+    ensures gives { Gives (rules.value (env checker.old) at (ReturnOf (maybe_of value.entry)) expected (state checker.old)) result checker.new }
+    ensures kept { KeepsStack (stack checker.old) checker.old result checker.new }
 {
     let id = checker.number()?;
     match value {
         Some(value) => {
             check_expr(checker, value, Some(answer(checker)))?;
-            checker.unify_one(id, at, NEVER, One::Return, want)
+            checker.unify_one(id, at, NEVER, One::Return, expected)
         }
-        None => return_alone_end(checker, id, at, want),
+        None => return_alone_end(checker, id, at, expected),
     }
 }

@@ -5,7 +5,7 @@ ghost use Rattle.src_ast.specs.Seen.{maybe_of, nodes_of, syn_of, word_of};
 ghost use Rattle.src_ast.specs.Syntax.{IfLetElse, MatchOn, WhileLetOf};
 ghost use Rattle.src_ast.specs.Expressions.{arm_of};
 ghost use Rattle.typeck_env.specs.Scope.{word_in};
-ghost use Rattle.typeck_patterns.specs.Expected.{expected_of};
+ghost use Rattle.typeck_patterns.specs.PatternContext.{pattern_context_of};
 ghost use Rattle.typing_rules.specs.Places as places;
 ghost use Rattle.typing_rules.specs.Rows as rows;
 ghost use Rattle.typing_rules.specs.Rows.{loop_around};
@@ -13,7 +13,7 @@ ghost use Rattle.typing_rules.specs.Scope.{in_guard, with_variables, within_loop
 ghost use Rattle.typing_rules.specs.Typed as rules;
 ghost use Rattle.typeck_walk.specs.Matches.{arm_check, arm_of_syn, arm_parts, arms_rest, if_let_parts, if_let_rest, while_let_rest};
 ghost use Rattle.typeck_exprs.specs.Lists.{GivesTyped, KeepsBelow};
-ghost use Rattle.typeck_checker.specs.Stand.{Gives, Keeps, below, env, stack, state, top};
+ghost use Rattle.typeck_checker.specs.Stand.{Gives, KeepsStack, below, env, stack, state, top};
 
 use crate::expressions::{check_expr, check_place_base};
 use mir_base::{NodeId, Pos, Rule, RuleError};
@@ -25,8 +25,8 @@ use typeck_env::Variables;
 use typeck_exprs::{if_let_else_end, match_end, one_more};
 use typeck_heads::broken_rule;
 use typeck_patterns::{
-    Expected, arm_end, bindings, enter_bound, enter_guard, expected_of_last, finish_scrutinee,
-    guarded_arm_end,
+    PatternContext, arm_end, bindings, enter_bound, enter_guard, finish_scrutinee, guarded_arm_end,
+    pattern_context_of_last,
 };
 
 /// An expression inside the scope of bindings.
@@ -35,14 +35,14 @@ fn inside_scope(
     checker: &mut Checker,
     bound: &Variables,
     node: &SyntaxNode,
-    want: Option<TyId>,
+    expected: Option<TyId>,
 ) -> Result<(), RuleError>
-    ensures gives { Gives (rules.typed (with_variables (reverse bound.now) (env checker.old)) (syn_of node.now) want (state checker.old)) result checker.new }
-    ensures kept { Keeps (stack checker.old) checker.old result checker.new }
+    ensures gives { Gives (rules.typed (with_variables (reverse bound.now) (env checker.old)) (syn_of node.now) expected (state checker.old)) result checker.new }
+    ensures kept { KeepsStack (stack checker.old) checker.old result checker.new }
 {
     let outer = count(checker);
     enter_bound(checker, bound)?;
-    check_expr(checker, node, want)?;
+    check_expr(checker, node, expected)?;
     leave(checker, outer);
     Ok(())
 }
@@ -55,7 +55,7 @@ fn inside_guard(
     guard: &SyntaxNode,
 ) -> Result<(), RuleError>
     ensures gives { Gives (rules.typed (with_variables (in_guard (reverse bound.now)) (env checker.old)) (syn_of guard.now) (Some places.bool) (state checker.old)) result checker.new }
-    ensures kept { Keeps (stack checker.old) checker.old result checker.new }
+    ensures kept { KeepsStack (stack checker.old) checker.old result checker.new }
 {
     let outer = count(checker);
     enter_guard(checker, bound)?;
@@ -72,19 +72,19 @@ fn check_arm_body(
     bound: &Variables,
     guard: Option<&SyntaxNode>,
     body: &SyntaxNode,
-    want: Option<TyId>,
+    expected: Option<TyId>,
 ) -> Result<(), RuleError>
-    ensures gives { Gives (arm_parts (env checker.old) id.0 (top (stack checker.old)) (reverse bound.now) (maybe_of guard.entry) (syn_of body.now) want (state checker.old)) result checker.new }
-    ensures kept { Keeps (below (stack checker.old)) checker.old result checker.new }
+    ensures gives { Gives (arm_parts (env checker.old) id.0 (top (stack checker.old)) (reverse bound.now) (maybe_of guard.entry) (syn_of body.now) expected (state checker.old)) result checker.new }
+    ensures kept { KeepsStack (below (stack checker.old)) checker.old result checker.new }
 {
     match guard {
         Some(guard) => {
             inside_guard(checker, bound, guard)?;
-            inside_scope(checker, bound, body, want)?;
+            inside_scope(checker, bound, body, expected)?;
             guarded_arm_end(checker, id)
         }
         None => {
-            inside_scope(checker, bound, body, want)?;
+            inside_scope(checker, bound, body, expected)?;
             arm_end(checker, id)
         }
     }
@@ -95,17 +95,17 @@ fn check_arm_body(
 fn check_arm(
     checker: &mut Checker,
     at: Pos,
-    e: Expected,
+    e: PatternContext,
     ty: TyId,
     form: ArmForm,
-    want: Option<TyId>,
+    expected: Option<TyId>,
 ) -> Result<(), RuleError>
-    ensures gives { Gives (arm_check (env checker.old) (expected_of e) ty want at (Some (arm_of form.entry)) (state checker.old)) result checker.new }
-    ensures kept { Keeps (stack checker.old) checker.old result checker.new }
+    ensures gives { Gives (arm_check (env checker.old) (pattern_context_of e) ty expected at (Some (arm_of form.entry)) (state checker.old)) result checker.new }
+    ensures kept { KeepsStack (stack checker.old) checker.old result checker.new }
 {
     let id = checker.number()?;
     let bound = bindings(checker, e, ty, form.pattern)?;
-    check_arm_body(checker, id, &bound, form.guard, form.body, want)
+    check_arm_body(checker, id, &bound, form.guard, form.body, expected)
 }
 
 /// A node as an arm.
@@ -113,16 +113,16 @@ fn check_arm(
 #[tactic(auto, using(crate::proofs::Arms::arm_seen))]
 fn arm_of_node(
     checker: &mut Checker,
-    e: Expected,
+    e: PatternContext,
     ty: TyId,
     node: &SyntaxNode,
-    want: Option<TyId>,
+    expected: Option<TyId>,
 ) -> Result<(), RuleError>
-    ensures gives { Gives (arm_of_syn (env checker.old) (expected_of e) ty want (syn_of node.now) (state checker.old)) result checker.new }
-    ensures kept { Keeps (stack checker.old) checker.old result checker.new }
+    ensures gives { Gives (arm_of_syn (env checker.old) (pattern_context_of e) ty expected (syn_of node.now) (state checker.old)) result checker.new }
+    ensures kept { KeepsStack (stack checker.old) checker.old result checker.new }
 {
     match arm_form(node) {
-        Some(form) => check_arm(checker, node.at, e, ty, form, want),
+        Some(form) => check_arm(checker, node.at, e, ty, form, expected),
         None => Err(broken_rule(Rule::T20, node.at)),
     }
 }
@@ -131,18 +131,18 @@ fn arm_of_node(
 #[cycle(check_expr)]
 fn check_each_arm(
     checker: &mut Checker,
-    e: Expected,
+    e: PatternContext,
     ty: TyId,
-    want: Option<TyId>,
+    expected: Option<TyId>,
     arms: Nodes,
 ) -> Result<usize, RuleError>
-    ensures gives { GivesTyped (rules.typed_arms (env checker.old) (expected_of e) ty want (nodes_of arms.entry) (state checker.old)) result checker.new }
+    ensures gives { GivesTyped (rules.typed_arms (env checker.old) (pattern_context_of e) ty expected (nodes_of arms.entry) (state checker.old)) result checker.new }
     ensures kept { KeepsBelow (stack checker.old) checker.old result checker.new }
 {
     let mut count: usize = 0;
     let mut rest = arms;
     while let Some(split) = rest.split_first() {
-        arm_of_node(checker, e, ty, split.first, want)?;
+        arm_of_node(checker, e, ty, split.first, expected)?;
         count = one_more(count)?;
         rest = split.rest;
     }
@@ -156,22 +156,22 @@ fn check_arms(
     id: NodeId,
     at: Pos,
     arms: Nodes,
-    want: Option<TyId>,
+    expected: Option<TyId>,
 ) -> Result<(), RuleError>
-    ensures gives { Gives (arms_rest (env checker.old) id.0 at (top (stack checker.old)) (nodes_of arms.entry) want (state checker.old)) result checker.new }
-    ensures kept { Keeps (below (stack checker.old)) checker.old result checker.new }
+    ensures gives { Gives (arms_rest (env checker.old) id.0 at (top (stack checker.old)) (nodes_of arms.entry) expected (state checker.old)) result checker.new }
+    ensures kept { KeepsStack (below (stack checker.old)) checker.old result checker.new }
 {
-    let e = expected_of_last(checker, false);
+    let e = pattern_context_of_last(checker, false);
     let ty = checker.last_ty();
-    let count = check_each_arm(checker, e, ty, want, arms)?;
-    match_end(checker, id, at, count, want)
+    let count = check_each_arm(checker, e, ty, expected, arms)?;
+    match_end(checker, id, at, count, expected)
 }
 
 /// What a pattern looks at.
 #[cycle(check_expr)]
 fn check_scrutinee(checker: &mut Checker, scrutinee: &SyntaxNode) -> Result<(), RuleError>
     ensures gives { Gives (rows.scrutinised (rules.base_of (env checker.old) (syn_of scrutinee.now)) (state checker.old)) result checker.new }
-    ensures kept { Keeps (stack checker.old) checker.old result checker.new }
+    ensures kept { KeepsStack (stack checker.old) checker.old result checker.new }
 {
     check_place_base(checker, scrutinee)?;
     finish_scrutinee(checker)
@@ -183,14 +183,14 @@ fn check_match_parts(
     at: Pos,
     scrutinee: &SyntaxNode,
     arms: Nodes,
-    want: Option<TyId>,
+    expected: Option<TyId>,
 ) -> Result<(), RuleError>
-    ensures gives { Gives (rows.match_row (env checker.old) at (rules.base_of (env checker.old) (syn_of scrutinee.now)) (λ e ty want. rules.typed_arms (env checker.old) e ty want (nodes_of arms.entry)) want (state checker.old)) result checker.new }
-    ensures kept { Keeps (stack checker.old) checker.old result checker.new }
+    ensures gives { Gives (rows.match_row (env checker.old) at (rules.base_of (env checker.old) (syn_of scrutinee.now)) (λ e ty expected. rules.typed_arms (env checker.old) e ty expected (nodes_of arms.entry)) expected (state checker.old)) result checker.new }
+    ensures kept { KeepsStack (stack checker.old) checker.old result checker.new }
 {
     let id = checker.number()?;
     check_scrutinee(checker, scrutinee)?;
-    check_arms(checker, id, at, arms, want)
+    check_arms(checker, id, at, arms, expected)
 }
 
 /// `match`.
@@ -201,15 +201,15 @@ pub fn check_match(
     at: Pos,
     scrutinee: &SyntaxNode,
     arms: Nodes,
-    want: Option<TyId>,
+    expected: Option<TyId>,
 ) -> Result<(), RuleError>
-    ensures gives { Gives (rules.value (env checker.old) at (MatchOn (syn_of scrutinee.now) (nodes_of arms.entry)) want (state checker.old)) result checker.new }
-    ensures kept { Keeps (stack checker.old) checker.old result checker.new }
+    ensures gives { Gives (rules.value (env checker.old) at (MatchOn (syn_of scrutinee.now) (nodes_of arms.entry)) expected (state checker.old)) result checker.new }
+    ensures kept { KeepsStack (stack checker.old) checker.old result checker.new }
 {
     if arms.is_empty() {
         return Err(broken_rule(Rule::T20, at));
     }
-    check_match_parts(checker, at, scrutinee, arms, want)
+    check_match_parts(checker, at, scrutinee, arms, expected)
 }
 
 /// The branches of an `if let`, whose scrutinee and pattern are the last nodes.
@@ -221,20 +221,20 @@ fn if_let_branches(
     bound: &Variables,
     body: &SyntaxNode,
     otherwise: Option<&SyntaxNode>,
-    want: Option<TyId>,
+    expected: Option<TyId>,
 ) -> Result<(), RuleError>
-    ensures gives { Gives (if_let_parts (env checker.old) id.0 at (top (below (stack checker.old))) (top (stack checker.old)) (reverse bound.now) (syn_of body.now) (maybe_of otherwise.entry) want (state checker.old)) result checker.new }
-    ensures kept { Keeps (below (below (stack checker.old))) checker.old result checker.new }
+    ensures gives { Gives (if_let_parts (env checker.old) id.0 at (top (below (stack checker.old))) (top (stack checker.old)) (reverse bound.now) (syn_of body.now) (maybe_of otherwise.entry) expected (state checker.old)) result checker.new }
+    ensures kept { KeepsStack (below (below (stack checker.old))) checker.old result checker.new }
 {
     match otherwise {
         Some(otherwise) => {
-            inside_scope(checker, bound, body, want)?;
-            check_expr(checker, otherwise, want)?;
-            if_let_else_end(checker, id, at, want)
+            inside_scope(checker, bound, body, expected)?;
+            check_expr(checker, otherwise, expected)?;
+            if_let_else_end(checker, id, at, expected)
         }
         None => {
             inside_scope(checker, bound, body, Some(UNIT))?;
-            checker.unify_three(id, at, UNIT, Three::IfLet, want)
+            checker.unify_three(id, at, UNIT, Three::IfLet, expected)
         }
     }
 }
@@ -248,15 +248,15 @@ fn if_let_behind(
     pattern: &SyntaxNode,
     body: &SyntaxNode,
     otherwise: Option<&SyntaxNode>,
-    want: Option<TyId>,
+    expected: Option<TyId>,
 ) -> Result<(), RuleError>
-    ensures gives { Gives (if_let_rest (env checker.old) id.0 at (top (stack checker.old)) (syn_of pattern.now) (syn_of body.now) (maybe_of otherwise.entry) want (state checker.old)) result checker.new }
-    ensures kept { Keeps (below (stack checker.old)) checker.old result checker.new }
+    ensures gives { Gives (if_let_rest (env checker.old) id.0 at (top (stack checker.old)) (syn_of pattern.now) (syn_of body.now) (maybe_of otherwise.entry) expected (state checker.old)) result checker.new }
+    ensures kept { KeepsStack (below (stack checker.old)) checker.old result checker.new }
 {
-    let e = expected_of_last(checker, false);
+    let e = pattern_context_of_last(checker, false);
     let ty = checker.last_ty();
     let bound = bindings(checker, e, ty, pattern)?;
-    if_let_branches(checker, id, at, &bound, body, otherwise, want)
+    if_let_branches(checker, id, at, &bound, body, otherwise, expected)
 }
 
 /// `if let`.
@@ -268,14 +268,14 @@ pub fn check_if_let(
     scrutinee: &SyntaxNode,
     body: &SyntaxNode,
     otherwise: Option<&SyntaxNode>,
-    want: Option<TyId>,
+    expected: Option<TyId>,
 ) -> Result<(), RuleError>
-    ensures gives { Gives (rules.value (env checker.old) at (IfLetElse (syn_of pattern.now) (syn_of scrutinee.now) (syn_of body.now) (maybe_of otherwise.entry)) want (state checker.old)) result checker.new }
-    ensures kept { Keeps (stack checker.old) checker.old result checker.new }
+    ensures gives { Gives (rules.value (env checker.old) at (IfLetElse (syn_of pattern.now) (syn_of scrutinee.now) (syn_of body.now) (maybe_of otherwise.entry)) expected (state checker.old)) result checker.new }
+    ensures kept { KeepsStack (stack checker.old) checker.old result checker.new }
 {
     let id = checker.number()?;
     check_scrutinee(checker, scrutinee)?;
-    if_let_behind(checker, id, at, pattern, body, otherwise, want)
+    if_let_behind(checker, id, at, pattern, body, otherwise, expected)
 }
 
 /// The body of a `while let`.
@@ -288,7 +288,7 @@ fn body_inside_loop(
     body: &SyntaxNode,
 ) -> Result<(), RuleError>
     ensures gives { Gives (rules.typed (with_variables (reverse bound.now) (within_loop (loop_around (word_in label.entry) id.0 false None) (env checker.old))) (syn_of body.now) (Some places.unit) (state checker.old)) result checker.new }
-    ensures kept { Keeps (stack checker.old) checker.old result checker.new }
+    ensures kept { KeepsStack (stack checker.old) checker.old result checker.new }
 {
     enter_loop(checker, label, id, false, None)?;
     inside_scope(checker, bound, body, Some(UNIT))?;
@@ -305,7 +305,7 @@ fn base_inside_loop(
     scrutinee: &SyntaxNode,
 ) -> Result<(), RuleError>
     ensures gives { Gives (rules.base_of (within_loop (loop_around (word_in label.entry) id.0 false None) (env checker.old)) (syn_of scrutinee.now) (state checker.old)) result checker.new }
-    ensures kept { Keeps (stack checker.old) checker.old result checker.new }
+    ensures kept { KeepsStack (stack checker.old) checker.old result checker.new }
 {
     enter_loop(checker, label, id, false, None)?;
     check_place_base(checker, scrutinee)?;
@@ -322,16 +322,16 @@ fn while_let_behind(
     label: Option<&str>,
     pattern: &SyntaxNode,
     body: &SyntaxNode,
-    want: Option<TyId>,
+    expected: Option<TyId>,
 ) -> Result<(), RuleError>
-    ensures gives { Gives (while_let_rest (env checker.old) id.0 at (word_in label.entry) (top (stack checker.old)) (syn_of pattern.now) (syn_of body.now) want (state checker.old)) result checker.new }
-    ensures kept { Keeps (below (stack checker.old)) checker.old result checker.new }
+    ensures gives { Gives (while_let_rest (env checker.old) id.0 at (word_in label.entry) (top (stack checker.old)) (syn_of pattern.now) (syn_of body.now) expected (state checker.old)) result checker.new }
+    ensures kept { KeepsStack (below (stack checker.old)) checker.old result checker.new }
 {
-    let e = expected_of_last(checker, false);
+    let e = pattern_context_of_last(checker, false);
     let ty = checker.last_ty();
     let bound = bindings(checker, e, ty, pattern)?;
     body_inside_loop(checker, label, id, &bound, body)?;
-    checker.unify_three(id, at, UNIT, Three::WhileLet, want)
+    checker.unify_three(id, at, UNIT, Three::WhileLet, expected)
 }
 
 /// `while let`.
@@ -344,13 +344,13 @@ pub fn check_while_let(
     pattern: &SyntaxNode,
     scrutinee: &SyntaxNode,
     body: &SyntaxNode,
-    want: Option<TyId>,
+    expected: Option<TyId>,
 ) -> Result<(), RuleError>
-    ensures gives { Gives (rules.value (env checker.old) at (WhileLetOf (word_of label.entry) (syn_of pattern.now) (syn_of scrutinee.now) (syn_of body.now)) want (state checker.old)) result checker.new }
-    ensures kept { Keeps (stack checker.old) checker.old result checker.new }
+    ensures gives { Gives (rules.value (env checker.old) at (WhileLetOf (word_of label.entry) (syn_of pattern.now) (syn_of scrutinee.now) (syn_of body.now)) expected (state checker.old)) result checker.new }
+    ensures kept { KeepsStack (stack checker.old) checker.old result checker.new }
 {
     let id = checker.number()?;
     base_inside_loop(checker, label, id, scrutinee)?;
     finish_scrutinee(checker)?;
-    while_let_behind(checker, id, at, label, pattern, body, want)
+    while_let_behind(checker, id, at, label, pattern, body, expected)
 }

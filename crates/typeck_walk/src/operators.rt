@@ -5,7 +5,7 @@ ghost use Rattle.typing_rules.specs.Rows as rows;
 ghost use Rattle.typing_rules.specs.Typed as rules;
 ghost use Rattle.typeck_exprs.specs.Pairs.{KeepsTwo, left_of, right_of};
 ghost use Rattle.typeck_checker.specs.Forms.{two_form};
-ghost use Rattle.typeck_checker.specs.Stand.{Gives, GivesValue, Keeps, below, env, stack, state, top};
+ghost use Rattle.typeck_checker.specs.Stand.{Gives, GivesValue, KeepsStack, below, env, stack, state, top};
 
 use crate::expressions::{check_expr, check_plain_base};
 use mir_base::{Cmp, Math, Pos, RuleError};
@@ -23,14 +23,14 @@ pub fn check_not(
     checker: &mut Checker,
     at: Pos,
     operand: &SyntaxNode,
-    want: Option<TyId>,
+    expected: Option<TyId>,
 ) -> Result<(), RuleError>
-    ensures gives { Gives (rows.not_row at (rules.typed (env checker.old) (syn_of operand.now)) want (state checker.old)) result checker.new }
-    ensures kept { Keeps (stack checker.old) checker.old result checker.new }
+    ensures gives { Gives (rows.not_row at (rules.typed (env checker.old) (syn_of operand.now)) expected (state checker.old)) result checker.new }
+    ensures kept { KeepsStack (stack checker.old) checker.old result checker.new }
 {
     let id = checker.number()?;
     check_expr(checker, operand, None)?;
-    not_end(checker, id, at, want)
+    not_end(checker, id, at, expected)
 }
 
 #[cycle(check_expr)]
@@ -38,15 +38,15 @@ fn negate(
     checker: &mut Checker,
     at: Pos,
     operand: &SyntaxNode,
-    want: Option<TyId>,
+    expected: Option<TyId>,
 ) -> Result<(), RuleError>
-    ensures gives { Gives (rows.negate at (rules.typed (env checker.old) (syn_of operand.now)) want (state checker.old)) result checker.new }
-    ensures kept { Keeps (stack checker.old) checker.old result checker.new }
+    ensures gives { Gives (rows.negate at (rules.typed (env checker.old) (syn_of operand.now)) expected (state checker.old)) result checker.new }
+    ensures kept { KeepsStack (stack checker.old) checker.old result checker.new }
 {
     let id = checker.number()?;
-    let inner = wanted_int(&checker.walk.items, want);
+    let inner = wanted_int(&checker.walk.items, expected);
     check_expr(checker, operand, inner)?;
-    negate_end(checker, id, at, want)
+    negate_end(checker, id, at, expected)
 }
 
 /// `-e`: a `-` directly before a number belongs to it.
@@ -55,14 +55,14 @@ pub fn check_minus(
     checker: &mut Checker,
     at: Pos,
     operand: &SyntaxNode,
-    want: Option<TyId>,
+    expected: Option<TyId>,
 ) -> Result<(), RuleError>
-    ensures gives { Gives (rules.minus at (rules.literal_in (syn_of operand.now)) (rules.typed (env checker.old) (syn_of operand.now)) want (state checker.old)) result checker.new }
-    ensures kept { Keeps (stack checker.old) checker.old result checker.new }
+    ensures gives { Gives (rules.minus at (rules.literal_in (syn_of operand.now)) (rules.typed (env checker.old) (syn_of operand.now)) expected (state checker.old)) result checker.new }
+    ensures kept { KeepsStack (stack checker.old) checker.old result checker.new }
 {
     match literal_in(operand) {
-        Some(digits) => checker.literal(at, true, digits.value, digits.suffix, want),
-        None => negate(checker, at, operand, want),
+        Some(digits) => checker.literal(at, true, digits.value, digits.suffix, expected),
+        None => negate(checker, at, operand, expected),
     }
 }
 
@@ -72,13 +72,13 @@ fn left_first(
     checker: &mut Checker,
     left: &SyntaxNode,
     right: &SyntaxNode,
-    want: Option<TyId>,
+    expected: Option<TyId>,
 ) -> Result<(), RuleError>
     ensures gives { GivesValue (λ u. (top (below (stack checker.new)), top (stack checker.new)))
-        (rows.left_first want (rules.typed (env checker.old) (syn_of left.now)) (rules.typed (env checker.old) (syn_of right.now)) (state checker.old)) result checker.new }
+        (rows.left_first expected (rules.typed (env checker.old) (syn_of left.now)) (rules.typed (env checker.old) (syn_of right.now)) (state checker.old)) result checker.new }
     ensures kept { KeepsTwo (stack checker.old) checker.old result checker.new }
 {
-    check_expr(checker, left, want)?;
+    check_expr(checker, left, expected)?;
     let inner = if_int(&checker.walk.items, checker.last_ty());
     check_expr(checker, right, inner)
 }
@@ -114,13 +114,13 @@ fn plain_operands(
     checker: &mut Checker,
     left: &SyntaxNode,
     right: &SyntaxNode,
-    want: Option<TyId>,
+    expected: Option<TyId>,
 ) -> Result<bool, RuleError>
     ensures gives { GivesValue (λ swapped. (left_of swapped (stack checker.new), right_of swapped (stack checker.new)))
-        (rows.left_first want (rules.typed (env checker.old) (syn_of left.now)) (rules.typed (env checker.old) (syn_of right.now)) (state checker.old)) result checker.new }
+        (rows.left_first expected (rules.typed (env checker.old) (syn_of left.now)) (rules.typed (env checker.old) (syn_of right.now)) (state checker.old)) result checker.new }
     ensures kept { KeepsTwo (stack checker.old) checker.old result checker.new }
 {
-    left_first(checker, left, right, want)?;
+    left_first(checker, left, right, expected)?;
     Ok(false)
 }
 
@@ -131,19 +131,19 @@ fn check_operands(
     checker: &mut Checker,
     left: &SyntaxNode,
     right: &SyntaxNode,
-    want: Option<TyId>,
+    expected: Option<TyId>,
 ) -> Result<bool, RuleError>
     ensures gives { GivesValue (λ swapped. (left_of swapped (stack checker.new), right_of swapped (stack checker.new)))
-        (rows.operands (rules.is_plain (syn_of left.now)) want (rules.typed (env checker.old) (syn_of left.now)) (rules.typed (env checker.old) (syn_of right.now)) (state checker.old)) result checker.new }
+        (rows.operands (rules.is_plain (syn_of left.now)) expected (rules.typed (env checker.old) (syn_of left.now)) (rules.typed (env checker.old) (syn_of right.now)) (state checker.old)) result checker.new }
     ensures kept { KeepsTwo (stack checker.old) checker.old result checker.new }
 {
-    match want {
-        Some(_) => plain_operands(checker, left, right, want),
+    match expected {
+        Some(_) => plain_operands(checker, left, right, expected),
         None => {
             if is_plain(left) {
                 swapped_operands(checker, left, right)
             } else {
-                plain_operands(checker, left, right, want)
+                plain_operands(checker, left, right, expected)
             }
         }
     }
@@ -157,15 +157,15 @@ pub fn check_arithmetic(
     operator: Math,
     left: &SyntaxNode,
     right: &SyntaxNode,
-    want: Option<TyId>,
+    expected: Option<TyId>,
 ) -> Result<(), RuleError>
-    ensures gives { Gives (rows.arithmetic at operator (rules.is_plain (syn_of left.now)) (rules.typed (env checker.old) (syn_of left.now)) (rules.typed (env checker.old) (syn_of right.now)) want (state checker.old)) result checker.new }
-    ensures kept { Keeps (stack checker.old) checker.old result checker.new }
+    ensures gives { Gives (rows.arithmetic at operator (rules.is_plain (syn_of left.now)) (rules.typed (env checker.old) (syn_of left.now)) (rules.typed (env checker.old) (syn_of right.now)) expected (state checker.old)) result checker.new }
+    ensures kept { KeepsStack (stack checker.old) checker.old result checker.new }
 {
     let id = checker.number()?;
-    let inner = wanted_int(&checker.walk.items, want);
+    let inner = wanted_int(&checker.walk.items, expected);
     let swapped = check_operands(checker, left, right, inner)?;
-    arithmetic_of(checker, id, at, operator, swapped, want)
+    arithmetic_of(checker, id, at, operator, swapped, expected)
 }
 
 /// `==`, `<` and so on.
@@ -176,14 +176,14 @@ pub fn check_comparison(
     operator: Cmp,
     left: &SyntaxNode,
     right: &SyntaxNode,
-    want: Option<TyId>,
+    expected: Option<TyId>,
 ) -> Result<(), RuleError>
-    ensures gives { Gives (rows.comparison at operator (rules.is_plain (syn_of left.now)) (rules.typed (env checker.old) (syn_of left.now)) (rules.typed (env checker.old) (syn_of right.now)) want (state checker.old)) result checker.new }
-    ensures kept { Keeps (stack checker.old) checker.old result checker.new }
+    ensures gives { Gives (rows.comparison at operator (rules.is_plain (syn_of left.now)) (rules.typed (env checker.old) (syn_of left.now)) (rules.typed (env checker.old) (syn_of right.now)) expected (state checker.old)) result checker.new }
+    ensures kept { KeepsStack (stack checker.old) checker.old result checker.new }
 {
     let id = checker.number()?;
     let swapped = check_operands(checker, left, right, None)?;
-    comparison_of(checker, id, at, operator, swapped, want)
+    comparison_of(checker, id, at, operator, swapped, expected)
 }
 
 /// `&&`, `||`.
@@ -194,15 +194,15 @@ pub fn check_logic(
     two: TwoParts,
     left: &SyntaxNode,
     right: &SyntaxNode,
-    want: Option<TyId>,
+    expected: Option<TyId>,
 ) -> Result<(), RuleError>
-    ensures gives { Gives (rows.logic at (two_form two) (rules.typed (env checker.old) (syn_of left.now)) (rules.typed (env checker.old) (syn_of right.now)) want (state checker.old)) result checker.new }
-    ensures kept { Keeps (stack checker.old) checker.old result checker.new }
+    ensures gives { Gives (rows.logic at (two_form two) (rules.typed (env checker.old) (syn_of left.now)) (rules.typed (env checker.old) (syn_of right.now)) expected (state checker.old)) result checker.new }
+    ensures kept { KeepsStack (stack checker.old) checker.old result checker.new }
 {
     let id = checker.number()?;
     check_expr(checker, left, None)?;
     check_expr(checker, right, None)?;
-    logic_end(checker, id, at, two, want)
+    logic_end(checker, id, at, two, expected)
 }
 
 /// `p = e`.
@@ -212,14 +212,14 @@ pub fn check_assignment(
     at: Pos,
     place: &SyntaxNode,
     value: &SyntaxNode,
-    want: Option<TyId>,
+    expected: Option<TyId>,
 ) -> Result<(), RuleError>
-    ensures gives { Gives (rows.store (env checker.old) at (rules.base_of (env checker.old) (syn_of place.now)) (rules.typed (env checker.old) (syn_of value.now)) want (state checker.old)) result checker.new }
-    ensures kept { Keeps (stack checker.old) checker.old result checker.new }
+    ensures gives { Gives (rows.store (env checker.old) at (rules.base_of (env checker.old) (syn_of place.now)) (rules.typed (env checker.old) (syn_of value.now)) expected (state checker.old)) result checker.new }
+    ensures kept { KeepsStack (stack checker.old) checker.old result checker.new }
 {
     let id = checker.number()?;
     check_plain_base(checker, place)?;
     let ty = checker.last_ty();
     check_expr(checker, value, Some(ty))?;
-    store_end(checker, id, at, want)
+    store_end(checker, id, at, expected)
 }

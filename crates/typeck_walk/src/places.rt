@@ -5,7 +5,7 @@ ghost use Rattle.typing_rules.specs.Places as places;
 ghost use Rattle.typing_rules.specs.Rows as rows;
 ghost use Rattle.typing_rules.specs.Typed as rules;
 ghost use Rattle.typeck_walk.specs.Bases as bases;
-ghost use Rattle.typeck_checker.specs.Stand.{Gives, Keeps, env, stack, state};
+ghost use Rattle.typeck_checker.specs.Stand.{Gives, KeepsStack, env, stack, state};
 
 use crate::expressions::{check_expr, check_place_base, check_plain_base};
 use mir_base::{Pos, Rule, RuleError};
@@ -25,7 +25,7 @@ pub fn check_index(
     index: &SyntaxNode,
 ) -> Result<(), RuleError>
     ensures gives { Gives (rows.element at (rules.base_of (env checker.old) (syn_of base.now)) (rules.typed (env checker.old) (syn_of index.now)) (state checker.old)) result checker.new }
-    ensures kept { Keeps (stack checker.old) checker.old result checker.new }
+    ensures kept { KeepsStack (stack checker.old) checker.old result checker.new }
 {
     let id = checker.number()?;
     check_plain_base(checker, base)?;
@@ -37,7 +37,7 @@ pub fn check_index(
 #[cycle(check_expr)]
 pub fn check_deref(checker: &mut Checker, at: Pos, base: &SyntaxNode) -> Result<(), RuleError>
     ensures gives { Gives (rows.deref at (rules.base_of (env checker.old) (syn_of base.now)) (state checker.old)) result checker.new }
-    ensures kept { Keeps (stack checker.old) checker.old result checker.new }
+    ensures kept { KeepsStack (stack checker.old) checker.old result checker.new }
 {
     let id = checker.number()?;
     check_place_base(checker, base)?;
@@ -53,7 +53,7 @@ pub fn check_field(
     name: &str,
 ) -> Result<(), RuleError>
     ensures gives { Gives (rows.field at (places.struct_field name.now) (rules.base_of (env checker.old) (syn_of base.now)) (state checker.old)) result checker.new }
-    ensures kept { Keeps (stack checker.old) checker.old result checker.new }
+    ensures kept { KeepsStack (stack checker.old) checker.old result checker.new }
 {
     let id = checker.number()?;
     check_place_base(checker, base)?;
@@ -69,7 +69,7 @@ pub fn check_part(
     number: u64,
 ) -> Result<(), RuleError>
     ensures gives { Gives (rows.field at (places.numbered_part number) (rules.base_of (env checker.old) (syn_of base.now)) (state checker.old)) result checker.new }
-    ensures kept { Keeps (stack checker.old) checker.old result checker.new }
+    ensures kept { KeepsStack (stack checker.old) checker.old result checker.new }
 {
     let id = checker.number()?;
     check_place_base(checker, base)?;
@@ -80,7 +80,7 @@ pub fn check_part(
 #[cycle(check_expr)]
 pub fn check_borrow(checker: &mut Checker, at: Pos, operand: &SyntaxNode) -> Result<(), RuleError>
     ensures gives { Gives (bases.borrowed_value (env checker.old) at (syn_of operand.now) (state checker.old)) result checker.new }
-    ensures kept { Keeps (stack checker.old) checker.old result checker.new }
+    ensures kept { KeepsStack (stack checker.old) checker.old result checker.new }
 {
     check_plain_base(checker, operand)?;
     Err(broken_rule(Rule::T08, at))

@@ -7,7 +7,7 @@ ghost use Rattle.src_ast.specs.Syntax.{StructOf, Word};
 ghost use Rattle.typeck_calls.specs.StructFields.{variant_of};
 ghost use Rattle.typing_rules.specs.Rows as rows;
 ghost use Rattle.typing_rules.specs.Typed as rules;
-ghost use Rattle.typeck_checker.specs.Stand.{Gives, Keeps, env, stack, state};
+ghost use Rattle.typeck_checker.specs.Stand.{Gives, KeepsStack, env, stack, state};
 
 use crate::expressions::check_expr;
 use mir_base::{List, Pos, Rule, RuleError};
@@ -26,13 +26,13 @@ fn init_value(
     at: Pos,
     name: &str,
     value: Option<&SyntaxNode>,
-    want: Option<TyId>,
+    expected: Option<TyId>,
 ) -> Result<(), RuleError>
-    ensures gives { Gives (rules.init_value (env checker.old) at name.now (maybe_of value.entry) want (state checker.old)) result checker.new }
-    ensures kept { Keeps (stack checker.old) checker.old result checker.new }
+    ensures gives { Gives (rules.init_value (env checker.old) at name.now (maybe_of value.entry) expected (state checker.old)) result checker.new }
+    ensures kept { KeepsStack (stack checker.old) checker.old result checker.new }
 {
     match value {
-        Some(value) => check_expr(checker, value, want),
+        Some(value) => check_expr(checker, value, expected),
         None => path(
             checker,
             at,
@@ -40,7 +40,7 @@ fn init_value(
                 first: Some(name),
                 second: None,
             },
-            want,
+            expected,
         ),
     }
 }
@@ -56,10 +56,10 @@ fn numbered_init(
     form: InitForm,
 ) -> Result<Option<u32>, RuleError>
     ensures gives { (own : Word) → GivesInit (init_by (env checker.old) (variant_by own checker.old.tables adt variant types.now) at (Some (init_of form.entry)) (state checker.old)) result checker.new }
-    ensures kept { Keeps (stack checker.old) checker.old result checker.new }
+    ensures kept { KeepsStack (stack checker.old) checker.old result checker.new }
 {
     let wanted = field_wanted(checker, adt, variant, types, form.name);
-    init_value(checker, at, form.name, form.value, wanted.want)?;
+    init_value(checker, at, form.name, form.value, wanted.expected)?;
     Ok(wanted.number)
 }
 
@@ -72,7 +72,7 @@ fn init_of_node(
     node: &SyntaxNode,
 ) -> Result<Option<u32>, RuleError>
     ensures gives { (own : Word) → GivesInit (one_init (env checker.old) (variant_by own checker.old.tables adt variant types.now) (syn_of node.now) (state checker.old)) result checker.new }
-    ensures kept { Keeps (stack checker.old) checker.old result checker.new }
+    ensures kept { KeepsStack (stack checker.old) checker.old result checker.new }
 {
     match init_form(node) {
         Some(form) => numbered_init(checker, node.at, adt, variant, types, form),
@@ -109,15 +109,23 @@ fn struct_row(
     adt: u32,
     variant: u32,
     inits: Nodes,
-    want: Option<TyId>,
+    expected: Option<TyId>,
 ) -> Result<(), RuleError>
     ensures gives { Gives (rows.struct_row at adt variant (variant_of checker.old.walk.items adt variant).fields
-        (rules.typed_inits (env checker.old) (variant_of checker.old.walk.items adt variant) (nodes_of inits.entry)) want (state checker.old)) result checker.new }
-    ensures kept { Keeps (stack checker.old) checker.old result checker.new }
+        (rules.typed_inits (env checker.old) (variant_of checker.old.walk.items adt variant) (nodes_of inits.entry)) expected (state checker.old)) result checker.new }
+    ensures kept { KeepsStack (stack checker.old) checker.old result checker.new }
 {
     let begun = struct_begin(checker, adt, variant)?;
     let given = check_inits(checker, adt, variant, begun.types.as_slice(), inits)?;
-    struct_end(checker, at, &begun, adt, variant, given.as_slice(), want)
+    struct_end(
+        checker,
+        at,
+        &begun,
+        adt,
+        variant,
+        given.as_slice(),
+        expected,
+    )
 }
 
 /// A struct expression.
@@ -127,13 +135,13 @@ pub fn check_struct(
     at: Pos,
     path: PathForm,
     inits: Nodes,
-    want: Option<TyId>,
+    expected: Option<TyId>,
 ) -> Result<(), RuleError>
-    ensures gives { Gives (rules.value (env checker.old) at (StructOf (word_of path.entry.first) (word_of path.entry.second) (nodes_of inits.entry)) want (state checker.old)) result checker.new }
-    ensures kept { Keeps (stack checker.old) checker.old result checker.new }
+    ensures gives { Gives (rules.value (env checker.old) at (StructOf (word_of path.entry.first) (word_of path.entry.second) (nodes_of inits.entry)) expected (state checker.old)) result checker.new }
+    ensures kept { KeepsStack (stack checker.old) checker.old result checker.new }
 {
     match target_of(checker, path.first, path.second) {
-        Some(target) => struct_row(checker, at, target.adt, target.variant, inits, want),
+        Some(target) => struct_row(checker, at, target.adt, target.variant, inits, expected),
         None => Err(broken_rule(Rule::T01, at)),
     }
 }

@@ -12,7 +12,7 @@ use Rattle.typing_rules.specs.Check.{Check, ◌>>=◌, ◌>>◌, pure, breaks, o
 use Rattle.typing_rules.specs.Numbered.{in_text_order}
 use Rattle.typing_rules.specs.Patterns.{pattern}
 use Rattle.typing_rules.specs.Places.{used, a_node_of, unit, variable_place}
-use Rattle.typing_rules.specs.Rows.{Typer, Expected, taking, taken, fitted}
+use Rattle.typing_rules.specs.Rows.{Typer, PatternContext, taking, taken, fitted}
 use Rattle.typing_rules.specs.Scope.{Env, NamedEntry, Local, Capture, variable, with_variables}
 use Rattle.src_ast.specs.Syntax.{Word, Receiver, ByValue, ByShared, ByUnique, Syn, syn, Shape, Ident, AnyPattern, BindPattern, ParensPattern, ParamOf, SelfParam, Syns, no_syn, a_syn, MaybeSyn, nothing, just}
 use Rattle.src_ast.specs.View.{self_name}
@@ -61,8 +61,8 @@ abbrev mutual
   is_name_or_wildcard_form (ParensPattern inside) = is_name_or_wildcard inside
   is_name_or_wildcard_form _ = false
 
-abbrev pub param_expected : Expected
-param_expected = record { is_fixed = false; takes_all = true }
+abbrev pub param_pattern_context : PatternContext
+param_pattern_context = record { is_fixed = false; takes_all = true }
 
 -- the type comes before the pattern, as in a `let`; a reference has a name or `_` for its pattern
 abbrev pub param : Env → (Syn → Check TyId) → Syn → List NamedEntry → Check (ParamTree × List NamedEntry)
@@ -70,7 +70,7 @@ param env ty_of_param (syn at (ParamOf p ty)) earlier = do
   t ← ty_of_param ty
   items ← the_items
   obeys Rule.T08 at (is_name_or_wildcard p || not (is_reference items t))
-  n ← pattern env param_expected t p earlier
+  n ← pattern env param_pattern_context t p earlier
   pure (record { pattern = n.0; ty = t }, n.1)
 param env ty_of_param (syn at (SelfParam receiver)) earlier = do
   ty ← receiver_ty env at receiver
@@ -149,11 +149,11 @@ closure_body env at n ty captures params answer block = with_body (λ b. b) (in_
 
 -- a closure: its captures are typed outside, its block in a body of its own
 abbrev pub closure : Env → Pos → Syns → Syns → MaybeSyn → (Env → Typer) → Typer
-closure env at captures params answer block want = do
+closure env at captures params answer block expected = do
   id ← number
   n ← body_number
   caps ← captured env 0 captures []
   k ← closure_added (types_of caps.1) n
   ty ← interned (Ty.Closure k)
   _ ← closure_body env at n ty caps.1 params answer block
-  fitted want (a_node_of id at ty (tree.Closure k caps.0))
+  fitted expected (a_node_of id at ty (tree.Closure k caps.0))

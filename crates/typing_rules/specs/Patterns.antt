@@ -15,7 +15,7 @@ use Rattle.typed_tree.specs.Tree.{Node, Form, Nodes, no_node, a_node, Fields}
 use Rattle.well_typed.specs.Types.{is_same, is_unit, is_bool, is_dyn, kind_of, tuple_of, array_of, variant_at, adt_at, is_enum}
 use Rattle.typing_rules.specs.Check.{Check, ◌>>=◌, ◌>>◌, ◌<$>◌, pure, breaks, obeys, known, the_items, number, interned}
 use Rattle.typing_rules.specs.Places.{used, a_node_of, int}
-use Rattle.typing_rules.specs.Rows.{Expected, taking, literal_value, is_signed_kind, most, all_given, are_known, Given}
+use Rattle.typing_rules.specs.Rows.{PatternContext, taking, literal_value, is_signed_kind, most, all_given, are_known, Given}
 use Rattle.typing_rules.specs.Scope.{Env, NamedEntry, Local, variable, variant_named, field_named, kind_at, adt_at_head, adt_named}
 use Rattle.src_ast.specs.Syntax.{Word, FieldsKind, Unit_, Fields_, Syn, syn, Shape, AnyPattern, BindPattern, LiteralPattern, TruthPattern, PathPattern, PartsPattern, FieldsPattern, FieldPattern, ParensPattern, TuplePattern, ArrayPattern, Alternatives, Syns, no_syn, a_syn, nothing, just}
 
@@ -31,7 +31,7 @@ abbrev pub agrees_kind : Option IntKind → TyId → Bool
 agrees_kind None ty = true
 agrees_kind (Some kind) ty = is_same (int kind) ty
 
-abbrev pub literal_pattern : Pos → Expected → TyId → Bool → ℕ → Option IntKind → Check Node
+abbrev pub literal_pattern : Pos → PatternContext → TyId → Bool → ℕ → Option IntKind → Check Node
 literal_pattern at e ty is_negative value suffix = do
   id ← number
   items ← the_items
@@ -41,7 +41,7 @@ literal_pattern at e ty is_negative value suffix = do
   obeys Rule.T18 at (not e.takes_all)
   pure (used Use.Test (a_node_of id at ty (tree.NumberPattern (literal_value is_negative value))))
 
-abbrev pub truth_pattern : Pos → Expected → TyId → Bool → Check Node
+abbrev pub truth_pattern : Pos → PatternContext → TyId → Bool → Check Node
 truth_pattern at e ty value = do
   id ← number
   items ← the_items
@@ -49,7 +49,7 @@ truth_pattern at e ty value = do
   obeys Rule.T18 at (not e.takes_all)
   pure (used Use.Test (a_node_of id at ty (tree.TruthPattern value)))
 
-abbrev pub bind : Pos → Expected → TyId → Word → List NamedEntry → Check BoundPattern
+abbrev pub bind : Pos → PatternContext → TyId → Word → List NamedEntry → Check BoundPattern
 bind at e ty name earlier = do
   id ← number
   items ← the_items
@@ -93,12 +93,12 @@ abbrev pub tested_if : Bool → Node → Node
 tested_if b n = if b then used Use.Test n else n
 
 -- what is inside a type with a `Drop` impl is not moved out of
-abbrev pub inside_of : ItemTable → TyId → Expected → Expected
+abbrev pub inside_of : ItemTable → TyId → PatternContext → PatternContext
 inside_of items ty e = record e { is_fixed = e.is_fixed || has_drop_impl items ty }
 
 -- the place is of the type that the path names; then its parts, how many there are, and whether it may be a test
-abbrev pub of_target : Pos → Expected → TyId → PatternTarget →
-    (Expected → List TyId → Check (Fields × List NamedEntry × Bool ×
+abbrev pub of_target : Pos → PatternContext → TyId → PatternTarget →
+    (PatternContext → List TyId → Check (Fields × List NamedEntry × Bool ×
     Bool)) → Check BoundPattern
 of_target at e ty t parts = do
   id ← number
@@ -117,26 +117,26 @@ abbrev pub is_unit_kind : FieldsKind → Bool
 is_unit_kind Unit_ = true
 is_unit_kind _ = false
 
-abbrev pub no_parts : List NamedEntry → Bool → Expected → List TyId → Check (Fields × List NamedEntry × Bool × Bool)
+abbrev pub no_parts : List NamedEntry → Bool → PatternContext → List TyId → Check (Fields × List NamedEntry × Bool × Bool)
 no_parts earlier is_whole e tys = pure (tree.no_field, earlier, is_whole, true)
 
-abbrev pub lone_struct : Env → Pos → Expected → TyId → ℕ → List NamedEntry → Check BoundPattern
+abbrev pub lone_struct : Env → Pos → PatternContext → TyId → ℕ → List NamedEntry → Check BoundPattern
 lone_struct env at e ty adt earlier =
     if is_unit_kind (kind_at env.kinds adt 0) then of_target at e ty (target adt 0) (no_parts earlier true)
     else breaks Rule.T18 at
 
-abbrev pub lone_by : Env → Pos → Expected → TyId → Word → List NamedEntry → Option ℕ → ItemTable → Check BoundPattern
+abbrev pub lone_by : Env → Pos → PatternContext → TyId → Word → List NamedEntry → Option ℕ → ItemTable → Check BoundPattern
 lone_by env at e ty name earlier None items = bind at e ty name earlier
 lone_by env at e ty name earlier (Some adt) items =
     if is_enum items adt then bind at e ty name earlier else lone_struct env at e ty adt earlier
 
-abbrev pub lone_name : Env → Pos → Expected → TyId → Word → List NamedEntry → Check BoundPattern
+abbrev pub lone_name : Env → Pos → PatternContext → TyId → Word → List NamedEntry → Check BoundPattern
 lone_name env at e ty name earlier = do
   items ← the_items
   lone_by env at e ty name earlier (adt_named items name) items
 
 -- a path alone: `Self` as a lone name, a variant without parts
-abbrev pub path_alone : Env → Pos → Expected → TyId → Option Word → Option Word → List NamedEntry → Check BoundPattern
+abbrev pub path_alone : Env → Pos → PatternContext → TyId → Option Word → Option Word → List NamedEntry → Check BoundPattern
 path_alone env at e ty first None earlier = do
   adt ← known Rule.T01 at env.self_adt
   items ← the_items
@@ -206,10 +206,10 @@ field_by v name earlier typed = field_at earlier (field_ty v.fields (field_named
 
 abbrev mutual
   -- a pattern for a place of a type, after these bindings of the same pattern
-  pub pattern : Env → Expected → TyId → Syn → List NamedEntry → Check BoundPattern
+  pub pattern : Env → PatternContext → TyId → Syn → List NamedEntry → Check BoundPattern
   pattern env e ty (syn at form) earlier = pattern_form env e ty at form earlier
 
-  pub pattern_form : Env → Expected → TyId → Pos → Shape → List NamedEntry → Check BoundPattern
+  pub pattern_form : Env → PatternContext → TyId → Pos → Shape → List NamedEntry → Check BoundPattern
   pattern_form env e ty at AnyPattern earlier = do
     id ← number
     pure (a_node_of id at ty tree.Wildcard, earlier)
@@ -264,7 +264,7 @@ abbrev mutual
   pattern_form env e ty at _ earlier = breaks Rule.T20 at
 
   -- patterns of parts in their order; those past the last part are not typed
-  pub part_patterns : Env → Expected → List TyId → Syns → List NamedEntry → Check (Nodes × List NamedEntry)
+  pub part_patterns : Env → PatternContext → List TyId → Syns → List NamedEntry → Check (Nodes × List NamedEntry)
   part_patterns env e tys no_syn earlier = pure (no_node, earlier)
   part_patterns env e [] (a_syn first rest) earlier = pure (no_node, earlier)
   part_patterns env e (ty ∷ tys) (a_syn first rest) earlier = do
@@ -272,7 +272,7 @@ abbrev mutual
     ps ← part_patterns env e tys rest p.1
     pure (a_node p.0 ps.0, ps.1)
 
-  pub each_pattern : Env → Expected → TyId → Syns → List NamedEntry → Check (Nodes × List NamedEntry)
+  pub each_pattern : Env → PatternContext → TyId → Syns → List NamedEntry → Check (Nodes × List NamedEntry)
   each_pattern env e ty no_syn earlier = pure (no_node, earlier)
   each_pattern env e ty (a_syn first rest) earlier = do
     p ← pattern env e ty first earlier
@@ -280,14 +280,14 @@ abbrev mutual
     pure (a_node p.0 ps.0, ps.1)
 
   -- patterns of fields by their names; one for a field that is not there is not typed
-  pub field_patterns : Env → Expected → Variant → Syns → List NamedEntry → Check (Fields × List NamedEntry × Given)
+  pub field_patterns : Env → PatternContext → Variant → Syns → List NamedEntry → Check (Fields × List NamedEntry × Given)
   field_patterns env e v no_syn earlier = pure (tree.no_field, earlier, [])
   field_patterns env e v (a_syn first rest) earlier = do
     p ← field_pattern env e v first earlier
     ps ← field_patterns env e v rest p.1
     pure (with_field p.0 ps.0, ps.1, p.2 ∷ ps.2)
 
-  pub field_pattern : Env → Expected → Variant → Syn → List NamedEntry →
+  pub field_pattern : Env → PatternContext → Variant → Syn → List NamedEntry →
       Check (Option (ℕ × Node) × List NamedEntry × Option ℕ)
   field_pattern env e v (syn at (FieldPattern name nothing)) earlier =
       field_by v name earlier (λ ty. bind at e ty name earlier)

@@ -60,19 +60,19 @@ coerced items (Some trait_no) (Some adt) = if implements items adt trait_no then
 coerced items _ _ = Differs
 
 abbrev pub fit : ItemTable → TyId → TyId → Fit
-fit items want ty =
-    if fits items want ty then Fits
-    else coerced items (option_and_then (trait_of items) (boxed_of items want)) (option_and_then (adt_of items)
+fit items expected ty =
+    if fits items expected ty then Fits
+    else coerced items (option_and_then (trait_of items) (boxed_of items expected)) (option_and_then (adt_of items)
     (boxed_of items ty))
 
 -- required by nothing, or equal to what is required, or `!`
 abbrev pub agrees : ItemTable → Option TyId → TyId → Bool
 agrees items None ty = true
-agrees items (Some want) ty = fits items want ty
+agrees items (Some expected) ty = fits items expected ty
 
 -- a part of a required type
 abbrev pub wanted : (ItemTable → TyId → Option TyId) → ItemTable → Option TyId → Option TyId
-wanted part items want = option_and_then (part items) want
+wanted part items expected = option_and_then (part items) expected
 
 -- ---- places
 

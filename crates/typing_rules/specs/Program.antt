@@ -233,8 +233,8 @@ item_rules env before (syn at _) = breaks Rule.T20 at
 -- ---- bodies
 
 abbrev pub block_of : MaybeSyn → Pos → Env → Option TyId → Check Node
-block_of nothing at env want = breaks Rule.T20 at
-block_of (just block) at env want = typed env block want
+block_of nothing at env expected = breaks Rule.T20 at
+block_of (just block) at env expected = typed env block expected
 
 abbrev pub fn_rules : Env → Syn → Check (Unit {0})
 fn_rules env (syn at (FnItem name params answer block)) = do

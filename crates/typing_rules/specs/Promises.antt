@@ -23,7 +23,7 @@ use Rattle.well_typed.specs.Types.{closure_in, fits, inside_of, is_reference, is
 use Rattle.typing_rules.specs.Check.{Check, TypingState, Broken}
 use Rattle.typing_rules.specs.Named.{is_unit_kind}
 use Rattle.typing_rules.specs.Places.{scalars, agrees, is_fixed, is_shared_root, in_own_guard}
-use Rattle.typing_rules.specs.Rows.{Typer, Expected, Matcher}
+use Rattle.typing_rules.specs.Rows.{Typer, PatternContext, Matcher}
 use Rattle.typing_rules.specs.Scope.{Env, NamedEntry, LabelledLoop, VariableMeaning, Local, Capture, InGuard, kind_at}
 use Rattle.src_ast.specs.Syntax.{Word, FieldsKind}
 
@@ -223,14 +223,14 @@ pub record Knows (env : Env) (s : TypingState) : Type 0 where
 -- ---- nodes
 
 -- a value of a type that fits the required one
-pub record IsValue (env : Env) (want : Option TyId) (w : TypingState) (n : Node) : Type 0 where
+pub record IsValue (env : Env) (expected : Option TyId) (w : TypingState) (n : Node) : Type 0 where
   pub alone : IsAlone w.items (ty_of n)
-  pub fit : IsTrue (agrees w.items want (ty_of n))
+  pub fit : IsTrue (agrees w.items expected (ty_of n))
   pub holds : (p : TypingSpot) → Stands env w p → Holds (typed (at_spot w.items env.answer p) Taken n)
 
 -- a value that is no place
-pub record IsTemporary (env : Env) (want : Option TyId) (w : TypingState) (n : Node) : Type 0 where
-  pub value : IsValue env want w n
+pub record IsTemporary (env : Env) (expected : Option TyId) (w : TypingState) (n : Node) : Type 0 where
+  pub value : IsValue env expected w n
   pub is_no_place : is_place (form_of n) ≡ false
 
 -- a place, or a value that becomes a temporary; what is asked of places is so in each later state
@@ -247,11 +247,11 @@ pub record IsBase (env : Env) (w : TypingState) (n : Node) : Type 0 where
 
 -- the check of a value gives what is well typed, whatever is required of it
 abbrev pub Sound : Env → Typer → Type 0
-Sound env check = (want : Option TyId) (s : TypingState) → Knows env s → Gives s (IsValue env want) (check want s)
+Sound env check = (expected : Option TyId) (s : TypingState) → Knows env s → Gives s (IsValue env expected) (check expected s)
 
 abbrev pub SoundTemporary : Env → Typer → Type 0
-SoundTemporary env check = (want : Option TyId) (s : TypingState) → Knows env s → Gives s (IsTemporary env want) (check
-    want s)
+SoundTemporary env check = (expected : Option TyId) (s : TypingState) → Knows env s → Gives s (IsTemporary env expected) (check
+    expected s)
 
 abbrev pub SoundBase : Env → Check Node → Type 0
 SoundBase env check = (s : TypingState) → Knows env s → Gives s (IsBase env) (check s)
@@ -279,7 +279,7 @@ AreReadyTypes items [] = Unit {0}
 AreReadyTypes items (x ∷ xs) = IsReady items x.ty × AreReadyTypes items xs
 
 -- a pattern for a place of a type, with its bindings, whose numbers begin at one number
-pub record IsPattern (e : Expected) (ty : TyId) (n : ℕ) (w : TypingState) (b : Node × List NamedEntry) : Type 0 where
+pub record IsPattern (e : PatternContext) (ty : TyId) (n : ℕ) (w : TypingState) (b : Node × List NamedEntry) : Type 0 where
   pub holds : (place : Matched) → place.takes_all ≡ e.takes_all → (IsTrue (not e.is_fixed) → IsTrue place.may_move) →
       Holds (pattern w.items place ty b.0)
   pub names : IsTrue (are_distinct (names_of b.0))
@@ -289,6 +289,6 @@ pub record IsPattern (e : Expected) (ty : TyId) (n : ℕ) (w : TypingState) (b :
 
 -- the check of a pattern gives what is well typed for each place of its type
 abbrev pub SoundMatcher : Matcher → Type 0
-SoundMatcher check = (e : Expected) (ty : TyId) (s : TypingState) → IsReady s.items ty → Gives s (IsPattern e ty
+SoundMatcher check = (e : PatternContext) (ty : TyId) (s : TypingState) → IsReady s.items ty → Gives s (IsPattern e ty
     s.next_node) (check
     e ty s)

@@ -13,7 +13,7 @@ use Rattle.typing_rules.specs.Check.{Check, TypingState, interned, ◌>>=◌}
 use Rattle.typing_rules.specs.Places.{unit, bool, never, int, variable_place, struct_field, numbered_part}
 use Rattle.typing_rules.specs.Promises.{Grows, Gives, IsKnown, Knows, IsValue, Sound, SoundTemporary, SoundBase, IsReady, IsTemporary, IsPattern, SoundMatcher, IsAlone}
 use Rattle.typing_rules.specs.RowPromises.{IsMade, IsPlace, IsArgument, SoundReferrer, SoundArgs, SoundParts, SoundElements, SoundMaybe, IsLoopOf, SoundStatements, SoundTail, SoundStatement, IsFunction, FindsMethods, IsArm, SoundArms, SoundGuard, SoundDeclared, SoundInitialiser, SoundPattern, SoundInits, IsStatement, IsInParts}
-use Rattle.typing_rules.specs.Rows.{Typer, Referrer, leaf, taken, field, deref, element, not_row, negate, arithmetic, comparison, logic, store, borrow, passed_on, argument, built_in, print_form, drop_form, forget_form, new_box, tuple_row, array_row, block, if_alone, if_else, while_row, break_row, continue_row, return_row, evaluate, Expected, Matcher, Method, literal, ask_form, call, make, if_let_alone, if_let_else, while_let_row, arm, match_row, method_call, closure_call, let_row, struct_row, Given, place_for_parts}
+use Rattle.typing_rules.specs.Rows.{Typer, Referrer, leaf, taken, field, deref, element, not_row, negate, arithmetic, comparison, logic, store, borrow, passed_on, argument, built_in, print_form, drop_form, forget_form, new_box, tuple_row, array_row, block, if_alone, if_else, while_row, break_row, continue_row, return_row, evaluate, PatternContext, Matcher, Method, literal, ask_form, call, make, if_let_alone, if_let_else, while_let_row, arm, match_row, method_call, closure_call, let_row, struct_row, Given, place_for_parts}
 use Rattle.typing_rules.specs.Scope.{Env, NamedEntry, LabelledLoop, within_loop, with_variables}
 use Rattle.src_ast.specs.Syntax.{Word, Syn}
 use Rattle.mir_ty.specs.declared.adt.Variant.{Variant}
@@ -75,9 +75,9 @@ pub record Places : Type 0 where
       (IsPlace env) (deref at base s)
   pub indexed : (env : Env) (at : Pos) (base : Check Node) (index : Typer) → SoundBase env base → Sound env index → (s :
       TypingState) → Knows env s → Gives s (IsPlace env) (element at base index s)
-  pub is_taken : (env : Env) (want : Option TyId) (n : Node) (s : TypingState) → IsPlace env s n →
+  pub is_taken : (env : Env) (expected : Option TyId) (n : Node) (s : TypingState) → IsPlace env s n →
       ((w : TypingState) → Grows s w →
-      IsPlace env w n) → Gives s (IsValue env want) (taken env want n s)
+      IsPlace env w n) → Gives s (IsValue env expected) (taken env expected n s)
 
 -- arguments by value and by reference
 pub record Arguments : Type 0 where
@@ -114,9 +114,9 @@ pub record Aggregates : Type 0 where
       parts → SoundTemporary env (tuple_row at count parts)
   pub structs : (env : Env) (at : Pos) (adt variant : ℕ) (v : Variant) (fields : Check (tree.Fields × Given)) →
       SoundInits env v
-      fields → (want : Option TyId) (s : TypingState) → variant_at s.items adt variant ≡ Some v → Knows env s → Gives s
+      fields → (expected : Option TyId) (s : TypingState) → variant_at s.items adt variant ≡ Some v → Knows env s → Gives s
       (IsTemporary
-      env want) (struct_row at adt variant v.fields fields want s)
+      env expected) (struct_row at adt variant v.fields fields expected s)
   pub arrays : (env : Env) (at : Pos) (count : ℕ) (elements : Option TyId → Check (Nodes × List TyId)) → SoundElements
       env
       count elements → SoundTemporary env (array_row at count elements)
@@ -156,9 +156,9 @@ pub record Blocks : Type 0 where
       SoundPattern s is_one matcher → Knows env s → Gives s (λ w done. IsStatement env w done × Knows done.2 w)
       (let_row at env
       is_one written value matcher (λ xs. with_variables xs env) s)
-  pub in_parts : (env : Env) (want : Option TyId) (n : Node) (s : TypingState) → IsPlace env s n →
+  pub in_parts : (env : Env) (expected : Option TyId) (n : Node) (s : TypingState) → IsPlace env s n →
       ((w : TypingState) → Grows s w →
-      IsPlace env w n) → Gives s (IsInParts env want) (place_for_parts env want n s)
+      IsPlace env w n) → Gives s (IsInParts env expected) (place_for_parts env expected n s)
   pub braces : (env : Env) (at : Pos) (check : Check (Nodes × Bool × Env)) (tail : Env → Option TyId → Check
       tree.MaybeNode) →
       SoundStatements env check → SoundTail env tail → SoundTemporary env (block at check tail)
@@ -199,15 +199,15 @@ pub record Matches : Type 0 where
       SoundTemporary env
       (while_let_row
       env at label scrutinee matcher body)
-  pub arms : (env : Env) (e : Expected) (ty : TyId) (check : Check (Node × List NamedEntry)) (guard : List NamedEntry →
+  pub arms : (env : Env) (e : PatternContext) (ty : TyId) (check : Check (Node × List NamedEntry)) (guard : List NamedEntry →
       Check
       tree.MaybeNode) (body : List NamedEntry → Typer) →
       ((s : TypingState) → IsReady s.items ty → Gives s (IsPattern e ty
       s.next_node)
-      (check s)) → SoundGuard env guard → ((xs : List NamedEntry) → Sound (with_variables xs env) (body xs)) → (want :
+      (check s)) → SoundGuard env guard → ((xs : List NamedEntry) → Sound (with_variables xs env) (body xs)) → (expected :
       Option TyId) (s
-      : TypingState) → Knows env s → IsReady s.items ty → Gives s (IsArm env e ty want) (arm check guard body want s)
-  pub matches : (env : Env) (at : Pos) (scrutinee : Check Node) (arms : Expected → TyId → Option TyId → Check (Nodes ×
+      : TypingState) → Knows env s → IsReady s.items ty → Gives s (IsArm env e ty expected) (arm check guard body expected s)
+  pub matches : (env : Env) (at : Pos) (scrutinee : Check Node) (arms : PatternContext → TyId → Option TyId → Check (Nodes ×
       List
       TyId)) → SoundBase env scrutinee → SoundArms env arms → SoundTemporary env (match_row env at scrutinee arms)
 
@@ -215,10 +215,10 @@ pub record Matches : Type 0 where
 pub record Calls : Type 0 where
   pub function : (env : Env) (at : Pos) (body : ℕ) (head : Sig) (count : ℕ) (args : List TyId → Check Nodes) →
       SoundArgs env
-      count args → (want : Option TyId) (s : TypingState) → Knows env s → IsFunction s body head →
+      count args → (expected : Option TyId) (s : TypingState) → Knows env s → IsFunction s body head →
       Gives s (IsTemporary env
-      want) (call
-      at (tree.Call body) head.result count head.params args (not (is_drop_body s.items body)) want s)
+      expected) (call
+      at (tree.Call body) head.result count head.params args (not (is_drop_body s.items body)) expected s)
   pub method : (env : Env) (at : Pos) (named : ItemTable → TyId → Option Method) (count : ℕ) (receiver : Check Node)
       (args : List
       TyId → Check Nodes) → FindsMethods named → SoundBase env receiver → SoundArgs env count args → SoundTemporary env
@@ -231,14 +231,14 @@ pub record Calls : Type 0 where
       callee args)
   pub constructor : (env : Env) (at : Pos) (adt variant : ℕ) (v : Variant) (count : ℕ) (args : List TyId → Check
       Nodes) →
-      SoundArgs env count args → (want : Option TyId) (s : TypingState) → variant_at s.items adt variant ≡ Some v →
+      SoundArgs env count args → (expected : Option TyId) (s : TypingState) → variant_at s.items adt variant ≡ Some v →
       Knows
       env s →
-      Gives s (IsTemporary env want) ((interned (Ty.Adt adt) >>= (λ ty. call at (make adt variant) ty count v.fields
+      Gives s (IsTemporary env expected) ((interned (Ty.Adt adt) >>= (λ ty. call at (make adt variant) ty count v.fields
       args true
-      want)) s)
-  pub unit_struct : (env : Env) (at : Pos) (adt variant : ℕ) (v : Variant) (want : Option TyId) (s : TypingState) →
+      expected)) s)
+  pub unit_struct : (env : Env) (at : Pos) (adt variant : ℕ) (v : Variant) (expected : Option TyId) (s : TypingState) →
       variant_at s.items
-      adt variant ≡ Some v → v.fields ≡ [] → Knows env s → Gives s (IsTemporary env want) (makes_unit at (Makes adt
+      adt variant ≡ Some v → v.fields ≡ [] → Knows env s → Gives s (IsTemporary env expected) (makes_unit at (Makes adt
       variant)
-      want s)
+      expected s)

@@ -15,7 +15,7 @@ use Rattle.well_typed.specs.Types.{is_same, closure_in, reference_in, is_referen
 use Rattle.typing_rules.specs.Check.{Check, TypingState}
 use Rattle.typing_rules.specs.Places.{bool, Member, agrees}
 use Rattle.typing_rules.specs.Promises.{IsReady, IsAlone, IsKnown, Gives, TypingSpot, at_spot, Stands, Knows, IsValue, IsBase, Grows, IsPattern}
-use Rattle.typing_rules.specs.Rows.{Method, OfAdt, OfTrait, Referrer, Expected, Matcher, Given}
+use Rattle.typing_rules.specs.Rows.{Method, OfAdt, OfTrait, Referrer, PatternContext, Matcher, Given}
 use Rattle.typing_rules.specs.Scope.{Env, NamedEntry, LabelledLoop, with_variables, in_guard}
 use Rattle.mir_ty.specs.declared.adt.Variant.{Variant}
 
@@ -70,17 +70,17 @@ SoundParts env parts = (wants : List (Option TyId)) (s : TypingState) → Knows 
 
 -- elements, each of its own type, and of the required one
 abbrev pub AreElements : Env → Option TyId → TypingState → Nodes → List TyId → Type 0
-AreElements env want w no_node [] = Unit {0}
-AreElements env want w no_node (ty ∷ tys) = ⊥
-AreElements env want w (a_node first rest) [] = ⊥
-AreElements env want w (a_node first rest) (ty ∷ tys) =
-    (IsValue env want w first × (ty ≡ ty_of first)) × AreElements env want w rest tys
+AreElements env expected w no_node [] = Unit {0}
+AreElements env expected w no_node (ty ∷ tys) = ⊥
+AreElements env expected w (a_node first rest) [] = ⊥
+AreElements env expected w (a_node first rest) (ty ∷ tys) =
+    (IsValue env expected w first × (ty ≡ ty_of first)) × AreElements env expected w rest tys
 
 abbrev pub SoundElements : Env → ℕ → (Option TyId → Check (Nodes × List TyId)) → Type 0
-SoundElements env count elements = (want : Option TyId) (s : TypingState) → Knows env s →
+SoundElements env count elements = (expected : Option TyId) (s : TypingState) → Knows env s →
     Gives s (λ w ps. AreElements env
-    want w
-    ps.0 ps.1 × (count_of ps.0 ≡ count)) (elements want s)
+    expected w
+    ps.0 ps.1 × (count_of ps.0 ≡ count)) (elements expected s)
 
 -- what a type is made of is ready
 pub record IsMade (items : ItemTable) (ty : Ty) : Type 0 where
@@ -90,11 +90,11 @@ pub record IsMade (items : ItemTable) (ty : Ty) : Type 0 where
 
 -- a value that may be left out
 abbrev pub IsMaybe : Env → Option TyId → TypingState → MaybeNode → Type 0
-IsMaybe env want w absent = Unit {0}
-IsMaybe env want w (present n) = IsValue env want w n
+IsMaybe env expected w absent = Unit {0}
+IsMaybe env expected w (present n) = IsValue env expected w n
 
 abbrev pub SoundMaybe : Env → (Option TyId → Check MaybeNode) → Type 0
-SoundMaybe env value = (want : Option TyId) (s : TypingState) → Knows env s → Gives s (IsMaybe env want) (value want s)
+SoundMaybe env value = (expected : Option TyId) (s : TypingState) → Knows env s → Gives s (IsMaybe env expected) (value expected s)
 
 -- a loop that is in scope
 abbrev pub IsLoopOf : Env → Option LabelledLoop → Type 0
@@ -117,10 +117,10 @@ SoundStatements env check = (s : TypingState) → Knows env s →
 
 -- a value that may be left out, where the names of another environment are known
 abbrev pub SoundTail : Env → (Env → Option TyId → Check MaybeNode) → Type 0
-SoundTail env tail = (inner : Env) → inner.answer ≡ env.answer → (want : Option TyId) (s : TypingState) →
+SoundTail env tail = (inner : Env) → inner.answer ≡ env.answer → (expected : Option TyId) (s : TypingState) →
     Knows inner s →
     Gives s
-    (IsMaybe inner want) (tail inner want s)
+    (IsMaybe inner expected) (tail inner expected s)
 
 -- one statement, in whose scope what is behind it stands
 pub record IsStatement (env : Env) (w : TypingState) (done : Node × Bool × Env) : Type 0 where
@@ -142,27 +142,27 @@ IsMember member = (items : ItemTable) (id : TyId) (f : ℕ × TyId) → member i
     id) × (field_ty items id 0 f.0 ≡ Some f.1)
 
 -- an arm for a place of a type: what it asks of its place, and the type of its body
-pub record IsArm (env : Env) (e : Expected) (ty : TyId) (want : Option TyId) (w : TypingState) (n : Node) : Type 0 where
+pub record IsArm (env : Env) (e : PatternContext) (ty : TyId) (expected : Option TyId) (w : TypingState) (n : Node) : Type 0 where
   pub holds : (p : TypingSpot) → Stands env w p → (place : Matched) → place.takes_all ≡ e.takes_all → (IsTrue (not
       e.is_fixed) →
       IsTrue place.may_move) → Holds (arm (at_spot w.items env.answer p) place ty n)
   pub alone : IsAlone w.items (ty_of n)
-  pub fit : IsTrue (agrees w.items want (ty_of n))
+  pub fit : IsTrue (agrees w.items expected (ty_of n))
 
 -- arms, each of its own type, and of the required one
-abbrev pub AreArms : Env → Expected → TyId → Option TyId → TypingState → Nodes → List TyId → Type 0
-AreArms env e ty want w no_node [] = Unit {0}
-AreArms env e ty want w no_node (t ∷ tys) = ⊥
-AreArms env e ty want w (a_node first rest) [] = ⊥
-AreArms env e ty want w (a_node first rest) (t ∷ tys) =
-    (IsArm env e ty want w first × (t ≡ ty_of first)) × AreArms env e ty want w rest tys
+abbrev pub AreArms : Env → PatternContext → TyId → Option TyId → TypingState → Nodes → List TyId → Type 0
+AreArms env e ty expected w no_node [] = Unit {0}
+AreArms env e ty expected w no_node (t ∷ tys) = ⊥
+AreArms env e ty expected w (a_node first rest) [] = ⊥
+AreArms env e ty expected w (a_node first rest) (t ∷ tys) =
+    (IsArm env e ty expected w first × (t ≡ ty_of first)) × AreArms env e ty expected w rest tys
 
 -- the checks of one arm or more
-abbrev pub SoundArms : Env → (Expected → TyId → Option TyId → Check (Nodes × List TyId)) → Type 0
-SoundArms env arms = (e : Expected) (ty : TyId) (want : Option TyId) (s : TypingState) → Knows env s →
+abbrev pub SoundArms : Env → (PatternContext → TyId → Option TyId → Check (Nodes × List TyId)) → Type 0
+SoundArms env arms = (e : PatternContext) (ty : TyId) (expected : Option TyId) (s : TypingState) → Knows env s →
     IsReady s.items ty →
     Gives s
-    (λ w ns. AreArms env e ty want w ns.0 ns.1 × IsTrue (nat_lt 0 (count_of ns.0))) (arms e ty want s)
+    (λ w ns. AreArms env e ty expected w ns.0 ns.1 × IsTrue (nat_lt 0 (count_of ns.0))) (arms e ty expected s)
 
 -- a condition that may be left out
 abbrev pub SoundGuard : Env → (List NamedEntry → Check MaybeNode) → Type 0
@@ -196,25 +196,25 @@ FindsMethods named = (s : TypingState) (own : TyId) (m : Method) → named s.ite
 
 abbrev pub agrees_same : Option TyId → TyId → Bool
 agrees_same None ty = true
-agrees_same (Some want) ty = is_same ty want
+agrees_same (Some expected) ty = is_same ty expected
 
 -- what a `let` is given: one name takes a value, another pattern takes a place or a temporary apart. A place is of the
 -- very type that is asked for, where a temporary may be of type `!`
-pub record IsInParts (env : Env) (want : Option TyId) (w : TypingState) (n : Node) : Type 0 where
+pub record IsInParts (env : Env) (expected : Option TyId) (w : TypingState) (n : Node) : Type 0 where
   pub base : IsBase env w n
-  pub fit : IsTrue (agrees w.items want (ty_of n))
+  pub fit : IsTrue (agrees w.items expected (ty_of n))
   pub no_reference : IsTrue (not (is_reference w.items (ty_of n)))
-  pub own : IsTrue (not (is_place (form_of n)) || agrees_same want (ty_of n))
+  pub own : IsTrue (not (is_place (form_of n)) || agrees_same expected (ty_of n))
 
 abbrev pub IsInitialiser : Env → Bool → Option TyId → TypingState → MaybeNode → Type 0
-IsInitialiser env is_one_name want w absent = Unit {0}
-IsInitialiser env true want w (present n) = IsValue env want w n
-IsInitialiser env false want w (present n) = IsInParts env want w n
+IsInitialiser env is_one_name expected w absent = Unit {0}
+IsInitialiser env true expected w (present n) = IsValue env expected w n
+IsInitialiser env false expected w (present n) = IsInParts env expected w n
 
 abbrev pub SoundInitialiser : Env → Bool → (Option TyId → Check MaybeNode) → Type 0
-SoundInitialiser env is_one_name value = (want : Option TyId) (s : TypingState) → Knows env s →
+SoundInitialiser env is_one_name value = (expected : Option TyId) (s : TypingState) → Knows env s →
     Gives s (IsInitialiser env
-    is_one_name want) (value want s)
+    is_one_name expected) (value expected s)
 
 -- a type that may be written
 abbrev pub SoundDeclared : Check (Option TyId) → Type 0
@@ -222,7 +222,7 @@ SoundDeclared check = (s : TypingState) → Gives s (λ w ty. (t : TyId) → ty 
 
 -- a pattern that is one name, or is none, from a state on
 abbrev pub SoundPattern : TypingState → Bool → Matcher → Type 0
-SoundPattern first is_one check = (e : Expected) (ty : TyId) (s : TypingState) → Grows first s → IsReady s.items ty →
+SoundPattern first is_one check = (e : PatternContext) (ty : TyId) (s : TypingState) → Grows first s → IsReady s.items ty →
     Gives
     s (λ w b.
     IsPattern e ty s.next_node w b × (is_one_name b.0 ≡ is_one)) (check e ty s)

@@ -30,33 +30,33 @@ Typer = Option TyId → Check Node
 -- ---- required types
 
 abbrev pub unsized : TyId → ℕ → Node → Check Node
-unsized want trait_no n = do
+unsized expected trait_no n = do
   id ← number
-  pure (a_node_of id (place_in_text n) want (tree.Unsize trait_no n))
+  pure (a_node_of id (place_in_text n) expected (tree.Unsize trait_no n))
 
 -- a leaf of the type that is required, coerced to it where it is a box of a trait's implementor
 abbrev pub fitted_by : TyId → Node → Fit → Check Node
-fitted_by want n Fits = pure n
-fitted_by want n (Coerced trait_no) = unsized want trait_no n
-fitted_by want n Differs = breaks Rule.T03 (place_in_text n)
+fitted_by expected n Fits = pure n
+fitted_by expected n (Coerced trait_no) = unsized expected trait_no n
+fitted_by expected n Differs = breaks Rule.T03 (place_in_text n)
 
 abbrev pub fitted : Option TyId → Node → Check Node
 fitted None n = pure n
-fitted (Some want) n = do
+fitted (Some expected) n = do
   items ← the_items
-  fitted_by want n (fit items want (ty_of n))
+  fitted_by expected n (fit items expected (ty_of n))
 
 -- a node that has passed its required type on has that type, or `!`
 abbrev pub settled : Option TyId → Node → Check Node
-settled want n = do
+settled expected n = do
   items ← the_items
-  obeys Rule.T03 (place_in_text n) (agrees items want (ty_of n))
+  obeys Rule.T03 (place_in_text n) (agrees items expected (ty_of n))
   pure n
 
 -- ---- literals
 
 abbrev pub chosen : Option IntKind → Option IntKind → IntKind
-chosen (Some suffix) want = suffix
+chosen (Some suffix) expected = suffix
 chosen None (Some kind) = kind
 chosen None None = IntKind.I32
 
@@ -82,20 +82,20 @@ most _ is_negative = if is_negative then 0 else 2 ^ 64 - 1
 
 -- its suffix, else the required integer type, else `i32`
 abbrev pub literal : Pos → Bool → ℕ → Option IntKind → Typer
-literal at is_negative value suffix want = do
+literal at is_negative value suffix expected = do
   id ← number
   items ← the_items
-  let kind = chosen suffix (option_and_then (kind_of items) want)
+  let kind = chosen suffix (option_and_then (kind_of items) expected)
   obeys Rule.T03 at (not is_negative || is_signed_kind kind)
-  n ← fitted want (a_node_of id at (int kind) (tree.Number (literal_value is_negative value)))
+  n ← fitted expected (a_node_of id at (int kind) (tree.Number (literal_value is_negative value)))
   obeys Rule.T17 at (nat_le value (most kind is_negative))
   pure n
 
 -- a leaf of a type that it has whatever is required
 abbrev pub leaf : Pos → TyId → Form → Typer
-leaf at ty form want = do
+leaf at ty form expected = do
   id ← number
-  fitted want (a_node_of id at ty form)
+  fitted expected (a_node_of id at ty form)
 
 -- ---- places
 
@@ -104,10 +104,10 @@ taking items ty = if is_copy items ty then Use.Copy else Use.Move
 
 -- a place in a value context is copied where its type is Copy, and moved out of otherwise
 abbrev pub taken : Env → Option TyId → Node → Check Node
-taken env want place = do
+taken env expected place = do
   items ← the_items
   let ty = ty_of place
-  n ← fitted want (used (taking items ty) place)
+  n ← fitted expected (used (taking items ty) place)
   obeys Rule.T07 (place_in_text place) (is_copy items ty || not (is_fixed items (in_own_guard env.variables) place ||
       is_dyn items ty))
   obeys Rule.T08 (place_in_text place) (not (is_reference items ty))
@@ -148,23 +148,23 @@ element at base index = do
 -- ---- operators
 
 abbrev pub not_row : Pos → Typer → Typer
-not_row at operand want = do
+not_row at operand expected = do
   id ← number
   n ← operand None
   items ← the_items
   obeys Rule.T03 at (fits items bool (ty_of n))
-  fitted want (a_node_of id at bool (tree.Not n))
+  fitted expected (a_node_of id at bool (tree.Not n))
 
 abbrev pub if_int : ItemTable → TyId → Option TyId
 if_int items ty = if is_int items ty then Some ty else None
 
 abbrev pub negate : Pos → Typer → Typer
-negate at operand want = do
+negate at operand expected = do
   id ← number
   items ← the_items
-  n ← operand (wanted if_int items want)
+  n ← operand (wanted if_int items expected)
   obeys Rule.T03 at (is_same (ty_of n) (int IntKind.I32) || is_same (ty_of n) (int IntKind.I64))
-  fitted want (a_node_of id at (ty_of n) (tree.Negate n))
+  fitted expected (a_node_of id at (ty_of n) (tree.Negate n))
 
 abbrev pub unless_never : ItemTable → TyId → Option TyId
 unless_never items ty = if is_never items ty then None else Some ty
@@ -180,15 +180,15 @@ left_last left right = do
 
 -- The type of the left operand, where it is an integer type, is required of the right one.
 abbrev pub left_first : Option TyId → Typer → Typer → Check (Node × Node)
-left_first want left right = do
-  l ← left want
+left_first expected left right = do
+  l ← left expected
   items ← the_items
   r ← right (if_int items (ty_of l))
   pure (l, r)
 
 abbrev pub operands : Bool → Option TyId → Typer → Typer → Check (Node × Node)
 operands true None left right = left_last left right
-operands _ want left right = left_first want left right
+operands _ expected left right = left_first expected left right
 
 -- branches and operands have one type, where `!` takes the other's
 abbrev pub one_of_two : ItemTable → TyId → TyId → Option TyId
@@ -203,31 +203,31 @@ abbrev pub int_or_bool : ItemTable → TyId → Option TyId
 int_or_bool items ty = if is_bool items ty then Some ty else if_int items ty
 
 abbrev pub arithmetic : Pos → Math → Bool → Typer → Typer → Typer
-arithmetic at operator is_literal left right want = do
+arithmetic at operator is_literal left right expected = do
   id ← number
   before ← the_items
-  both ← operands is_literal (wanted if_int before want) left right
+  both ← operands is_literal (wanted if_int before expected) left right
   items ← the_items
   ty ← known Rule.T03 at (option_and_then (if_int items) (one_of_two items (ty_of both.0) (ty_of both.1)))
-  fitted want (a_node_of id at ty (tree.Arithmetic operator both.0 both.1))
+  fitted expected (a_node_of id at ty (tree.Arithmetic operator both.0 both.1))
 
 abbrev pub comparison : Pos → Cmp → Bool → Typer → Typer → Typer
-comparison at operator is_literal left right want = do
+comparison at operator is_literal left right expected = do
   id ← number
   both ← operands is_literal None left right
   items ← the_items
   _ ← known Rule.T03 at (option_and_then (int_or_bool items) (one_of_two items (ty_of both.0) (ty_of both.1)))
-  fitted want (a_node_of id at bool (tree.Comparison operator both.0 both.1))
+  fitted expected (a_node_of id at bool (tree.Comparison operator both.0 both.1))
 
 -- `&&`, `||`
 abbrev pub logic : Pos → (Node → Node → Form) → Typer → Typer → Typer
-logic at form left right want = do
+logic at form left right expected = do
   id ← number
   l ← left None
   r ← right None
   items ← the_items
   obeys Rule.T03 at (fits items bool (ty_of l) && fits items bool (ty_of r))
-  fitted want (a_node_of id at bool (form l r))
+  fitted expected (a_node_of id at bool (form l r))
 
 abbrev pub own_in : List ℕ → Form → Bool
 own_in keys (tree.Variable key) = is_any key keys
@@ -235,13 +235,13 @@ own_in keys _ = false
 
 -- what is stored into is a place, and no binding inside its own guard
 abbrev pub store : Env → Pos → Check Node → Typer → Typer
-store env at place value want = do
+store env at place value expected = do
   id ← number
   p ← place >>= no_reference
   v ← value (Some (ty_of p))
   items ← the_items
   obeys Rule.T03 at (not (is_dyn items (ty_of p)))
-  n ← fitted want (a_node_of id at unit (tree.Assign (used Use.Store p) v))
+  n ← fitted expected (a_node_of id at unit (tree.Assign (used Use.Store p) v))
   obeys Rule.T05 at (is_place (form_of p) && not (own_in (in_own_guard env.variables) (form_of p)))
   obeys Rule.T08 (place_in_text p) (not (is_behind_shared items p))
   pure n
@@ -272,7 +272,7 @@ borrow_of id at unique base = do
 
 -- `&e` and `&mut e`
 abbrev pub borrow : Pos → Bool → Check Node → Referrer
-borrow at unique base want is_unique to = do
+borrow at unique base expected is_unique to = do
   id ← number
   b ← base >>= no_reference
   items ← the_items
@@ -286,7 +286,7 @@ passes is_unique to (Some r) = is_same r.1 to && (r.0 || not is_unique)
 
 -- a reference variable that is passed on borrows what it names, by `&mut` where the parameter is `&mut T`
 abbrev pub passed_on : Pos → NamedEntry → Referrer
-passed_on at x want is_unique to = do
+passed_on at x expected is_unique to = do
   items ← the_items
   obeys Rule.T03 at (passes is_unique to (reference_of items x.ty))
   id ← number
@@ -306,17 +306,17 @@ argument ty by_value by_reference = do
 -- ---- calls
 
 abbrev pub call : Pos → (Nodes → Form) → TyId → ℕ → List TyId → (List TyId → Check Nodes) → Bool → Typer
-call at form answer count params args may_be_called want = do
+call at form answer count params args may_be_called expected = do
   id ← number
   given ← args params
-  n ← fitted want (a_node_of id at answer (form given))
+  n ← fitted expected (a_node_of id at answer (form given))
   obeys Rule.T04 at (count == length params)
   obeys Rule.T13 at may_be_called
   pure n
 
 -- what cannot be called, once its arguments are typed
 abbrev pub no_call : Pos → Rule → (List TyId → Check Nodes) → Typer
-no_call at rule args want = do
+no_call at rule args expected = do
   given ← args []
   breaks rule at
 
@@ -355,11 +355,11 @@ is_unique_borrow _ = false
 
 abbrev pub with_self : Env → Pos → ℕ → Node → Method → ℕ → (List TyId → Check Nodes) → Option TyId → List TyId → Check
     Node
-with_self env at id base method count args want [] = args [] >> breaks Rule.T12 at
-with_self env at id base method count args want (self ∷ params) = do
+with_self env at id base method count args expected [] = args [] >> breaks Rule.T12 at
+with_self env at id base method count args expected (self ∷ params) = do
   receiver ← received env at base self
   given ← args params
-  n ← fitted want (a_node_of id at (head_of method).result (method_form method receiver given))
+  n ← fitted expected (a_node_of id at (head_of method).result (method_form method receiver given))
   items ← the_items
   obeys Rule.T04 at (count == length params)
   obeys Rule.T08 at (not (is_unique_borrow (form_of receiver) && is_behind_shared items base))
@@ -373,38 +373,38 @@ takes_self items own (self ∷ params) =
     is_same self own || option_map_or (λ r. is_same r.1 own) (reference_of items self) false
 
 abbrev pub with_method : Env → Pos → ℕ → Node → Option Method → ℕ → (List TyId → Check Nodes) → Option TyId → Check Node
-with_method env at id base None count args want = args [] >> breaks Rule.T12 at
-with_method env at id base (Some method) count args want = do
+with_method env at id base None count args expected = args [] >> breaks Rule.T12 at
+with_method env at id base (Some method) count args expected = do
   items ← the_items
   if takes_self items (ty_of base) (head_of method).params then
-      with_self env at id base method count args want (head_of method).params
+      with_self env at id base method count args expected (head_of method).params
       else (args [] >> breaks Rule.T12 at)
 
 abbrev pub method_call : Env → Pos → (ItemTable → TyId → Option Method) → ℕ → Check Node → (List TyId → Check Nodes)
     → Typer
-method_call env at named count receiver args want = do
+method_call env at named count receiver args expected = do
   id ← number
   base ← receiver
   found ← through named at base
-  with_method env at id found.0 found.1 count args want
+  with_method env at id found.0 found.1 count args expected
 
 abbrev pub with_closure : Pos → ℕ → Node → ℕ → (List TyId → Check Nodes) → Option TyId → ℕ → Option Sig → Check Node
-with_closure at id c count args want body None = args [] >> breaks Rule.T13 at
-with_closure at id c count args want body (Some head) = do
+with_closure at id c count args expected body None = args [] >> breaks Rule.T13 at
+with_closure at id c count args expected body (Some head) = do
   given ← args (drop 1 head.params)
-  n ← fitted want (a_node_of id at head.result (tree.ClosureCall body c given))
+  n ← fitted expected (a_node_of id at head.result (tree.ClosureCall body c given))
   obeys Rule.T04 at (count == length (drop 1 head.params))
   pure n
 
 -- a value that is called is a closure
 abbrev pub closure_call : Pos → ℕ → Check Node → (List TyId → Check Nodes) → Typer
-closure_call at count callee args want = do
+closure_call at count callee args expected = do
   id ← number
   c ← callee
   items ← the_items
   let def = option_and_then (slice_get items.closures) (closure_of items (ty_of c))
   let body = option_map_or (λ d. d.body) def 0
-  with_closure at id c count args want body (option_and_then (λ d. slice_get items.bodies d.body) def)
+  with_closure at id c count args expected body (option_and_then (λ d. slice_get items.bodies d.body) def)
 
 -- ---- built-in calls
 
@@ -414,10 +414,10 @@ with_one no_node form = tree.UnitValue
 
 -- a built-in with parameters of these types; none where any type will do
 abbrev pub built_in : Pos → TyId → (Nodes → Form) → ℕ → ℕ → Check Nodes → Typer
-built_in at answer form count wants args want = do
+built_in at answer form count wants args expected = do
   id ← number
   given ← args
-  n ← fitted want (a_node_of id at answer (form given))
+  n ← fitted expected (a_node_of id at answer (form given))
   obeys Rule.T04 at (count == wants)
   pure n
 
@@ -448,10 +448,10 @@ first_node no_node = None
 first_node (a_node first rest) = Some first
 
 abbrev pub box_by : Pos → ℕ → ℕ → Option TyId → Option TyId → Option Node → Check Node
-box_by at id count want content None = breaks Rule.T04 at
-box_by at id count want content (Some c) = do
+box_by at id count expected content None = breaks Rule.T04 at
+box_by at id count expected content (Some c) = do
   ty ← interned (Ty.Boxed (part_ty content c))
-  n ← fitted want (a_node_of id at ty (tree.NewBox c))
+  n ← fitted expected (a_node_of id at ty (tree.NewBox c))
   obeys Rule.T04 at (count == 1)
   pure n
 
@@ -461,12 +461,12 @@ listed (Some ty) = ty ∷ []
 
 -- `Box::new(e)`
 abbrev pub new_box : Pos → ℕ → (List TyId → Check Nodes) → Typer
-new_box at count args want = do
+new_box at count args expected = do
   id ← number
   items ← the_items
-  let content = wanted box_wanted items want
+  let content = wanted box_wanted items expected
   given ← args (listed content)
-  box_by at id count want content (first_node given)
+  box_by at id count expected content (first_node given)
 
 abbrev pub numbered_fields : ℕ → Nodes → Fields
 numbered_fields k no_node = no_field
@@ -494,27 +494,27 @@ are_known given = list_all is_some given
 
 -- `S { f: a }`: each field once
 abbrev pub struct_row : Pos → ℕ → ℕ → List TyId → Check (Fields × Given) → Typer
-struct_row at adt variant types fields want = do
+struct_row at adt variant types fields expected = do
   id ← number
   ty ← interned (Ty.Adt adt)
   fs ← fields
-  n ← fitted want (a_node_of id at ty (tree.Make adt variant fs.0))
+  n ← fitted expected (a_node_of id at ty (tree.Make adt variant fs.0))
   obeys Rule.T04 at (all_given (length types) fs.1 && length fs.1 == length types)
   obeys Rule.T12 at (are_known fs.1)
   pure n
 
 -- parts, each with its type; where a tuple of as many is required, its parts are
 abbrev pub parts_wanted : ItemTable → ℕ → Option TyId → List (Option TyId)
-parts_wanted items count want =
-    option_map_or (λ tys. if length tys == count then map Some tys else []) (option_and_then (tuple_of items) want) []
+parts_wanted items count expected =
+    option_map_or (λ tys. if length tys == count then map Some tys else []) (option_and_then (tuple_of items) expected) []
 
 abbrev pub tuple_row : Pos → ℕ → (List (Option TyId) → Check (Nodes × List TyId)) → Typer
-tuple_row at count parts want = do
+tuple_row at count parts expected = do
   id ← number
   before ← the_items
-  ps ← parts (parts_wanted before count want)
+  ps ← parts (parts_wanted before count expected)
   ty ← interned (Ty.Tuple ps.1)
-  n ← fitted want (a_node_of id at ty (tree.Tuple ps.0))
+  n ← fitted expected (a_node_of id at ty (tree.Tuple ps.0))
   obeys Rule.T19 at (nat_le count 12)
   pure n
 
@@ -526,16 +526,16 @@ element_ty items None tys = one_type items tys
 element_ty items (Some ty) tys = Some ty
 
 abbrev pub array_row : Pos → ℕ → (Option TyId → Check (Nodes × List TyId)) → Typer
-array_row at count elements want = do
+array_row at count elements expected = do
   id ← number
   before ← the_items
-  let wants = wanted element_wanted before want
+  let wants = wanted element_wanted before expected
   es ← elements wants
   items ← the_items
   element ← known Rule.T03 at (element_ty items wants es.1)
   obeys Rule.T16 at (is_some wants || not (count == 0))
   ty ← interned (Ty.Array element count)
-  n ← fitted want (a_node_of id at ty (tree.Array es.0))
+  n ← fitted expected (a_node_of id at ty (tree.Array es.0))
   obeys Rule.T19 at (nat_le count 32)
   pure n
 
@@ -547,128 +547,128 @@ block_ty (present tail) ends = ty_of tail
 block_ty absent ends = if ends then never else unit
 
 abbrev pub block : Pos → Check (Nodes × Bool × Env) → (Env → Option TyId → Check MaybeNode) → Typer
-block at statements tail want = do
+block at statements tail expected = do
   id ← number
   done ← statements
-  last ← tail done.2 want
-  settled want (a_node_of id at (block_ty last done.1) (tree.Block done.0 last))
+  last ← tail done.2 expected
+  settled expected (a_node_of id at (block_ty last done.1) (tree.Block done.0 last))
 
 -- a condition is `bool`
 abbrev pub condition : Typer → Check Node
 condition c = c (Some bool)
 
 abbrev pub if_alone : Pos → Typer → Typer → Typer
-if_alone at c body want = do
+if_alone at c body expected = do
   id ← number
   n ← condition c
   b ← body (Some unit)
-  settled want (a_node_of id at unit (tree.If n b absent))
+  settled expected (a_node_of id at unit (tree.If n b absent))
 
 abbrev pub if_else : Pos → Typer → Typer → Typer → Typer
-if_else at c body otherwise want = do
+if_else at c body otherwise expected = do
   id ← number
   n ← condition c
-  b ← body want
-  o ← otherwise want
+  b ← body expected
+  o ← otherwise expected
   items ← the_items
   ty ← known Rule.T03 at (one_of_two items (ty_of b) (ty_of o))
-  settled want (a_node_of id at ty (tree.If n b (present o)))
+  settled expected (a_node_of id at ty (tree.If n b (present o)))
 
 -- a scrutinee is a place, which is borrowed, or a temporary
 abbrev pub scrutinised : Check Node → Check Node
 scrutinised scrutinee = (used_if_place Use.Borrow) <$> (scrutinee >>= no_reference)
 
 -- what a pattern is told of its place
-pub record Expected : Type 0 where
+pub record PatternContext : Type 0 where
   pub is_fixed : Bool
   pub takes_all : Bool
 
-abbrev pub expected : Env → Bool → Node → ItemTable → Expected
-expected env takes_all place items =
+abbrev pub pattern_context : Env → Bool → Node → ItemTable → PatternContext
+pattern_context env takes_all place items =
     record { is_fixed = is_fixed items (in_own_guard env.variables) place; takes_all = takes_all }
 
 -- a pattern for a place of a type; its bindings
 abbrev pub Matcher : Type 0
-Matcher = Expected → TyId → Check (Node × List NamedEntry)
+Matcher = PatternContext → TyId → Check (Node × List NamedEntry)
 
 abbrev pub if_let_alone : Env → Pos → Check Node → Matcher → (List NamedEntry → Typer) → Typer
-if_let_alone env at scrutinee pattern body want = do
+if_let_alone env at scrutinee pattern body expected = do
   id ← number
   s ← scrutinised scrutinee
   items ← the_items
-  p ← pattern (expected env false s items) (ty_of s)
+  p ← pattern (pattern_context env false s items) (ty_of s)
   b ← body p.1 (Some unit)
-  settled want (a_node_of id at unit (tree.IfLet p.0 s b absent))
+  settled expected (a_node_of id at unit (tree.IfLet p.0 s b absent))
 
 abbrev pub if_let_else : Env → Pos → Check Node → Matcher → (List NamedEntry → Typer) → Typer → Typer
-if_let_else env at scrutinee pattern body otherwise want = do
+if_let_else env at scrutinee pattern body otherwise expected = do
   id ← number
   s ← scrutinised scrutinee
   before ← the_items
-  p ← pattern (expected env false s before) (ty_of s)
-  b ← body p.1 want
-  o ← otherwise want
+  p ← pattern (pattern_context env false s before) (ty_of s)
+  b ← body p.1 expected
+  o ← otherwise expected
   items ← the_items
   ty ← known Rule.T03 at (one_of_two items (ty_of b) (ty_of o))
-  settled want (a_node_of id at ty (tree.IfLet p.0 s b (present o)))
+  settled expected (a_node_of id at ty (tree.IfLet p.0 s b (present o)))
 
 abbrev pub arm : Check (Node × List NamedEntry) → (List NamedEntry → Check MaybeNode) → (List NamedEntry → Typer) →
     Typer
-arm pattern guard body want = do
+arm pattern guard body expected = do
   id ← number
   p ← pattern
   g ← guard p.1
-  b ← body p.1 want
+  b ← body p.1 expected
   pure (a_node_of id (place_in_text p.0) (ty_of b) (tree.Arm p.0 g b))
 
-abbrev pub match_row : Env → Pos → Check Node → (Expected → TyId → Option TyId → Check (Nodes × List TyId)) → Typer
-match_row env at scrutinee arms want = do
+abbrev pub match_row : Env → Pos → Check Node → (PatternContext → TyId → Option TyId → Check (Nodes × List TyId)) → Typer
+match_row env at scrutinee arms expected = do
   id ← number
   s ← scrutinised scrutinee
   before ← the_items
-  rows ← arms (expected env false s before) (ty_of s) want
+  rows ← arms (pattern_context env false s before) (ty_of s) expected
   items ← the_items
   ty ← known Rule.T03 at (one_type items rows.1)
-  settled want (a_node_of id at ty (tree.Match s rows.0))
+  settled expected (a_node_of id at ty (tree.Match s rows.0))
 
 -- ---- loops and jumps
 
 abbrev pub loop_around : Option Word → ℕ → Bool → Option TyId → LabelledLoop
-loop_around label id has_value want = record { label = label; loop = id; has_value = has_value; want = want }
+loop_around label id has_value expected = record { label = label; loop = id; has_value = has_value; expected = expected }
 
 -- the type of its breaks, `!` without any
 abbrev pub loop_row : Pos → Option Word → (LabelledLoop → Typer) → Typer
-loop_row at label body want = do
+loop_row at label body expected = do
   id ← number
-  b ← body (loop_around label id true want) (Some unit)
+  b ← body (loop_around label id true expected) (Some unit)
   tys ← types_of_breaks id
   items ← the_items
   ty ← known Rule.T03 at (one_type items tys)
-  settled want (a_node_of id at ty (tree.Loop b))
+  settled expected (a_node_of id at ty (tree.Loop b))
 
 -- the condition of a `while` and the scrutinee of a `while let` count as inside the loop
 abbrev pub while_row : Pos → Option Word → (LabelledLoop → Typer) → (LabelledLoop → Typer) → Typer
-while_row at label c body want = do
+while_row at label c body expected = do
   id ← number
   n ← condition (c (loop_around label id false None))
   b ← body (loop_around label id false None) (Some unit)
-  settled want (a_node_of id at unit (tree.While n b))
+  settled expected (a_node_of id at unit (tree.While n b))
 
 abbrev pub while_let_row : Env → Pos → Option Word → (LabelledLoop → Check Node) → Matcher →
     (LabelledLoop → List NamedEntry → Typer)
     → Typer
-while_let_row env at label scrutinee pattern body want = do
+while_let_row env at label scrutinee pattern body expected = do
   id ← number
   s ← scrutinised (scrutinee (loop_around label id false None))
   items ← the_items
-  p ← pattern (expected env false s items) (ty_of s)
+  p ← pattern (pattern_context env false s items) (ty_of s)
   b ← body (loop_around label id false None) p.1 (Some unit)
-  settled want (a_node_of id at unit (tree.WhileLet p.0 s b))
+  settled expected (a_node_of id at unit (tree.WhileLet p.0 s b))
 
 -- what a `break` carries: nothing is required outside a loop and in a `while`
 abbrev pub carried : Option LabelledLoop → Option TyId
 carried None = None
-carried (Some a) = a.want
+carried (Some a) = a.expected
 
 abbrev pub ty_carried : MaybeNode → TyId
 ty_carried absent = unit
@@ -679,46 +679,46 @@ may_carry absent a = true
 may_carry (present n) a = a.has_value
 
 abbrev pub break_row : Pos → Option LabelledLoop → (Option TyId → Check MaybeNode) → Typer
-break_row at to value want = do
+break_row at to value expected = do
   id ← number
   v ← value (carried to)
   a ← known Rule.T06 at to
   obeys Rule.T06 at (may_carry v a)
   breaks_out a.loop (ty_carried v)
-  settled want (a_node_of id at never (tree.Break a.loop v))
+  settled expected (a_node_of id at never (tree.Break a.loop v))
 
 abbrev pub continue_row : Pos → Option LabelledLoop → Typer
-continue_row at to want = do
+continue_row at to expected = do
   id ← number
   a ← known Rule.T06 at to
-  settled want (a_node_of id at never (tree.Continue a.loop))
+  settled expected (a_node_of id at never (tree.Continue a.loop))
 
 abbrev pub is_some_node : MaybeNode → Bool
 is_some_node absent = false
 is_some_node (present n) = true
 
 abbrev pub return_row : Pos → TyId → (Option TyId → Check MaybeNode) → Typer
-return_row at answer value want = do
+return_row at answer value expected = do
   id ← number
   v ← value (Some answer)
   items ← the_items
   obeys Rule.T03 at (is_some_node v || is_unit items answer)
-  settled want (a_node_of id at never (tree.Return v))
+  settled expected (a_node_of id at never (tree.Return v))
 
 -- ---- statements
 
 -- the initialiser of a pattern with parts: a place that is taken apart where it stands, unless it is coerced; or a
 -- value. A place of type `!` has no parts to be taken
 abbrev pub as_part : Env → Option TyId → Node → Fit → Check Node
-as_part env want place Fits = no_reference place
-as_part env want place how = taken env want place
+as_part env expected place Fits = no_reference place
+as_part env expected place how = taken env expected place
 
 abbrev pub place_for_parts : Env → Option TyId → Node → Check Node
 place_for_parts env None place = no_reference place
-place_for_parts env (Some want) place = do
+place_for_parts env (Some expected) place = do
   items ← the_items
-  obeys Rule.T03 (place_in_text place) (is_same (ty_of place) want || not (is_never items (ty_of place)))
-  as_part env (Some want) place (fit items want (ty_of place))
+  obeys Rule.T03 (place_in_text place) (is_same (ty_of place) expected || not (is_never items (ty_of place)))
+  as_part env (Some expected) place (fit items expected (ty_of place))
 
 abbrev pub let_ty : Option TyId → MaybeNode → Option TyId
 let_ty (Some ty) value = Some ty
@@ -733,10 +733,10 @@ ends_by items absent = false
 ends_by items (present n) = is_never items (ty_of n) && not (is_unused_place n)
 
 -- what the pattern of a `let` is told: one name takes the whole value
-abbrev pub of_value : Env → Bool → MaybeNode → ItemTable → Expected
+abbrev pub of_value : Env → Bool → MaybeNode → ItemTable → PatternContext
 of_value env is_one_name absent items = record { is_fixed = false; takes_all = true }
 of_value env true (present n) items = record { is_fixed = false; takes_all = true }
-of_value env false (present n) items = expected env true n items
+of_value env false (present n) items = pattern_context env true n items
 
 abbrev pub let_row : Pos → Env → Bool → Check (Option TyId) → (Option TyId → Check MaybeNode) → Matcher →
     (List NamedEntry → Env) → Check (Node × Bool × Env)

@@ -24,7 +24,7 @@ pub record LabelledLoop : Type 0 where
   pub label : Option Word
   pub loop : ℕ
   pub has_value : Bool
-  pub want : Option TyId
+  pub expected : Option TyId
 
 -- where an expression stands: the names of structs and enums, and of traits, as they are numbered; how the parts of
 -- each

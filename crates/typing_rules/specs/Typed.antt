@@ -18,7 +18,7 @@ use Rattle.typing_rules.specs.Named.{PathValue, Makes, IsBroken, path_value, Cal
 use Rattle.typing_rules.specs.Patterns.{pattern, count_of, PatternTarget, target_of}
 use Rattle.typing_rules.specs.Places.{unit, bool, never, int, variable_place, struct_field, numbered_part}
 use Rattle.typing_rules.specs.Rows as rows
-use Rattle.typing_rules.specs.Rows.{Typer, Referrer, Expected, Given, taken, no_reference, leaf}
+use Rattle.typing_rules.specs.Rows.{Typer, Referrer, PatternContext, Given, taken, no_reference, leaf}
 use Rattle.typing_rules.specs.Scope.{Env, NamedEntry, variable, with_variables, within_loop, jumps_to, in_guard, adt_named, field_named}
 use Rattle.src_ast.specs.Syntax.{Word, Syn, syn, Shape, Literal, TruthLiteral, Path, Minus, Bang, Star, Ampersand, Calculate, Compare, Both, Either, Store, CallOf, MethodOf, FieldOf, PartOf, ElementOf, StructOf, FieldInit, Parens, TupleOf, ArrayOf, Braces, IfElse, IfLetElse, MatchOn, ArmOf, LoopOf, WhileOf, WhileLetOf, BreakOf, ContinueOf, ReturnOf, MoveOf, PanicOf, LetOf, Empty, Semi, BindPattern, ParensPattern, Syns, no_syn, a_syn, MaybeSyn, nothing, just}
 use Rattle.typing_rules.specs.Written.{written}
@@ -30,15 +30,15 @@ has_one (a_syn first rest) = true
 -- ---- paths
 
 abbrev pub makes_unit : Pos → PathValue → Typer
-makes_unit at (Makes adt variant) want = do
+makes_unit at (Makes adt variant) expected = do
   ty ← interned (Ty.Adt adt)
-  leaf at ty (tree.Make adt variant tree.no_field) want
-makes_unit at (IsBroken rule) want = breaks rule at
+  leaf at ty (tree.Make adt variant tree.no_field) expected
+makes_unit at (IsBroken rule) expected = breaks rule at
 
 abbrev pub path_alone : Env → Pos → Option Word → Option Word → Typer
-path_alone env at first second want = do
+path_alone env at first second expected = do
   items ← the_items
-  makes_unit at (path_value items env first second) want
+  makes_unit at (path_value items env first second) expected
 
 -- the variable of a path that is one name
 abbrev pub variable_of : Env → Option Word → Option Word → Option NamedEntry
@@ -46,8 +46,8 @@ variable_of env (Some name) None = variable env.variables name
 variable_of env first second = None
 
 abbrev pub path_by : Env → Pos → Option Word → Option Word → Option NamedEntry → Typer
-path_by env at first second (Some x) want = variable_place at x >>= taken env want
-path_by env at first second None want = path_alone env at first second want
+path_by env at first second (Some x) expected = variable_place at x >>= taken env expected
+path_by env at first second None expected = path_alone env at first second expected
 
 abbrev pub path : Env → Pos → Option Word → Option Word → Typer
 path env at first second = path_by env at first second (variable_of env first second)
@@ -62,22 +62,22 @@ variable_base env at first second None = path_alone env at first second None
 abbrev pub called_by : Pos → ℕ → Check Node → (List TyId → Check Nodes) → Callee → Typer
 called_by at count callee args (Function body is_drop head) =
     rows.call at (tree.Call body) head.result count head.params args (not is_drop)
-called_by at count callee args (Constructor adt variant types) = λ want. do
+called_by at count callee args (Constructor adt variant types) = λ expected. do
   ty ← interned (Ty.Adt adt)
-  rows.call at (rows.make adt variant) ty count types args true want
+  rows.call at (rows.make adt variant) ty count types args true expected
 called_by at count callee args Prints = rows.built_in at unit rows.print_form count 1 (args (int IntKind.I32 ∷ []))
 called_by at count callee args Asks = rows.built_in at (int IntKind.I32) rows.ask_form count 0 (args [])
 called_by at count callee args Drops = rows.built_in at unit rows.drop_form count 1 (args [])
 called_by at count callee args Forgets = rows.built_in at unit rows.forget_form count 1 (args [])
 called_by at count callee args Boxes = rows.new_box at count args
 called_by at count callee args AValue = rows.closure_call at count callee args
-called_by at count callee args (Unnamed rule) = λ want. breaks rule at
+called_by at count callee args (Unnamed rule) = λ expected. breaks rule at
 called_by at count callee args NoCallee = rows.no_call at Rule.T13 args
 
 abbrev pub called : Env → Pos → Syn → ℕ → Check Node → (List TyId → Check Nodes) → Typer
-called env at callee count value args want = do
+called env at callee count value args expected = do
   items ← the_items
-  called_by at count value args (callee_of items env callee) want
+  called_by at count value args (callee_of items env callee) expected
 
 -- ---- literals
 
@@ -107,10 +107,10 @@ minus at None operand = rows.negate at operand
 -- ---- references
 
 abbrev pub passed : Pos → Typer → Option NamedEntry → Referrer
-passed at by_value None want is_unique to = by_value (Some want)
-passed at by_value (Some x) want is_unique to = do
+passed at by_value None expected is_unique to = by_value (Some expected)
+passed at by_value (Some x) expected is_unique to = do
   items ← the_items
-  if is_reference items x.ty then rows.passed_on at x want is_unique to else by_value (Some want)
+  if is_reference items x.ty then rows.passed_on at x expected is_unique to else by_value (Some expected)
 
 -- ---- statements
 
@@ -146,10 +146,10 @@ or_zero None = 0
 or_zero (Some k) = k
 
 abbrev pub struct_of : Env → Pos → Option Word → Option Word → (Variant → Check (Fields × Given)) → Typer
-struct_of env at first second inits want = do
+struct_of env at first second inits expected = do
   items ← the_items
   t ← known Rule.T01 at (target_of items env first second)
-  rows.struct_row at t.adt t.variant (variant_of items t).fields (inits (variant_of items t)) want
+  rows.struct_row at t.adt t.variant (variant_of items t).fields (inits (variant_of items t)) expected
 
 abbrev pub matcher : Env → Syn → rows.Matcher
 matcher env p e ty = pattern env e ty p []
@@ -208,8 +208,8 @@ is_expression _ = true
 abbrev mutual
   -- an expression whose value is used
   pub typed : Env → Syn → Typer
-  typed env (syn at form) want =
-      if is_place env form then place env at form >>= taken env want else value env at form want
+  typed env (syn at form) expected =
+      if is_place env form then place env at form >>= taken env expected else value env at form expected
 
   -- an expression whose place is gone through: a place, or a value that becomes a temporary
   pub base_of : Env → Syn → Check Node
@@ -231,7 +231,7 @@ abbrev mutual
   value env at (TruthLiteral b) = leaf at bool (tree.Truth b)
   value env at (Minus operand) = minus at (literal_in operand) (typed env operand)
   value env at (Bang operand) = rows.not_row at (typed env operand)
-  value env at (Ampersand unique base) = λ want. base_of env base >>= no_reference >> breaks Rule.T08 at
+  value env at (Ampersand unique base) = λ expected. base_of env base >>= no_reference >> breaks Rule.T08 at
   value env at (Calculate operator left right) =
       rows.arithmetic at operator (is_plain left) (typed env left) (typed env right)
   value env at (Compare operator left right) =
@@ -246,7 +246,7 @@ abbrev mutual
       params args)
   value env at (StructOf first second inits) = struct_of env at first second (λ v. typed_inits env v inits)
   value env at (TupleOf parts) = tuple at parts (λ wants. typed_parts env wants parts)
-  value env at (ArrayOf elements) = rows.array_row at (count_of elements) (λ want. typed_elements env want elements)
+  value env at (ArrayOf elements) = rows.array_row at (count_of elements) (λ expected. typed_elements env expected elements)
   value env at (Braces statements tail) = rows.block at (typed_all env statements) (λ inner. typed_maybe inner tail)
   value env at (IfElse c body nothing) = rows.if_alone at (typed env c) (typed env body)
   value env at (IfElse c body (just otherwise)) = rows.if_else at (typed env c) (typed env body) (typed env otherwise)
@@ -256,8 +256,8 @@ abbrev mutual
       rows.if_let_else env at (base_of env scrutinee) (matcher env p) (λ xs. typed (with_variables xs env) body)
       (typed env otherwise)
   value env at (MatchOn scrutinee arms) =
-      λ want. obeys Rule.T20 at (has_one arms) >>
-      rows.match_row env at (base_of env scrutinee) (λ e ty want. typed_arms env e ty want arms) want
+      λ expected. obeys Rule.T20 at (has_one arms) >>
+      rows.match_row env at (base_of env scrutinee) (λ e ty expected. typed_arms env e ty expected arms) expected
   value env at (LoopOf label body) = rows.loop_row at label (λ around. typed (within_loop around env) body)
   value env at (WhileOf label c body) =
       rows.while_row at label (λ around. typed (within_loop around env) c) (λ around. typed (within_loop around env)
@@ -270,11 +270,11 @@ abbrev mutual
   value env at (ReturnOf v) = rows.return_row at env.answer (typed_maybe env v)
   value env at (MoveOf captures params answer body) = closure env at captures params answer (λ inner. typed inner body)
   value env at PanicOf = leaf at never tree.Panic
-  value env at form = λ want. breaks Rule.T20 at
+  value env at form = λ expected. breaks Rule.T20 at
 
   pub typed_maybe : Env → MaybeSyn → Option TyId → Check MaybeNode
-  typed_maybe env nothing want = pure absent
-  typed_maybe env (just e) want = present <$> typed env e want
+  typed_maybe env nothing expected = pure absent
+  typed_maybe env (just e) expected = present <$> typed env e expected
 
   -- statements, whether one of them has an expression or initialiser of type `!`, and where the rest of the block
   -- stands
@@ -287,8 +287,8 @@ abbrev mutual
 
   pub statement : Env → Syn → Check (Option Node × Bool × Env)
   statement env (syn at form) =
-      if is_expression form then a_statement <$> rows.evaluate at env false (λ want. if is_place env form then place
-      env at form >>= taken env want else value env at form want)
+      if is_expression form then a_statement <$> rows.evaluate at env false (λ expected. if is_place env form then place
+      env at form >>= taken env expected else value env at form expected)
       else other_statement env at form
 
   pub other_statement : Env → Pos → Shape → Check (Option Node × Bool × Env)
@@ -302,13 +302,13 @@ abbrev mutual
 
   -- one name takes the value; another pattern takes the place apart, or a temporary
   pub initialised : Env → Bool → MaybeSyn → Option TyId → Check MaybeNode
-  initialised env is_one_name nothing want = pure absent
-  initialised env is_one_name (just e) want =
-      present <$> (if is_one_name then typed env e want else for_parts env want e)
+  initialised env is_one_name nothing expected = pure absent
+  initialised env is_one_name (just e) expected =
+      present <$> (if is_one_name then typed env e expected else for_parts env expected e)
 
   pub for_parts : Env → Option TyId → Syn → Check Node
-  for_parts env want (syn at form) =
-      if is_place env form then place env at form >>= rows.place_for_parts env want else value env at form want
+  for_parts env expected (syn at form) =
+      if is_place env form then place env at form >>= rows.place_for_parts env expected else value env at form expected
 
   pub typed_args : Env → List TyId → Syns → Check Nodes
   typed_args env params no_syn = pure no_node
@@ -322,15 +322,15 @@ abbrev mutual
     pure (a_node n ns)
 
   pub by_reference : Env → Syn → Referrer
-  by_reference env (syn at form) want is_unique to =
-      if may_refer form then reference_form env at form want is_unique to
-      else (if is_place env form then place env at form >>= taken env (Some want) else value env at form (Some want))
+  by_reference env (syn at form) expected is_unique to =
+      if may_refer form then reference_form env at form expected is_unique to
+      else (if is_place env form then place env at form >>= taken env (Some expected) else value env at form (Some expected))
 
   pub reference_form : Env → Pos → Shape → Referrer
   reference_form env at (Ampersand unique base) = rows.borrow at unique (base_of env base)
   reference_form env at (Path first second) = passed at (path env at first second) (variable_of env first second)
   reference_form env at (Parens inside) = by_reference env inside
-  reference_form env at _ = λ want is_unique to. breaks Rule.T20 at
+  reference_form env at _ = λ expected is_unique to. breaks Rule.T20 at
 
   pub typed_inits : Env → Variant → Syns → Check (Fields × Given)
   typed_inits env v no_syn = pure (tree.no_field, [])
@@ -352,17 +352,17 @@ abbrev mutual
     pure (a_node n ns.0, part_ty (first_want wants) n ∷ ns.1)
 
   pub typed_elements : Env → Option TyId → Syns → Check (Nodes × List TyId)
-  typed_elements env want no_syn = pure (no_node, [])
-  typed_elements env want (a_syn e es) = do
-    n ← typed env e want
-    ns ← typed_elements env want es
+  typed_elements env expected no_syn = pure (no_node, [])
+  typed_elements env expected (a_syn e es) = do
+    n ← typed env e expected
+    ns ← typed_elements env expected es
     pure (a_node n ns.0, ty_of n ∷ ns.1)
 
-  pub typed_arms : Env → Expected → TyId → Option TyId → Syns → Check (Nodes × List TyId)
-  typed_arms env e ty want no_syn = pure (no_node, [])
-  typed_arms env e ty want (a_syn (syn at (ArmOf p guard body)) rest) = do
+  pub typed_arms : Env → PatternContext → TyId → Option TyId → Syns → Check (Nodes × List TyId)
+  typed_arms env e ty expected no_syn = pure (no_node, [])
+  typed_arms env e ty expected (a_syn (syn at (ArmOf p guard body)) rest) = do
     n ← rows.arm (pattern env e ty p []) (λ xs. typed_maybe (with_variables (in_guard xs) env) guard (Some bool)) (λ
-        xs. typed (with_variables xs env) body) want
-    ns ← typed_arms env e ty want rest
+        xs. typed (with_variables xs env) body) expected
+    ns ← typed_arms env e ty expected rest
     pure (a_node n ns.0, ty_of n ∷ ns.1)
-  typed_arms env e ty want (a_syn (syn at form) rest) = breaks Rule.T20 at
+  typed_arms env e ty expected (a_syn (syn at form) rest) = breaks Rule.T20 at

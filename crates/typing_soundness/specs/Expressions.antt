@@ -23,7 +23,7 @@ use Rattle.typing_soundness.specs.Walks.{WalksNode}
 abbrev pub Loops : Type 0
 Loops = (f : Tape) (env : Env) (at : Pos) (label : Option Word) (body : LabelledLoop → Typer) →
     ((a : LabelledLoop) → Sound (within_loop a env)
-    (body a)) → ((a : LabelledLoop) (want : Option TyId) → WalksNode f (body a want)) →
+    (body a)) → ((a : LabelledLoop) (expected : Option TyId) → WalksNode f (body a expected)) →
     SoundTemporary env (loop_row at label
     body)
 

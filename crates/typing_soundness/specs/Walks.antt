@@ -10,7 +10,7 @@ use Rattle.well_typed.specs.Nodes.{carried_by}
 use Rattle.typing_rules.specs.Check.{Check, TypingState, Broken}
 use Rattle.typing_rules.specs.Patterns.{pattern}
 use Rattle.typing_rules.specs.Promises.{Then}
-use Rattle.typing_rules.specs.Rows.{Expected, ty_carried}
+use Rattle.typing_rules.specs.Rows.{PatternContext, ty_carried}
 use Rattle.typing_rules.specs.Scope.{Env}
 use Rattle.typing_rules.specs.Typed.{typed}
 use Rattle.typing_rules.specs.Bodies.{all_rules}
@@ -72,8 +72,8 @@ abbrev pub WalksNode : Tape → Check Node → Type 0
 WalksNode f check = (s : TypingState) → Walked (λ n t. Walks f s t (nodes_of n)) (check s)
 
 abbrev pub Patterns : Type 0
-Patterns = (env : Env) (e : Expected) (ty : TyId) (p : Syn) (s : TypingState) → Walked (λ b t. Walks (λ rest. rest)
+Patterns = (env : Env) (e : PatternContext) (ty : TyId) (p : Syn) (s : TypingState) → Walked (λ b t. Walks (λ rest. rest)
     s t (nodes_of b.0)) (pattern env e ty p [] s)
 
 abbrev pub Expressions : Type 0
-Expressions = (env : Env) (e : Syn) (want : Option TyId) → WalksNode (closures_of (all_rules env) e) (typed env e want)
+Expressions = (env : Env) (e : Syn) (expected : Option TyId) → WalksNode (closures_of (all_rules env) e) (typed env e expected)

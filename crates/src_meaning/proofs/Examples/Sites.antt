@@ -6,7 +6,7 @@ use Rattle.store_model.specs.Abstract.Effects.{AbstractState, abstract_effects}
 use Rattle.typed_tree.specs.declared.node.Use.{Use}
 use Rattle.typed_tree.specs.Tree.{Node, absent, Number, Variable, Call, Block, BodyTree}
 use Rattle.src_meaning.specs.Evaluation.{meaning}
-use Rattle.src_meaning.specs.Forms.{Into, Around}
+use Rattle.src_meaning.specs.Forms.{Into, LoopsAndGuards}
 use Rattle.src_meaning.specs.Programs.{reached_by}
 use Rattle.src_meaning.specs.Scopes.{Scopes, Run, At, Over, with_scope}
 use Rattle.src_meaning.proofs.Examples.Conditions.{items}
@@ -40,7 +40,7 @@ the_call_takes_its_operands = refl
 
 -- A statement's entries stand in the block's scope, also those that need no dropping.
 
-abbrev around : Around
+abbrev around : LoopsAndGuards
 around = record { answer = Into 0; loops = []; aliases = [] }
 
 abbrev nothing_known : AbstractState

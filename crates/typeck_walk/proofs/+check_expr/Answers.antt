@@ -31,7 +31,7 @@ use Rattle.typeck_walk.proofs.Begun.{of_form, value_falls, no_nodes_yet}
 use Rattle.typeck_walk.proofs.Arms.{if_let_looked, if_let_refused, matched, none_yet, one_arm, refused_arm, while_let_looked}
 use Rattle.typing_rules.specs.Rows.{loop_around, scrutinised}
 use Rattle.typeck_walk.specs.Matches.{arm_of_syn}
-use Rattle.typeck_patterns.specs.Expected.{expected_of}
+use Rattle.typeck_patterns.specs.PatternContext.{pattern_context_of}
 use Rattle.typeck_walk.proofs.CallSteps.{behind_args, closure_called, method_called, refused_args}
 use Rattle.typing_rules.specs.Named.{method_named}
 use Rattle.typeck_walk.proofs.Statements.{below_statement, block_left, grown_length, grows_on, one_statement, scope_left, scoped_grows}
@@ -70,11 +70,11 @@ aggregates::check_elements-loop-split-preserved t c =
     let before = c.loop-split.checker in
     let after = c.check_expr.new.checker in
     let e = env c.args.checker.now in
-    let here : rules_of.typed e (syn_of c.in-Some.split.first.now) c.args.want (state before) ≡ Ok (top (stack after), state after) =
-    ap (λ (f : Env). rules_of.typed f (syn_of c.in-Some.split.first.now) c.args.want (state before)) (sym c.loop-split.invariant.place.0) ∙ c.in_ok-check_expr.ensures.gives in
+    let here : rules_of.typed e (syn_of c.in-Some.split.first.now) c.args.expected (state before) ≡ Ok (top (stack after), state after) =
+    ap (λ (f : Env). rules_of.typed f (syn_of c.in-Some.split.first.now) c.args.expected (state before)) (sym c.loop-split.invariant.place.0) ∙ c.in_ok-check_expr.ensures.gives in
     record {
       gives =
-          one_element e _ c.loop-split.count c.in_ok-count.count (stack before) (stack after) c.args.want _ _ _ (state before) (state after)
+          one_element e _ c.loop-split.count c.in_ok-count.count (stack before) (stack after) c.args.expected _ _ _ (state before) (state after)
           c.loop-split.invariant.gives c.in-Some.ensures here c.in_ok-check_expr.ensures.kept.0 c.in_ok-count.ensures.counted;
       below = below_next c.loop-split.count c.in_ok-count.count (stack before) (stack after) _ c.loop-split.invariant.below c.in_ok-check_expr.ensures.kept.0 c.in_ok-count.ensures.counted;
       place = (c.in_ok-check_expr.ensures.kept.1.0 ∙ c.loop-split.invariant.place.0, c.in_ok-check_expr.ensures.kept.1.1 ∙ c.loop-split.invariant.place.1);
@@ -86,11 +86,11 @@ pub aggregates::check_parts-returns-in_err-check_expr-clause-gives : goal.aggreg
 aggregates::check_parts-returns-in_err-check_expr-clause-gives t c =
     let before = c.loop-split.checker in
     let e = env c.args.checker.now in
-    let here : Refuses (rules_of.typed e (syn_of c.in-Some.split.first.now) c.wanted_at-want.result (state before)) c.in_err-check_expr.field-0.0 =
-    subst (λ (f : Env). Refuses (rules_of.typed f (syn_of c.in-Some.split.first.now) c.wanted_at-want.result (state before)) c.in_err-check_expr.field-0.0) c.loop-split.invariant.place.0 c.in_err-check_expr.ensures.gives in
+    let here : Refuses (rules_of.typed e (syn_of c.in-Some.split.first.now) c.wanted_at-expected.result (state before)) c.in_err-check_expr.field-0.0 =
+    subst (λ (f : Env). Refuses (rules_of.typed f (syn_of c.in-Some.split.first.now) c.wanted_at-expected.result (state before)) c.in_err-check_expr.field-0.0) c.loop-split.invariant.place.0 c.in_err-check_expr.ensures.gives in
     let refused : Refuses (rules_of.typed_parts e (map Some c.args.wants.now) (nodes_of c.args.parts) (state c.args.checker.now)) c.in_err-check_expr.field-0.0 =
-    refused_part e _ c.loop-split.types (stack before) c.args.wants.now c.wanted_at-want.result _ _ _ (state before) c.in_err-check_expr.field-0.0
-    c.loop-split.invariant.gives c.in-Some.ensures (c.wanted_at-want.ensures ∙ ap (λ (n : ℕ). slice_get c.args.wants.now n) c.len.ensures) here in
+    refused_part e _ c.loop-split.types (stack before) c.args.wants.now c.wanted_at-expected.result _ _ _ (state before) c.in_err-check_expr.field-0.0
+    c.loop-split.invariant.gives c.in-Some.ensures (c.wanted_at-expected.ensures ∙ ap (λ (n : ℕ). slice_get c.args.wants.now n) c.len.ensures) here in
     grind (arith, refused)
 
 pub aggregates::check_parts-loop-split-preserved : goal.aggregates::check_parts-loop-split-preserved
@@ -98,12 +98,12 @@ aggregates::check_parts-loop-split-preserved t c =
     let before = c.loop-split.checker in
     let after = c.check_expr.new.checker in
     let e = env c.args.checker.now in
-    let here : rules_of.typed e (syn_of c.in-Some.split.first.now) c.wanted_at-want.result (state before) ≡ Ok (top (stack after), state after) =
-    ap (λ (f : Env). rules_of.typed f (syn_of c.in-Some.split.first.now) c.wanted_at-want.result (state before)) (sym c.loop-split.invariant.place.0) ∙ c.in_ok-check_expr.ensures.gives in
+    let here : rules_of.typed e (syn_of c.in-Some.split.first.now) c.wanted_at-expected.result (state before) ≡ Ok (top (stack after), state after) =
+    ap (λ (f : Env). rules_of.typed f (syn_of c.in-Some.split.first.now) c.wanted_at-expected.result (state before)) (sym c.loop-split.invariant.place.0) ∙ c.in_ok-check_expr.ensures.gives in
     record {
       gives =
-          one_part e _ c.loop-split.types c.push_to.new.list c.part_ty.result (stack before) (stack after) c.args.wants.now c.wanted_at-want.result _ _ _ (state before) (state after)
-          c.loop-split.invariant.gives c.in-Some.ensures (c.wanted_at-want.ensures ∙ ap (λ (n : ℕ). slice_get c.args.wants.now n) c.len.ensures) here c.in_ok-check_expr.ensures.kept.0 c.part_ty.ensures c.in_ok-push_to.ensures.pushed;
+          one_part e _ c.loop-split.types c.push_to.new.list c.part_ty.result (stack before) (stack after) c.args.wants.now c.wanted_at-expected.result _ _ _ (state before) (state after)
+          c.loop-split.invariant.gives c.in-Some.ensures (c.wanted_at-expected.ensures ∙ ap (λ (n : ℕ). slice_get c.args.wants.now n) c.len.ensures) here c.in_ok-check_expr.ensures.kept.0 c.part_ty.ensures c.in_ok-push_to.ensures.pushed;
       below = below_part c.loop-split.types c.push_to.new.list c.part_ty.result (stack before) (stack after) _ c.loop-split.invariant.below c.in_ok-check_expr.ensures.kept.0 c.in_ok-push_to.ensures.pushed;
       place = (c.in_ok-check_expr.ensures.kept.1.0 ∙ c.loop-split.invariant.place.0, c.in_ok-check_expr.ensures.kept.1.1 ∙ c.loop-split.invariant.place.1);
       counted = omega (arith, ap count_of c.in-Some.ensures, ap length c.in_ok-push_to.ensures.pushed, length-append c.loop-split.types (c.part_ty.result ∷ []));
@@ -167,27 +167,27 @@ blocks::check_statements-loop-split-preserved t c =
 
 pub branches::check_if-returns-in-Some-clause-gives : goal.branches::check_if-returns-in-Some-clause-gives
 branches::check_if-returns-in-Some-clause-gives t c =
-    subst (λ (o : Option (Bor SyntaxNode)). Gives (rules_of.value (env c.args.checker.now) c.args.at (IfElse (syn_of c.args.condition.now) (syn_of c.args.body.now) (maybe_of o)) c.args.want (state c.args.checker.now)) c.if_else.result c.if_else.new.checker)
+    subst (λ (o : Option (Bor SyntaxNode)). Gives (rules_of.value (env c.args.checker.now) c.args.at (IfElse (syn_of c.args.condition.now) (syn_of c.args.body.now) (maybe_of o)) c.args.expected (state c.args.checker.now)) c.if_else.result c.if_else.new.checker)
     (sym c.in-Some.is) c.if_else.ensures.gives
 
 pub branches::check_if-returns-in-None-clause-gives : goal.branches::check_if-returns-in-None-clause-gives
 branches::check_if-returns-in-None-clause-gives t c =
-    subst (λ (o : Option (Bor SyntaxNode)). Gives (rules_of.value (env c.args.checker.now) c.args.at (IfElse (syn_of c.args.condition.now) (syn_of c.args.body.now) (maybe_of o)) c.args.want (state c.args.checker.now)) c.if_alone.result c.if_alone.new.checker)
+    subst (λ (o : Option (Bor SyntaxNode)). Gives (rules_of.value (env c.args.checker.now) c.args.at (IfElse (syn_of c.args.condition.now) (syn_of c.args.body.now) (maybe_of o)) c.args.expected (state c.args.checker.now)) c.if_alone.result c.if_alone.new.checker)
     (sym c.in-None.is) c.if_alone.ensures.gives
 
 pub expressions::check_value-returns-in-Math-clause-gives : goal.expressions::check_value-returns-in-Math-clause-gives
 expressions::check_value-returns-in-Math-clause-gives t c =
-    subst (λ (f : ExpressionForm). Gives (value_as (env c.args.checker.now) c.args.at (expression_of f) c.args.want (state c.args.checker.now)) c.check_arithmetic.result c.check_arithmetic.new.checker)
+    subst (λ (f : ExpressionForm). Gives (value_as (env c.args.checker.now) c.args.at (expression_of f) c.args.expected (state c.args.checker.now)) c.check_arithmetic.result c.check_arithmetic.new.checker)
     (sym c.in-Math.is) c.check_arithmetic.ensures.gives
 
 pub expressions::check_value-returns-in-Compare-clause-gives : goal.expressions::check_value-returns-in-Compare-clause-gives
 expressions::check_value-returns-in-Compare-clause-gives t c =
-    subst (λ (f : ExpressionForm). Gives (value_as (env c.args.checker.now) c.args.at (expression_of f) c.args.want (state c.args.checker.now)) c.check_comparison.result c.check_comparison.new.checker)
+    subst (λ (f : ExpressionForm). Gives (value_as (env c.args.checker.now) c.args.at (expression_of f) c.args.expected (state c.args.checker.now)) c.check_comparison.result c.check_comparison.new.checker)
     (sym c.in-Compare.is) c.check_comparison.ensures.gives
 
 pub expressions::check_value-returns-in-Block-clause-gives : goal.expressions::check_value-returns-in-Block-clause-gives
 expressions::check_value-returns-in-Block-clause-gives t c =
-    subst (λ (f : ExpressionForm). Gives (value_as (env c.args.checker.now) c.args.at (expression_of f) c.args.want (state c.args.checker.now)) c.check_block.result c.check_block.new.checker)
+    subst (λ (f : ExpressionForm). Gives (value_as (env c.args.checker.now) c.args.at (expression_of f) c.args.expected (state c.args.checker.now)) c.check_block.result c.check_block.new.checker)
     (sym c.in-Block.is) c.check_block.ensures.gives
 
 pub loops::check_break-returns-in_ok-check_expr-in-Some-clause-gives : goal.loops::check_break-returns-in_ok-check_expr-in-Some-clause-gives
@@ -200,10 +200,10 @@ loops::check_break-returns-in_ok-check_expr-in-Some-clause-gives t c =
     c.jump_target-target.ensures ∙ ap (λ (f : Env). option_map unlabelled (jumps_to f.loops (word_in c.args.label))) same in
     let here : rules_of.typed e (syn_of c.in-Some.value.now) c.carried_type.result (state c.number.new.self) ≡ Ok (top (stack after), state after) =
     ap (λ (f : Env). rules_of.typed f (syn_of c.in-Some.value.now) c.carried_type.result (state c.number.new.self)) (sym same) ∙ c.in_ok-check_expr-in-Some.ensures.gives in
-    subst (λ (o : Option (Bor SyntaxNode)). Gives (rules_of.value e c.args.at (BreakOf (word_of c.args.label) (maybe_of o)) c.args.want (state before)) c.break_end.result c.break_end.new.checker)
+    subst (λ (o : Option (Bor SyntaxNode)). Gives (rules_of.value e c.args.at (BreakOf (word_of c.args.label) (maybe_of o)) c.args.expected (state before)) c.break_end.result c.break_end.new.checker)
     (sym c.in-Some.is)
     (subst (λ (o : Result (tree.Node × TypingState) Broken). Gives o c.break_end.result c.break_end.new.checker)
-    (sym (broken_out e c.args.at c.args.label (syn_of c.in-Some.value.now) c.args.want c.carried_type.result c.in_ok-id.id.0 (top (stack after)) (option_map target_of c.jump_target-target.result)
+    (sym (broken_out e c.args.at c.args.label (syn_of c.in-Some.value.now) c.args.expected c.carried_type.result c.in_ok-id.id.0 (top (stack after)) (option_map target_of c.jump_target-target.result)
     (state before) (state c.number.new.self) (state after) c.in_ok-id.ensures.number is c.carried_type.ensures here))
     c.break_end.ensures.gives)
 
@@ -223,9 +223,9 @@ operators::check_assignment-returns-clause-gives t c =
     ∙ ap (λ (ty : TyId). rules_of.typed (env middle) (syn_of c.args.value.now) (Some ty) (state middle)) (sym c.last_ty-ty.ensures) ∙ c.in_ok-check_expr.ensures.gives in
     let under : below (stack after) ≡ stack middle = c.in_ok-check_expr.ensures.kept.0 in
     subst (λ (o : Result (tree.Node × TypingState) Broken). Gives o c.store_end.result c.store_end.new.checker)
-    (sym (stored e (env after) c.args.at (rules_of.base_of e (syn_of c.args.place.now)) (rules_of.typed e (syn_of c.args.value.now)) c.args.want c.in_ok-id.id.0 (top (stack middle)) (top (stack after))
+    (sym (stored e (env after) c.args.at (rules_of.base_of e (syn_of c.args.place.now)) (rules_of.typed e (syn_of c.args.value.now)) c.args.expected c.in_ok-id.id.0 (top (stack middle)) (top (stack after))
     (state before) (state c.number.new.self) (state middle) (state after) c.in_ok-id.ensures.number place value third
-    ∙ ap (λ (ns : List tree.Node). store_rest (env after) c.in_ok-id.id.0 c.args.at c.args.want (top ns) (top (stack after)) (state after)) (sym under)))
+    ∙ ap (λ (ns : List tree.Node). store_rest (env after) c.in_ok-id.id.0 c.args.at c.args.expected (top ns) (top (stack after)) (state after)) (sym under)))
     c.store_end.ensures.gives
 
 -- ---- references
@@ -254,12 +254,12 @@ calls::call_of-returns-clause-gives t c =
     let begun = c.in_ok-begun.begun in
     let count = count_of (nodes_of c.args.args) in
     let arguments : Arguments = λ params. rules_of.typed_args (env before) params (nodes_of c.args.args) in
-    let check : ℕ → Arguments → Check tree.Node = λ n a. rules_of.called_by c.args.at n value a (callee_seen before.walk.items c.args.callee) c.args.want in
+    let check : ℕ → Arguments → Check tree.Node = λ n a. rules_of.called_by c.args.at n value a (callee_seen before.walk.items c.args.callee) c.args.expected in
     let here : arguments begun.params (state middle) ≡ Ok (last_nodes c.in_ok-count.count (stack after), state after) =
     ap (λ (f : Env). rules_of.typed_args f begun.params (nodes_of c.args.args) (state middle)) (sym c.in_ok-begun.ensures.same.1.0)
     ∙ ap (λ (ps : List TyId). rules_of.typed_args (env middle) ps (nodes_of c.args.args) (state middle)) (sym c.as_slice.ensures) ∙ c.in_ok-count.ensures.gives in
     subst (λ (o : Result (tree.Node × TypingState) Broken). Gives o c.call_end.result c.call_end.new.checker)
-    (sym (behind_args check arguments begun.params (begun_rest c.args.at c.args.want begun) (top (stack middle)) count c.in_ok-count.count (last_nodes c.in_ok-count.count (stack after))
+    (sym (behind_args check arguments begun.params (begun_rest c.args.at c.args.expected begun) (top (stack middle)) count c.in_ok-count.count (last_nodes c.in_ok-count.count (stack after))
     (state before) (state middle) (state after) (c.in_ok-begun.ensures.gives value count arguments) here c.in_ok-count.ensures.counted))
     (c.call_end.ensures.gives (top (stack middle)))
 
@@ -273,9 +273,9 @@ calls::closure_behind-returns-clause-gives t c =
     let here : arguments callee.params (state before) ≡ Ok (last_nodes c.in_ok-count.count (stack after), state after) =
     ap (λ (ps : List TyId). rules_of.typed_args (env before) ps (nodes_of c.args.args) (state before)) (sym c.as_slice.ensures) ∙ c.in_ok-count.ensures.gives in
     subst (λ (o : Result (tree.Node × TypingState) Broken). Gives o c.closure_end.result c.closure_end.new.checker)
-    (sym (behind_args (closure_rest c.args.id.0 c.args.at c.args.want (top (stack before))) arguments callee.params (callee_rest c.args.id.0 c.args.at c.args.want callee) (top (stack before)) count c.in_ok-count.count (last_nodes c.in_ok-count.count (stack after))
-    (state before) (state before) (state after) (c.in_ok-callee.ensures.gives c.args.id.0 c.args.at c.args.want count arguments) here c.in_ok-count.ensures.counted
-    ∙ ap (λ (ns : List tree.Node). callee_rest c.args.id.0 c.args.at c.args.want callee (top ns) c.in_ok-count.count (last_nodes c.in_ok-count.count (stack after)) (state after)) (sym c.in_ok-count.ensures.kept.0)))
+    (sym (behind_args (closure_rest c.args.id.0 c.args.at c.args.expected (top (stack before))) arguments callee.params (callee_rest c.args.id.0 c.args.at c.args.expected callee) (top (stack before)) count c.in_ok-count.count (last_nodes c.in_ok-count.count (stack after))
+    (state before) (state before) (state after) (c.in_ok-callee.ensures.gives c.args.id.0 c.args.at c.args.expected count arguments) here c.in_ok-count.ensures.counted
+    ∙ ap (λ (ns : List tree.Node). callee_rest c.args.id.0 c.args.at c.args.expected callee (top ns) c.in_ok-count.count (last_nodes c.in_ok-count.count (stack after)) (state after)) (sym c.in_ok-count.ensures.kept.0)))
     c.closure_end.ensures.gives
 
 pub calls::closure_call-returns-clause-gives : goal.calls::closure_call-returns-clause-gives
@@ -288,9 +288,9 @@ calls::closure_call-returns-clause-gives t c =
     let value : rules_of.typed (env before) (syn_of c.args.callee.now) None (state middle) ≡ Ok (top (stack after), state after) =
     ap (λ (f : Env). rules_of.typed f (syn_of c.args.callee.now) None (state middle)) (sym same) ∙ c.in_ok-check_expr.ensures.gives in
     subst (λ (o : Result (tree.Node × TypingState) Broken). Gives o c.closure_behind.result c.closure_behind.new.checker)
-    (sym (closure_called c.args.at (count_of (nodes_of c.args.args)) (rules_of.typed (env before) (syn_of c.args.callee.now) None) (arguments (env before)) c.args.want c.in_ok-id.id.0 (top (stack after))
+    (sym (closure_called c.args.at (count_of (nodes_of c.args.args)) (rules_of.typed (env before) (syn_of c.args.callee.now) None) (arguments (env before)) c.args.expected c.in_ok-id.id.0 (top (stack after))
     (state before) (state middle) (state after) c.in_ok-id.ensures.number value
-    ∙ ap (λ (f : Env). closure_rest c.in_ok-id.id.0 c.args.at c.args.want (top (stack after)) (count_of (nodes_of c.args.args)) (arguments f) (state after)) (sym (c.in_ok-check_expr.ensures.kept.1.0 ∙ same))))
+    ∙ ap (λ (f : Env). closure_rest c.in_ok-id.id.0 c.args.at c.args.expected (top (stack after)) (count_of (nodes_of c.args.args)) (arguments f) (state after)) (sym (c.in_ok-check_expr.ensures.kept.1.0 ∙ same))))
     c.closure_behind.ensures.gives
 
 pub calls::method_behind-returns-clause-gives : goal.calls::method_behind-returns-clause-gives
@@ -305,9 +305,9 @@ calls::method_behind-returns-clause-gives t c =
     ap (λ (f : Env). rules_of.typed_args f receiver.params (nodes_of c.args.args) (state middle)) (sym c.in_ok-receiver.ensures.kept.1.0)
     ∙ ap (λ (ps : List TyId). rules_of.typed_args (env middle) ps (nodes_of c.args.args) (state middle)) (sym c.as_slice.ensures) ∙ c.in_ok-count.ensures.gives in
     subst (λ (o : Result (tree.Node × TypingState) Broken). Gives o c.method_end.result c.method_end.new.checker)
-    (sym (behind_args (method_rest (env before) c.args.id.0 c.args.at (method_named c.args.name.now) c.args.want (top (stack before))) arguments receiver.params (receiver_rest c.args.id.0 c.args.at c.args.want receiver) (top (stack middle)) count c.in_ok-count.count (last_nodes c.in_ok-count.count (stack after))
-    (state before) (state middle) (state after) (c.in_ok-receiver.ensures.gives c.args.id.0 c.args.want count arguments) here c.in_ok-count.ensures.counted
-    ∙ ap (λ (ns : List tree.Node). receiver_rest c.args.id.0 c.args.at c.args.want receiver (top ns) c.in_ok-count.count (last_nodes c.in_ok-count.count (stack after)) (state after)) (sym c.in_ok-count.ensures.kept.0)))
+    (sym (behind_args (method_rest (env before) c.args.id.0 c.args.at (method_named c.args.name.now) c.args.expected (top (stack before))) arguments receiver.params (receiver_rest c.args.id.0 c.args.at c.args.expected receiver) (top (stack middle)) count c.in_ok-count.count (last_nodes c.in_ok-count.count (stack after))
+    (state before) (state middle) (state after) (c.in_ok-receiver.ensures.gives c.args.id.0 c.args.expected count arguments) here c.in_ok-count.ensures.counted
+    ∙ ap (λ (ns : List tree.Node). receiver_rest c.args.id.0 c.args.at c.args.expected receiver (top ns) c.in_ok-count.count (last_nodes c.in_ok-count.count (stack after)) (state after)) (sym c.in_ok-count.ensures.kept.0)))
     c.method_end.ensures.gives
 
 pub calls::check_method_call-returns-clause-gives : goal.calls::check_method_call-returns-clause-gives
@@ -321,9 +321,9 @@ calls::check_method_call-returns-clause-gives t c =
     let base : rules_of.base_of e (syn_of c.args.receiver.now) (state middle) ≡ Ok (top (stack after), state after) =
     ap (λ (f : Env). rules_of.base_of f (syn_of c.args.receiver.now) (state middle)) (sym same) ∙ c.in_ok-check_place_base.ensures.gives in
     subst (λ (o : Result (tree.Node × TypingState) Broken). Gives o c.method_behind.result c.method_behind.new.checker)
-    (sym (method_called e (env after) c.args.at (method_named c.args.name.now) (count_of (nodes_of c.args.args)) (rules_of.base_of e (syn_of c.args.receiver.now)) (arguments e) c.args.want c.in_ok-id.id.0 (top (stack after))
+    (sym (method_called e (env after) c.args.at (method_named c.args.name.now) (count_of (nodes_of c.args.args)) (rules_of.base_of e (syn_of c.args.receiver.now)) (arguments e) c.args.expected c.in_ok-id.id.0 (top (stack after))
     (state before) (state middle) (state after) c.in_ok-id.ensures.number base (c.in_ok-check_place_base.ensures.kept.1.0 ∙ same)
-    ∙ ap (λ (f : Env). method_rest (env after) c.in_ok-id.id.0 c.args.at (method_named c.args.name.now) c.args.want (top (stack after)) (count_of (nodes_of c.args.args)) (arguments f) (state after)) (sym (c.in_ok-check_place_base.ensures.kept.1.0 ∙ same))))
+    ∙ ap (λ (f : Env). method_rest (env after) c.in_ok-id.id.0 c.args.at (method_named c.args.name.now) c.args.expected (top (stack after)) (count_of (nodes_of c.args.args)) (arguments f) (state after)) (sym (c.in_ok-check_place_base.ensures.kept.1.0 ∙ same))))
     c.method_behind.ensures.gives
 
 pub calls::call_of-returns-in_err-begun-clause-gives : goal.calls::call_of-returns-in_err-begun-clause-gives
@@ -331,7 +331,7 @@ calls::call_of-returns-in_err-begun-clause-gives t c =
     λ value.
     let before = c.args.checker.now in
     let arguments : Arguments = λ params. rules_of.typed_args (env before) params (nodes_of c.args.args) in
-    let refused : Refuses (rules_of.called_by c.args.at (count_of (nodes_of c.args.args)) value arguments (callee_seen before.walk.items c.args.callee) c.args.want (state before)) c.in_err-begun.field-0.0 =
+    let refused : Refuses (rules_of.called_by c.args.at (count_of (nodes_of c.args.args)) value arguments (callee_seen before.walk.items c.args.callee) c.args.expected (state before)) c.in_err-begun.field-0.0 =
     c.in_err-begun.ensures.gives value (count_of (nodes_of c.args.args)) arguments in
     grind (arith, refused)
 
@@ -339,8 +339,8 @@ pub calls::closure_behind-returns-in_err-callee-clause-gives : goal.calls::closu
 calls::closure_behind-returns-in_err-callee-clause-gives t c =
     let before = c.args.checker.now in
     let arguments : Arguments = λ params. rules_of.typed_args (env before) params (nodes_of c.args.args) in
-    let refused : Refuses (closure_rest c.args.id.0 c.args.at c.args.want (top (stack before)) (count_of (nodes_of c.args.args)) arguments (state before)) c.in_err-callee.field-0.0 =
-    c.in_err-callee.ensures.gives c.args.id.0 c.args.at c.args.want (count_of (nodes_of c.args.args)) arguments in
+    let refused : Refuses (closure_rest c.args.id.0 c.args.at c.args.expected (top (stack before)) (count_of (nodes_of c.args.args)) arguments (state before)) c.in_err-callee.field-0.0 =
+    c.in_err-callee.ensures.gives c.args.id.0 c.args.at c.args.expected (count_of (nodes_of c.args.args)) arguments in
     grind (arith, refused)
 
 pub calls::closure_behind-returns-in_err-count-clause-gives : goal.calls::closure_behind-returns-in_err-count-clause-gives
@@ -351,17 +351,17 @@ calls::closure_behind-returns-in_err-count-clause-gives t c =
     let arguments : Arguments = λ params. rules_of.typed_args (env before) params (nodes_of c.args.args) in
     let here : Refuses (arguments callee.params (state before)) c.in_err-count.field-0.0 =
     subst (λ (ps : List TyId). Refuses (rules_of.typed_args (env before) ps (nodes_of c.args.args) (state before)) c.in_err-count.field-0.0) c.as_slice.ensures c.in_err-count.ensures.gives in
-    let refused : Refuses (closure_rest c.args.id.0 c.args.at c.args.want (top (stack before)) count arguments (state before)) c.in_err-count.field-0.0 =
-    refused_args (closure_rest c.args.id.0 c.args.at c.args.want (top (stack before))) arguments callee.params (callee_rest c.args.id.0 c.args.at c.args.want callee) (top (stack before)) count
-    (state before) (state before) c.in_err-count.field-0.0 (c.in_ok-callee.ensures.gives c.args.id.0 c.args.at c.args.want count arguments) here in
+    let refused : Refuses (closure_rest c.args.id.0 c.args.at c.args.expected (top (stack before)) count arguments (state before)) c.in_err-count.field-0.0 =
+    refused_args (closure_rest c.args.id.0 c.args.at c.args.expected (top (stack before))) arguments callee.params (callee_rest c.args.id.0 c.args.at c.args.expected callee) (top (stack before)) count
+    (state before) (state before) c.in_err-count.field-0.0 (c.in_ok-callee.ensures.gives c.args.id.0 c.args.at c.args.expected count arguments) here in
     grind (arith, refused)
 
 pub calls::method_behind-returns-in_err-receiver-clause-gives : goal.calls::method_behind-returns-in_err-receiver-clause-gives
 calls::method_behind-returns-in_err-receiver-clause-gives t c =
     let before = c.args.checker.now in
     let arguments : Arguments = λ params. rules_of.typed_args (env before) params (nodes_of c.args.args) in
-    let refused : Refuses (method_rest (env before) c.args.id.0 c.args.at (method_named c.args.name.now) c.args.want (top (stack before)) (count_of (nodes_of c.args.args)) arguments (state before)) c.in_err-receiver.field-0.0 =
-    c.in_err-receiver.ensures.gives c.args.id.0 c.args.want (count_of (nodes_of c.args.args)) arguments in
+    let refused : Refuses (method_rest (env before) c.args.id.0 c.args.at (method_named c.args.name.now) c.args.expected (top (stack before)) (count_of (nodes_of c.args.args)) arguments (state before)) c.in_err-receiver.field-0.0 =
+    c.in_err-receiver.ensures.gives c.args.id.0 c.args.expected (count_of (nodes_of c.args.args)) arguments in
     grind (arith, refused)
 
 pub calls::found_call-returns-in_default : goal.calls::found_call-returns-in_default
@@ -373,12 +373,12 @@ calls::found_call-returns-in_default t c =
 
 pub expressions::check_value-returns-in-Call-clause-gives : goal.expressions::check_value-returns-in-Call-clause-gives
 expressions::check_value-returns-in-Call-clause-gives t c =
-    subst (λ (f : ExpressionForm). Gives (value_as (env c.args.checker.now) c.args.at (expression_of f) c.args.want (state c.args.checker.now)) c.check_call.result c.check_call.new.checker)
+    subst (λ (f : ExpressionForm). Gives (value_as (env c.args.checker.now) c.args.at (expression_of f) c.args.expected (state c.args.checker.now)) c.check_call.result c.check_call.new.checker)
     (sym c.in-Call.is) c.check_call.ensures.gives
 
 pub expressions::check_value-returns-in-MethodCall-clause-gives : goal.expressions::check_value-returns-in-MethodCall-clause-gives
 expressions::check_value-returns-in-MethodCall-clause-gives t c =
-    subst (λ (f : ExpressionForm). Gives (value_as (env c.args.checker.now) c.args.at (expression_of f) c.args.want (state c.args.checker.now)) c.check_method_call.result c.check_method_call.new.checker)
+    subst (λ (f : ExpressionForm). Gives (value_as (env c.args.checker.now) c.args.at (expression_of f) c.args.expected (state c.args.checker.now)) c.check_method_call.result c.check_method_call.new.checker)
     (sym c.in-MethodCall.is) c.check_method_call.ensures.gives
 
 -- ---- patterns
@@ -388,11 +388,11 @@ matches::check_each_arm-loop-split-preserved t c =
     let before = c.loop-split.checker in
     let after = c.arm_of_node.new.checker in
     let e = env c.args.checker.now in
-    let here : arm_of_syn e (expected_of c.args.e) c.args.ty c.args.want (syn_of c.in-Some.split.first.now) (state before) ≡ Ok (top (stack after), state after) =
-    ap (λ (f : Env). arm_of_syn f (expected_of c.args.e) c.args.ty c.args.want (syn_of c.in-Some.split.first.now) (state before)) (sym c.loop-split.invariant.place.0) ∙ c.in_ok-arm_of_node.ensures.gives in
+    let here : arm_of_syn e (pattern_context_of c.args.e) c.args.ty c.args.expected (syn_of c.in-Some.split.first.now) (state before) ≡ Ok (top (stack after), state after) =
+    ap (λ (f : Env). arm_of_syn f (pattern_context_of c.args.e) c.args.ty c.args.expected (syn_of c.in-Some.split.first.now) (state before)) (sym c.loop-split.invariant.place.0) ∙ c.in_ok-arm_of_node.ensures.gives in
     record {
       gives =
-          one_arm e (expected_of c.args.e) c.args.ty c.args.want _ c.loop-split.count c.in_ok-count.count (stack before) (stack after) _ _ _ (state before) (state after)
+          one_arm e (pattern_context_of c.args.e) c.args.ty c.args.expected _ c.loop-split.count c.in_ok-count.count (stack before) (stack after) _ _ _ (state before) (state after)
           c.loop-split.invariant.gives c.in-Some.ensures here c.in_ok-arm_of_node.ensures.kept.0 c.in_ok-count.ensures.counted;
       below = below_next c.loop-split.count c.in_ok-count.count (stack before) (stack after) _ c.loop-split.invariant.below c.in_ok-arm_of_node.ensures.kept.0 c.in_ok-count.ensures.counted;
       place = (c.in_ok-arm_of_node.ensures.kept.1.0 ∙ c.loop-split.invariant.place.0, c.in_ok-arm_of_node.ensures.kept.1.1 ∙ c.loop-split.invariant.place.1);
@@ -403,7 +403,7 @@ pub matches::check_each_arm-loop-split-init : goal.matches::check_each_arm-loop-
 matches::check_each_arm-loop-split-init t c =
     let before = c.args.checker.now in
     record {
-      gives = none_yet (stack before) (rules_of.typed_arms (env before) (expected_of c.args.e) c.args.ty c.args.want (nodes_of c.args.arms) (state before));
+      gives = none_yet (stack before) (rules_of.typed_arms (env before) (pattern_context_of c.args.e) c.args.ty c.args.expected (nodes_of c.args.arms) (state before));
       below = refl;
       place = (refl, refl);
       smaller = omega arith;
@@ -413,10 +413,10 @@ pub matches::check_each_arm-returns-in_err-arm_of_node-clause-gives : goal.match
 matches::check_each_arm-returns-in_err-arm_of_node-clause-gives t c =
     let before = c.loop-split.checker in
     let e = env c.args.checker.now in
-    let here : Refuses (arm_of_syn e (expected_of c.args.e) c.args.ty c.args.want (syn_of c.in-Some.split.first.now) (state before)) c.in_err-arm_of_node.field-0.0 =
-    subst (λ (f : Env). Refuses (arm_of_syn f (expected_of c.args.e) c.args.ty c.args.want (syn_of c.in-Some.split.first.now) (state before)) c.in_err-arm_of_node.field-0.0) c.loop-split.invariant.place.0 c.in_err-arm_of_node.ensures.gives in
-    let refused : Refuses (rules_of.typed_arms e (expected_of c.args.e) c.args.ty c.args.want (nodes_of c.args.arms) (state c.args.checker.now)) c.in_err-arm_of_node.field-0.0 =
-    refused_arm e (expected_of c.args.e) c.args.ty c.args.want _ c.loop-split.count (stack before) _ _ _ (state before) c.in_err-arm_of_node.field-0.0 c.loop-split.invariant.gives c.in-Some.ensures here in
+    let here : Refuses (arm_of_syn e (pattern_context_of c.args.e) c.args.ty c.args.expected (syn_of c.in-Some.split.first.now) (state before)) c.in_err-arm_of_node.field-0.0 =
+    subst (λ (f : Env). Refuses (arm_of_syn f (pattern_context_of c.args.e) c.args.ty c.args.expected (syn_of c.in-Some.split.first.now) (state before)) c.in_err-arm_of_node.field-0.0) c.loop-split.invariant.place.0 c.in_err-arm_of_node.ensures.gives in
+    let refused : Refuses (rules_of.typed_arms e (pattern_context_of c.args.e) c.args.ty c.args.expected (nodes_of c.args.arms) (state c.args.checker.now)) c.in_err-arm_of_node.field-0.0 =
+    refused_arm e (pattern_context_of c.args.e) c.args.ty c.args.expected _ c.loop-split.count (stack before) _ _ _ (state before) c.in_err-arm_of_node.field-0.0 c.loop-split.invariant.gives c.in-Some.ensures here in
     grind (arith, refused)
 
 pub matches::inside_scope-leave-requires : goal.matches::inside_scope-leave-requires
@@ -455,7 +455,7 @@ matches::check_match_parts-returns-clause-gives t c =
     let looked : scrutinised (rules_of.base_of e (syn_of c.args.scrutinee.now)) (state middle) ≡ Ok (top (stack after), state after) =
     ap (λ (f : Env). scrutinised (rules_of.base_of f (syn_of c.args.scrutinee.now)) (state middle)) (sym same) ∙ c.in_ok-check_scrutinee.ensures.gives in
     subst (λ (o : Result (tree.Node × TypingState) Broken). Gives o c.check_arms.result c.check_arms.new.checker)
-    (sym (matched e (env after) c.args.at (rules_of.base_of e (syn_of c.args.scrutinee.now)) (nodes_of c.args.arms) c.args.want c.in_ok-id.id.0 (top (stack after))
+    (sym (matched e (env after) c.args.at (rules_of.base_of e (syn_of c.args.scrutinee.now)) (nodes_of c.args.arms) c.args.expected c.in_ok-id.id.0 (top (stack after))
     (state before) (state middle) (state after) c.in_ok-id.ensures.number looked (c.in_ok-check_scrutinee.ensures.kept.1.0 ∙ same)))
     c.check_arms.ensures.gives
 
@@ -469,7 +469,7 @@ matches::check_if_let-returns-clause-gives t c =
     let looked : scrutinised (rules_of.base_of e (syn_of c.args.scrutinee.now)) (state middle) ≡ Ok (top (stack after), state after) =
     ap (λ (f : Env). scrutinised (rules_of.base_of f (syn_of c.args.scrutinee.now)) (state middle)) (sym same) ∙ c.in_ok-check_scrutinee.ensures.gives in
     subst (λ (o : Result (tree.Node × TypingState) Broken). Gives o c.if_let_behind.result c.if_let_behind.new.checker)
-    (sym (if_let_looked e (env after) c.args.at (syn_of c.args.pattern.now) (syn_of c.args.scrutinee.now) (syn_of c.args.body.now) (maybe_of c.args.otherwise) c.args.want c.in_ok-id.id.0 (top (stack after))
+    (sym (if_let_looked e (env after) c.args.at (syn_of c.args.pattern.now) (syn_of c.args.scrutinee.now) (syn_of c.args.body.now) (maybe_of c.args.otherwise) c.args.expected c.in_ok-id.id.0 (top (stack after))
     (state before) (state middle) (state after) c.in_ok-id.ensures.number looked (c.in_ok-check_scrutinee.ensures.kept.1.0 ∙ same)))
     c.if_let_behind.ensures.gives
 
@@ -480,8 +480,8 @@ matches::check_if_let-returns-in_err-check_scrutinee-clause-gives t c =
     let e = env before in
     let here : Refuses (scrutinised (rules_of.base_of e (syn_of c.args.scrutinee.now)) (state middle)) c.in_err-check_scrutinee.field-0.0 =
     subst (λ (f : Env). Refuses (scrutinised (rules_of.base_of f (syn_of c.args.scrutinee.now)) (state middle)) c.in_err-check_scrutinee.field-0.0) c.in_ok-id.ensures.same.1.0 c.in_err-check_scrutinee.ensures.gives in
-    let refused : Refuses (rules_of.value e c.args.at (IfLetElse (syn_of c.args.pattern.now) (syn_of c.args.scrutinee.now) (syn_of c.args.body.now) (maybe_of c.args.otherwise)) c.args.want (state before)) c.in_err-check_scrutinee.field-0.0 =
-    if_let_refused e c.args.at (syn_of c.args.pattern.now) (syn_of c.args.scrutinee.now) (syn_of c.args.body.now) (maybe_of c.args.otherwise) c.args.want c.in_ok-id.id.0 (state before) (state middle) c.in_err-check_scrutinee.field-0.0 c.in_ok-id.ensures.number here in
+    let refused : Refuses (rules_of.value e c.args.at (IfLetElse (syn_of c.args.pattern.now) (syn_of c.args.scrutinee.now) (syn_of c.args.body.now) (maybe_of c.args.otherwise)) c.args.expected (state before)) c.in_err-check_scrutinee.field-0.0 =
+    if_let_refused e c.args.at (syn_of c.args.pattern.now) (syn_of c.args.scrutinee.now) (syn_of c.args.body.now) (maybe_of c.args.otherwise) c.args.expected c.in_ok-id.id.0 (state before) (state middle) c.in_err-check_scrutinee.field-0.0 c.in_ok-id.ensures.number here in
     grind (arith, refused)
 
 pub matches::check_while_let-returns-clause-gives : goal.matches::check_while_let-returns-clause-gives
@@ -495,13 +495,13 @@ matches::check_while_let-returns-clause-gives t c =
     let base : rules_of.base_of (within_loop (loop_around (word_in c.args.label) c.in_ok-id.id.0 false None) e) (syn_of c.args.scrutinee.now) (state middle) ≡ Ok (top (stack looked), state looked) =
     ap (λ (f : Env). rules_of.base_of (within_loop (loop_around (word_in c.args.label) c.in_ok-id.id.0 false None) f) (syn_of c.args.scrutinee.now) (state middle)) (sym same) ∙ c.in_ok-base_inside_loop.ensures.gives in
     subst (λ (o : Result (tree.Node × TypingState) Broken). Gives o c.while_let_behind.result c.while_let_behind.new.checker)
-    (sym (while_let_looked e (env after) c.args.at c.args.label (syn_of c.args.pattern.now) (syn_of c.args.scrutinee.now) (syn_of c.args.body.now) c.args.want c.in_ok-id.id.0 (top (stack looked)) (top (stack after))
+    (sym (while_let_looked e (env after) c.args.at c.args.label (syn_of c.args.pattern.now) (syn_of c.args.scrutinee.now) (syn_of c.args.body.now) c.args.expected c.in_ok-id.id.0 (top (stack looked)) (top (stack after))
     (state before) (state middle) (state looked) (state after) c.in_ok-id.ensures.number base c.in_ok-finish_scrutinee.ensures.gives (c.in_ok-finish_scrutinee.ensures.kept.1.0 ∙ c.in_ok-base_inside_loop.ensures.kept.1.0 ∙ same)))
     c.while_let_behind.ensures.gives
 
 pub expressions::check_value-returns-in-WhileLet-clause-gives : goal.expressions::check_value-returns-in-WhileLet-clause-gives
 expressions::check_value-returns-in-WhileLet-clause-gives t c =
-    subst (λ (f : ExpressionForm). Gives (value_as (env c.args.checker.now) c.args.at (expression_of f) c.args.want (state c.args.checker.now)) c.check_while_let.result c.check_while_let.new.checker)
+    subst (λ (f : ExpressionForm). Gives (value_as (env c.args.checker.now) c.args.at (expression_of f) c.args.expected (state c.args.checker.now)) c.check_while_let.result c.check_while_let.new.checker)
     (sym c.in-WhileLet.is) c.check_while_let.ensures.gives
 
 -- ---- `let`
@@ -567,7 +567,7 @@ structs::numbered_init-returns-clause-gives t c =
     λ own.
     let before = c.args.checker.now in
     named_init (env before) (variant_by own before.tables c.args.adt c.args.variant c.args.types.now) c.args.at c.args.form.name.now (maybe_of c.args.form.value) _ _ _ (state before) _
-    (c.field_wanted-wanted.ensures.number own) (c.field_wanted-wanted.ensures.want own) c.in_ok-init_value.ensures.gives
+    (c.field_wanted-wanted.ensures.number own) (c.field_wanted-wanted.ensures.expected own) c.in_ok-init_value.ensures.gives
 
 pub structs::numbered_init-returns-in_err-init_value-clause-gives : goal.structs::numbered_init-returns-in_err-init_value-clause-gives
 structs::numbered_init-returns-in_err-init_value-clause-gives t c =
@@ -576,7 +576,7 @@ structs::numbered_init-returns-in_err-init_value-clause-gives t c =
     let v = variant_by own before.tables c.args.adt c.args.variant c.args.types.now in
     let refused : Refuses (init_by (env before) v c.args.at (Some (init_of c.args.form)) (state before)) c.in_err-init_value.field-0.0 =
     refused_value (env before) v c.args.at c.args.form.name.now (maybe_of c.args.form.value) _ _ (state before) c.in_err-init_value.field-0.0
-    (c.field_wanted-wanted.ensures.number own) (c.field_wanted-wanted.ensures.want own) c.in_err-init_value.ensures.gives in
+    (c.field_wanted-wanted.ensures.number own) (c.field_wanted-wanted.ensures.expected own) c.in_err-init_value.ensures.gives in
     grind (arith, refused)
 
 pub structs::init_of_node-returns-in-Some-clause-gives : goal.structs::init_of_node-returns-in-Some-clause-gives
@@ -665,9 +665,9 @@ structs::struct_row-returns-clause-gives t c =
     ∙ ap (λ (types : List TyId). rules_of.typed_inits (env middle) (variant_by made.name middle.tables c.args.adt c.args.variant types) (nodes_of c.args.inits) (state middle)) (sym c.as_slice.ensures)
     ∙ c.in_ok-given.ensures.gives made.name in
     subst (λ (o : Result (tree.Node × TypingState) Broken). Gives o c.struct_end.result c.struct_end.new.checker)
-    (sym (behind_fields (λ fs. rows_of.struct_row c.args.at c.args.adt c.args.variant made.fields fs c.args.want) (struct_rest begun.id.0 c.args.at c.args.adt c.args.variant begun.ty (length begun.types) c.args.want) fields _ (state before) (state middle) (state after)
-    (c.in_ok-begun.ensures.gives c.args.at c.args.want fields) here
-    ∙ ap (λ (l : Given). struct_rest begun.id.0 c.args.at c.args.adt c.args.variant begun.ty (length begun.types) c.args.want (numbered_by l (last_nodes (length l) (stack after)), l) (state after)) (sym c.as_slice-2.ensures)))
+    (sym (behind_fields (λ fs. rows_of.struct_row c.args.at c.args.adt c.args.variant made.fields fs c.args.expected) (struct_rest begun.id.0 c.args.at c.args.adt c.args.variant begun.ty (length begun.types) c.args.expected) fields _ (state before) (state middle) (state after)
+    (c.in_ok-begun.ensures.gives c.args.at c.args.expected fields) here
+    ∙ ap (λ (l : Given). struct_rest begun.id.0 c.args.at c.args.adt c.args.variant begun.ty (length begun.types) c.args.expected (numbered_by l (last_nodes (length l) (stack after)), l) (state after)) (sym c.as_slice-2.ensures)))
     c.struct_end.ensures.gives
 
 pub structs::struct_row-returns-in_err-begun-clause-gives : goal.structs::struct_row-returns-in_err-begun-clause-gives
@@ -675,8 +675,8 @@ structs::struct_row-returns-in_err-begun-clause-gives t c =
     let before = c.args.checker.now in
     let made = variant_of before.walk.items c.args.adt c.args.variant in
     let fields : Check (Fields × Given) = rules_of.typed_inits (env before) made (nodes_of c.args.inits) in
-    let refused : Refuses (rows_of.struct_row c.args.at c.args.adt c.args.variant made.fields fields c.args.want (state before)) c.in_err-begun.field-0.0 =
-    c.in_err-begun.ensures.gives c.args.at c.args.want fields in
+    let refused : Refuses (rows_of.struct_row c.args.at c.args.adt c.args.variant made.fields fields c.args.expected (state before)) c.in_err-begun.field-0.0 =
+    c.in_err-begun.ensures.gives c.args.at c.args.expected fields in
     grind (arith, refused)
 
 pub structs::struct_row-returns-in_err-given-clause-gives : goal.structs::struct_row-returns-in_err-given-clause-gives
@@ -692,9 +692,9 @@ structs::struct_row-returns-in_err-given-clause-gives t c =
     ∙ ap (λ (types : List TyId). rules_of.typed_inits (env middle) (variant_by made.name middle.tables c.args.adt c.args.variant types) (nodes_of c.args.inits) (state middle)) (sym c.as_slice.ensures)) in
     let here : Refuses (fields (state middle)) c.in_err-given.field-0.0 =
     subst (λ (o : Result ((Fields × Given) × TypingState) Broken). Refuses o c.in_err-given.field-0.0) same (c.in_err-given.ensures.gives made.name) in
-    let refused : Refuses (rows_of.struct_row c.args.at c.args.adt c.args.variant made.fields fields c.args.want (state before)) c.in_err-given.field-0.0 =
-    refused_fields (λ fs. rows_of.struct_row c.args.at c.args.adt c.args.variant made.fields fs c.args.want) (struct_rest begun.id.0 c.args.at c.args.adt c.args.variant begun.ty (length begun.types) c.args.want) fields (state before) (state middle) c.in_err-given.field-0.0
-    (c.in_ok-begun.ensures.gives c.args.at c.args.want fields) here in
+    let refused : Refuses (rows_of.struct_row c.args.at c.args.adt c.args.variant made.fields fields c.args.expected (state before)) c.in_err-given.field-0.0 =
+    refused_fields (λ fs. rows_of.struct_row c.args.at c.args.adt c.args.variant made.fields fs c.args.expected) (struct_rest begun.id.0 c.args.at c.args.adt c.args.variant begun.ty (length begun.types) c.args.expected) fields (state before) (state middle) c.in_err-given.field-0.0
+    (c.in_ok-begun.ensures.gives c.args.at c.args.expected fields) here in
     grind (arith, refused)
 
 -- ---- closures
@@ -736,17 +736,17 @@ closures::check_closure-returns-clause-gives t c =
     let begun = c.in_ok-begun.begun in
     let block : Env → Option TyId → Check tree.Node = λ inner. rules_of.typed inner (syn_of c.args.block.now) in
     subst (λ (o : Result (tree.Node × TypingState) Broken). Gives o c.closure_end.result c.closure_end.new.checker)
-    (sym (closure_done (env before) (env middle) c.args.at (syns_of (idents (nodes_of c.args.captures))) (nodes_of c.args.params) (maybe_of c.args.answer) block c.args.want (start_of begun (stack middle)) (state before) (state middle) (state after)
+    (sym (closure_done (env before) (env middle) c.args.at (syns_of (idents (nodes_of c.args.captures))) (nodes_of c.args.params) (maybe_of c.args.answer) block c.args.expected (start_of begun (stack middle)) (state before) (state middle) (state after)
     c.in_ok-begun.ensures.gives c.in_ok-begun.ensures.kept.1.0 c.in_ok-check_closure_body.ensures.gives
-    ∙ ap (λ (ns : List tree.Node). rows_of.fitted c.args.want (a_node_of begun.id.0 c.args.at begun.ty (tree.Closure begun.closure (last_nodes begun.count ns))) (state after)) (sym c.in_ok-check_closure_body.ensures.same.0)))
+    ∙ ap (λ (ns : List tree.Node). rows_of.fitted c.args.expected (a_node_of begun.id.0 c.args.at begun.ty (tree.Closure begun.closure (last_nodes begun.count ns))) (state after)) (sym c.in_ok-check_closure_body.ensures.same.0)))
     c.closure_end.ensures.gives
 
 pub closures::check_closure-returns-in_err-begun-clause-gives : goal.closures::check_closure-returns-in_err-begun-clause-gives
 closures::check_closure-returns-in_err-begun-clause-gives t c =
     let before = c.args.checker.now in
     let block : Env → Option TyId → Check tree.Node = λ inner. rules_of.typed inner (syn_of c.args.block.now) in
-    let refused : Refuses (rules_of.value (env before) c.args.at (MoveOf (syns_of (idents (nodes_of c.args.captures))) (nodes_of c.args.params) (maybe_of c.args.answer) (syn_of c.args.block.now)) c.args.want (state before)) c.in_err-begun.field-0.0 =
-    start_refused (env before) c.args.at (syns_of (idents (nodes_of c.args.captures))) (nodes_of c.args.params) (maybe_of c.args.answer) block c.args.want (state before) c.in_err-begun.field-0.0 c.in_err-begun.ensures.gives in
+    let refused : Refuses (rules_of.value (env before) c.args.at (MoveOf (syns_of (idents (nodes_of c.args.captures))) (nodes_of c.args.params) (maybe_of c.args.answer) (syn_of c.args.block.now)) c.args.expected (state before)) c.in_err-begun.field-0.0 =
+    start_refused (env before) c.args.at (syns_of (idents (nodes_of c.args.captures))) (nodes_of c.args.params) (maybe_of c.args.answer) block c.args.expected (state before) c.in_err-begun.field-0.0 c.in_err-begun.ensures.gives in
     grind (arith, refused)
 
 pub closures::check_closure-returns-in_err-check_closure_body-clause-gives : goal.closures::check_closure-returns-in_err-check_closure_body-clause-gives
@@ -755,8 +755,8 @@ closures::check_closure-returns-in_err-check_closure_body-clause-gives t c =
     let middle = c.closure_begin.new.checker in
     let begun = c.in_ok-begun.begun in
     let block : Env → Option TyId → Check tree.Node = λ inner. rules_of.typed inner (syn_of c.args.block.now) in
-    let refused : Refuses (rules_of.value (env before) c.args.at (MoveOf (syns_of (idents (nodes_of c.args.captures))) (nodes_of c.args.params) (maybe_of c.args.answer) (syn_of c.args.block.now)) c.args.want (state before)) c.in_err-check_closure_body.field-0.0 =
-    closure_refused (env before) (env middle) c.args.at (syns_of (idents (nodes_of c.args.captures))) (nodes_of c.args.params) (maybe_of c.args.answer) block c.args.want (start_of begun (stack middle)) (state before) (state middle) c.in_err-check_closure_body.field-0.0
+    let refused : Refuses (rules_of.value (env before) c.args.at (MoveOf (syns_of (idents (nodes_of c.args.captures))) (nodes_of c.args.params) (maybe_of c.args.answer) (syn_of c.args.block.now)) c.args.expected (state before)) c.in_err-check_closure_body.field-0.0 =
+    closure_refused (env before) (env middle) c.args.at (syns_of (idents (nodes_of c.args.captures))) (nodes_of c.args.params) (maybe_of c.args.answer) block c.args.expected (start_of begun (stack middle)) (state before) (state middle) c.in_err-check_closure_body.field-0.0
     c.in_ok-begun.ensures.gives c.in_ok-begun.ensures.kept.1.0 c.in_err-check_closure_body.ensures.gives in
     grind (arith, refused)
 
@@ -765,28 +765,28 @@ closures::check_closure_body-returns-clause-same t c =
     returned_if c.in_ok-head.head c.args.checker.now c.closure_head.new.checker c.check_expr.new.checker c.body_end.new.checker c.body_end.result c.in_ok-head.ensures.kept c.in_ok-check_expr.ensures.kept.0 c.in_ok-check_expr.ensures.kept.1 c.body_end.ensures.kept
 
 pub expressions::check_value-returns-in-Match-clause-gives : goal.expressions::check_value-returns-in-Match-clause-gives
-expressions::check_value-returns-in-Match-clause-gives t c = of_form c.args.checker.now c.args.at c.args.want c.args.form _ _ _ c.in-Match.is c.check_match.ensures.gives
+expressions::check_value-returns-in-Match-clause-gives t c = of_form c.args.checker.now c.args.at c.args.expected c.args.form _ _ _ c.in-Match.is c.check_match.ensures.gives
 
 pub expressions::check_value-returns-in-While-clause-gives : goal.expressions::check_value-returns-in-While-clause-gives
-expressions::check_value-returns-in-While-clause-gives t c = of_form c.args.checker.now c.args.at c.args.want c.args.form _ _ _ c.in-While.is c.check_while.ensures.gives
+expressions::check_value-returns-in-While-clause-gives t c = of_form c.args.checker.now c.args.at c.args.expected c.args.form _ _ _ c.in-While.is c.check_while.ensures.gives
 
 pub expressions::check_value-returns-in-Closure-clause-gives : goal.expressions::check_value-returns-in-Closure-clause-gives
-expressions::check_value-returns-in-Closure-clause-gives t c = of_form c.args.checker.now c.args.at c.args.want c.args.form _ _ _ c.in-Closure.is c.check_closure.ensures.gives
+expressions::check_value-returns-in-Closure-clause-gives t c = of_form c.args.checker.now c.args.at c.args.expected c.args.form _ _ _ c.in-Closure.is c.check_closure.ensures.gives
 
 pub expressions::check_value-returns-in-Break-clause-gives : goal.expressions::check_value-returns-in-Break-clause-gives
-expressions::check_value-returns-in-Break-clause-gives t c = of_form c.args.checker.now c.args.at c.args.want c.args.form _ _ _ c.in-Break.is c.check_break.ensures.gives
+expressions::check_value-returns-in-Break-clause-gives t c = of_form c.args.checker.now c.args.at c.args.expected c.args.form _ _ _ c.in-Break.is c.check_break.ensures.gives
 
 pub expressions::check_value-returns-in-Loop-clause-gives : goal.expressions::check_value-returns-in-Loop-clause-gives
-expressions::check_value-returns-in-Loop-clause-gives t c = of_form c.args.checker.now c.args.at c.args.want c.args.form _ _ _ c.in-Loop.is c.check_loop.ensures.gives
+expressions::check_value-returns-in-Loop-clause-gives t c = of_form c.args.checker.now c.args.at c.args.expected c.args.form _ _ _ c.in-Loop.is c.check_loop.ensures.gives
 
 pub expressions::check_value-returns-in-Assign-clause-gives : goal.expressions::check_value-returns-in-Assign-clause-gives
-expressions::check_value-returns-in-Assign-clause-gives t c = of_form c.args.checker.now c.args.at c.args.want c.args.form _ _ _ c.in-Assign.is c.check_assignment.ensures.gives
+expressions::check_value-returns-in-Assign-clause-gives t c = of_form c.args.checker.now c.args.at c.args.expected c.args.form _ _ _ c.in-Assign.is c.check_assignment.ensures.gives
 
 pub expressions::check_value-returns-in-And-clause-gives : goal.expressions::check_value-returns-in-And-clause-gives
-expressions::check_value-returns-in-And-clause-gives t c = of_form c.args.checker.now c.args.at c.args.want c.args.form _ _ _ c.in-And.is c.check_logic.ensures.gives
+expressions::check_value-returns-in-And-clause-gives t c = of_form c.args.checker.now c.args.at c.args.expected c.args.form _ _ _ c.in-And.is c.check_logic.ensures.gives
 
 pub expressions::check_value-returns-in-Or-clause-gives : goal.expressions::check_value-returns-in-Or-clause-gives
-expressions::check_value-returns-in-Or-clause-gives t c = of_form c.args.checker.now c.args.at c.args.want c.args.form _ _ _ c.in-Or.is c.check_logic-in-Or.ensures.gives
+expressions::check_value-returns-in-Or-clause-gives t c = of_form c.args.checker.now c.args.at c.args.expected c.args.form _ _ _ c.in-Or.is c.check_logic-in-Or.ensures.gives
 
 pub expressions::check_expr-check_value-requires : goal.expressions::check_expr-check_value-requires
 expressions::check_expr-check_value-requires t c = (value_falls c.args.node.now _ t c.decreases c.expression_form.ensures, tt)
@@ -812,7 +812,7 @@ pub aggregates::check_elements-loop-split-init : goal.aggregates::check_elements
 aggregates::check_elements-loop-split-init t c =
     let before = c.args.checker.now in
     record {
-      gives = none_yet (stack before) (rules_of.typed_elements (env before) c.args.want (nodes_of c.args.elements) (state before));
+      gives = none_yet (stack before) (rules_of.typed_elements (env before) c.args.expected (nodes_of c.args.elements) (state before));
       below = refl;
       place = (refl, refl);
       counted = omega arith;
@@ -826,13 +826,13 @@ operators::check_arithmetic-returns-clause-gives t c =
     let after = c.check_operands.new.checker in
     let e = env before in
     let literal = rules_of.is_plain (syn_of c.args.left.now) in
-    let both : rows_of.operands literal (wanted rows_of.if_int later.walk.items c.args.want) (rules_of.typed e (syn_of c.args.left.now)) (rules_of.typed e (syn_of c.args.right.now)) (state later)
+    let both : rows_of.operands literal (wanted rows_of.if_int later.walk.items c.args.expected) (rules_of.typed e (syn_of c.args.left.now)) (rules_of.typed e (syn_of c.args.right.now)) (state later)
     ≡ Ok ((left_of c.in_ok-swapped.swapped (stack after), right_of c.in_ok-swapped.swapped (stack after)), state after) =
     ap (λ (ty : Option TyId). rows_of.operands literal ty (rules_of.typed e (syn_of c.args.left.now)) (rules_of.typed e (syn_of c.args.right.now)) (state later)) (sym c.wanted_int-inner.ensures)
     ∙ ap (λ (f : Env). rows_of.operands literal c.wanted_int-inner.result (rules_of.typed f (syn_of c.args.left.now)) (rules_of.typed f (syn_of c.args.right.now)) (state later)) (sym c.in_ok-id.ensures.same.1.0)
     ∙ c.in_ok-swapped.ensures.gives in
     subst (λ (o : Result (tree.Node × TypingState) Broken). Gives o c.arithmetic_of.result c.arithmetic_of.new.checker)
-    (sym (calculated c.args.at c.args.operator literal (rules_of.typed e (syn_of c.args.left.now)) (rules_of.typed e (syn_of c.args.right.now)) c.args.want c.in_ok-id.id.0
+    (sym (calculated c.args.at c.args.operator literal (rules_of.typed e (syn_of c.args.left.now)) (rules_of.typed e (syn_of c.args.right.now)) c.args.expected c.in_ok-id.id.0
     (left_of c.in_ok-swapped.swapped (stack after)) (right_of c.in_ok-swapped.swapped (stack after)) (state before) (state later) (state after) c.in_ok-id.ensures.number both))
     c.arithmetic_of.ensures.gives
 
@@ -848,6 +848,6 @@ operators::check_comparison-returns-clause-gives t c =
     ap (λ (f : Env). rows_of.operands literal None (rules_of.typed f (syn_of c.args.left.now)) (rules_of.typed f (syn_of c.args.right.now)) (state later)) (sym c.in_ok-id.ensures.same.1.0)
     ∙ c.in_ok-swapped.ensures.gives in
     subst (λ (o : Result (tree.Node × TypingState) Broken). Gives o c.comparison_of.result c.comparison_of.new.checker)
-    (sym (compared c.args.at c.args.operator literal (rules_of.typed e (syn_of c.args.left.now)) (rules_of.typed e (syn_of c.args.right.now)) c.args.want c.in_ok-id.id.0
+    (sym (compared c.args.at c.args.operator literal (rules_of.typed e (syn_of c.args.left.now)) (rules_of.typed e (syn_of c.args.right.now)) c.args.expected c.in_ok-id.id.0
     (left_of c.in_ok-swapped.swapped (stack after)) (right_of c.in_ok-swapped.swapped (stack after)) (state before) (state later) (state after) c.in_ok-id.ensures.number both))
     c.comparison_of.ensures.gives

@@ -4,7 +4,7 @@ use Rattle.src_ast.specs.Seen.{maybe_of, nodes_of, syn_of}
 use Rattle.typeck_checker.specs.Lists.{below_all}
 use Rattle.typeck_calls.specs.Inits.{behind_inits, variant_by}
 use Rattle.src_ast.specs.Syntax.{Word}
-use Rattle.typeck_patterns.specs.Expected.{expected_of}
+use Rattle.typeck_patterns.specs.PatternContext.{pattern_context_of}
 use Rattle.typeck_checker.specs.Stand.{Stays, env, stack, state}
 use Rattle.typing_rules.specs.Patterns.{count_of}
 use Rattle.typing_rules.specs.Typed as rules
@@ -47,8 +47,8 @@ decreases-aggregates::check_parts-loop-split l = count_of (nodes_of l.rest)
 abbrev pub invariant-aggregates::check_elements-loop-split : goal.invariant-aggregates::check_elements-loop-split
 invariant-aggregates::check_elements-loop-split l =
     record {
-      gives : rules.typed_elements (env l.initial.checker) l.want (nodes_of l.initial.rest) (state l.initial.checker)
-          ≡ behind_typed l.count (stack l.checker) (rules.typed_elements (env l.initial.checker) l.want (nodes_of l.rest) (state l.checker));
+      gives : rules.typed_elements (env l.initial.checker) l.expected (nodes_of l.initial.rest) (state l.initial.checker)
+          ≡ behind_typed l.count (stack l.checker) (rules.typed_elements (env l.initial.checker) l.expected (nodes_of l.rest) (state l.checker));
       below : below_all l.count (stack l.checker) ≡ stack l.initial.checker;
       place : Stays l.initial.checker l.checker;
       counted : l.count + count_of (nodes_of l.rest) ≡ count_of (nodes_of l.initial.rest);
@@ -74,8 +74,8 @@ decreases-blocks::check_statements-loop-split l = count_of (nodes_of l.rest)
 abbrev pub invariant-matches::check_each_arm-loop-split : goal.invariant-matches::check_each_arm-loop-split
 invariant-matches::check_each_arm-loop-split l =
     record {
-      gives : rules.typed_arms (env l.initial.checker) (expected_of l.e) l.ty l.want (nodes_of l.initial.rest) (state l.initial.checker)
-          ≡ behind_typed l.count (stack l.checker) (rules.typed_arms (env l.initial.checker) (expected_of l.e) l.ty l.want (nodes_of l.rest) (state l.checker));
+      gives : rules.typed_arms (env l.initial.checker) (pattern_context_of l.e) l.ty l.expected (nodes_of l.initial.rest) (state l.initial.checker)
+          ≡ behind_typed l.count (stack l.checker) (rules.typed_arms (env l.initial.checker) (pattern_context_of l.e) l.ty l.expected (nodes_of l.rest) (state l.checker));
       below : below_all l.count (stack l.checker) ≡ stack l.initial.checker;
       place : Stays l.initial.checker l.checker;
       smaller : sizes (nodes_of l.rest) ≤ sizes (nodes_of l.initial.rest);

@@ -25,7 +25,7 @@ use Rattle.well_typed.proofs.ClaimLemmas.{true_left}
 use Rattle.typing_rules.specs.Check.{Check, TypingState, ◌>>=◌, pure, breaks}
 use Rattle.typing_rules.specs.Patterns as rules
 use Rattle.typing_rules.specs.Promises.{Extends, IsReady, AreReady, Gives, are_bound, AreFresh, AreReadyTypes, IsPattern, SoundMatcher}
-use Rattle.typing_rules.specs.Rows.{Expected, Given, numbered_fields, are_known, all_given}
+use Rattle.typing_rules.specs.Rows.{PatternContext, Given, numbered_fields, are_known, all_given}
 use Rattle.typing_rules.specs.Scope.{Env, NamedEntry, adt_named, adt_at_head, variant_named, field_named, kind_at}
 use Rattle.src_ast.specs.Syntax.{Word, Syn, syn, Shape, AnyPattern, BindPattern, LiteralPattern, TruthPattern, PathPattern, PartsPattern, FieldsPattern, FieldPattern, ParensPattern, TuplePattern, ArrayPattern, Alternatives, Syns, no_syn, a_syn, nothing, just}
 use Rattle.typing_rules.proofs.Sound.Bindings.{Binds, binds_none, binds_join}
@@ -109,7 +109,7 @@ fields_hold : (items : ItemTable) (place : Matched) (tys : List TyId) (ty : TyId
 fields_hold items place tys ty variant k no_node at h = refl
 fields_hold items place [] ty variant k (a_node first rest) at h = absurd (let no_ : IsTrue false = h in cc)
 fields_hold items place (t ∷ tys) ty variant k (a_node first rest) at h = (
-  subst (λ o. Holds (some o (λ want. pattern items place want first))) (sym (ap (field_ty items ty variant) (omega
+  subst (λ o. Holds (some o (λ expected. pattern items place expected first))) (sym (ap (field_ty items ty variant) (omega
       arith) ∙
       at 0 t refl)) h.0,
   fields_hold items place tys ty variant (suc k) rest (λ n part is. ap (field_ty items ty variant) (omega arith) ∙ at
@@ -117,7 +117,7 @@ fields_hold items place (t ∷ tys) ty variant k (a_node first rest) at h = (
       n) part is) h.1,
 )
 
-parts_as_fields : (e : Expected) (tys : List TyId) (earlier : List NamedEntry) (n : ℕ) (w : TypingState) (b : Nodes × List NamedEntry)
+parts_as_fields : (e : PatternContext) (tys : List TyId) (earlier : List NamedEntry) (n : ℕ) (w : TypingState) (b : Nodes × List NamedEntry)
     (counted :
     Bool) → ArePartsAfter e tys earlier n w b → AreFieldsAfter e tys earlier n w (
       rules.fields_from 0 b.0,
@@ -138,7 +138,7 @@ parts_as_fields e tys earlier n w b counted are =
           (filter_map binding_name) (fields_nodes 0 b.0)) are.binds;
     }
 
-no_parts_sound : (e : Expected) (ty : TyId) (t : rules.PatternTarget) (earlier : List NamedEntry) (s : TypingState) (is_whole : Bool) →
+no_parts_sound : (e : PatternContext) (ty : TyId) (t : rules.PatternTarget) (earlier : List NamedEntry) (s : TypingState) (is_whole : Bool) →
     SoundFields e ty t earlier s (rules.no_parts earlier is_whole)
 no_parts_sound e ty t earlier s is_whole u g all at =
     given _ λ ready w l.
@@ -166,7 +166,7 @@ once_same (None ∷ given) = once_same given
 once_same (Some n ∷ given) = λ i. not (again_same n given i) && once_same given i
 
 -- patterns of fields of a variant, after earlier names
-record AreNamedAfter (e : Expected) (tys : List TyId) (earlier : List NamedEntry) (n : ℕ) (w : TypingState) (b : Fields × List
+record AreNamedAfter (e : PatternContext) (tys : List TyId) (earlier : List NamedEntry) (n : ℕ) (w : TypingState) (b : Fields × List
     NamedEntry ×
     Given) : Type 0 where
   holds : (place : Matched) → IsFor e place → (ty : TyId) (variant : ℕ) → ((k : ℕ) (part : TyId) → slice_get tys k ≡
@@ -184,7 +184,7 @@ number_in None = None
 number_in (Some f) = Some f.0
 
 -- one field, or none of that name
-record IsFieldAfter (e : Expected) (tys : List TyId) (earlier : List NamedEntry) (n : ℕ) (w : TypingState) (b : Option (ℕ × Node)
+record IsFieldAfter (e : PatternContext) (tys : List TyId) (earlier : List NamedEntry) (n : ℕ) (w : TypingState) (b : Option (ℕ × Node)
     × List
     NamedEntry × Option ℕ) : Type 0 where
   holds : (place : Matched) → IsFor e place → (ty : TyId) (variant : ℕ) → ((k : ℕ) (part : TyId) → slice_get tys k ≡
@@ -206,7 +206,7 @@ with_numbers : (f : Option (ℕ × Node)) (k : Option ℕ) (rest : Fields) (give
 with_numbers None k rest given is e = e ∙ ap (λ o. somes (o ∷ given)) is
 with_numbers (Some f) k rest given is e = ap (λ ns. f.0 ∷ ns) e ∙ ap (λ o. somes (o ∷ given)) is
 
-field_by_sound : (e : Expected) (v : Variant) (name : Word) (earlier : List NamedEntry) (typed : TyId → Check (Node × List
+field_by_sound : (e : PatternContext) (v : Variant) (name : Word) (earlier : List NamedEntry) (typed : TyId → Check (Node × List
     NamedEntry)) (s :
     TypingState) → ((k : ℕ) (t : TyId) → slice_get v.fields k ≡ Some t → Gives s (IsAfter e t earlier s.next_node) (typed t
     s)) →
@@ -240,7 +240,7 @@ field_by_sound e v name earlier typed s good = by (rules.field_ty v.fields (fiel
         bind (good f.0 f.1 (got f is)) λ b t g d. given _ λ ready w l.
         record {
           holds = λ place for ty variant at rest h. (
-            subst (λ o. Holds (some o (λ want. pattern w.items place want b.0))) (sym (at f.0 f.1 (got f is))) ((d w
+            subst (λ o. Holds (some o (λ expected. pattern w.items place expected b.0))) (sym (at f.0 f.1 (got f is))) ((d w
                 l).holds
                 place for),
             h,
@@ -276,7 +276,7 @@ variant_fields {old} {new} e t =
     same None = refl
     same (Some v) = refl
 
-named_as_fields : (e : Expected) (tys others : List TyId) (earlier : List NamedEntry) (n : ℕ) (w : TypingState) (b : Fields ×
+named_as_fields : (e : PatternContext) (tys others : List TyId) (earlier : List NamedEntry) (n : ℕ) (w : TypingState) (b : Fields ×
     List NamedEntry ×
     Given) (more known : Bool) → tys ≡ others → AreNamedAfter e tys earlier n w b → AreFieldsAfter e others earlier n
     w (
@@ -296,7 +296,7 @@ named_as_fields e tys others earlier n w b more known same are =
       binds = are.binds;
     }
 
-lone_sound : (env : Env) (at : Pos) (e : Expected) (ty : TyId) (adt : ℕ) (earlier : List NamedEntry) (s : TypingState) → IsReady
+lone_sound : (env : Env) (at : Pos) (e : PatternContext) (ty : TyId) (adt : ℕ) (earlier : List NamedEntry) (s : TypingState) → IsReady
     s.items ty
     → is_enum s.items adt ≡ false → Gives s (IsAfter e ty earlier s.next_node) (rules.lone_struct env at e ty adt
     earlier s)
@@ -310,7 +310,7 @@ lone_sound env at e ty adt earlier s ready no_enum = by (rules.is_unit_kind (kin
         (no_parts_sound e ty (rules.target adt 0) earlier s true)
     by false = gives_nothing Rule.T18 at
 
-lone_name_sound : (env : Env) (at : Pos) (e : Expected) (ty : TyId) (name : Word) (earlier : List NamedEntry) (s : TypingState) →
+lone_name_sound : (env : Env) (at : Pos) (e : PatternContext) (ty : TyId) (name : Word) (earlier : List NamedEntry) (s : TypingState) →
     IsReady
     s.items ty → Gives s (IsAfter e ty earlier s.next_node) (rules.lone_name env at e ty name earlier s)
 lone_name_sound env at e ty name earlier s ready = by (adt_named s.items name)
@@ -326,7 +326,7 @@ lone_name_sound env at e ty name earlier s ready = by (adt_named s.items name)
     by None = bind_sound at e ty name earlier s ready
     by (Some adt) = if_enum adt (is_enum s.items adt) refl
 
-path_sound : (env : Env) (at : Pos) (e : Expected) (ty : TyId) (first second : Option Word) (earlier : List NamedEntry) (s
+path_sound : (env : Env) (at : Pos) (e : PatternContext) (ty : TyId) (first second : Option Word) (earlier : List NamedEntry) (s
     : TypingState) →
     IsReady s.items ty → Gives s (IsAfter e ty earlier s.next_node) (rules.path_alone env at e ty first second earlier
     s)
@@ -343,11 +343,11 @@ path_sound env at e ty first (Some second) earlier s ready =
     t.adt t.variant)))
 
 -- a struct or a variant by the order of its parts, and by the names of its fields
-in_order_sound : (at : Pos) (e : Expected) (ty : TyId) (t : rules.PatternTarget) (earlier : List NamedEntry) (s : TypingState) (counted
+in_order_sound : (at : Pos) (e : PatternContext) (ty : TyId) (t : rules.PatternTarget) (earlier : List NamedEntry) (s : TypingState) (counted
     : List TyId →
-    Bool) (check : Expected → List TyId → Check (Nodes × List NamedEntry)) → IsReady s.items ty → IsTarget s.items t →
+    Bool) (check : PatternContext → List TyId → Check (Nodes × List NamedEntry)) → IsReady s.items ty → IsTarget s.items t →
     ((inside :
-    Expected) (tys : List TyId) (u : TypingState) → ((n : ℕ) (x : TyId) → slice_get tys n ≡ Some x → IsReady u.items x) →
+    PatternContext) (tys : List TyId) (u : TypingState) → ((n : ℕ) (x : TyId) → slice_get tys n ≡ Some x → IsReady u.items x) →
     Gives u
     (ArePartsAfter inside tys earlier u.next_node) (check inside tys u)) → Gives s (IsAfter e ty earlier s.next_node)
     (rules.of_target at e ty t (λ inside tys. check inside tys >>= (λ ps. pure (
@@ -369,11 +369,11 @@ in_order_sound at e ty t earlier s counted check ready target good =
     (counted
     (rules.fields_of u.items t)) (d w l)
 
-by_name_sound : (at : Pos) (e : Expected) (ty : TyId) (t : rules.PatternTarget) (earlier : List NamedEntry) (s : TypingState) (more :
+by_name_sound : (at : Pos) (e : PatternContext) (ty : TyId) (t : rules.PatternTarget) (earlier : List NamedEntry) (s : TypingState) (more :
     List TyId →
-    Given → Bool) (check : Expected → Check (Fields × List NamedEntry × Given)) → IsReady s.items ty → IsTarget s.items t →
+    Given → Bool) (check : PatternContext → Check (Fields × List NamedEntry × Given)) → IsReady s.items ty → IsTarget s.items t →
     ((inside :
-    Expected) (u : TypingState) → ((k : ℕ) (x : TyId) → slice_get (option_map_or (λ (v : Variant). v) (variant_at s.items
+    PatternContext) (u : TypingState) → ((k : ℕ) (x : TyId) → slice_get (option_map_or (λ (v : Variant). v) (variant_at s.items
     t.adt
     t.variant) rules.no_variant).fields k ≡ Some x → IsReady u.items x) → Gives u (AreNamedAfter inside (option_map_or
     (λ (v :
@@ -404,12 +404,12 @@ by_name_sound at e ty t earlier s more check ready target good =
 -- ---- the recursion
 
 mutual
-  pub pattern_sound : (env : Env) (e : Expected) (ty : TyId) (p : Syn) (earlier : List NamedEntry) (s : TypingState) → IsReady
+  pub pattern_sound : (env : Env) (e : PatternContext) (ty : TyId) (p : Syn) (earlier : List NamedEntry) (s : TypingState) → IsReady
       s.items ty →
       Gives s (IsAfter e ty earlier s.next_node) (rules.pattern env e ty p earlier s)
   pattern_sound env e ty (syn at form) earlier s ready = form_sound env e ty at form earlier s ready
 
-  form_sound : (env : Env) (e : Expected) (ty : TyId) (at : Pos) (form : Shape) (earlier : List NamedEntry) (s : TypingState) →
+  form_sound : (env : Env) (e : PatternContext) (ty : TyId) (at : Pos) (form : Shape) (earlier : List NamedEntry) (s : TypingState) →
       IsReady
       s.items ty → Gives s (IsAfter e ty earlier s.next_node) (rules.pattern_form env e ty at form earlier s)
   form_sound env e ty at AnyPattern earlier s = λ ready. wildcard_sound at e ty earlier s
@@ -481,7 +481,7 @@ mutual
       })
   form_sound env e ty at _ earlier s = λ ready. gives_nothing Rule.T20 at
 
-  parts_sound : (env : Env) (e : Expected) (tys : List TyId) (parts : Syns) (earlier : List NamedEntry) (s : TypingState) → ((n :
+  parts_sound : (env : Env) (e : PatternContext) (tys : List TyId) (parts : Syns) (earlier : List NamedEntry) (s : TypingState) → ((n :
       ℕ) (t :
       TyId) → slice_get tys n ≡ Some t → IsReady s.items t) → Gives s (ArePartsAfter e tys earlier s.next_node)
       (rules.part_patterns env e tys parts earlier s)
@@ -508,7 +508,7 @@ mutual
             (grows_trans h l)).binds (f w l).binds;
       }
 
-  each_sound : (env : Env) (e : Expected) (ty : TyId) (patterns : Syns) (earlier : List NamedEntry) (s : TypingState) → IsReady
+  each_sound : (env : Env) (e : PatternContext) (ty : TyId) (patterns : Syns) (earlier : List NamedEntry) (s : TypingState) → IsReady
       s.items ty →
       Gives s (AreEachAfter e ty earlier s.next_node (rules.count_of patterns)) (rules.each_pattern env e ty patterns
       earlier s)
@@ -530,7 +530,7 @@ mutual
         counted = ap suc (f w l).counted;
       }
 
-  fields_sound : (env : Env) (e : Expected) (v : Variant) (fields : Syns) (earlier : List NamedEntry) (s : TypingState) → ((k :
+  fields_sound : (env : Env) (e : PatternContext) (v : Variant) (fields : Syns) (earlier : List NamedEntry) (s : TypingState) → ((k :
       ℕ) (t :
       TyId) → slice_get v.fields k ≡ Some t → IsReady s.items t) → Gives s (AreNamedAfter e v.fields earlier
       s.next_node)
@@ -560,7 +560,7 @@ mutual
             l).binds);
       }
 
-  field_sound : (env : Env) (e : Expected) (v : Variant) (field : Syn) (earlier : List NamedEntry) (s : TypingState) → ((k : ℕ)
+  field_sound : (env : Env) (e : PatternContext) (v : Variant) (field : Syn) (earlier : List NamedEntry) (s : TypingState) → ((k : ℕ)
       (t : TyId)
       → slice_get v.fields k ≡ Some t → IsReady s.items t) → Gives s (IsFieldAfter e v.fields earlier s.next_node)
       (rules.field_pattern env e v field earlier s)

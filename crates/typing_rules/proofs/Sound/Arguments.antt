@@ -157,14 +157,14 @@ used_ty by (node id at ty old form) = refl
 
 pub store_sound : (env : Env) (at : Pos) (place : Check Node) (value : Typer) → SoundBase env place → Sound env value →
     SoundTemporary env (store env at place value)
-store_sound env at place value good_place good_value want s k =
+store_sound env at place value good_place good_value expected s k =
     after_number (bind (named_sound env place good_place (numbered s) (knows_number env k)) λ p t g d.
     bind (good_value (Some (ty_of p)) t (knows_later env g (knows_number env k))) λ v u h e.
     obeyed Rule.T03 at (not (is_dyn u.items (ty_of p))) _ λ dyn.
-    bind (fitted_gives env want (m s.next_node p v) u refl) λ n u' i f.
+    bind (fitted_gives env expected (m s.next_node p v) u refl) λ n u' i f.
     obeyed Rule.T05 at (is_place (form_of p) && not (own_in (in_own_guard env.variables) (form_of p))) _ λ is.
     obeyed Rule.T08 (place_in_text p) (not (is_behind_shared u.items p)) _ λ shared.
-    passed_ends env want u' s.next_node at unit (tree.Assign (used Use.Store p) v) n refl (λ w q. refl) f λ w ready l.
+    passed_ends env expected u' s.next_node at unit (tree.Assign (used Use.Store p) v) n refl (λ w q. refl) f λ w ready l.
     let on = grows_trans i l in
     let now = d u h in
     let dn = d w (grows_trans h on) in

@@ -22,12 +22,12 @@ use Rattle.typing_rules.proofs.Sound.Gives.{◌⋆◌, bind, given, obeyed, afte
 use Rattle.typing_rules.proofs.Sound.Later.{alone_ready, same_is}
 use Rattle.typing_rules.proofs.Sound.Operators.{unit_ready, never_ready, never_is}
 
-block_alone : (env : Env) (want : Option TyId) (w : TypingState) → AreReady w.items → (last : MaybeNode) (ends : Bool) →
+block_alone : (env : Env) (expected : Option TyId) (w : TypingState) → AreReady w.items → (last : MaybeNode) (ends : Bool) →
     IsMaybe
-    env want w last → IsAlone w.items (block_ty last ends)
-block_alone env want w ready absent true is = never_ready w.items ready
-block_alone env want w ready absent false is = unit_ready w.items ready
-block_alone env want w ready (present n) ends is = is.alone
+    env expected w last → IsAlone w.items (block_ty last ends)
+block_alone env expected w ready absent true is = never_ready w.items ready
+block_alone env expected w ready absent false is = unit_ready w.items ready
+block_alone env expected w ready (present n) ends is = is.alone
 
 block_is : (w : TypingState) → AreReady w.items → (ns : Nodes) (last : MaybeNode) (ends : Bool) → ends_in w.items ns ≡ ends →
     IsTrue (is_block_ty w.items (block_ty last ends) ns last)
@@ -37,25 +37,25 @@ block_is w ready ns absent true e =
 block_is w ready ns absent false e =
     subst (λ b. IsTrue (if b then is_never w.items unit else is_unit w.items unit)) (sym e) (unit_is w.items ready)
 
-tail_holds : (env inner : Env) (want : Option TyId) (w : TypingState) (last : MaybeNode) → IsMaybe inner want w last →
+tail_holds : (env inner : Env) (expected : Option TyId) (w : TypingState) (last : MaybeNode) → IsMaybe inner expected w last →
     inner.answer ≡ env.answer → (q : TypingSpot) → Stands inner w q → Holds (tail_of (at_spot w.items env.answer q) last)
-tail_holds env inner want w absent is e q stands = refl
-tail_holds env inner want w (present n) is e q stands =
+tail_holds env inner expected w absent is e q stands = refl
+tail_holds env inner expected w (present n) is e q stands =
     subst (λ a. Holds (typed (at_spot w.items a q) Taken n)) e (is.holds q stands)
 
 pub block_sound : (env : Env) (at : Pos) (check : Check (Nodes × Bool × Env)) (tail : Env → Option TyId → Check
     MaybeNode) →
     SoundStatements env check → SoundTail env tail → SoundTemporary env (block at check tail)
-block_sound env at check tail good good_tail want s k =
+block_sound env at check tail good good_tail expected s k =
     after_number (bind (good (numbered s) (knows_number env k)) λ done t g d.
     let now = d t (grows_refl t) in
-    bind (good_tail done.2 now.0.answer want t now.1) λ last u h e.
-    settled_ends env want u s.next_node at (block_ty last done.1) (tree.Block done.0 last) refl (λ w p. refl) λ w
+    bind (good_tail done.2 now.0.answer expected t now.1) λ last u h e.
+    settled_ends env expected u s.next_node at (block_ty last done.1) (tree.Block done.0 last) refl (λ w p. refl) λ w
     ready l.
     let dw = (d w (grows_trans h l)).0 in (
-      block_alone done.2 want w ready last done.1 (e w l),
+      block_alone done.2 expected w ready last done.1 (e w l),
       λ p stands.
-          dw.holds p stands (λ c. tail_of c last) (λ q inner. tail_holds env done.2 want w last (e w l) dw.answer q
+          dw.holds p stands (λ c. tail_of c last) (λ q inner. tail_holds env done.2 expected w last (e w l) dw.answer q
           inner) ⋆
           block_is w ready done.0 last done.1 dw.ends,
     ))

@@ -34,11 +34,11 @@ bool_fits items ready ty h = fits_test items ready is_bool_ty bool ty (bool_is i
 
 pub if_alone_sound : (env : Env) (at : Pos) (c body : Typer) → Sound env c → Sound env body → SoundTemporary env
     (if_alone at c body)
-if_alone_sound env at c body good_c good_body want s k =
+if_alone_sound env at c body good_c good_body expected s k =
     after_number (bind (good_c (Some bool) s' (knows_number env k)) λ n t g d.
     bind (good_body (Some unit) t (knows_later env g (knows_number env k))) λ b u h
     e.
-    settled_ends env want u s.next_node at unit (tree.If n b absent) refl (λ w p. refl) λ w ready f.
+    settled_ends env expected u s.next_node at unit (tree.If n b absent) refl (λ w p. refl) λ w ready f.
     let dn = d w (grows_trans h f) in let eb = e w f in (
       unit_ready w.items ready,
       λ p stands.
@@ -51,7 +51,7 @@ if_alone_sound env at c body good_c good_body want s k =
     s' = numbered s
 
     R : Fact Node
-    R = IsTemporary env want
+    R = IsTemporary env expected
 
 -- the type of two branches is the common one
 pub common_of : {old new : ItemTable} → Extends old new → (a b ty : TyId) → one_of_two old a b ≡ Some ty → IsTrue
@@ -69,12 +69,12 @@ common_of {old} {new} e a b ty h =
 
 pub if_else_sound : (env : Env) (at : Pos) (c body otherwise : Typer) → Sound env c → Sound env body → Sound env
     otherwise → SoundTemporary env (if_else at c body otherwise)
-if_else_sound env at c body otherwise good_c good_body good_otherwise want s k =
+if_else_sound env at c body otherwise good_c good_body good_otherwise expected s k =
     after_number (bind (good_c (Some bool) s' k') λ n t g d.
-    bind (good_body want t (knows_later env g k')) λ b u h e.
-    bind (good_otherwise want u (knows_later env (grows_trans g h) k')) λ o v i f.
+    bind (good_body expected t (knows_later env g k')) λ b u h e.
+    bind (good_otherwise expected u (knows_later env (grows_trans g h) k')) λ o v i f.
     found Rule.T03 at (one_of_two v.items (ty_of b) (ty_of o)) _ λ ty one.
-    settled_ends env want v s.next_node at ty (tree.If n b (present o)) refl (λ w p. refl) λ w ready l.
+    settled_ends env expected v s.next_node at ty (tree.If n b (present o)) refl (λ w p. refl) λ w ready l.
     let dn = d w (grows_trans h (grows_trans i l)) in let eb = e w (grows_trans i l) in let fo = f w l in (
       either_ready v.items w.items (ty_of b) (ty_of o) ty one eb.alone fo.alone,
       λ p stands.
@@ -90,4 +90,4 @@ if_else_sound env at c body otherwise good_c good_body good_otherwise want s k =
     k' = knows_number env k
 
     R : Fact Node
-    R = IsTemporary env want
+    R = IsTemporary env expected

@@ -36,8 +36,8 @@ pub leaf_sound : (env : Env) (at : Pos) (ty : TyId) (form : Form) → IsTrue (is
     ((w :
     TypingState) → IsPlain env w ty form) → ((w : TypingState) (id : ℕ) → AreReady w.items → IsAlone w.items ty × Is env w id ty
     form) → SoundTemporary env (leaf at ty form)
-leaf_sound env at ty form a b c so want s k =
-    after_number (leaf_ends env want (numbered s) s.next_node at ty form a b c λ w ready l. so w s.next_node ready)
+leaf_sound env at ty form a b c so expected s k =
+    after_number (leaf_ends env expected (numbered s) s.next_node at ty form a b c λ w ready l. so w s.next_node ready)
 
 pub truth_sound : (env : Env) (at : Pos) (value : Bool) → SoundTemporary env (leaf at bool (tree.Truth value))
 truth_sound env at value =
@@ -72,14 +72,14 @@ pub call_sound : (env : Env) (at : Pos) (form : Nodes → Form) (answer : TyId) 
     may_be_called → (w : TypingState) (id : ℕ) (ns : Nodes) (p : TypingSpot) → AreReady w.items → Grows s₀ w → Stands env w p →
     Holds
     (arguments (at_spot w.items env.answer p) params ns) → Holds (row (at_spot w.items env.answer p) id answer (form
-    ns))) → (want : Option TyId) → Knows env s₀ → Gives s₀ (IsTemporary env want) (call at form answer count params args
-    may_be_called want s₀)
-call_sound env at form answer count params args may_be_called a b c good s ready known so want k =
+    ns))) → (expected : Option TyId) → Knows env s₀ → Gives s₀ (IsTemporary env expected) (call at form answer count params args
+    may_be_called expected s₀)
+call_sound env at form answer count params args may_be_called a b c good s ready known so expected k =
     after_number (bind (good params (numbered s) (knows_number env k) known) λ ns t g d.
-    bind (fitted_gives env want (a_node_of s.next_node at answer (form ns)) t (a ns)) λ n u h e.
+    bind (fitted_gives env expected (a_node_of s.next_node at answer (form ns)) t (a ns)) λ n u h e.
     obeyed Rule.T04 at (count == length params) _ λ counted.
     obeyed Rule.T13 at may_be_called _ λ may.
-    passed_ends env want u s.next_node at answer (form ns) n (b ns) (λ w. c w ns) e λ w all l.
+    passed_ends env expected u s.next_node at answer (form ns) n (b ns) (λ w. c w ns) e λ w all l.
     let on = grows_trans (grows_trans (grows_number s) g) (grows_trans h l) in
     let given_ = d w (grows_trans h l) in (
       alone_later on.items answer ready,
@@ -128,13 +128,13 @@ built_in_sound : (env : Env) (at : Pos) (answer : TyId) (form : Node → Form) (
     Stands env w p → AreGiven env params w (a_node n no_node) → IsAlone w.items answer × Holds (row (at_spot w.items
     env.answer p) id answer (form n))) → ((w : TypingState) → AreReady w.items → IsAlone w.items answer) → SoundTemporary env
     (built_in at answer (λ ns. with_one ns form) count 1 (args params))
-built_in_sound env at answer form count params args a b c good known so ready want s k =
+built_in_sound env at answer form count params args a b c good known so ready expected s k =
     with_ready λ all₀. after_number (bind (good params (numbered s) (knows_number env k) (known s all₀)) λ ns t g d.
-    bind (fitted_gives env want (a_node_of s.next_node at answer (with_one ns form)) t (with_one_leaf form a ns)) λ n
+    bind (fitted_gives env expected (a_node_of s.next_node at answer (with_one ns form)) t (with_one_leaf form a ns)) λ n
     u h
     e.
     obeyed Rule.T04 at (count == 1) _ λ counted.
-    passed_ends env want u s.next_node at answer (with_one ns form) n (with_one_place form b ns) (λ w. with_one_plain
+    passed_ends env expected u s.next_node at answer (with_one ns form) n (with_one_place form b ns) (λ w. with_one_plain
     env w
     answer form (c w) ns) e λ w all l.
     let given_ = d w (grows_trans h l) in

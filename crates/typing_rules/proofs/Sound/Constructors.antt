@@ -59,11 +59,11 @@ box_made items content h =
     }
 
 -- the content that a required type asks for
-box_content : (items : ItemTable) → AreReady items → (want : Option TyId) (inside : TyId) → wanted box_wanted items
-    want ≡
+box_content : (items : ItemTable) → AreReady items → (expected : Option TyId) (inside : TyId) → wanted box_wanted items
+    expected ≡
     Some inside → IsContent items inside
-box_content items all want inside h =
-    let w = some_got (box_wanted items) want inside h in
+box_content items all expected inside h =
+    let w = some_got (box_wanted items) expected inside h in
     let b = some_got (λ i. if is_dyn items i then None else Some i) (boxed_of items w.0) inside w.2 in
     by w.0 b.0 b.1 (is_dyn items b.0) refl b.2
   where
@@ -112,29 +112,29 @@ listed_known items (Some inside) is ty has =
 
 pub new_box_sound : (env : Env) (at : Pos) (count : ℕ) (args : List TyId → Check Nodes) → SoundArgs env count args →
     SoundTemporary env (new_box at count args)
-new_box_sound env at count args good want s k =
+new_box_sound env at count args good expected s k =
     with_ready λ all₀. after_number (bind (good (listed content) s' (knows_number env k) (listed_known s.items content
     (λ
-    i e. box_content s.items all₀ want i e))) λ ns t g d.
-    by t ns g (λ i e. content_later g.items i (box_content s.items all₀ want i e)) d)
+    i e. box_content s.items all₀ expected i e))) λ ns t g d.
+    by t ns g (λ i e. content_later g.items i (box_content s.items all₀ expected i e)) d)
   where
     s' : TypingState
     s' = numbered s
 
     content : Option TyId
-    content = wanted box_wanted s.items want
+    content = wanted box_wanted s.items expected
 
     by : (t : TypingState) (ns : Nodes) → Grows s' t → ((i : TyId) → content ≡ Some i → IsContent t.items i) → ((w : TypingState) →
-        Grows t w → IsGiven env (listed content) count w ns) → Gives t (IsTemporary env want) (box_by at s.next_node
+        Grows t w → IsGiven env (listed content) count w ns) → Gives t (IsTemporary env expected) (box_by at s.next_node
         count
-        want content (first_node ns) t)
+        expected content (first_node ns) t)
     by t no_node g is d = gives_nothing Rule.T04 at
     by t (a_node c rest) g is d =
         with_ready λ all. let now = put_in env content t c rest is (d t (grows_refl t)).are in
         bind (interned_sound (Ty.Boxed (part_ty content c)) t (box_made t.items (part_ty content c) now.0)) λ ty u h e.
-        bind (fitted_gives env want (a_node_of s.next_node at ty (tree.NewBox c)) u refl) λ n v i f.
+        bind (fitted_gives env expected (a_node_of s.next_node at ty (tree.NewBox c)) u refl) λ n v i f.
         obeyed Rule.T04 at (count == 1) _ λ counted.
-        passed_ends env want v s.next_node at ty (tree.NewBox c) n refl (λ w p. refl) f λ w ready l.
+        passed_ends env expected v s.next_node at ty (tree.NewBox c) n refl (λ w p. refl) f λ w ready l.
         let is_box = e w (grows_trans i l) in
         let on = grows_trans (grows_trans h i) l in
         let so = put_in env content w c rest (λ j x. content_later on.items j (is j x)) (d w on).are in (
@@ -181,10 +181,10 @@ tuple_made items tys alone =
       inside = λ to is. absurd (none-some to is);
     }
 
-wants_alone : (items : ItemTable) → AreReady items → (count : ℕ) (want : Option TyId) (ty : TyId) → Contains
+wants_alone : (items : ItemTable) → AreReady items → (count : ℕ) (expected : Option TyId) (ty : TyId) → Contains
     (parts_wanted
-    items count want) (Some ty) → IsAlone items ty
-wants_alone items all count want ty has = by (option_and_then (tuple_of items) want) refl has
+    items count expected) (Some ty) → IsAlone items ty
+wants_alone items all count expected ty has = by (option_and_then (tuple_of items) expected) refl has
   where
     mapped : (tys : List TyId) → ((t : TyId) → Contains tys t → IsAlone items t) → Contains (map Some tys) (Some ty) →
         IsAlone items ty
@@ -200,12 +200,12 @@ wants_alone items all count want ty has = by (option_and_then (tuple_of items) w
         first (inl same) one on = subst (IsAlone items) (same_Some t ty same) one
         first (inr more) one on = on more
 
-    by : (o : Option (List TyId)) → option_and_then (tuple_of items) want ≡ o → Contains (option_map_or (λ tys. if
+    by : (o : Option (List TyId)) → option_and_then (tuple_of items) expected ≡ o → Contains (option_map_or (λ tys. if
         length
         tys == count then map Some tys else []) o []) (Some ty) → IsAlone items ty
     by None is has = absurd (omega (arith, has.1))
     by (Some tys) is has =
-        let w = some_got (tuple_of items) want tys is in
+        let w = some_got (tuple_of items) expected tys is in
         let known = some_got tuple_in (type_at items w.0) tys w.2 in
         if_so (length tys == count) (tuple_parts w.0 known.0 known.1 tys known.2) has
       where
@@ -224,15 +224,15 @@ wants_alone items all count want ty has = by (option_and_then (tuple_of items) w
 pub tuple_sound : (env : Env) (at : Pos) (count : ℕ) (parts : List (Option TyId) → Check (Nodes × List TyId)) →
     SoundParts
     env parts → SoundTemporary env (tuple_row at count parts)
-tuple_sound env at count parts good want s k =
-    with_ready λ all. after_number (bind (good (parts_wanted s.items count want) (numbered s) (knows_number env k)
-    (wants_alone s.items all count want)) λ ps t g d.
+tuple_sound env at count parts good expected s k =
+    with_ready λ all. after_number (bind (good (parts_wanted s.items count expected) (numbered s) (knows_number env k)
+    (wants_alone s.items all count expected)) λ ps t g d.
     bind (interned_sound (Ty.Tuple ps.1) t (tuple_made t.items ps.1 (parts_alone env t ps.0 ps.1 (d t (grows_refl
     t))))) λ
     ty u h e.
-    bind (fitted_gives env want (a_node_of s.next_node at ty (tree.Tuple ps.0)) u refl) λ n v i f.
+    bind (fitted_gives env expected (a_node_of s.next_node at ty (tree.Tuple ps.0)) u refl) λ n v i f.
     obeyed Rule.T19 at (nat_le count 12) _ λ few.
-    passed_ends env want v s.next_node at ty (tree.Tuple ps.0) n refl (λ w p. refl) f λ w ready l.
+    passed_ends env expected v s.next_node at ty (tree.Tuple ps.0) n refl (λ w p. refl) f λ w ready l.
     let is = e w (grows_trans i l) in (
       (Ty.Tuple ps.1, is, tt),
       λ p stands. subst (λ o. Holds (some (option_and_then tuple_in o) (λ tys. made_parts (at_spot
@@ -315,28 +315,28 @@ fits_all_later {old} {new} e ty (t ∷ tys) h =
 
 -- ---- arrays
 
-elements_hold : (env : Env) (want : Option TyId) (w : TypingState) (p : TypingSpot) → Stands env w p → (ty : TyId) (ns : Nodes)
+elements_hold : (env : Env) (expected : Option TyId) (w : TypingState) (p : TypingSpot) → Stands env w p → (ty : TyId) (ns : Nodes)
     (tys :
-    List TyId) → AreElements env want w ns tys → IsTrue (list_all (fits w.items ty) tys) → Holds (elements_of (at_spot
+    List TyId) → AreElements env expected w ns tys → IsTrue (list_all (fits w.items ty) tys) → Holds (elements_of (at_spot
     w.items env.answer p) ty ns)
-elements_hold env want w p stands ty no_node [] are h = refl
-elements_hold env want w p stands ty no_node (t ∷ tys) are h = absurd are
-elements_hold env want w p stands ty (a_node first rest) [] are h = absurd are
-elements_hold env want w p stands ty (a_node first rest) (t ∷ tys) are h = (
+elements_hold env expected w p stands ty no_node [] are h = refl
+elements_hold env expected w p stands ty no_node (t ∷ tys) are h = absurd are
+elements_hold env expected w p stands ty (a_node first rest) [] are h = absurd are
+elements_hold env expected w p stands ty (a_node first rest) (t ∷ tys) are h = (
   as_wanted (at_spot w.items env.answer p) ty first (are.0.0.holds p stands) (subst (λ u. IsTrue (fits w.items ty u))
       are.0.1 (true_left (fits w.items ty t) (list_all (fits w.items ty) tys) h)),
-  elements_hold env want w p stands ty rest tys are.1 (true_right (fits w.items ty t) (list_all (fits w.items ty) tys)
+  elements_hold env expected w p stands ty rest tys are.1 (true_right (fits w.items ty t) (list_all (fits w.items ty) tys)
       h),
 )
 
-elements_alone : (env : Env) (want : Option TyId) (w : TypingState) (ns : Nodes) (tys : List TyId) → AreElements env want w ns
+elements_alone : (env : Env) (expected : Option TyId) (w : TypingState) (ns : Nodes) (tys : List TyId) → AreElements env expected w ns
     tys → (n : ℕ) (ty : TyId) → slice_get tys n ≡ Some ty → IsAlone w.items ty
-elements_alone env want w no_node [] are n ty h = absurd (none-some ty h)
-elements_alone env want w no_node (t ∷ tys) are n ty h = absurd are
-elements_alone env want w (a_node first rest) [] are n ty h = absurd are
-elements_alone env want w (a_node first rest) (t ∷ tys) are zero ty h =
+elements_alone env expected w no_node [] are n ty h = absurd (none-some ty h)
+elements_alone env expected w no_node (t ∷ tys) are n ty h = absurd are
+elements_alone env expected w (a_node first rest) [] are n ty h = absurd are
+elements_alone env expected w (a_node first rest) (t ∷ tys) are zero ty h =
     subst (IsAlone w.items) (sym are.0.1 ∙ same_Some t ty h) are.0.0.alone
-elements_alone env want w (a_node first rest) (t ∷ tys) are (suc n) ty h = elements_alone env want w rest tys are.1 n
+elements_alone env expected w (a_node first rest) (t ∷ tys) are (suc n) ty h = elements_alone env expected w rest tys are.1 n
     ty h
 
 elements_fit : (env : Env) (ty : TyId) (w : TypingState) (ns : Nodes) (tys : List TyId) → AreElements env (Some ty) w ns tys →
@@ -365,11 +365,11 @@ array_made items ty count alone =
     of_many (suc count) zero part h = subst (IsAlone items) (same_Some ty part h) alone
     of_many (suc count) (suc n) part h = of_many count n part h
 
-array_wanted : (items : ItemTable) → AreReady items → (want : Option TyId) (ty : TyId) → wanted element_wanted items
-    want ≡
+array_wanted : (items : ItemTable) → AreReady items → (expected : Option TyId) (ty : TyId) → wanted element_wanted items
+    expected ≡
     Some ty → IsAlone items ty
-array_wanted items all want ty h =
-    let w = some_got (element_wanted items) want ty h in
+array_wanted items all expected ty h =
+    let w = some_got (element_wanted items) expected ty h in
     by w.0 (array_of items w.0) refl w.2
   where
     at : (t : Ty) (a : TyId × ℕ) → array_in t ≡ Some a → Contains (held_by items t) a.0
@@ -386,19 +386,19 @@ array_wanted items all want ty h =
 pub array_sound : (env : Env) (at : Pos) (count : ℕ) (elements : Option TyId → Check (Nodes × List TyId)) →
     SoundElements
     env count elements → SoundTemporary env (array_row at count elements)
-array_sound env at count elements good want s k =
+array_sound env at count elements good expected s k =
     with_ready λ all₀. after_number (bind (good wants (numbered s) (knows_number env k)) λ es t g d.
     found Rule.T03 at (element_ty t.items wants es.1) _ λ ty is_ty.
     obeyed Rule.T16 at (is_some wants || not (count == 0)) _ λ some_.
     with_ready λ all.
     let now = d t (grows_refl t) in
     let so = by t all es.0 es.1 wants refl ty is_ty now.0 (λ u e. alone_later g.items u (array_wanted s.items all₀
-    want u e))
+    expected u e))
     in
     bind (interned_sound (Ty.Array ty count) t (array_made t.items ty count so.0)) λ id u h e.
-    bind (fitted_gives env want (a_node_of s.next_node at id (tree.Array es.0)) u refl) λ n v i f.
+    bind (fitted_gives env expected (a_node_of s.next_node at id (tree.Array es.0)) u refl) λ n v i f.
     obeyed Rule.T19 at (nat_le count 32) _ λ few.
-    passed_ends env want v s.next_node at id (tree.Array es.0) n refl (λ w p. refl) f λ w ready l.
+    passed_ends env expected v s.next_node at id (tree.Array es.0) n refl (λ w p. refl) f λ w ready l.
     let is = e w (grows_trans i l) in
     let on = grows_trans (grows_trans h i) l in
     let dw = d w on in (
@@ -411,7 +411,7 @@ array_sound env at count elements good want s k =
     ))
   where
     wants : Option TyId
-    wants = wanted element_wanted s.items want
+    wants = wanted element_wanted s.items expected
 
     by : (t : TypingState) → AreReady t.items → (ns : Nodes) (tys : List TyId) (o : Option TyId) → wants ≡ o → (ty : TyId) →
         element_ty t.items o tys ≡ Some ty → AreElements env o t ns tys → ((u : TyId) → o ≡ Some u → IsAlone t.items

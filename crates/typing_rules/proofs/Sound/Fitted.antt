@@ -46,30 +46,30 @@ trait_in_box items ty = option_and_then (trait_of items) (boxed_of items ty)
 abbrev adt_in_box : ItemTable → TyId → Option ℕ
 adt_in_box items ty = option_and_then (adt_of items) (boxed_of items ty)
 
-pub data FitOf (items : ItemTable) (want ty : TyId) : Fit → Type 0 where
-  it_fits : IsTrue (fits items want ty) → FitOf items want ty Fits
-  is_coerced : {trait_no : ℕ} (adt : ℕ) → trait_in_box items want ≡ Some trait_no → adt_in_box items ty ≡ Some adt →
-      IsTrue (implements items adt trait_no) → FitOf items want ty (Coerced trait_no)
-  differs : FitOf items want ty Differs
+pub data FitOf (items : ItemTable) (expected ty : TyId) : Fit → Type 0 where
+  it_fits : IsTrue (fits items expected ty) → FitOf items expected ty Fits
+  is_coerced : {trait_no : ℕ} (adt : ℕ) → trait_in_box items expected ≡ Some trait_no → adt_in_box items ty ≡ Some adt →
+      IsTrue (implements items adt trait_no) → FitOf items expected ty (Coerced trait_no)
+  differs : FitOf items expected ty Differs
 
-module _ (items : ItemTable) (want ty : TyId) where
-  implemented_by : (trait_no adt : ℕ) → trait_in_box items want ≡ Some trait_no → adt_in_box items ty ≡ Some adt →
-      (b : Bool) → b ≡ implements items adt trait_no → FitOf items want ty (if b then Coerced trait_no else Differs)
+module _ (items : ItemTable) (expected ty : TyId) where
+  implemented_by : (trait_no adt : ℕ) → trait_in_box items expected ≡ Some trait_no → adt_in_box items ty ≡ Some adt →
+      (b : Bool) → b ≡ implements items adt trait_no → FitOf items expected ty (if b then Coerced trait_no else Differs)
   implemented_by trait_no adt to from true h = is_coerced adt to from (sym h)
   implemented_by trait_no adt to from false h = differs
 
-  coerced_of : (t a : Option ℕ) → trait_in_box items want ≡ t → adt_in_box items ty ≡ a → FitOf items want ty (coerced
+  coerced_of : (t a : Option ℕ) → trait_in_box items expected ≡ t → adt_in_box items ty ≡ a → FitOf items expected ty (coerced
       items t a)
   coerced_of (Some trait_no) (Some adt) to from = implemented_by trait_no adt to from _ refl
   coerced_of (Some trait_no) None to from = differs
   coerced_of None a to from = differs
 
-  fit_if : (b : Bool) → b ≡ fits items want ty → FitOf items want ty (if b then Fits else coerced items (trait_in_box
-      items want) (adt_in_box items ty))
+  fit_if : (b : Bool) → b ≡ fits items expected ty → FitOf items expected ty (if b then Fits else coerced items (trait_in_box
+      items expected) (adt_in_box items ty))
   fit_if true h = it_fits (sym h)
   fit_if false h = coerced_of _ _ refl refl
 
-  pub how_fits : FitOf items want ty (fit items want ty)
+  pub how_fits : FitOf items expected ty (fit items expected ty)
   how_fits = fit_if _ refl
 
 module _ {old new : ItemTable} (e : Extends old new) where
@@ -87,11 +87,11 @@ module _ {old new : ItemTable} (e : Extends old new) where
   implements_later adt trait_no h =
       subst (λ impls. IsTrue (list_any (λ def. def.trait_no == trait_no && def.adt == adt) impls)) (sym e.impls) h
 
-  box_later : (want ty : TyId) (trait_no adt : ℕ) → trait_in_box old want ≡ Some trait_no → adt_in_box old ty ≡ Some
-      adt → IsTrue (implements old adt trait_no) → IsTrue (box_implements new want ty trait_no)
-  box_later want ty trait_no adt to from has =
+  box_later : (expected ty : TyId) (trait_no adt : ℕ) → trait_in_box old expected ≡ Some trait_no → adt_in_box old ty ≡ Some
+      adt → IsTrue (implements old adt trait_no) → IsTrue (box_implements new expected ty trait_no)
+  box_later expected ty trait_no adt to from has =
       and_true _ _
-      (passes_by (λ n. n == trait_no) (trait_in_box new want) trait_no (trait_later want trait_no to) (same_self
+      (passes_by (λ n. n == trait_no) (trait_in_box new expected) trait_no (trait_later expected trait_no to) (same_self
       trait_no))
       (passes_by (λ a. implements new a trait_no) (adt_in_box new ty) adt (adt_later ty adt from) (implements_later
       adt trait_no has))
@@ -109,30 +109,30 @@ boxed_alone items id inside h =
 
 -- a value stays one, and what is no place stays none
 abbrev pub Passed : Env → Option TyId → Node → Fact Node
-Passed env want n w m =
-    IsValue env None w n → IsValue env want w m × (is_place (form_of n) ≡ false → is_place (form_of m) ≡ false)
+Passed env expected n w m =
+    IsValue env None w n → IsValue env expected w m × (is_place (form_of n) ≡ false → is_place (form_of m) ≡ false)
 
-fitted_so : (env : Env) (want : TyId) (n : Node) (s : TypingState) (how : Fit) → FitOf s.items want (ty_of n) how → IsTrue
-    (is_leaf (form_of n)) → Gives s (Passed env (Some want) n) (fitted_by want n how s)
-fitted_so env want n s _ (it_fits fit_) leaf =
+fitted_so : (env : Env) (expected : TyId) (n : Node) (s : TypingState) (how : Fit) → FitOf s.items expected (ty_of n) how → IsTrue
+    (is_leaf (form_of n)) → Gives s (Passed env (Some expected) n) (fitted_by expected n how s)
+fitted_so env expected n s _ (it_fits fit_) leaf =
     given n λ ready w g v.
-    (record { alone = v.alone; fit = agrees_later g.items (Some want) (ty_of n) fit_; holds = v.holds }, λ h. h)
-fitted_so env want n s _ (is_coerced {trait_no} adt to from has) leaf =
-    after_number (given (a_node_of s.next_node (place_in_text n) want (tree.Unsize trait_no n)) λ ready w g v.
-    let box = some_got (trait_of s.items) (boxed_of s.items want) trait_no to in (
+    (record { alone = v.alone; fit = agrees_later g.items (Some expected) (ty_of n) fit_; holds = v.holds }, λ h. h)
+fitted_so env expected n s _ (is_coerced {trait_no} adt to from has) leaf =
+    after_number (given (a_node_of s.next_node (place_in_text n) expected (tree.Unsize trait_no n)) λ ready w g v.
+    let box = some_got (trait_of s.items) (boxed_of s.items expected) trait_no to in (
       record {
-        alone = alone_later g.items want (boxed_alone s.items want box.0 box.1);
-        fit = fits_self w.items want;
-        holds = λ p stands. refl ⋆ v.holds p stands ⋆ leaf ⋆ box_later g.items want (ty_of n) trait_no adt to from has;
+        alone = alone_later g.items expected (boxed_alone s.items expected box.0 box.1);
+        fit = fits_self w.items expected;
+        holds = λ p stands. refl ⋆ v.holds p stands ⋆ leaf ⋆ box_later g.items expected (ty_of n) trait_no adt to from has;
       },
       λ h. refl,
     ))
-fitted_so env want n s _ differs leaf = gives_nothing Rule.T03 (place_in_text n)
+fitted_so env expected n s _ differs leaf = gives_nothing Rule.T03 (place_in_text n)
 
-pub fitted_gives : (env : Env) (want : Option TyId) (n : Node) (s : TypingState) → IsTrue (is_leaf (form_of n)) → Gives s
-    (Passed env want n) (fitted want n s)
+pub fitted_gives : (env : Env) (expected : Option TyId) (n : Node) (s : TypingState) → IsTrue (is_leaf (form_of n)) → Gives s
+    (Passed env expected n) (fitted expected n s)
 fitted_gives env None n s leaf = given n λ ready w g v. (v, λ h. h)
-fitted_gives env (Some want) n s leaf = fitted_so env want n s _ (how_fits s.items want (ty_of n)) leaf
+fitted_gives env (Some expected) n s leaf = fitted_so env expected n s _ (how_fits s.items expected (ty_of n)) leaf
 
 -- ---- the end of a row
 
@@ -145,12 +145,12 @@ abbrev pub IsPlain : Env → TypingState → TyId → Form → Type 0
 IsPlain env w ty form = (p : TypingSpot) → Holds (is_taken (at_spot w.items env.answer p) ty None form)
 
 -- a row that ends with a leaf
-pub leaf_ends : (env : Env) (want : Option TyId) (t : TypingState) (id : ℕ) (at : Pos) (ty : TyId)
+pub leaf_ends : (env : Env) (expected : Option TyId) (t : TypingState) (id : ℕ) (at : Pos) (ty : TyId)
     (form : Form) → IsTrue (is_leaf form) → is_place form ≡ false → ((w : TypingState) → IsPlain env w ty form) → ((w :
     TypingState) → AreReady w.items → Grows t w → IsAlone w.items ty × Is env w id ty form) → Gives t
-    (IsTemporary env want) (fitted want (a_node_of id at ty form) t)
-leaf_ends env want t id at ty form leaf placeless plain is =
-    weaker (IsTemporary env want) (fitted_gives env want n t leaf)
+    (IsTemporary env expected) (fitted expected (a_node_of id at ty form) t)
+leaf_ends env expected t id at ty form leaf placeless plain is =
+    weaker (IsTemporary env expected) (fitted_gives env expected n t leaf)
     λ m w ready g passed.
     let so = is w ready g in
     let v : IsValue env None w n = record { alone = so.0; fit = refl; holds = λ p stands. (plain w p, so.1 p stands) }
@@ -161,18 +161,18 @@ leaf_ends env want t id at ty form leaf placeless plain is =
     n = a_node_of id at ty form
 
 -- a row that ends with what has passed its required type on
-pub settled_ends : (env : Env) (want : Option TyId) (t : TypingState) (id : ℕ) (at : Pos) (ty : TyId)
+pub settled_ends : (env : Env) (expected : Option TyId) (t : TypingState) (id : ℕ) (at : Pos) (ty : TyId)
     (form : Form) → is_place form ≡ false → ((w : TypingState) → IsPlain env w ty form) → ((w : TypingState) → AreReady w.items →
-    Grows t w → IsAlone w.items ty × Is env w id ty form) → Gives t (IsTemporary env want) (settled
-    want (a_node_of id at ty form) t)
-settled_ends env want t id at ty form placeless plain is =
-    obeyed Rule.T03 at (agrees t.items want ty) _ λ fit_.
+    Grows t w → IsAlone w.items ty × Is env w id ty form) → Gives t (IsTemporary env expected) (settled
+    expected (a_node_of id at ty form) t)
+settled_ends env expected t id at ty form placeless plain is =
+    obeyed Rule.T03 at (agrees t.items expected ty) _ λ fit_.
     given n λ sound w g.
     let so = is w (g.ready sound) g in
     record {
       value = record {
         alone = so.0;
-        fit = agrees_later g.items want ty fit_;
+        fit = agrees_later g.items expected ty fit_;
         holds = λ p stands. (plain w p, so.1 p stands);
       };
       is_no_place = placeless;
@@ -182,11 +182,11 @@ settled_ends env want t id at ty form placeless plain is =
     n = a_node_of id at ty form
 
 -- a row that asks for more once a leaf has passed
-pub passed_ends : (env : Env) (want : Option TyId) (u : TypingState) (id : ℕ) (at : Pos) (ty : TyId) (form : Form) (m :
-    Node) → is_place form ≡ false → ((w : TypingState) → IsPlain env w ty form) → ((w : TypingState) → Grows u w → Passed env want
+pub passed_ends : (env : Env) (expected : Option TyId) (u : TypingState) (id : ℕ) (at : Pos) (ty : TyId) (form : Form) (m :
+    Node) → is_place form ≡ false → ((w : TypingState) → IsPlain env w ty form) → ((w : TypingState) → Grows u w → Passed env expected
     (a_node_of id at ty form) w m) → ((w : TypingState) → AreReady w.items → Grows u w → IsAlone w.items ty × Is env w id ty
-    form) → Gives u (IsTemporary env want) (Ok (m, u))
-passed_ends env want u id at ty form m placeless plain d is =
+    form) → Gives u (IsTemporary env expected) (Ok (m, u))
+passed_ends env expected u id at ty form m placeless plain d is =
     given m λ sound w g.
     let so = is w (g.ready sound) g in
     let passed = d w g record { alone = so.0; fit = refl; holds = λ p stands. (plain w p, so.1 p stands) } in

@@ -34,9 +34,9 @@ use Rattle.typing_rules.proofs.Sound.Places.{contains_cases}
 
 pub continue_sound : (env : Env) (at : Pos) (to : Option LabelledLoop) → IsLoopOf env to → SoundTemporary env (continue_row
     at to)
-continue_sound env at to is want s k =
+continue_sound env at to is expected s k =
     after_number (found Rule.T06 at to _ λ a e.
-    settled_ends env want (numbered s) s.next_node at never (tree.Continue a.loop) refl (λ w p. refl) λ w ready l. (
+    settled_ends env expected (numbered s) s.next_node at never (tree.Continue a.loop) refl (λ w p. refl) λ w ready l. (
       never_ready w.items ready,
       λ p stands.
           subst (λ o. Holds (some o (λ (x : LoopAround). nothing))) (sym (stands.loops a (is a e)).1) refl ⋆ never_is
@@ -55,10 +55,10 @@ is_given items answer (present n) h e = absurd (by (ap is_some_node e))
 pub return_sound : (env : Env) (at : Pos) (value : Option TyId → Check MaybeNode) → SoundMaybe env value →
     SoundTemporary
     env (return_row at env.answer value)
-return_sound env at value good want s k =
+return_sound env at value good expected s k =
     after_number (bind (good (Some env.answer) (numbered s) (knows_number env k)) λ v t g d.
     obeyed Rule.T03 at (is_some_node v || is_unit t.items env.answer) _ λ is.
-    settled_ends env want t s.next_node at never (tree.Return v) refl (λ w p. refl) λ w ready l.
+    settled_ends env expected t s.next_node at never (tree.Return v) refl (λ w p. refl) λ w ready l.
     (never_ready w.items ready, λ p stands. by t w l v (d w l) is p stands ⋆ never_is w.items ready))
   where
     by : (t w : TypingState) → Grows t w → (v : MaybeNode) → IsMaybe env (Some env.answer) w v → IsTrue (is_some_node v ||
@@ -130,15 +130,15 @@ carries_out env w a (present n) p ready stands is may has l same value true e fi
 carries_out env w a (present n) p ready stands is may has l same value false e fit_ =
     absurd (false≢true (sym e ∙ may))
 
-carried_alone : (env : Env) (want : Option TyId) (t : TypingState) (v : MaybeNode) → AreReady t.items → IsMaybe env want t v → IsAlone
+carried_alone : (env : Env) (expected : Option TyId) (t : TypingState) (v : MaybeNode) → AreReady t.items → IsMaybe env expected t v → IsAlone
     t.items (ty_carried v)
-carried_alone env want t absent all is = unit_ready t.items all
-carried_alone env want t (present n) all is = is.alone
+carried_alone env expected t absent all is = unit_ready t.items all
+carried_alone env expected t (present n) all is = is.alone
 
 pub break_sound : (env : Env) (at : Pos) (to : Option LabelledLoop) (value : Option TyId → Check MaybeNode) → IsLoopOf env
     to →
     SoundMaybe env value → SoundTemporary env (break_row at to value)
-break_sound env at to value is good want s k =
+break_sound env at to value is good expected s k =
     after_number (bind (good (carried to) (numbered s) (knows_number env k)) λ v t g d.
     found Rule.T06 at to _ λ a e.
     obeyed Rule.T06 at (may_carry v a) _ λ may.
@@ -147,7 +147,7 @@ break_sound env at to value is good want s k =
       g.numbers,
       less,
     )) (carried_alone env (carried to) t v all (d t (grows_refl t)))) λ _ u h f.
-    settled_ends env want u s.next_node at never (tree.Break a.loop v) refl (λ w p. refl) λ w ready l. (
+    settled_ends env expected u s.next_node at never (tree.Break a.loop v) refl (λ w p. refl) λ w ready l. (
       never_ready w.items ready,
       λ p stands.
           let around = stands.loops a (is a e) in
@@ -229,10 +229,10 @@ knows_loop env s a k below =
 pub while_sound : (env : Env) (at : Pos) (label : Option Word) (c body : LabelledLoop → Typer) → ((a : LabelledLoop) → Sound
     (within_loop a env) (c a)) → ((a : LabelledLoop) → Sound (within_loop a env) (body a)) → SoundTemporary env (while_row at
     label c body)
-while_sound env at label c body good_c good_body want s k =
+while_sound env at label c body good_c good_body expected s k =
     after_number (bind (good_c a (Some bool) s' k') λ n t g d.
     bind (good_body a (Some unit) t (knows_later (within_loop a env) g k')) λ b u h e.
-    settled_ends env want u s.next_node at unit (tree.While n b) refl (λ w p. refl) λ w ready f.
+    settled_ends env expected u s.next_node at unit (tree.While n b) refl (λ w p. refl) λ w ready f.
     let dn = d w (grows_trans h f) in let eb = e w f in (
       unit_ready w.items ready,
       λ p stands.

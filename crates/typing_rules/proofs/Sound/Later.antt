@@ -170,12 +170,12 @@ module _ {old new : ItemTable} (e : Extends old new) where
   or_later true b c more h = refl
   or_later false b c more h = more h
 
-  pub fits_later : (want ty : TyId) → IsTrue (fits old want ty) → IsTrue (fits new want ty)
-  fits_later want ty h = or_later _ (is_never old ty) (is_never new ty) (is_later is_never_ty ty) h
+  pub fits_later : (expected ty : TyId) → IsTrue (fits old expected ty) → IsTrue (fits new expected ty)
+  fits_later expected ty h = or_later _ (is_never old ty) (is_never new ty) (is_later is_never_ty ty) h
 
-  pub agrees_later : (want : Option TyId) (ty : TyId) → IsTrue (agrees old want ty) → IsTrue (agrees new want ty)
+  pub agrees_later : (expected : Option TyId) (ty : TyId) → IsTrue (agrees old expected ty) → IsTrue (agrees new expected ty)
   agrees_later None ty h = refl
-  agrees_later (Some want) ty h = fits_later want ty h
+  agrees_later (Some expected) ty h = fits_later expected ty h
 
   pub same_in : {A : Type 0} (f : Ty → Option A) (id : TyId) → IsReady old id → option_and_then f (type_at new id) ≡
       option_and_then f (type_at old id)

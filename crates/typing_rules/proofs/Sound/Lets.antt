@@ -21,7 +21,7 @@ use Rattle.typing_rules.specs.Places.{unit, agrees, Fit, Fits, Coerced, Differs,
 use Rattle.typing_rules.specs.Promises.{Gives, Knows, IsReady, IsAlone, Grows, TypingSpot, at_spot, Stands, are_bound, IsPattern, Then, IsValue}
 use Rattle.typing_rules.specs.RowPromises.{IsStatement, IsInitialiser, SoundInitialiser, SoundDeclared, SoundPattern, IsPlace, IsInParts, agrees_same}
 use Rattle.typing_rules.specs.Rows as rules
-use Rattle.typing_rules.specs.Rows.{Matcher, Expected, expected, let_row, let_ty, of_value, ends_by, fitted_by, taking, taken, as_part, place_for_parts}
+use Rattle.typing_rules.specs.Rows.{Matcher, PatternContext, pattern_context, let_row, let_ty, of_value, ends_by, fitted_by, taking, taken, as_part, place_for_parts}
 use Rattle.typing_rules.specs.Scope.{Env, NamedEntry, with_variables}
 use Rattle.typing_rules.proofs.Sound.Branches.{unit_is}
 use Rattle.typing_rules.proofs.Sound.Fitted.{fits_self, same_self, or_left, or_right, FitOf, it_fits, is_coerced, differs, how_fits}
@@ -184,19 +184,19 @@ abbrev IsUnplaced : Result (Node × TypingState) Broken → Type 0
 IsUnplaced r = Then r (λ n t. is_place (form_of n) ≡ false)
 
 -- what is coerced is no place any more
-coerced_unplaced : (want : TyId) (m : Node) (s : TypingState) (how : Fit) → (how ≡ Fits → ⊥) → IsUnplaced (fitted_by want m
+coerced_unplaced : (expected : TyId) (m : Node) (s : TypingState) (how : Fit) → (how ≡ Fits → ⊥) → IsUnplaced (fitted_by expected m
     how s)
-coerced_unplaced want m s Fits no_fit = absurd (no_fit refl)
-coerced_unplaced want m s (Coerced trait_no) no_fit = refl
-coerced_unplaced want m s Differs no_fit = tt
+coerced_unplaced expected m s Fits no_fit = absurd (no_fit refl)
+coerced_unplaced expected m s (Coerced trait_no) no_fit = refl
+coerced_unplaced expected m s Differs no_fit = tt
 
-taken_unplaced : (env : Env) (want : TyId) (n : Node) (s : TypingState) → (fit s.items want (ty_of n) ≡ Fits → ⊥) →
+taken_unplaced : (env : Env) (expected : TyId) (n : Node) (s : TypingState) → (fit s.items expected (ty_of n) ≡ Fits → ⊥) →
     IsUnplaced (taken
-    env (Some want) n s)
-taken_unplaced env want n s no_fit =
-    on (fitted_by want m (fit s.items want (ty_of m)) s) (coerced_unplaced want m s (fit s.items want (ty_of m)) (λ e.
+    env (Some expected) n s)
+taken_unplaced env expected n s no_fit =
+    on (fitted_by expected m (fit s.items expected (ty_of m)) s) (coerced_unplaced expected m s (fit s.items expected (ty_of m)) (λ e.
     no_fit (ap
-    (fit s.items want) (sym (used_ty (taking s.items (ty_of n)) n)) ∙ e)))
+    (fit s.items expected) (sym (used_ty (taking s.items (ty_of n)) n)) ∙ e)))
   where
     m : Node
     m = used (taking s.items (ty_of n)) n
@@ -216,36 +216,36 @@ taken_unplaced env want n s no_fit =
     on (Ok a) h = rules_on a.0 a.1 h _ _
     on (Err e) h = tt
 
-pub no_place_own : (want : Option TyId) (n : Node) → is_place (form_of n) ≡ false → IsTrue (not (is_place (form_of n))
-    || agrees_same want (ty_of n))
-no_place_own want n no_place = by (is_place (form_of n)) no_place
+pub no_place_own : (expected : Option TyId) (n : Node) → is_place (form_of n) ≡ false → IsTrue (not (is_place (form_of n))
+    || agrees_same expected (ty_of n))
+no_place_own expected n no_place = by (is_place (form_of n)) no_place
   where
-    by : (b : Bool) → b ≡ false → IsTrue (not b || agrees_same want (ty_of n))
+    by : (b : Bool) → b ≡ false → IsTrue (not b || agrees_same expected (ty_of n))
     by true e = absurd (false≢true (sym e))
     by false e = refl
 
 -- a value that is no place may be taken apart as a temporary
-parts_of_value : (env : Env) (want : Option TyId) (w : TypingState) (n : Node) → IsValue env want w n → is_place (form_of n)
+parts_of_value : (env : Env) (expected : Option TyId) (w : TypingState) (n : Node) → IsValue env expected w n → is_place (form_of n)
     ≡ false →
-    IsInParts env want w n
-parts_of_value env want w n value no_place =
+    IsInParts env expected w n
+parts_of_value env expected w n value no_place =
     record {
-      base = temporary_base env want w n (record { value = value; is_no_place = no_place });
+      base = temporary_base env expected w n (record { value = value; is_no_place = no_place });
       fit = value.fit;
       no_reference = alone_no_reference w.items (ty_of n) value.alone;
-      own = no_place_own want n no_place;
+      own = no_place_own expected n no_place;
     }
 
-both_parts : (env : Env) (want : Option TyId) (t : TypingState) (r : Result (Node × TypingState) Broken) → Gives t (IsValue env
-    want) r →
-    IsUnplaced r → Gives t (IsInParts env want) r
-both_parts env want t (Ok a) h u =
-    record { so = λ ready. let g = h.so ready in (g.0, λ w l. parts_of_value env want w a.0 (g.1 w l) u) }
-both_parts env want t (Err e) h u = record { so = λ ready. tt }
+both_parts : (env : Env) (expected : Option TyId) (t : TypingState) (r : Result (Node × TypingState) Broken) → Gives t (IsValue env
+    expected) r →
+    IsUnplaced r → Gives t (IsInParts env expected) r
+both_parts env expected t (Ok a) h u =
+    record { so = λ ready. let g = h.so ready in (g.0, λ w l. parts_of_value env expected w a.0 (g.1 w l) u) }
+both_parts env expected t (Err e) h u = record { so = λ ready. tt }
 
-pub in_parts_sound : (env : Env) (want : Option TyId) (n : Node) (t : TypingState) → IsPlace env t n → ((w : TypingState) → Grows
+pub in_parts_sound : (env : Env) (expected : Option TyId) (n : Node) (t : TypingState) → IsPlace env t n → ((w : TypingState) → Grows
     t w →
-    IsPlace env w n) → Gives t (IsInParts env want) (place_for_parts env want n t)
+    IsPlace env w n) → Gives t (IsInParts env expected) (place_for_parts env expected n t)
 in_parts_sound env None n t now later =
     obeyed Rule.T08 (place_in_text n) (not (is_reference t.items (ty_of n))) _ λ plain.
     given n λ ready w g.
@@ -255,38 +255,38 @@ in_parts_sound env None n t now later =
       no_reference = subst (λ b. IsTrue (not b)) (sym (same_reference g.items (ty_of n) now.base.ready)) plain;
       own = or_right (not (is_place (form_of n))) true refl;
     }
-in_parts_sound env (Some want) n t now later =
-    obeyed Rule.T03 (place_in_text n) (is_same (ty_of n) want || not (is_never t.items (ty_of n))) _ λ parts. by parts
-    (fit t.items want (ty_of n)) refl (how_fits t.items want (ty_of n))
+in_parts_sound env (Some expected) n t now later =
+    obeyed Rule.T03 (place_in_text n) (is_same (ty_of n) expected || not (is_never t.items (ty_of n))) _ λ parts. by parts
+    (fit t.items expected (ty_of n)) refl (how_fits t.items expected (ty_of n))
   where
     is_same_ty : (a b : Bool) → IsTrue (a || not b) → IsTrue (a || b) → IsTrue a
     is_same_ty true b h k = refl
     is_same_ty false true h k = h
     is_same_ty false false h k = k
 
-    apart : (how : Fit) → fit t.items want (ty_of n) ≡ how → (how ≡ Fits → ⊥) → Gives t (IsInParts env (Some want))
+    apart : (how : Fit) → fit t.items expected (ty_of n) ≡ how → (how ≡ Fits → ⊥) → Gives t (IsInParts env (Some expected))
         (taken env
-        (Some want) n t)
+        (Some expected) n t)
     apart how e no_fit =
-        both_parts env (Some want) t (taken env (Some want) n t) (taken_sound env (Some want) n t now later)
+        both_parts env (Some expected) t (taken env (Some expected) n t) (taken_sound env (Some expected) n t now later)
         (taken_unplaced env
-        want n t (λ f. no_fit (sym e ∙ f)))
+        expected n t (λ f. no_fit (sym e ∙ f)))
 
     is_fit : Fit → Bool
     is_fit Fits = true
     is_fit _ = false
 
-    by : IsTrue (is_same (ty_of n) want || not (is_never t.items (ty_of n))) → (how : Fit) → fit t.items want (ty_of
-        n) ≡ how → FitOf t.items want (ty_of n) how → Gives t (IsInParts env (Some want)) (as_part env (Some want) n
+    by : IsTrue (is_same (ty_of n) expected || not (is_never t.items (ty_of n))) → (how : Fit) → fit t.items expected (ty_of
+        n) ≡ how → FitOf t.items expected (ty_of n) how → Gives t (IsInParts env (Some expected)) (as_part env (Some expected) n
         how t)
     by parts _ e (it_fits f) =
         obeyed Rule.T08 (place_in_text n) (not (is_reference t.items (ty_of n))) _ λ plain.
         given n λ ready w g.
         record {
           base = (later w g).base;
-          fit = agrees_later g.items (Some want) (ty_of n) f;
+          fit = agrees_later g.items (Some expected) (ty_of n) f;
           no_reference = subst (λ b. IsTrue (not b)) (sym (same_reference g.items (ty_of n) now.base.ready)) plain;
-          own = or_right (not (is_place (form_of n))) _ (is_same_ty (is_same (ty_of n) want) (is_never t.items (ty_of
+          own = or_right (not (is_place (form_of n))) _ (is_same_ty (is_same (ty_of n) expected) (is_never t.items (ty_of
               n)) parts f);
         }
     by parts (Coerced trait_no) e (is_coerced adt to from has) =

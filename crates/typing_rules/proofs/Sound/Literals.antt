@@ -40,12 +40,12 @@ within IntKind.Usize true value s h = absurd (let no_ : IsTrue false = s in cc)
 pub literal_sound : (env : Env) (at : Pos) (is_negative : Bool) (value : ℕ) (suffix : Option IntKind) → SoundTemporary
     env
     (literal at is_negative value suffix)
-literal_sound env at is_negative value suffix want s k =
+literal_sound env at is_negative value suffix expected s k =
     after_number (obeyed Rule.T03 at (not is_negative || is_signed_kind kind) _ λ signed.
-    bind (fitted_gives env want (a_node_of s.next_node at (int kind) (tree.Number (literal_value is_negative value)))
+    bind (fitted_gives env expected (a_node_of s.next_node at (int kind) (tree.Number (literal_value is_negative value)))
     (numbered s) refl) λ n t g d.
     obeyed Rule.T17 at (nat_le value (most kind is_negative)) _ λ few.
-    passed_ends env want t s.next_node at (int kind) (tree.Number (literal_value is_negative value)) n refl (λ w p.
+    passed_ends env expected t s.next_node at (int kind) (tree.Number (literal_value is_negative value)) n refl (λ w p.
     refl) d
     λ w ready l. (
       int_ready w.items ready kind,
@@ -56,4 +56,4 @@ literal_sound env at is_negative value suffix want s k =
     ))
   where
     kind : IntKind
-    kind = chosen suffix (option_and_then (kind_of s.items) want)
+    kind = chosen suffix (option_and_then (kind_of s.items) expected)

@@ -239,18 +239,18 @@ method_row s w c all heads same g own _ (of_trait {trait_no} {method} {head} def
 
 with_self_sound : (env : Env) (at : Pos) (id : ℕ) (base : Node) (m : Method) (count : ℕ) (args : List TyId → Check
     Nodes)
-    (want : Option TyId) (params : List TyId) (s : TypingState) → Knows env s → ((w : TypingState) → Grows s w → IsBase env w
+    (expected : Option TyId) (params : List TyId) (s : TypingState) → Knows env s → ((w : TypingState) → Grows s w → IsBase env w
     base) →
     IsTrue (not (is_reference s.items (ty_of base))) → IsPlainType s.items (ty_of base) → IsMethodOf s (ty_of base) m
     → (head_of m).params ≡ params →
     IsTrue
-    (takes_self s.items (ty_of base) params) → SoundArgs env count args → Gives s (IsTemporary env want) (with_self
+    (takes_self s.items (ty_of base) params) → SoundArgs env count args → Gives s (IsTemporary env expected) (with_self
     env at
-    id base m count args want params s)
-with_self_sound env at id base m count args want [] s k is plain kind method e takes good = absurd (let no_ : IsTrue
+    id base m count args expected params s)
+with_self_sound env at id base m count args expected [] s k is plain kind method e takes good = absurd (let no_ : IsTrue
     false =
     takes in cc)
-with_self_sound env at id base m count args want (self ∷ params) s k is plain kind method e takes good =
+with_self_sound env at id base m count args expected (self ∷ params) s k is plain kind method e takes good =
     with_ready λ all.
     bind (received_sound env at base self s is plain (method_known s all (ty_of base) m method self (subst (λ tys.
     Contains
@@ -258,7 +258,7 @@ with_self_sound env at id base m count args want (self ∷ params) s k is plain 
     bind (good params t (knows_later env g k) (λ ty has. known_later g.items ty (method_known s all (ty_of base) m
     method ty
     (subst (λ tys. Contains tys ty) (sym e) (suc has.0, omega (arith, has.1), has.2))))) λ given_ u h f.
-    bind (fitted_gives env want (a_node_of id at (head_of m).result (method_form m receiver given_)) u (method_leaf m
+    bind (fitted_gives env expected (a_node_of id at (head_of m).result (method_form m receiver given_)) u (method_leaf m
     receiver given_)) λ n v i r.
     obeyed Rule.T04 at (count == length params) _ λ counted.
     obeyed Rule.T08 at (not (is_unique_borrow (form_of receiver) && is_behind_shared v.items base)) _ λ shared.
@@ -267,7 +267,7 @@ with_self_sound env at id base m count args want (self ∷ params) s k is plain 
     let shared_then = subst (λ b. IsTrue (not (is_unique_borrow (form_of receiver) && b))) (behind_later env s v base
     (is s
     (grows_refl s)) to_v) shared in
-    passed_ends env want v id at (head_of m).result (method_form m receiver given_) n (method_place m receiver given_)
+    passed_ends env expected v id at (head_of m).result (method_form m receiver given_) n (method_place m receiver given_)
     (λ w.
     method_plain env w (head_of m).result m receiver given_) r λ w ready l.
     let on = grows_trans to_v l in
@@ -296,13 +296,13 @@ pub method_sound : (env : Env) (at : Pos) (named : ItemTable → TyId → Option
     : List TyId → Check Nodes) → FindsMethods named → SoundBase env receiver → SoundArgs env count args →
     SoundTemporary env
     (method_call env at named count receiver args)
-method_sound env at named count receiver args finds good_receiver good want s k =
+method_sound env at named count receiver args finds good_receiver good expected s k =
     after_number (bind (good_receiver (numbered s) (knows_number env k)) λ b t g d.
     bind (through_sound named at env b t d) λ r u h e. by r u t (knows_later env (grows_trans g h) (knows_number env
     k)) h e)
   where
     R : Fact Node
-    R = IsTemporary env want
+    R = IsTemporary env expected
 
     broken : {A : Type 0} (c : Check A) (u : TypingState) → Gives u R (and_then (c u) (λ _. breaks Rule.T12 at))
     broken c u = by (c u)
@@ -313,14 +313,14 @@ method_sound env at named count receiver args finds good_receiver good want s k 
 
     by : (r : Node × Option Method) (u t : TypingState) → Knows env u → Grows t u → ((w : TypingState) → Grows u w → IsFound named
         t.items
-        env w r) → Gives u R (with_method env at s.next_node r.0 r.1 count args want u)
+        env w r) → Gives u R (with_method env at s.next_node r.0 r.1 count args expected u)
     by (base, None) u t k h e = broken (args []) u
     by (base, Some m) u t k h e =
         let of = finds t (ty_of base) m ((e u (grows_refl u)).1 m refl) in
         let plain = ap is_some (ap (option_and_then reference_in) (type_later h.items (ty_of base) of.1.0 of.1.1) ∙
         of.1.2) in
         if_takes (takes_self u.items (ty_of base) (head_of m).params) refl
-        (λ takes. with_self_sound env at s.next_node base m count args want (head_of m).params u k (λ w g. (e w g).0)
+        (λ takes. with_self_sound env at s.next_node base m count args expected (head_of m).params u k (λ w g. (e w g).0)
         (truth_of
         _ plain) (of.1.0, type_later h.items (ty_of base) of.1.0 of.1.1, of.1.2, of.1.3) (method_later h (ty_of base)
         m of.0) refl
@@ -328,9 +328,9 @@ method_sound env at named count receiver args finds good_receiver good want s k 
       where
         if_takes : (b : Bool) → takes_self u.items (ty_of base) (head_of m).params ≡ b → (IsTrue b → Gives u R
             (with_self env
-            at s.next_node base m count args want (head_of m).params u)) → Gives u R ((if b then with_self env at
+            at s.next_node base m count args expected (head_of m).params u)) → Gives u R ((if b then with_self env at
             s.next_node
-            base m count args want (head_of m).params else (args [] >> breaks Rule.T12 at)) u)
+            base m count args expected (head_of m).params else (args [] >> breaks Rule.T12 at)) u)
         if_takes true is on = on refl
         if_takes false is on = broken (args []) u
 
@@ -350,21 +350,21 @@ closure_type items id k h = let known = some_got closure_in (type_at items id) k
     by (Ty.Closure n) h = ap (λ m. Some (Ty.Closure m)) (same_Some n k h)
     by _ h = absurd (none-some k h)
 
-called_sound : (env : Env) (at : Pos) (id : ℕ) (c : Node) (count : ℕ) (args : List TyId → Check Nodes) (want : Option
+called_sound : (env : Env) (at : Pos) (id : ℕ) (c : Node) (count : ℕ) (args : List TyId → Check Nodes) (expected : Option
     TyId)
     (k : ℕ) (def : ClosureDef) (head : Sig) (t : TypingState) → Knows env t → ((w : TypingState) → Grows t w → IsValue env None w
     c) →
     AreReady t.items → type_at t.items (ty_of c) ≡ Some (Ty.Closure k) → slice_get t.items.closures k ≡ Some def →
     slice_get
-    t.items.bodies def.body ≡ Some head → SoundArgs env count args → Gives t (IsTemporary env want) (with_closure at
+    t.items.bodies def.body ≡ Some head → SoundArgs env count args → Gives t (IsTemporary env expected) (with_closure at
     id c
-    count args want def.body (Some head) t)
-called_sound env at id c count args want k def head t knows is all of at_k body good =
+    count args expected def.body (Some head) t)
+called_sound env at id c count args expected k def head t knows is all of at_k body good =
     bind (good (drop 1 head.params) t knows (λ ty has. all.params def.body head ty body (behind head.params ty has))) λ
     ns u g d.
-    bind (fitted_gives env want (a_node_of id at head.result (tree.ClosureCall def.body c ns)) u refl) λ n v h e.
+    bind (fitted_gives env expected (a_node_of id at head.result (tree.ClosureCall def.body c ns)) u refl) λ n v h e.
     obeyed Rule.T04 at (count == length (drop 1 head.params)) _ λ counted.
-    passed_ends env want v id at head.result (tree.ClosureCall def.body c ns) n refl (λ w p. refl) e λ w ready l.
+    passed_ends env expected v id at head.result (tree.ClosureCall def.body c ns) n refl (λ w p. refl) e λ w ready l.
     let on = grows_trans g (grows_trans h l) in
     let args_ = d w (grows_trans h l) in
     let value = is w on in (
@@ -402,12 +402,12 @@ pub closure_call_sound : (env : Env) (at : Pos) (count : ℕ) (callee : Check No
     ((s :
     TypingState) → Knows env s → Gives s (IsValue env None) (callee s)) → SoundArgs env count args → SoundTemporary env
     (closure_call at count callee args)
-closure_call_sound env at count callee args good_c good want s k =
+closure_call_sound env at count callee args good_c good expected s k =
     after_number (bind (good_c (numbered s) (knows_number env k)) λ c t g d.
     with_ready λ all. by c t (knows_later env g (knows_number env k)) d all (closure_of t.items (ty_of c)) refl)
   where
     R : Fact Node
-    R = IsTemporary env want
+    R = IsTemporary env expected
 
     broken : {A : Type 0} (c : Check A) (u : TypingState) → Gives u R (and_then (c u) (λ _. breaks Rule.T13 at))
     broken c u = by (c u)
@@ -418,7 +418,7 @@ closure_call_sound env at count callee args good_c good want s k =
 
     called : Node → TypingState → Option ℕ → Result (Node × TypingState) Broken
     called c t o =
-        with_closure at s.next_node c count args want (option_map_or (λ (d : ClosureDef). d.body) (option_and_then
+        with_closure at s.next_node c count args expected (option_map_or (λ (d : ClosureDef). d.body) (option_and_then
         (slice_get
         t.items.closures) o) 0) (option_and_then (λ (d : ClosureDef). slice_get t.items.bodies d.body) (option_and_then
         (slice_get t.items.closures) o)) t
@@ -427,11 +427,11 @@ closure_call_sound env at count callee args good_c good want s k =
         t.items →
         (n : ℕ) → closure_of t.items (ty_of c) ≡ Some n → (def : ClosureDef) → slice_get t.items.closures n ≡ Some def
         → (o :
-        Option Sig) → slice_get t.items.bodies def.body ≡ o → Gives t R (with_closure at s.next_node c count args want
+        Option Sig) → slice_get t.items.bodies def.body ≡ o → Gives t R (with_closure at s.next_node c count args expected
         def.body o t)
     with_head c t knows d all n e def at_n None is = broken (args []) t
     with_head c t knows d all n e def at_n (Some head) is =
-        called_sound env at s.next_node c count args want n def head t knows d all (closure_type t.items (ty_of c) n
+        called_sound env at s.next_node c count args expected n def head t knows d all (closure_type t.items (ty_of c) n
         e) at_n is
         good
 
@@ -439,7 +439,7 @@ closure_call_sound env at count callee args good_c good want s k =
         t.items → (n
         : ℕ) → closure_of t.items (ty_of c) ≡ Some n → (o : Option ClosureDef) → slice_get t.items.closures n ≡ o →
         Gives t R
-        (with_closure at s.next_node c count args want (option_map_or (λ (d : ClosureDef). d.body) o 0)
+        (with_closure at s.next_node c count args expected (option_map_or (λ (d : ClosureDef). d.body) o 0)
         (option_and_then (λ (d
         : ClosureDef). slice_get t.items.bodies d.body) o) t)
     with_def c t knows d all n e None is = broken (args []) t

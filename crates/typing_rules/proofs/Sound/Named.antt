@@ -88,9 +88,9 @@ no_closure {s} {w} all g heads body head is = by (is_closure_body w.items body) 
 
 pub function_sound : (env : Env) (at : Pos) (body : ℕ) (head : Sig) (count : ℕ) (args : List TyId → Check Nodes) →
     SoundArgs
-    env count args → (want : Option TyId) (s : TypingState) → Knows env s → IsFunction s body head → Gives s (IsTemporary env
-    want) (call at (tree.Call body) head.result count head.params args (not (is_drop_body s.items body)) want s)
-function_sound env at body head count args good want s k is =
+    env count args → (expected : Option TyId) (s : TypingState) → Knows env s → IsFunction s body head → Gives s (IsTemporary env
+    expected) (call at (tree.Call body) head.result count head.params args (not (is_drop_body s.items body)) expected s)
+function_sound env at body head count args good expected s k is =
     with_ready λ all.
     call_sound env at (tree.Call body) head.result count head.params args (not (is_drop_body s.items body)) (λ ns.
     refl) (λ
@@ -100,7 +100,7 @@ function_sound env at body head count args good want s k is =
     env.answer p) sig.params ns)))) (sym (ap (λ bodies. slice_get bodies body) g.items.bodies ∙ is.0)) (same_self
     head.result.0 ⋆ given_) ⋆
     and_true (not (is_drop_body w.items body)) _ (subst (λ b. IsTrue (not b)) (sym (drop_later g.items body)) may)
-    (no_closure all g stands.closures body head is)) want k
+    (no_closure all g stands.closures body head is)) expected k
 
 -- ---- structs and variants by the order of their parts
 
@@ -187,14 +187,14 @@ variant_later e adt variant =
     ap (λ adts. option_and_then (λ (def : Adt). slice_get def.variants variant) (slice_get adts adt)) e.adts
 
 -- `S`, `E::V` of a struct or a variant without parts
-pub unit_struct_sound : (env : Env) (at : Pos) (adt variant : ℕ) (v : Variant) (want : Option TyId) (s : TypingState) →
+pub unit_struct_sound : (env : Env) (at : Pos) (adt variant : ℕ) (v : Variant) (expected : Option TyId) (s : TypingState) →
     variant_at
-    s.items adt variant ≡ Some v → v.fields ≡ [] → Knows env s → Gives s (IsTemporary env want) (makes_unit at (Makes
+    s.items adt variant ≡ Some v → v.fields ≡ [] → Knows env s → Gives s (IsTemporary env expected) (makes_unit at (Makes
     adt
-    variant) want s)
-unit_struct_sound env at adt variant v want s has none k =
+    variant) expected s)
+unit_struct_sound env at adt variant v expected s has none k =
     with_ready λ all. bind (interned_sound (Ty.Adt adt) s (adt_made s.items all adt)) λ ty t g d.
-    after_number (leaf_ends env want (numbered t) t.next_node at ty (tree.Make adt variant no_field) refl refl (λ w p.
+    after_number (leaf_ends env expected (numbered t) t.next_node at ty (tree.Make adt variant no_field) refl refl (λ w p.
     refl) λ
     w ready l.
     let on = grows_trans (grows_number t) l in (
@@ -209,11 +209,11 @@ unit_struct_sound env at adt variant v want s has none k =
 -- `S(a)`, `E::V(a)`
 pub constructor_sound : (env : Env) (at : Pos) (adt variant : ℕ) (v : Variant) (count : ℕ) (args : List TyId → Check
     Nodes) →
-    SoundArgs env count args → (want : Option TyId) (s : TypingState) → variant_at s.items adt variant ≡ Some v → Knows env
+    SoundArgs env count args → (expected : Option TyId) (s : TypingState) → variant_at s.items adt variant ≡ Some v → Knows env
     s →
-    Gives s (IsTemporary env want) ((interned (Ty.Adt adt) >>= (λ ty. call at (make adt variant) ty count v.fields args
-    true want)) s)
-constructor_sound env at adt variant v count args good want s has k =
+    Gives s (IsTemporary env expected) ((interned (Ty.Adt adt) >>= (λ ty. call at (make adt variant) ty count v.fields args
+    true expected)) s)
+constructor_sound env at adt variant v count args good expected s has k =
     with_ready λ all. bind (interned_sound (Ty.Adt adt) s (adt_made s.items all adt)) λ ty t g d.
     with_ready λ ready.
     let at_t = variant_later g.items adt variant ∙ has in
@@ -232,7 +232,7 @@ constructor_sound env at adt variant v count args good want s has k =
       ap (slice_get v.fields) (omega arith) ∙ is,
       not_true _ (alone_no_reference
           w.items u (alone w all_w at_w u n is)),
-    )) given_)) want (knows_later env g k)
+    )) given_)) expected (knows_later env g k)
   where
     alone : (w : TypingState) → AreReady w.items → variant_at w.items adt variant ≡ Some v → (part : TyId) (n : ℕ) → slice_get
         v.fields n ≡ Some part → IsAlone w.items part
@@ -251,11 +251,11 @@ constructor_sound env at adt variant v count args good want s has k =
 
 pub ask_sound : (env : Env) (at : Pos) (count : ℕ) (args : List TyId → Check Nodes) → SoundArgs env count args →
     SoundTemporary env (built_in at (int IntKind.I32) ask_form count 0 (args []))
-ask_sound env at count args good want s k =
+ask_sound env at count args good expected s k =
     after_number (bind (good [] (numbered s) (knows_number env k) (none_known s.items)) λ ns t g d.
-    bind (fitted_gives env want (a_node_of s.next_node at (int IntKind.I32) tree.Ask) t refl) λ n u h e.
+    bind (fitted_gives env expected (a_node_of s.next_node at (int IntKind.I32) tree.Ask) t refl) λ n u h e.
     obeyed Rule.T04 at (count == 0) _ λ counted.
-    passed_ends env want u s.next_node at (int IntKind.I32) tree.Ask n refl (λ w p. refl) e λ w all l. (
+    passed_ends env expected u s.next_node at (int IntKind.I32) tree.Ask n refl (λ w p. refl) e λ w all l. (
       int_ready w.items all IntKind.I32,
       λ p stands. subst (λ o. IsTrue (option_map_or (is_kind IntKind.I32) o false)) (sym
           (ap (option_and_then kind_in) (int_at w.items all IntKind.I32))) refl,

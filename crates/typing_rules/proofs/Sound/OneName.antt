@@ -12,7 +12,7 @@ use Rattle.typing_rules.specs.Check.{Check, TypingState, Broken, and_then, break
 use Rattle.typing_rules.specs.Patterns as rules
 use Rattle.typing_rules.specs.Places.{a_node_of}
 use Rattle.typing_rules.specs.Promises.{Then, Fact, Gives}
-use Rattle.typing_rules.specs.Rows.{Expected, is_signed_kind, most, all_given, are_known}
+use Rattle.typing_rules.specs.Rows.{PatternContext, is_signed_kind, most, all_given, are_known}
 use Rattle.typing_rules.specs.Scope.{Env, NamedEntry, adt_named, kind_at, variable}
 use Rattle.src_ast.specs.Syntax.{Word, Syn, syn, Shape, AnyPattern, BindPattern, LiteralPattern, TruthPattern, PathPattern, PartsPattern, FieldsPattern, ParensPattern, TuplePattern, ArrayPattern, Alternatives}
 use Rattle.typing_rules.specs.Typed as typing
@@ -72,7 +72,7 @@ no_name id at ty t true false fields = refl
 no_name id at ty t false true fields = refl
 no_name id at ty t false false fields = refl
 
-target_none : (at : Pos) (e : Expected) (ty : TyId) (t : rules.PatternTarget) (parts : Expected → List TyId → Check (Fields ×
+target_none : (at : Pos) (e : PatternContext) (ty : TyId) (t : rules.PatternTarget) (parts : PatternContext → List TyId → Check (Fields ×
     List NamedEntry
     × Bool × Bool)) (s : TypingState) → Shows (Is false) (rules.of_target at e ty t parts s)
 target_none at e ty t parts s =
@@ -83,7 +83,7 @@ target_none at e ty t parts s =
     rules.is_test w.items
     t)) _ (ends (no_name s.next_node at ty t (rules.is_test w.items t) (is_enum w.items t.adt) ps.0)))))
 
-lone_none : (env : Env) (at : Pos) (e : Expected) (ty : TyId) (adt : ℕ) (earlier : List NamedEntry) (s : TypingState) → Shows (Is
+lone_none : (env : Env) (at : Pos) (e : PatternContext) (ty : TyId) (adt : ℕ) (earlier : List NamedEntry) (s : TypingState) → Shows (Is
     false)
     (rules.lone_struct env at e ty adt earlier s)
 lone_none env at e ty adt earlier s = by (rules.is_unit_kind (kind_at env.kinds adt 0))
@@ -94,14 +94,14 @@ lone_none env at e ty adt earlier s = by (rules.is_unit_kind (kind_at env.kinds 
     by true = target_none at e ty (rules.target adt 0) (rules.no_parts earlier true) s
     by false = record { so = tt }
 
-bind_one : (at : Pos) (e : Expected) (ty : TyId) (name : Word) (earlier : List NamedEntry) (s : TypingState) → Shows (Is true)
+bind_one : (at : Pos) (e : PatternContext) (ty : TyId) (name : Word) (earlier : List NamedEntry) (s : TypingState) → Shows (Is true)
     (rules.bind at e ty name
     earlier s)
 bind_one at e ty name earlier s =
     obeyed_on Rule.T02 at (not (is_some (variable earlier name))) _ (obeyed_on Rule.T07 at (is_copy s.items ty || not
     (e.is_fixed || is_dyn s.items ty)) _ (ends refl))
 
-lone_one : (env : Env) (at : Pos) (e : Expected) (ty : TyId) (name : Word) (earlier : List NamedEntry) (s : TypingState) → Shows
+lone_one : (env : Env) (at : Pos) (e : PatternContext) (ty : TyId) (name : Word) (earlier : List NamedEntry) (s : TypingState) → Shows
     (Is (not (typing.names_struct s.items (adt_named s.items name))))
     (rules.lone_name env at e ty name earlier s)
 lone_one env at e ty name earlier s = by (adt_named s.items name)
@@ -116,7 +116,7 @@ lone_one env at e ty name earlier s = by (adt_named s.items name)
     by None = bind_one at e ty name earlier s
     by (Some adt) = if_enum adt (is_enum s.items adt)
 
-path_none : (env : Env) (at : Pos) (e : Expected) (ty : TyId) (first second : Option Word) (earlier : List NamedEntry) (s :
+path_none : (env : Env) (at : Pos) (e : PatternContext) (ty : TyId) (first second : Option Word) (earlier : List NamedEntry) (s :
     TypingState) →
     Shows (Is false) (rules.path_alone env at e ty first second earlier s)
 path_none env at e ty first None earlier s =
@@ -128,7 +128,7 @@ path_none env at e ty first (Some second) earlier s =
     (rules.no_parts earlier
     (rules.is_unit_kind (kind_at env.kinds t.adt t.variant))) s
 
-literal_none : (at : Pos) (e : Expected) (ty : TyId) (is_negative : Bool) (value : ℕ) (suffix : Option IntKind) (s :
+literal_none : (at : Pos) (e : PatternContext) (ty : TyId) (is_negative : Bool) (value : ℕ) (suffix : Option IntKind) (s :
     TypingState) → Shows
     (λ n t. is_one_name n ≡ false) (rules.literal_pattern at e ty is_negative value suffix s)
 literal_none at e ty is_negative value suffix s =
@@ -137,18 +137,18 @@ literal_none at e ty is_negative value suffix s =
     is_signed_kind kind)) _ (obeyed_on Rule.T17 at (nat_le value (most kind is_negative)) _ (obeyed_on Rule.T18 at (not
     e.takes_all) _ (ends refl)))
 
-truth_none : (at : Pos) (e : Expected) (ty : TyId) (value : Bool) (s : TypingState) → Shows (λ n t. is_one_name n ≡ false)
+truth_none : (at : Pos) (e : PatternContext) (ty : TyId) (value : Bool) (s : TypingState) → Shows (λ n t. is_one_name n ≡ false)
     (rules.truth_pattern at e ty value s)
 truth_none at e ty value s =
     obeyed_on Rule.T03 at (is_bool s.items ty) _ (obeyed_on Rule.T18 at (not e.takes_all) _ (ends refl))
 
 mutual
-  one_name : (env : Env) (e : Expected) (ty : TyId) (p : Syn) (earlier : List NamedEntry) (s : TypingState) → Shows (Is
+  one_name : (env : Env) (e : PatternContext) (ty : TyId) (p : Syn) (earlier : List NamedEntry) (s : TypingState) → Shows (Is
       (typing.is_one_name s.items p)) (rules.pattern env e ty p
       earlier s)
   one_name env e ty (syn at form) earlier s = one_form env e ty at form earlier s
 
-  one_form : (env : Env) (e : Expected) (ty : TyId) (at : Pos) (form : Shape) (earlier : List NamedEntry) (s : TypingState) →
+  one_form : (env : Env) (e : PatternContext) (ty : TyId) (at : Pos) (form : Shape) (earlier : List NamedEntry) (s : TypingState) →
       Shows (Is (typing.is_one_name_form s.items form))
       (rules.pattern_form env e ty at form earlier s)
   one_form env e ty at AnyPattern earlier s = ends refl

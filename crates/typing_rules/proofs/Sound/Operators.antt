@@ -38,12 +38,12 @@ or_cases true b h = inl refl
 or_cases false b h = inr h
 
 -- a value of which something is required, and of which a type is required that it fits
-pub any_want : {env : Env} {want : Option TyId} {w : TypingState} {n : Node} → IsValue env want w n → IsValue env None w n
+pub any_want : {env : Env} {expected : Option TyId} {w : TypingState} {n : Node} → IsValue env expected w n → IsValue env None w n
 any_want v = record { alone = v.alone; fit = refl; holds = v.holds }
 
-pub as_wanted : (c : Context) (want : TyId) (n : Node) → Holds (typed c Taken n) → IsTrue (fits c.items want (ty_of
-    n)) → Holds (typed c (Wanted want) n)
-as_wanted c want (node id at ty by form) h f = ((h.0, f), h.1)
+pub as_wanted : (c : Context) (expected : TyId) (n : Node) → Holds (typed c Taken n) → IsTrue (fits c.items expected (ty_of
+    n)) → Holds (typed c (Wanted expected) n)
+as_wanted c expected (node id at ty by form) h f = ((h.0, f), h.1)
 
 -- ---- fixed types
 
@@ -74,24 +74,24 @@ module _ (items : ItemTable) (ready : AreReady items) where
   never_is = passes_by is_never_ty (type_at items never) Ty.Never (ready.begins 2 Ty.Never refl) refl
 
   -- one of a type with a test, or `!`
-  pub fits_test : (test : Ty → Bool) (want ty : TyId) → IsTrue (option_map_or test (type_at items want) false) →
-      IsTrue (fits items want ty) → IsTrue (option_map_or test (type_at items ty) false || is_never items ty)
-  fits_test test want ty has h = by (or_cases (is_same ty want) (is_never items ty) h)
+  pub fits_test : (test : Ty → Bool) (expected ty : TyId) → IsTrue (option_map_or test (type_at items expected) false) →
+      IsTrue (fits items expected ty) → IsTrue (option_map_or test (type_at items ty) false || is_never items ty)
+  fits_test test expected ty has h = by (or_cases (is_same ty expected) (is_never items ty) h)
     where
-      by : IsTrue (is_same ty want) ⊎ IsTrue (is_never items ty) → IsTrue (option_map_or test (type_at items ty) false
+      by : IsTrue (is_same ty expected) ⊎ IsTrue (is_never items ty) → IsTrue (option_map_or test (type_at items ty) false
           || is_never items ty)
       by (inl same) =
-          or_left _ _ (subst (λ id. IsTrue (option_map_or test (type_at items id) false)) (sym (same_id ty want same))
+          or_left _ _ (subst (λ id. IsTrue (option_map_or test (type_at items id) false)) (sym (same_id ty expected same))
           has)
       by (inr never) = or_right (option_map_or test (type_at items ty) false) _ never
 
 -- ---- operators
 
 pub not_sound : (env : Env) (at : Pos) (operand : Typer) → Sound env operand → SoundTemporary env (not_row at operand)
-not_sound env at operand good want s k =
+not_sound env at operand good expected s k =
     after_number (bind (good None s' (knows_number env k)) λ n t g d.
     obeyed Rule.T03 at (fits t.items bool (ty_of n)) _ λ is.
-    leaf_ends env want t s.next_node at bool (tree.Not n) refl refl (λ w p. refl) λ w ready l. (
+    leaf_ends env expected t s.next_node at bool (tree.Not n) refl refl (λ w p. refl) λ w ready l. (
       bool_ready w.items ready,
       λ p stands.
           (d w l).holds p stands ⋆ fits_test w.items ready is_bool_ty bool (ty_of n) (bool_is w.items ready) (fits_later
@@ -102,7 +102,7 @@ not_sound env at operand good want s k =
     s' = numbered s
 
     R : Fact Node
-    R = IsTemporary env want
+    R = IsTemporary env expected
 
 signed_is : (items : ItemTable) → AreReady items → (kind : IntKind) → IsTrue (is_signed_kind kind) → IsTrue
     (is_signed items (int kind))
@@ -123,10 +123,10 @@ signed_by items ready ty h = by (or_cases (is_same ty (int IntKind.I32)) (is_sam
 
 pub negate_sound : (env : Env) (at : Pos) (operand : Typer) → Sound env operand → SoundTemporary env (negate at
     operand)
-negate_sound env at operand good want s k =
+negate_sound env at operand good expected s k =
     after_number (bind (good inner s' (knows_number env k)) λ n t g d.
     obeyed Rule.T03 at (is_same (ty_of n) (int IntKind.I32) || is_same (ty_of n) (int IntKind.I64)) _ λ is.
-    leaf_ends env want t s.next_node at (ty_of n) (tree.Negate n) refl refl (λ w p. refl) λ w ready l. (
+    leaf_ends env expected t s.next_node at (ty_of n) (tree.Negate n) refl refl (λ w p. refl) λ w ready l. (
       (d w l).alone,
       λ p stands. (d w l).holds p stands ⋆ same_self (ty_of n).0 ⋆ signed_by w.items ready (ty_of n)
           is,
@@ -136,33 +136,33 @@ negate_sound env at operand good want s k =
     s' = numbered s
 
     R : Fact Node
-    R = IsTemporary env want
+    R = IsTemporary env expected
 
     inner : Option TyId
-    inner = wanted if_int s'.items want
+    inner = wanted if_int s'.items expected
 
 -- ---- two operands
 
 abbrev Both : Env → Fact (Node × Node)
 Both env w both = IsValue env None w both.0 × IsValue env None w both.1
 
-left_first_sound : (env : Env) (want : Option TyId) (left right : Typer) → Sound env left → Sound env right → (s :
-    TypingState) → Knows env s → Gives s (Both env) (left_first want left right s)
-left_first_sound env want left right good_left good_right s k =
-    bind (good_left want s k) λ l t g d.
+left_first_sound : (env : Env) (expected : Option TyId) (left right : Typer) → Sound env left → Sound env right → (s :
+    TypingState) → Knows env s → Gives s (Both env) (left_first expected left right s)
+left_first_sound env expected left right good_left good_right s k =
+    bind (good_left expected s k) λ l t g d.
     bind (good_right _ t (knows_later env g k)) λ r u h e.
     given (l, r) λ ready w f. (any_want (d w (grows_trans h f)), any_want (e w f))
 
-operands_sound : (env : Env) (is_literal : Bool) (want : Option TyId) (left right : Typer) → Sound env left → Sound
-    env right → (s : TypingState) → Knows env s → Gives s (Both env) (operands is_literal want left right s)
+operands_sound : (env : Env) (is_literal : Bool) (expected : Option TyId) (left right : Typer) → Sound env left → Sound
+    env right → (s : TypingState) → Knows env s → Gives s (Both env) (operands is_literal expected left right s)
 operands_sound env true None left right good_left good_right s k =
     bind (good_right None s k) λ r t g d.
     bind (good_left _ t (knows_later env g k)) λ l u h e.
     given (l, r) λ ready w f. (any_want (e w f), d w (grows_trans h f))
-operands_sound env true (Some want) left right good_left good_right s k =
-    left_first_sound env (Some want) left right good_left good_right s k
-operands_sound env false want left right good_left good_right s k =
-    left_first_sound env want left right good_left good_right s k
+operands_sound env true (Some expected) left right good_left good_right s k =
+    left_first_sound env (Some expected) left right good_left good_right s k
+operands_sound env false expected left right good_left good_right s k =
+    left_first_sound env expected left right good_left good_right s k
 
 -- the type of two branches or operands
 module _ (items : ItemTable) (a b ty : TyId) where
@@ -229,14 +229,14 @@ one_int items a b ty h =
 
 pub arithmetic_sound : (env : Env) (at : Pos) (operator : Math) (is_literal : Bool) (left right : Typer) → Sound env
     left → Sound env right → SoundTemporary env (arithmetic at operator is_literal left right)
-arithmetic_sound env at operator is_literal left right good_left good_right want s k =
+arithmetic_sound env at operator is_literal left right good_left good_right expected s k =
     after_number (bind (operands_sound env is_literal _ left right good_left good_right s'
     (knows_number env k)) λ both t g d.
     found Rule.T03 at (option_and_then (if_int t.items) (one_of_two t.items (ty_of both.0) (ty_of both.1))) _ λ ty
     h.
     let one = one_int t.items (ty_of both.0) (ty_of both.1) ty h in
     let is = is_one t.items (ty_of both.0) (ty_of both.1) ty one.0 in
-    leaf_ends env want t s.next_node at ty (tree.Arithmetic operator both.0 both.1) refl refl (λ w p. refl) λ w ready
+    leaf_ends env expected t s.next_node at ty (tree.Arithmetic operator both.0 both.1) refl refl (λ w p. refl) λ w ready
     l. (
       either_ready t.items w.items (ty_of both.0) (ty_of both.1) ty one.0 (d w l).0.alone (d w l).1.alone,
       λ p stands.
@@ -249,7 +249,7 @@ arithmetic_sound env at operator is_literal left right good_left good_right want
     s' = numbered s
 
     R : Fact Node
-    R = IsTemporary env want
+    R = IsTemporary env expected
 
 -- ---- comparisons, `&&` and `||`
 
@@ -287,12 +287,12 @@ compared {old} {new} e a b ty h =
 
 pub comparison_sound : (env : Env) (at : Pos) (operator : Cmp) (is_literal : Bool) (left right : Typer) → Sound env
     left → Sound env right → SoundTemporary env (comparison at operator is_literal left right)
-comparison_sound env at operator is_literal left right good_left good_right want s k =
+comparison_sound env at operator is_literal left right good_left good_right expected s k =
     after_number (bind (operands_sound env is_literal None left right good_left good_right s'
     (knows_number env k)) λ both t g d.
     found Rule.T03 at (option_and_then (int_or_bool t.items) (one_of_two t.items (ty_of both.0) (ty_of both.1))) _
     λ ty h.
-    leaf_ends env want t s.next_node at bool (tree.Comparison operator both.0 both.1) refl refl (λ w p. refl) λ w
+    leaf_ends env expected t s.next_node at bool (tree.Comparison operator both.0 both.1) refl refl (λ w p. refl) λ w
     ready l. (
       bool_ready w.items ready,
       λ p stands.
@@ -304,7 +304,7 @@ comparison_sound env at operator is_literal left right good_left good_right want
     s' = numbered s
 
     R : Fact Node
-    R = IsTemporary env want
+    R = IsTemporary env expected
 
 fits_bool_later : {old new : ItemTable} → Extends old new → AreReady new → (ty : TyId) → IsTrue (fits old bool ty) →
     IsTrue (fits_bool new ty)
@@ -320,11 +320,11 @@ AsksBoth form = (c : Context) (id : ℕ) (ty : TyId) (l r : Node) → Holds (typ
 logic_sound : (env : Env) (at : Pos) (form : Node → Node → Form) → ((l r : Node) → IsTrue (is_leaf (form l r))) → ((l
     r : Node) → is_place (form l r) ≡ false) → ((w : TypingState) (l r : Node) → IsPlain env w bool (form l r)) → AsksBoth
     form → (left right : Typer) → Sound env left → Sound env right → SoundTemporary env (logic at form left right)
-logic_sound env at form leaf placeless plain asks left right good_left good_right want s k =
+logic_sound env at form leaf placeless plain asks left right good_left good_right expected s k =
     after_number (bind (good_left None s' (knows_number env k)) λ l t g d.
     bind (good_right None t (knows_later env g (knows_number env k))) λ r u h e.
     obeyed Rule.T03 at (fits u.items bool (ty_of l) && fits u.items bool (ty_of r)) _ λ is.
-    leaf_ends env want u s.next_node at bool (form l r) (leaf l r) (placeless l r) (λ w. plain w l r) λ w ready f. (
+    leaf_ends env expected u s.next_node at bool (form l r) (leaf l r) (placeless l r) (λ w. plain w l r) λ w ready f. (
       bool_ready w.items ready,
       λ p stands.
           asks _ s.next_node bool l r ((d w (grows_trans h f)).holds p stands) ((e w f).holds p stands)
@@ -337,7 +337,7 @@ logic_sound env at form leaf placeless plain asks left right good_left good_righ
     s' = numbered s
 
     R : Fact Node
-    R = IsTemporary env want
+    R = IsTemporary env expected
 
 pub and_sound : (env : Env) (at : Pos) (left right : Typer) → Sound env left → Sound env right → SoundTemporary env
     (logic at tree.And left right)

@@ -31,7 +31,7 @@ use Rattle.typing_rules.specs.Check.{Check, TypingState, ◌>>=◌, pure, number
 use Rattle.typing_rules.specs.Patterns as rules
 use Rattle.typing_rules.specs.Places.{a_node_of}
 use Rattle.typing_rules.specs.Promises.{Extends, IsReady, AreReady, Grows, Gives}
-use Rattle.typing_rules.specs.Rows.{Expected, most, is_signed_kind, literal_value}
+use Rattle.typing_rules.specs.Rows.{PatternContext, most, is_signed_kind, literal_value}
 use Rattle.typing_rules.specs.Scope.{NamedEntry, Local, variable}
 use Rattle.src_ast.specs.Syntax.{Word}
 use Rattle.typing_rules.proofs.Sound.Bindings.{Binds, binds_none, binds_from, binds_one}
@@ -46,18 +46,18 @@ use Rattle.typing_rules.proofs.Sound.Parts.{field_later}
 use Rattle.typing_rules.proofs.Sound.Places.{or_false}
 
 -- a place for which a pattern was checked
-abbrev pub IsFor : Expected → Matched → Type 0
+abbrev pub IsFor : PatternContext → Matched → Type 0
 IsFor e place = (place.takes_all ≡ e.takes_all) × (IsTrue (not e.is_fixed) → IsTrue place.may_move)
 
 -- a pattern for a place of a type, after earlier names
-pub record IsAfter (e : Expected) (ty : TyId) (earlier : List NamedEntry) (n : ℕ) (w : TypingState) (b : Node × List NamedEntry) :
+pub record IsAfter (e : PatternContext) (ty : TyId) (earlier : List NamedEntry) (n : ℕ) (w : TypingState) (b : Node × List NamedEntry) :
     Type 0
   where
     pub holds : (place : Matched) → IsFor e place → Holds (pattern w.items place ty b.0)
     pub binds : Binds earlier n (nodes_of b.0) w b.1
 
 -- a pattern without names
-plain_after : (e : Expected) (ty : TyId) (earlier : List NamedEntry) (id : ℕ) (at : Pos) (by : Option Use) (form : Form) (n
+plain_after : (e : PatternContext) (ty : TyId) (earlier : List NamedEntry) (id : ℕ) (at : Pos) (by : Option Use) (form : Form) (n
     : ℕ) (w
     : TypingState) → n ≤ w.next_node → filter_map binding_entry (nodes_of (node id at ty by form)) ≡ [] → filter_map
     binding_name
@@ -70,7 +70,7 @@ plain_after e ty earlier id at by form n w le entries names holds =
       binds = binds_none earlier n (nodes_of (node id at ty by form)) w le entries names;
     }
 
-pub wildcard_sound : (at : Pos) (e : Expected) (ty : TyId) (earlier : List NamedEntry) (s : TypingState) → Gives s (IsAfter e ty
+pub wildcard_sound : (at : Pos) (e : PatternContext) (ty : TyId) (earlier : List NamedEntry) (s : TypingState) → Gives s (IsAfter e ty
     earlier
     s.next_node) ((number >>= (λ id. pure (a_node_of id at ty tree.Wildcard, earlier))) s)
 wildcard_sound at e ty earlier s =
@@ -79,12 +79,12 @@ wildcard_sound at e ty earlier s =
       g.numbers,
     )) refl refl (λ place for. refl))
 
-not_all : (e : Expected) (place : Matched) → IsFor e place → IsTrue (not e.takes_all) → IsTrue (is_by Use.Test (Some
+not_all : (e : PatternContext) (place : Matched) → IsFor e place → IsTrue (not e.takes_all) → IsTrue (is_by Use.Test (Some
     Use.Test)
     && not place.takes_all)
 not_all e place for h = subst (λ b. IsTrue (not b)) (sym for.0) h
 
-pub literal_pattern_sound : (at : Pos) (e : Expected) (ty : TyId) (is_negative : Bool) (value : ℕ) (suffix : Option
+pub literal_pattern_sound : (at : Pos) (e : PatternContext) (ty : TyId) (is_negative : Bool) (value : ℕ) (suffix : Option
     IntKind)
     (earlier : List NamedEntry) (s : TypingState) → Gives s (λ w n. IsAfter e ty earlier s.next_node w (n, earlier))
     (rules.literal_pattern
@@ -103,7 +103,7 @@ literal_pattern_sound at e ty is_negative value suffix earlier s =
     suffix ty) _
     agrees_) few)))
 
-pub truth_pattern_sound : (at : Pos) (e : Expected) (ty : TyId) (value : Bool) (earlier : List NamedEntry) (s : TypingState) →
+pub truth_pattern_sound : (at : Pos) (e : PatternContext) (ty : TyId) (value : Bool) (earlier : List NamedEntry) (s : TypingState) →
     Gives s (λ w
     n. IsAfter e ty earlier s.next_node w (n, earlier)) (rules.truth_pattern at e ty value s)
 truth_pattern_sound at e ty value earlier s =
@@ -128,7 +128,7 @@ may_bind false copies_later fixed dyn dyn_later may same_c same_d moves h =
     let so = or_false fixed dyn h in
     or_right copies_later _ (and_true may (not dyn_later) (moves so.0) (subst (λ b. IsTrue (not b)) (sym same_d) so.1))
 
-pub bind_sound : (at : Pos) (e : Expected) (ty : TyId) (name : Word) (earlier : List NamedEntry) (s : TypingState) → IsReady
+pub bind_sound : (at : Pos) (e : PatternContext) (ty : TyId) (name : Word) (earlier : List NamedEntry) (s : TypingState) → IsReady
     s.items ty →
     Gives s (IsAfter e ty earlier s.next_node) (rules.bind at e ty name earlier s)
 bind_sound at e ty name earlier s ready =
@@ -152,13 +152,13 @@ bind_sound at e ty name earlier s ready =
 -- ---- parts
 
 -- patterns of parts in their order, and patterns of one type, after earlier names
-pub record ArePartsAfter (e : Expected) (tys : List TyId) (earlier : List NamedEntry) (n : ℕ) (w : TypingState) (b : Nodes × List
+pub record ArePartsAfter (e : PatternContext) (tys : List TyId) (earlier : List NamedEntry) (n : ℕ) (w : TypingState) (b : Nodes × List
     NamedEntry) :
     Type 0 where
   pub holds : (place : Matched) → IsFor e place → Holds (well.part_patterns w.items place tys b.0)
   pub binds : Binds earlier n (nodes_among b.0) w b.1
 
-pub record AreEachAfter (e : Expected) (ty : TyId) (earlier : List NamedEntry) (n count : ℕ) (w : TypingState) (b : Nodes × List
+pub record AreEachAfter (e : PatternContext) (ty : TyId) (earlier : List NamedEntry) (n count : ℕ) (w : TypingState) (b : Nodes × List
     NamedEntry) :
     Type 0 where
   pub holds : (place : Matched) → IsFor e place → Holds (well.each_pattern w.items place ty b.0)
@@ -259,7 +259,7 @@ IsTarget items t =
     false) × (t.variant ≡ 0))
 
 -- patterns of fields after earlier names, and whether they are numbered apart
-pub record AreFieldsAfter (e : Expected) (tys : List TyId) (earlier : List NamedEntry) (n : ℕ) (w : TypingState) (b : Fields ×
+pub record AreFieldsAfter (e : PatternContext) (tys : List TyId) (earlier : List NamedEntry) (n : ℕ) (w : TypingState) (b : Fields ×
     List NamedEntry
     × Bool × Bool) : Type 0 where
   pub holds : (place : Matched) → IsFor e place → (ty : TyId) (variant : ℕ) → ((k : ℕ) (part : TyId) → slice_get tys k
@@ -290,7 +290,7 @@ target_fields items ty t at k part h =
     by None is h = absurd (none-some part h)
     by (Some v) is h = ap (λ tys. slice_get tys k) (adt_fields items t.adt t.variant v is) ∙ h
 
-within_for : (e : Expected) (place : Matched) (drops drops_later : Bool) → drops_later ≡ drops → IsFor e place → IsFor
+within_for : (e : PatternContext) (place : Matched) (drops drops_later : Bool) → drops_later ≡ drops → IsFor e place → IsFor
     (record e
     { is_fixed = e.is_fixed || drops }) (well.within drops_later place)
 within_for e place drops drops_later same for = (
@@ -312,7 +312,7 @@ target_node id at ty t fields is_enum_ many =
 adt_is : (items : ItemTable) (ty : TyId) (n : ℕ) → type_at items ty ≡ Some (Ty.Adt n) → adt_of items ty ≡ Some n
 adt_is items ty n at = ap (option_and_then adt_in) at
 
-module _ (e : Expected) (ty : TyId) (earlier : List NamedEntry) (id : ℕ) (at : Pos) (t : rules.PatternTarget) (n m : ℕ) (w : TypingState)
+module _ (e : PatternContext) (ty : TyId) (earlier : List NamedEntry) (id : ℕ) (at : Pos) (t : rules.PatternTarget) (n m : ℕ) (w : TypingState)
     (drops : Bool) (ps : Fields × List NamedEntry × Bool × Bool) (tys : List TyId) where
   struct_after : n ≤ m → type_at w.items ty ≡ Some (Ty.Adt t.adt) → is_enum w.items t.adt ≡ false → t.variant ≡ 0 →
       has_drop_impl w.items ty ≡ drops → ((k : ℕ) (part : TyId) → slice_get tys k ≡ Some part → field_ty w.items ty
@@ -388,7 +388,7 @@ module _ (e : Expected) (ty : TyId) (earlier : List NamedEntry) (id : ℕ) (at :
           }
 
 -- the check of parts that a struct or a variant asks for
-abbrev pub SoundFields : Expected → TyId → rules.PatternTarget → List NamedEntry → TypingState → (Expected → List TyId → Check (Fields ×
+abbrev pub SoundFields : PatternContext → TyId → rules.PatternTarget → List NamedEntry → TypingState → (PatternContext → List TyId → Check (Fields ×
     List NamedEntry ×
     Bool × Bool)) → Type 0
 SoundFields e ty t earlier s parts = (u : TypingState) → Grows s u → AreReady u.items → type_at u.items ty ≡ Some (Ty.Adt
@@ -396,7 +396,7 @@ SoundFields e ty t earlier s parts = (u : TypingState) → Grows s u → AreRead
     Gives u (AreFieldsAfter (rules.inside_of u.items ty e) (rules.fields_of u.items t) earlier u.next_node) (parts
     (rules.inside_of u.items ty e) (rules.fields_of u.items t) u)
 
-pub of_target_sound : (at : Pos) (e : Expected) (ty : TyId) (t : rules.PatternTarget) (parts : Expected → List TyId → Check
+pub of_target_sound : (at : Pos) (e : PatternContext) (ty : TyId) (t : rules.PatternTarget) (parts : PatternContext → List TyId → Check
     (Fields × List
     NamedEntry × Bool × Bool)) (earlier : List NamedEntry) (s : TypingState) → IsReady s.items ty → IsTarget s.items t → SoundFields e
     ty t

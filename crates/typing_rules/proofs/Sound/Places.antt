@@ -93,8 +93,8 @@ moves_none : (c : Context) (n : Node) → is_place (form_of n) ≡ false → IsT
 moves_none c (node id at ty by form) h = moves_by c form h
 
 -- a value becomes a temporary, which may be gone through
-pub temporary_base : (env : Env) (want : Option TyId) (w : TypingState) (n : Node) → IsTemporary env want w n → IsBase env w n
-temporary_base env want w n t =
+pub temporary_base : (env : Env) (expected : Option TyId) (w : TypingState) (n : Node) → IsTemporary env expected w n → IsBase env w n
+temporary_base env expected w n t =
     record {
       ready = alone_ready w.items (ty_of n) t.value.alone;
       holds = λ p stands. temporary_holds _ n t.is_no_place (t.value.holds p stands);
@@ -311,10 +311,10 @@ taken_value env t w n all g now base moves no_reference =
     none : TypingSpot
     none = record { entries = []; closure = None; loops = [] }
 
-pub taken_sound : (env : Env) (want : Option TyId) (n : Node) (t : TypingState) → IsPlace env t n → ((w : TypingState) → Grows t w
-    → IsPlace env w n) → Gives t (IsValue env want) (taken env want n t)
-taken_sound env want n t now later =
-    with_ready λ ready. bind (fitted_gives env want m t (subst (λ f. IsTrue (is_leaf f)) (sym (same_leaf _ n))
+pub taken_sound : (env : Env) (expected : Option TyId) (n : Node) (t : TypingState) → IsPlace env t n → ((w : TypingState) → Grows t w
+    → IsPlace env w n) → Gives t (IsValue env expected) (taken env expected n t)
+taken_sound env expected n t now later =
+    with_ready λ ready. bind (fitted_gives env expected m t (subst (λ f. IsTrue (is_leaf f)) (sym (same_leaf _ n))
     (place_leaf (form_of n)
     now.is))) λ v u g d.
     obeyed Rule.T07 (place_in_text n) (is_copy t.items (ty_of n) || not (is_fixed t.items (in_own_guard env.variables) n

@@ -194,17 +194,17 @@ inits_hold env v w p stands (a_field number value rest) (Some n ∷ given) h are
 
 pub struct_sound : (env : Env) (at : Pos) (adt variant : ℕ) (v : Variant) (fields : Check (Fields × Given)) →
     SoundInits env v
-    fields → (want : Option TyId) (s : TypingState) → variant_at s.items adt variant ≡ Some v → Knows env s → Gives s
+    fields → (expected : Option TyId) (s : TypingState) → variant_at s.items adt variant ≡ Some v → Knows env s → Gives s
     (IsTemporary env
-    want) (struct_row at adt variant v.fields fields want s)
-struct_sound env at adt variant v fields good want s has k =
+    expected) (struct_row at adt variant v.fields fields expected s)
+struct_sound env at adt variant v fields good expected s has k =
     with_ready λ all. after_number (bind (interned_sound (Ty.Adt adt) (numbered s) (adt_made s.items all adt)) λ ty t
     g d.
     bind (good t (knows_later env g (knows_number env k))) λ fs u h e.
-    bind (fitted_gives env want (a_node_of s.next_node at ty (tree.Make adt variant fs.0)) u refl) λ n x i f.
+    bind (fitted_gives env expected (a_node_of s.next_node at ty (tree.Make adt variant fs.0)) u refl) λ n x i f.
     obeyed Rule.T04 at (all_given (length v.fields) fs.1 && length fs.1 == length v.fields) _ λ counted.
     obeyed Rule.T12 at (are_known fs.1) _ λ known.
-    passed_ends env want x s.next_node at ty (tree.Make adt variant fs.0) n refl (λ w p. refl) f λ w ready l.
+    passed_ends env expected x s.next_node at ty (tree.Make adt variant fs.0) n refl (λ w p. refl) f λ w ready l.
     let on = grows_trans h (grows_trans i l) in
     let are = e w (grows_trans i l) in
     let numbers = inits_numbers env v w fs.0 fs.1 known are in

@@ -487,7 +487,7 @@ grows_body s = record {
 pub closure_sound : (env : Env) (at : Pos) (captures params : Syns) (answer : MaybeSyn) (body : Syn) → IsTrue (is_block
     body) → IsTrue (self_first params) → ((inner : Env) → Sound inner (typing.typed inner body)) → SoundTemporary env
     (bodies.closure env at captures params answer (λ inner. typing.typed inner body))
-closure_sound env at captures params answer body shape first good want s k =
+closure_sound env at captures params answer body shape first good expected s k =
     after_number (after_body (
     bind (captured_sound env 0 captures [] s' (knows_later env (grows_trans (grows_number s) (grows_body (numbered s)))
     k)) λ caps t g d.
@@ -506,7 +506,7 @@ closure_sound env at captures params answer body shape first good want s k =
       f.2,
       alone_ready u.items x.ty (alone_later (grows_trans g' h).items x.ty f.3),
     )) shape first good)) λ b v i e.
-    leaf_ends env want v s.next_node at ty (tree.Closure n caps.0) refl refl (λ w p. refl) λ w ready l.
+    leaf_ends env expected v s.next_node at ty (tree.Closure n caps.0) refl refl (λ w p. refl) λ w ready l.
     let gw = grows_trans i l in
     let def_w = def w (grows_trans h gw) in (
       (Ty.Closure n, is w gw, is_some_by (slice_get w.items.closures n) _ def_w),
@@ -524,7 +524,7 @@ closure_sound env at captures params answer body shape first good want s k =
         caps.1
     as_captures caps w c = subst (AreCaptures env w 0 caps.0) (sym c.is) c.are
 
-    after_body : {r : Result (Node × TypingState) Broken} → Gives s' (IsTemporary env want) r → Gives (numbered s)
-        (IsTemporary env want) r
+    after_body : {r : Result (Node × TypingState) Broken} → Gives s' (IsTemporary env expected) r → Gives (numbered s)
+        (IsTemporary env expected) r
     after_body {r} h =
         record { so = λ ready. then_map r (h.so ready) λ b t g. (grows_trans (grows_body (numbered s)) g.0, g.1) }

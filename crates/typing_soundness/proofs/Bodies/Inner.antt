@@ -111,11 +111,11 @@ answer_sound env (just ty) s = written_sound (bodies.all_rules env) refl ty s
 abbrev pub IsBlock : Node → Type 0
 IsBlock n = (statements : tree.Nodes) × (tail : tree.MaybeNode) × (form_of n ≡ Block statements tail)
 
-pub block_shape : (env : Env) (e : Syn) → IsTrue (is_block e) → (want : Option TyId) (s : TypingState) → Walked (λ n t.
-    IsBlock n) (typing.typed env e want s)
-block_shape env (syn at (Braces statements tail)) h want s =
-    walk (any (typing.typed_all env statements (numbered s))) λ done t _. walk (any (typing.typed_maybe done.2 tail want
-    t)) λ last u _. walk_obeyed Rule.T03 at (agrees u.items want (block_ty last done.1)) _ λ _. walk_ends (
+pub block_shape : (env : Env) (e : Syn) → IsTrue (is_block e) → (expected : Option TyId) (s : TypingState) → Walked (λ n t.
+    IsBlock n) (typing.typed env e expected s)
+block_shape env (syn at (Braces statements tail)) h expected s =
+    walk (any (typing.typed_all env statements (numbered s))) λ done t _. walk (any (typing.typed_maybe done.2 tail expected
+    t)) λ last u _. walk_obeyed Rule.T03 at (agrees u.items expected (block_ty last done.1)) _ λ _. walk_ends (
       done.0,
       last,
       refl,
@@ -124,7 +124,7 @@ block_shape env (syn at (Braces statements tail)) h want s =
     any : {A : Type 0} (r : Result (A × TypingState) Broken) → Walked (λ a t. Unit {0}) r
     any (Ok a) = record { so = tt }
     any (Err e) = record { so = tt }
-block_shape env (syn at _) h want s = absurd (let no_ : IsTrue false = h in cc)
+block_shape env (syn at _) h expected s = absurd (let no_ : IsTrue false = h in cc)
 
 -- ---- names of parameters
 

@@ -19,12 +19,12 @@ use Rattle.well_typed.specs.Patterns.{pattern, names_of, entries_of, binding_nam
 use Rattle.well_typed.specs.Places.{is_by}
 use Rattle.well_typed.specs.Types.{dyn_in, is_dyn, is_enum, is_reference, is_same, reference_in}
 use Rattle.typing_rules.specs.Bodies as bodies
-use Rattle.typing_rules.specs.Bodies.{param_expected, is_name_or_wildcard, is_name_or_wildcard_form}
+use Rattle.typing_rules.specs.Bodies.{param_pattern_context, is_name_or_wildcard, is_name_or_wildcard_form}
 use Rattle.typing_rules.specs.Check.{Check, TypingState, Broken, and_then, breaks}
 use Rattle.typing_rules.specs.Patterns as rules
 use Rattle.typing_rules.specs.Places.{used, a_node_of}
 use Rattle.typing_rules.specs.Promises.{IsThere, IsReady, AreReady, Grows, Fact, Gives}
-use Rattle.typing_rules.specs.Rows.{Expected, taking}
+use Rattle.typing_rules.specs.Rows.{PatternContext, taking}
 use Rattle.typing_rules.specs.Scope.{Env, NamedEntry, Local, adt_named, kind_at, variable}
 use Rattle.src_ast.specs.Syntax.{Word, Syn, syn, Shape, AnyPattern, BindPattern, ParensPattern, ParamOf, SelfParam, Syns, no_syn, a_syn}
 use Rattle.src_ast.specs.View.{self_name}
@@ -50,7 +50,7 @@ both_give (Err e) h k = record { so = λ ready. tt }
 
 -- ---- a name or `_`, where the type is a reference
 
-bind_simple : (at : Pos) (e : Expected) (ty : TyId) (name : Word) (earlier : List NamedEntry) (s : TypingState) → Gives s (λ w b.
+bind_simple : (at : Pos) (e : PatternContext) (ty : TyId) (name : Word) (earlier : List NamedEntry) (s : TypingState) → Gives s (λ w b.
     IsSimple w.items ty b.0) (rules.bind at e ty name earlier s)
 bind_simple at e ty name earlier s =
     after_number (obeyed Rule.T02 at (not (is_some (variable earlier name))) _ λ new_. obeyed Rule.T07 at (is_copy
@@ -61,7 +61,7 @@ adt_no_reference : (items : ItemTable) (ty : TyId) (n : ℕ) → type_at items t
 adt_no_reference items ty n is =
     subst (λ o. IsTrue (not (is_some (option_and_then reference_in o)))) (sym is) refl
 
-lone_simple : (env : Env) (at : Pos) (e : Expected) (ty : TyId) (adt : ℕ) (earlier : List NamedEntry) (s : TypingState) → Gives s
+lone_simple : (env : Env) (at : Pos) (e : PatternContext) (ty : TyId) (adt : ℕ) (earlier : List NamedEntry) (s : TypingState) → Gives s
     (λ w b. IsSimple w.items ty b.0) (rules.lone_struct env at e ty adt earlier s)
 lone_simple env at e ty adt earlier s = by (rules.is_unit_kind (kind_at env.kinds adt 0))
   where
@@ -74,7 +74,7 @@ lone_simple env at e ty adt earlier s = by (rules.is_unit_kind (kind_at env.kind
         w.items) (same_id ty self same) ∙ d w l)))
     by false = gives_nothing Rule.T18 at
 
-lone_name_simple : (env : Env) (at : Pos) (e : Expected) (ty : TyId) (name : Word) (earlier : List NamedEntry) (s : TypingState) →
+lone_name_simple : (env : Env) (at : Pos) (e : PatternContext) (ty : TyId) (name : Word) (earlier : List NamedEntry) (s : TypingState) →
     Gives s (λ w b. IsSimple w.items ty b.0) (rules.lone_name env at e ty name earlier s)
 lone_name_simple env at e ty name earlier s = by (adt_named s.items name)
   where
@@ -88,11 +88,11 @@ lone_name_simple env at e ty name earlier s = by (adt_named s.items name)
     by (Some adt) = if_enum adt (is_enum s.items adt)
 
 mutual
-  simple_sound : (env : Env) (e : Expected) (ty : TyId) (p : Syn) (earlier : List NamedEntry) (s : TypingState) → IsTrue
+  simple_sound : (env : Env) (e : PatternContext) (ty : TyId) (p : Syn) (earlier : List NamedEntry) (s : TypingState) → IsTrue
       (is_name_or_wildcard p) → Gives s (λ w b. IsSimple w.items ty b.0) (rules.pattern env e ty p earlier s)
   simple_sound env e ty (syn at form) earlier s = simple_form env e ty at form earlier s
 
-  simple_form : (env : Env) (e : Expected) (ty : TyId) (at : Pos) (form : Shape) (earlier : List NamedEntry) (s : TypingState) →
+  simple_form : (env : Env) (e : PatternContext) (ty : TyId) (at : Pos) (form : Shape) (earlier : List NamedEntry) (s : TypingState) →
       IsTrue (is_name_or_wildcard_form form) → Gives s (λ w b. IsSimple w.items ty b.0) (rules.pattern_form env e ty at
       form earlier s)
   simple_form env e ty at AnyPattern earlier s = λ h. after_number (given _ λ ready w g. inr (inl refl))
@@ -165,7 +165,7 @@ module _ (env : Env) (ty_of_param : Syn → Check TyId) (good : (ty : Syn) (s : 
       bind (good ty s) λ t u g d.
       obeyed Rule.T08 at (is_name_or_wildcard p || not (is_reference u.items t)) _ λ simple.
       let now = d u (grows_refl u) in
-      bind (both_give (rules.pattern env param_expected t p earlier u) (pattern_sound env param_expected t p earlier u
+      bind (both_give (rules.pattern env param_pattern_context t p earlier u) (pattern_sound env param_pattern_context t p earlier u
       (param_ready u.items t now)) (by t u now (or_cases (is_name_or_wildcard p) _ simple))) λ n v h e. given _ λ ready
       w l.
       let is = e w l in
@@ -177,10 +177,10 @@ module _ (env : Env) (ty_of_param : Syn → Check TyId) (good : (ty : Syn) (s : 
       }
     where
       by : (t : TyId) (u : TypingState) → IsParamTy u.items t → IsTrue (is_name_or_wildcard p) ⊎ IsTrue (not (is_reference
-          u.items t)) → Gives u (λ w b. IsSimple w.items t b.0) (rules.pattern env param_expected t p earlier u)
-      by t u now (inl is) = simple_sound env param_expected t p earlier u is
+          u.items t)) → Gives u (λ w b. IsSimple w.items t b.0) (rules.pattern env param_pattern_context t p earlier u)
+      by t u now (inl is) = simple_sound env param_pattern_context t p earlier u is
       by t u now (inr plain) =
-          weaker (λ w b. IsSimple w.items t b.0) (pattern_sound env param_expected t p earlier u (param_ready u.items t
+          weaker (λ w b. IsSimple w.items t b.0) (pattern_sound env param_pattern_context t p earlier u (param_ready u.items t
           now)) λ b w all g is. inl (subst (λ b. IsTrue (not b)) (sym (same_reference g.items t (param_ready u.items t
           now))) plain)
 

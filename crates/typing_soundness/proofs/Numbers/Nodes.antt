@@ -151,9 +151,9 @@ module _ (f : ℕ → ℕ) where
 
   module _ (items : ItemTable) where
     mutual
-      pub pattern_on : (m : Matched) (want : TyId) (p : Node) → well.pattern items m want (renumbered f p) ≡
-          well.pattern items m want p
-      pattern_on m want (node id at ty by form) = ap (both (fact (is_same ty want))) (row_on m ty by form)
+      pub pattern_on : (m : Matched) (expected : TyId) (p : Node) → well.pattern items m expected (renumbered f p) ≡
+          well.pattern items m expected p
+      pattern_on m expected (node id at ty by form) = ap (both (fact (is_same ty expected))) (row_on m ty by form)
 
       row_on : (m : Matched) (ty : TyId) (by : Option Use) (form : Form) → well.pattern_row items m ty by
           (form_renumbered f form) ≡ well.pattern_row items m ty by form
@@ -181,7 +181,7 @@ module _ (f : ℕ → ℕ) where
           (fields_renumbered f fs) ≡ well.field_patterns items m ty variant fs
       fields_on m ty variant no_field = refl
       fields_on m ty variant (a_field number value rest) =
-          λ i. both (some (field_ty items ty variant number) (λ want. pattern_on m want value i)) (fields_on m ty
+          λ i. both (some (field_ty items ty variant number) (λ expected. pattern_on m expected value i)) (fields_on m ty
           variant rest i)
 
       parts_on : (m : Matched) (tys : List TyId) (ns : Nodes) → well.part_patterns items m tys (nodes_renumbered f ns) ≡

@@ -318,13 +318,13 @@ module _ (f : ℕ → ℕ) where
         (form_renumbered f form) ≡ may_move_by c form → is_own_binding (context_on f c) (form_renumbered f form) ≡
         is_own_binding c form → stands (context_on f c) st ty by (form_renumbered f form) ≡ stands c st ty by form
     stands_same c Taken ty by form m o = taken_same c ty by form m
-    stands_same c (Wanted want) ty by form m o = λ i. both (taken_same c ty by form m i) (fact (fits c.items want ty))
-    stands_same c (Passed want) ty by form m o =
-        λ i. if is_reference c.items want && not (is_never c.items ty) then fact (borrow_on form i && is_none by &&
-        is_same ty want) else both (taken_same c ty by form m i) (fact (fits c.items want ty))
+    stands_same c (Wanted expected) ty by form m o = λ i. both (taken_same c ty by form m i) (fact (fits c.items expected ty))
+    stands_same c (Passed expected) ty by form m o =
+        λ i. if is_reference c.items expected && not (is_never c.items ty) then fact (borrow_on form i && is_none by &&
+        is_same ty expected) else both (taken_same c ty by form m i) (fact (fits c.items expected ty))
     stands_same c Base ty by form m o = λ i. fact (is_none by && not (borrow_on form i))
-    stands_same c (Used want) ty by form m o =
-        λ i. fact ((if place_on form i then is_by want by else is_none by && not (borrow_on form i)) && not
+    stands_same c (Used expected) ty by form m o =
+        λ i. fact ((if place_on form i then is_by expected by else is_none by && not (borrow_on form i)) && not
         (is_reference c.items ty))
     stands_same c Stored ty by form m o =
         λ i. both (fact (place_on form i && is_by Use.Store by && not (is_reference c.items ty))) (both (fact (not (o
@@ -753,18 +753,18 @@ module _ (f : ℕ → ℕ) where
 
       arm_on : (c : Context) → IsIn c → (m m' : Matched) (ty ty' : TyId) → m' ≡ m → ty' ≡ ty → (a : Node) → AllIn
           (nodes_of a) → Holds (arm c m ty a) → Holds (arm (context_on f c) m' ty' (renumbered f a))
-      arm_on c in_ m m' want want' em et (node id at ty by (Arm p guard body)) w h =
+      arm_on c in_ m m' expected expected' em et (node id at ty by (Arm p guard body)) w h =
           let v = right_in (node id at ty by (Arm p guard body) ∷ []) (nodes_of p ++ nodes_if_any guard ++ nodes_of
           body) w in
           let u = left_in (nodes_of p ++ nodes_if_any guard) (nodes_of body) v in
           let wp = left_in (nodes_of p) (nodes_if_any guard) u in
-          h.0 ⋆ names_so p h.1.0 ⋆ place_pattern c.items m m' want want' p em et h.1.1.0 ⋆ subst (λ d. Holds (guarded d
+          h.0 ⋆ names_so p h.1.0 ⋆ place_pattern c.items m m' expected expected' p em et h.1.1.0 ⋆ subst (λ d. Holds (guarded d
           (maybe_renumbered f guard))) (guard_scope c p) (guarded_claim (with_entries (in_guard (entries_of p)) c)
           (guard_in c p wp in_) guard (right_in (nodes_of p) (nodes_if_any guard) u) h.1.1.1.0) ⋆ subst (λ d. Holds
           (typed d Taken (renumbered f body))) (scope_on c p) (typed_on (with_entries (entries_of p) c) (scope_in c p wp
           in_) Taken body (right_in (nodes_of p ++ nodes_if_any guard) (nodes_of body) v) h.1.1.1.1.0) ⋆ of_ty (is_same
           ty) body h.1.1.1.1.1
-      arm_on c in_ m m' want want' em et (node id at ty by _) w h = absurd (let no_ : IsTrue false = h in cc)
+      arm_on c in_ m m' expected expected' em et (node id at ty by _) w h = absurd (let no_ : IsTrue false = h in cc)
 
       guarded_claim : (c : Context) → IsIn c → (v : MaybeNode) → AllIn (nodes_if_any v) → Holds (guarded c v) → Holds
           (guarded (context_on f c) (maybe_renumbered f v))

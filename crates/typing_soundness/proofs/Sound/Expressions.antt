@@ -26,7 +26,7 @@ use Rattle.typing_rules.specs.Places.{bool, struct_field, numbered_part, variabl
 use Rattle.typing_rules.specs.Promises.{IsReady, IsAlone, IsKnown, Grows, Fact, Gives, TypingSpot, at_spot, Stands, Knows, IsValue, IsTemporary, IsBase, Sound, SoundTemporary, SoundBase}
 use Rattle.typing_rules.specs.RowPromises.{IsPlace, IsArgument, SoundReferrer, AreGiven, IsGiven, SoundArgs, AreParts, SoundElements, SoundMaybe, IsLoopOf, AreStatements, SoundStatements, IsStatement, AreArms, IsInParts, SoundInitialiser, SoundDeclared, AreInits, SoundInits}
 use Rattle.typing_rules.specs.Rows as rows
-use Rattle.typing_rules.specs.Rows.{Typer, Referrer, Expected, Given, taken}
+use Rattle.typing_rules.specs.Rows.{Typer, Referrer, PatternContext, Given, taken}
 use Rattle.typing_rules.specs.Scope.{Env, NamedEntry, LabelledLoop, with_variables, within_loop, jumps_to, in_guard, field_named, labelled, innermost}
 use Rattle.typing_rules.specs.Typed as typing
 use Rattle.typing_rules.specs.Typed.{is_one_name}
@@ -79,15 +79,15 @@ SoundPlace env check = (s : TypingState) → Knows env s → Gives s (IsPlace en
 
 -- ---- paths
 
-path_value_sound : (env : Env) (at : Pos) (v : PathValue) (want : Option TyId) (s : TypingState) → (k : Knows env s) → IsUnit
-    s.items env k.items v → Gives s (IsTemporary env want) (typing.makes_unit at v want s)
-path_value_sound env at (Makes adt variant) want s k is = unit_struct_sound env at adt variant is.0 want s is.1 is.2 k
-path_value_sound env at (IsBroken rule) want s k is = gives_nothing rule at
+path_value_sound : (env : Env) (at : Pos) (v : PathValue) (expected : Option TyId) (s : TypingState) → (k : Knows env s) → IsUnit
+    s.items env k.items v → Gives s (IsTemporary env expected) (typing.makes_unit at v expected s)
+path_value_sound env at (Makes adt variant) expected s k is = unit_struct_sound env at adt variant is.0 expected s is.1 is.2 k
+path_value_sound env at (IsBroken rule) expected s k is = gives_nothing rule at
 
 path_alone_sound : (env : Env) (at : Pos) (first second : Option Word) → SoundTemporary env (typing.path_alone env at
     first second)
-path_alone_sound env at first second want s k =
-    path_value_sound env at (path_value s.items env first second) want s k (path_is s.items env k.items first second)
+path_alone_sound env at first second expected s k =
+    path_value_sound env at (path_value s.items env first second) expected s k (path_is s.items env k.items first second)
 
 -- a variable that a path names is in scope
 in_scope : (env : Env) (first second : Option Word) (x : NamedEntry) → typing.variable_of env first second ≡ Some x →
@@ -97,16 +97,16 @@ in_scope env None None x e = absurd (none-some x e)
 in_scope env (Some name) (Some second) x e = absurd (none-some x e)
 in_scope env None (Some second) x e = absurd (none-some x e)
 
-variable_taken : (env : Env) (at : Pos) (x : NamedEntry) → Contains env.variables x → Sound env (λ want. variable_place at x
-    >>= taken env want)
-variable_taken env at x has want s k =
-    bind (variable_sound env at x has s k) λ n t g d. taken_sound env want n t (d t (grows_refl t)) d
+variable_taken : (env : Env) (at : Pos) (x : NamedEntry) → Contains env.variables x → Sound env (λ expected. variable_place at x
+    >>= taken env expected)
+variable_taken env at x has expected s k =
+    bind (variable_sound env at x has s k) λ n t g d. taken_sound env expected n t (d t (grows_refl t)) d
 
 path_by_sound : (env : Env) (at : Pos) (first second : Option Word) (x : Option NamedEntry) → ((y : NamedEntry) → x ≡ Some y →
     Contains env.variables y) → Sound env (typing.path_by env at first second x)
-path_by_sound env at first second (Some x) has want s k = variable_taken env at x (has x refl) want s k
-path_by_sound env at first second None has want s k =
-    weaker (IsValue env want) (path_alone_sound env at first second want s k) λ n w all g v. v.value
+path_by_sound env at first second (Some x) has expected s k = variable_taken env at x (has x refl) expected s k
+path_by_sound env at first second None has expected s k =
+    weaker (IsValue env expected) (path_alone_sound env at first second expected s k) λ n w all g v. v.value
 
 path_sound : (env : Env) (at : Pos) (first second : Option Word) → Sound env (typing.path env at first second)
 path_sound env at first second =
@@ -120,25 +120,25 @@ base_place env at first second None e has s k = absurd (false≢true e)
 -- ---- calls
 
 called_sound : (env : Env) (at : Pos) (count : ℕ) (callee : Check Node) (args : List TyId → Check Nodes) (c : Callee) →
-    ((s : TypingState) → Knows env s → Gives s (IsValue env None) (callee s)) → SoundArgs env count args → (want : Option
-    TyId) (s : TypingState) → (k : Knows env s) → IsCallee s env k.items c → Gives s (IsTemporary env want)
-    (typing.called_by at count callee args c want s)
-called_sound env at count callee args (Function body is_drop head) good_c good want s k is =
-    subst (λ b. Gives s (IsTemporary env want) (rows.call at (tree.Call body) head.result count head.params args (not b)
-    want s)) (sym is.1) (function_sound env at body head count args good want s k is.0)
-called_sound env at count callee args (Constructor adt variant tys) good_c good want s k is =
-    subst (λ ts. Gives s (IsTemporary env want) ((interned (Ty.Adt adt) >>= (λ ty. rows.call at (rows.make adt variant)
-    ty count ts args true want)) s)) (sym is.2) (constructor_sound env at adt variant is.0 count args good want s is.1
+    ((s : TypingState) → Knows env s → Gives s (IsValue env None) (callee s)) → SoundArgs env count args → (expected : Option
+    TyId) (s : TypingState) → (k : Knows env s) → IsCallee s env k.items c → Gives s (IsTemporary env expected)
+    (typing.called_by at count callee args c expected s)
+called_sound env at count callee args (Function body is_drop head) good_c good expected s k is =
+    subst (λ b. Gives s (IsTemporary env expected) (rows.call at (tree.Call body) head.result count head.params args (not b)
+    expected s)) (sym is.1) (function_sound env at body head count args good expected s k is.0)
+called_sound env at count callee args (Constructor adt variant tys) good_c good expected s k is =
+    subst (λ ts. Gives s (IsTemporary env expected) ((interned (Ty.Adt adt) >>= (λ ty. rows.call at (rows.make adt variant)
+    ty count ts args true expected)) s)) (sym is.2) (constructor_sound env at adt variant is.0 count args good expected s is.1
     k)
-called_sound env at count callee args Prints good_c good want s k is = print_sound env at count args good want s k
-called_sound env at count callee args Asks good_c good want s k is = ask_sound env at count args good want s k
-called_sound env at count callee args Drops good_c good want s k is = drop_sound env at count args good want s k
-called_sound env at count callee args Forgets good_c good want s k is = forget_sound env at count args good want s k
-called_sound env at count callee args Boxes good_c good want s k is = new_box_sound env at count args good want s k
-called_sound env at count callee args AValue good_c good want s k is = closure_call_sound env at count callee args
-    good_c good want s k
-called_sound env at count callee args (Unnamed rule) good_c good want s k is = gives_nothing rule at
-called_sound env at count callee args NoCallee good_c good want s k is = broken_ends Rule.T13 at (args [] s)
+called_sound env at count callee args Prints good_c good expected s k is = print_sound env at count args good expected s k
+called_sound env at count callee args Asks good_c good expected s k is = ask_sound env at count args good expected s k
+called_sound env at count callee args Drops good_c good expected s k is = drop_sound env at count args good expected s k
+called_sound env at count callee args Forgets good_c good expected s k is = forget_sound env at count args good expected s k
+called_sound env at count callee args Boxes good_c good expected s k is = new_box_sound env at count args good expected s k
+called_sound env at count callee args AValue good_c good expected s k is = closure_call_sound env at count callee args
+    good_c good expected s k
+called_sound env at count callee args (Unnamed rule) good_c good expected s k is = gives_nothing rule at
+called_sound env at count callee args NoCallee good_c good expected s k is = broken_ends Rule.T13 at (args [] s)
 
 -- ---- arguments
 
@@ -304,10 +304,10 @@ module _ (closures : (env : Env) (at : Pos) (captures params : Syns) (answer : M
     params answer (λ inner. typing.typed inner body))) where
   mutual
     pub typed_sound : (env : Env) (e : Syn) → Holds (shaped e) → Sound env (typing.typed env e)
-    typed_sound env (syn at form) h want s k =
-        gives_if (typing.is_place env form) (typing.place env at form >>= taken env want) (typing.value env at form
-        want) (λ e. bind (place_sound env at form h e s k) λ n t g d. taken_sound env want n t (d t (grows_refl t)) d) (λ
-        e. weaker (IsValue env want) (value_sound env at form h e want s k) λ n w all g v. v.value)
+    typed_sound env (syn at form) h expected s k =
+        gives_if (typing.is_place env form) (typing.place env at form >>= taken env expected) (typing.value env at form
+        expected) (λ e. bind (place_sound env at form h e s k) λ n t g d. taken_sound env expected n t (d t (grows_refl t)) d) (λ
+        e. weaker (IsValue env expected) (value_sound env at form h e expected s k) λ n w all g v. v.value)
 
     base_sound : (env : Env) (e : Syn) → Holds (shaped e) → SoundBase env (typing.base_of env e)
     base_sound env (syn at form) h s k =
@@ -335,102 +335,102 @@ module _ (closures : (env : Env) (at : Pos) (captures params : Syns) (answer : M
 
     value_sound : (env : Env) (at : Pos) (form : Shape) → Holds (shaped_form form) → typing.is_place env form ≡ false →
         SoundTemporary env (typing.value env at form)
-    value_sound env at (Path first second) h e want s k = path_alone_sound env at first second want s k
-    value_sound env at (Parens (syn inner form)) h e want s k =
-        gives_if (typing.is_place env form) (typing.place env inner form >>= taken env want) (typing.value env inner
-        form want) (λ f. absurd (true≢false (sym f ∙ e))) (λ f. value_sound env inner form h f want s k)
-    value_sound env at (Literal n suffix) h e want s k = literal_sound env at false n suffix want s k
-    value_sound env at (TruthLiteral b) h e want s k = truth_sound env at b want s k
-    value_sound env at (Minus operand) h e want s k =
-        minus_sound env at (typing.literal_in operand) (typing.typed env operand) (typed_sound env operand h) want s k
-    value_sound env at (Bang operand) h e want s k =
-        not_sound env at (typing.typed env operand) (typed_sound env operand h) want s k
-    value_sound env at (Ampersand unique base) h e want s k =
+    value_sound env at (Path first second) h e expected s k = path_alone_sound env at first second expected s k
+    value_sound env at (Parens (syn inner form)) h e expected s k =
+        gives_if (typing.is_place env form) (typing.place env inner form >>= taken env expected) (typing.value env inner
+        form expected) (λ f. absurd (true≢false (sym f ∙ e))) (λ f. value_sound env inner form h f expected s k)
+    value_sound env at (Literal n suffix) h e expected s k = literal_sound env at false n suffix expected s k
+    value_sound env at (TruthLiteral b) h e expected s k = truth_sound env at b expected s k
+    value_sound env at (Minus operand) h e expected s k =
+        minus_sound env at (typing.literal_in operand) (typing.typed env operand) (typed_sound env operand h) expected s k
+    value_sound env at (Bang operand) h e expected s k =
+        not_sound env at (typing.typed env operand) (typed_sound env operand h) expected s k
+    value_sound env at (Ampersand unique base) h e expected s k =
         broken_ends Rule.T08 at ((typing.base_of env base >>= rows.no_reference) s)
-    value_sound env at (Calculate operator left right) h e want s k =
+    value_sound env at (Calculate operator left right) h e expected s k =
         arithmetic_sound env at operator (typing.is_plain left) (typing.typed env left) (typing.typed env right)
-        (typed_sound env left h.0) (typed_sound env right h.1) want s k
-    value_sound env at (Compare operator left right) h e want s k =
+        (typed_sound env left h.0) (typed_sound env right h.1) expected s k
+    value_sound env at (Compare operator left right) h e expected s k =
         comparison_sound env at operator (typing.is_plain left) (typing.typed env left) (typing.typed env right)
-        (typed_sound env left h.0) (typed_sound env right h.1) want s k
-    value_sound env at (Both left right) h e want s k =
+        (typed_sound env left h.0) (typed_sound env right h.1) expected s k
+    value_sound env at (Both left right) h e expected s k =
         and_sound env at (typing.typed env left) (typing.typed env right) (typed_sound env left h.0) (typed_sound env
-        right h.1) want s k
-    value_sound env at (Either left right) h e want s k =
+        right h.1) expected s k
+    value_sound env at (Either left right) h e expected s k =
         or_sound env at (typing.typed env left) (typing.typed env right) (typed_sound env left h.0) (typed_sound env
-        right h.1) want s k
-    value_sound env at (Store left right) h e want s k =
+        right h.1) expected s k
+    value_sound env at (Store left right) h e expected s k =
         store_sound env at (typing.base_of env left) (typing.typed env right) (base_sound env left h.0) (typed_sound env
-        right h.1) want s k
-    value_sound env at (CallOf callee args) h e want s k =
+        right h.1) expected s k
+    value_sound env at (CallOf callee args) h e expected s k =
         called_sound env at (count_of args) (typing.typed env callee None) (λ params. typing.typed_args env params args)
         (callee_of s.items env callee) (λ t. typed_sound env callee h.0 None t) (λ params t. args_sound env args h.1
-        params t) want s k (callee_is s env k.items callee h.0)
-    value_sound env at (MethodOf receiver name args) h e want s k =
+        params t) expected s k (callee_is s env k.items callee h.0)
+    value_sound env at (MethodOf receiver name args) h e expected s k =
         method_sound env at (method_named name) (count_of args) (typing.base_of env receiver) (λ params.
         typing.typed_args env params args) (methods_found name) (base_sound env receiver h.0) (λ params t. args_sound
-        env args h.1 params t) want s k
-    value_sound env at (StructOf first second inits) h e want s k =
+        env args h.1 params t) expected s k
+    value_sound env at (StructOf first second inits) h e expected s k =
         found Rule.T01 at (target_of s.items env first second) _ λ t is. struct_sound env at t.adt t.variant
         (typing.variant_of s.items t) (typing.typed_inits env (typing.variant_of s.items t) inits) (λ u. inits_sound env
         (typing.variant_of s.items t) inits h (k.items.named t.adt t.variant (typing.variant_of s.items t) (target_there
-        s.items env k.items first second t is)) u) want s (target_there s.items env k.items first second t is) k
-    value_sound env at (TupleOf no_syn) h e want s k = unit_sound env at want s k
-    value_sound env at (TupleOf (a_syn first rest)) h e want s k =
+        s.items env k.items first second t is)) u) expected s (target_there s.items env k.items first second t is) k
+    value_sound env at (TupleOf no_syn) h e expected s k = unit_sound env at expected s k
+    value_sound env at (TupleOf (a_syn first rest)) h e expected s k =
         tuple_sound env at (suc (count_of rest)) (λ wants. typing.typed_parts env wants (a_syn first rest)) (λ wants t.
-        parts_sound env (a_syn first rest) h wants t) want s k
-    value_sound env at (ArrayOf elements) h e want s k =
-        array_sound env at (count_of elements) (λ want. typing.typed_elements env want elements) (λ want t.
-        elements_sound env elements h want t) want s k
-    value_sound env at (Braces statements tail) h e want s k =
+        parts_sound env (a_syn first rest) h wants t) expected s k
+    value_sound env at (ArrayOf elements) h e expected s k =
+        array_sound env at (count_of elements) (λ expected. typing.typed_elements env expected elements) (λ expected t.
+        elements_sound env elements h expected t) expected s k
+    value_sound env at (Braces statements tail) h e expected s k =
         block_sound env at (typing.typed_all env statements) (λ inner. typing.typed_maybe inner tail) (λ t. all_sound
-        env statements h.0 t) (λ inner same want t. maybe_sound inner tail h.1 want t) want s k
-    value_sound env at (IfElse c body nothing) h e want s k =
+        env statements h.0 t) (λ inner same expected t. maybe_sound inner tail h.1 expected t) expected s k
+    value_sound env at (IfElse c body nothing) h e expected s k =
         if_alone_sound env at (typing.typed env c) (typing.typed env body) (typed_sound env c h.0) (typed_sound env body
-        h.1.0) want s k
-    value_sound env at (IfElse c body (just otherwise)) h e want s k =
+        h.1.0) expected s k
+    value_sound env at (IfElse c body (just otherwise)) h e expected s k =
         if_else_sound env at (typing.typed env c) (typing.typed env body) (typing.typed env otherwise) (typed_sound env
-        c h.0) (typed_sound env body h.1.0) (typed_sound env otherwise h.1.1) want s k
-    value_sound env at (IfLetElse p scrutinee body nothing) h e want s k =
+        c h.0) (typed_sound env body h.1.0) (typed_sound env otherwise h.1.1) expected s k
+    value_sound env at (IfLetElse p scrutinee body nothing) h e expected s k =
         if_let_alone_sound env at (typing.base_of env scrutinee) (typing.matcher env p) (λ xs. typing.typed
         (with_variables xs env) body) (base_sound env scrutinee h.0) (matcher_sound env p) (λ xs. typed_sound
-        (with_variables xs env) body h.1.0) want s k
-    value_sound env at (IfLetElse p scrutinee body (just otherwise)) h e want s k =
+        (with_variables xs env) body h.1.0) expected s k
+    value_sound env at (IfLetElse p scrutinee body (just otherwise)) h e expected s k =
         if_let_else_sound env at (typing.base_of env scrutinee) (typing.matcher env p) (λ xs. typing.typed
         (with_variables xs env) body) (typing.typed env otherwise) (base_sound env scrutinee h.0) (matcher_sound env p)
-        (λ xs. typed_sound (with_variables xs env) body h.1.0) (typed_sound env otherwise h.1.1) want s k
-    value_sound env at (MatchOn scrutinee arms) h e want s k =
+        (λ xs. typed_sound (with_variables xs env) body h.1.0) (typed_sound env otherwise h.1.1) expected s k
+    value_sound env at (MatchOn scrutinee arms) h e expected s k =
         obeyed Rule.T20 at (typing.has_one arms) _ λ one. match_sound env at (typing.base_of env scrutinee) (λ e ty
-        want. typing.typed_arms env e ty want arms) (base_sound env scrutinee h.0) (λ e ty want t k ready. weaker (λ w
-        ns. AreArms env e ty want w ns.0 ns.1 × IsTrue (nat_lt 0 (well.count_of ns.0))) (arms_sound env arms h.1 e ty
-        want t k ready) λ ns w all g is. (is.0, subst (λ n. IsTrue (nat_lt 0 n)) (sym is.1) (some_arm arms one))) want s
+        expected. typing.typed_arms env e ty expected arms) (base_sound env scrutinee h.0) (λ e ty expected t k ready. weaker (λ w
+        ns. AreArms env e ty expected w ns.0 ns.1 × IsTrue (nat_lt 0 (well.count_of ns.0))) (arms_sound env arms h.1 e ty
+        expected t k ready) λ ns w all g is. (is.0, subst (λ n. IsTrue (nat_lt 0 n)) (sym is.1) (some_arm arms one))) expected s
         k
-    value_sound env at (LoopOf label body) h e want s k =
+    value_sound env at (LoopOf label body) h e expected s k =
         loop_sound (closures_of (all_rules env) body) env at label (λ a. typing.typed (within_loop a env) body) (λ a. typed_sound (within_loop a env) body
-        h) (λ a want. typed_walks (within_loop a env) body want) want s k
-    value_sound env at (WhileOf label c body) h e want s k =
+        h) (λ a expected. typed_walks (within_loop a env) body expected) expected s k
+    value_sound env at (WhileOf label c body) h e expected s k =
         while_sound env at label (λ a. typing.typed (within_loop a env) c) (λ a. typing.typed (within_loop a env) body)
-        (λ a. typed_sound (within_loop a env) c h.0) (λ a. typed_sound (within_loop a env) body h.1) want s k
-    value_sound env at (WhileLetOf label p scrutinee body) h e want s k =
+        (λ a. typed_sound (within_loop a env) c h.0) (λ a. typed_sound (within_loop a env) body h.1) expected s k
+    value_sound env at (WhileLetOf label p scrutinee body) h e expected s k =
         while_let_sound env at label (λ a. typing.base_of (within_loop a env) scrutinee) (typing.matcher env p) (λ a xs.
         typing.typed (with_variables xs (within_loop a env)) body) (λ a. base_sound (within_loop a env) scrutinee h.0)
-        (matcher_sound env p) (λ a xs. typed_sound (with_variables xs (within_loop a env)) body h.1) want s k
-    value_sound env at (BreakOf label v) h e want s k =
-        break_sound env at (jumps_to env.loops label) (typing.typed_maybe env v) (loop_in env label) (λ want t.
-        maybe_sound env v h want t) want s k
-    value_sound env at (ContinueOf label) h e want s k =
-        continue_sound env at (jumps_to env.loops label) (loop_in env label) want s k
-    value_sound env at (ReturnOf v) h e want s k =
-        return_sound env at (typing.typed_maybe env v) (λ want t. maybe_sound env v h want t) want s k
-    value_sound env at (MoveOf captures params answer body) h e want s k =
-        closures env at captures params answer body h.0 (first_if_none params h.1.0) (λ inner. typed_sound inner body h.1.1) want s k
-    value_sound env at PanicOf h e want s k = panic_sound env at want s k
-    value_sound env at _ h e want s k = gives_nothing Rule.T20 at
+        (matcher_sound env p) (λ a xs. typed_sound (with_variables xs (within_loop a env)) body h.1) expected s k
+    value_sound env at (BreakOf label v) h e expected s k =
+        break_sound env at (jumps_to env.loops label) (typing.typed_maybe env v) (loop_in env label) (λ expected t.
+        maybe_sound env v h expected t) expected s k
+    value_sound env at (ContinueOf label) h e expected s k =
+        continue_sound env at (jumps_to env.loops label) (loop_in env label) expected s k
+    value_sound env at (ReturnOf v) h e expected s k =
+        return_sound env at (typing.typed_maybe env v) (λ expected t. maybe_sound env v h expected t) expected s k
+    value_sound env at (MoveOf captures params answer body) h e expected s k =
+        closures env at captures params answer body h.0 (first_if_none params h.1.0) (λ inner. typed_sound inner body h.1.1) expected s k
+    value_sound env at PanicOf h e expected s k = panic_sound env at expected s k
+    value_sound env at _ h e expected s k = gives_nothing Rule.T20 at
 
     maybe_sound : (env : Env) (v : MaybeSyn) → Holds (maybe_shaped v) → SoundMaybe env (typing.typed_maybe env v)
-    maybe_sound env nothing h want s k = given absent λ ready w g. tt
-    maybe_sound env (just e) h want s k =
-        bind (typed_sound env e h want s k) λ n t g d. given (present n) λ ready w l. d w l
+    maybe_sound env nothing h expected s k = given absent λ ready w g. tt
+    maybe_sound env (just e) h expected s k =
+        bind (typed_sound env e h expected s k) λ n t g d. given (present n) λ ready w l. d w l
 
     all_sound : (env : Env) (es : Syns) → Holds (all_shaped es) → SoundStatements env (typing.typed_all env es)
     all_sound env no_syn h s k =
@@ -448,13 +448,13 @@ module _ (closures : (env : Env) (at : Pos) (captures params : Syns) (answer : M
     statement_sound : (env : Env) (e : Syn) → Holds (shaped e) → (s : TypingState) → Knows env s → Gives s (λ w done. IsPart
         env w done × Knows done.2 w) (typing.statement env e s)
     statement_sound env (syn at form) h s k =
-        gives_if (typing.is_expression form) (typing.a_statement <$> rows.evaluate at env false (λ want. if
-        typing.is_place env form then (typing.place env at form >>= taken env want) else typing.value env at form want))
-        (typing.other_statement env at form) (λ e. bind (evaluate_sound env at false (λ want. if typing.is_place env
-        form then (typing.place env at form >>= taken env want) else typing.value env at form want) (λ want t kt.
-        gives_if (typing.is_place env form) (typing.place env at form >>= taken env want) (typing.value env at form
-        want) (λ f. bind (place_sound env at form h f t kt) λ n u g d. taken_sound env want n u (d u (grows_refl u)) d)
-        (λ f. weaker (IsValue env want) (value_sound env at form h f want t kt) λ n w all g v. v.value)) s k) λ done t g
+        gives_if (typing.is_expression form) (typing.a_statement <$> rows.evaluate at env false (λ expected. if
+        typing.is_place env form then (typing.place env at form >>= taken env expected) else typing.value env at form expected))
+        (typing.other_statement env at form) (λ e. bind (evaluate_sound env at false (λ expected. if typing.is_place env
+        form then (typing.place env at form >>= taken env expected) else typing.value env at form expected) (λ expected t kt.
+        gives_if (typing.is_place env form) (typing.place env at form >>= taken env expected) (typing.value env at form
+        expected) (λ f. bind (place_sound env at form h f t kt) λ n u g d. taken_sound env expected n u (d u (grows_refl u)) d)
+        (λ f. weaker (IsValue env expected) (value_sound env at form h f expected t kt) λ n w all g v. v.value)) s k) λ done t g
         d. given (typing.a_statement done) λ ready w l. (as_part env w done (d w l).0, (d w l).1)) (λ e. other_sound env
         at form h s k)
 
@@ -476,23 +476,23 @@ module _ (closures : (env : Env) (at : Pos) (captures params : Syns) (answer : M
 
     initialised_sound : (env : Env) (one : Bool) (v : MaybeSyn) → Holds (maybe_shaped v) → SoundInitialiser env one
         (typing.initialised env one v)
-    initialised_sound env one nothing h want s k = given absent λ ready w g. tt
-    initialised_sound env true (just e) h want s k =
-        bind (typed_sound env e h want s k) λ n t g d. given (present n) λ ready w l. d w l
-    initialised_sound env false (just e) h want s k =
-        bind (for_parts_sound env e h want s k) λ n t g d. given (present n) λ ready w l. d w l
+    initialised_sound env one nothing h expected s k = given absent λ ready w g. tt
+    initialised_sound env true (just e) h expected s k =
+        bind (typed_sound env e h expected s k) λ n t g d. given (present n) λ ready w l. d w l
+    initialised_sound env false (just e) h expected s k =
+        bind (for_parts_sound env e h expected s k) λ n t g d. given (present n) λ ready w l. d w l
 
-    for_parts_sound : (env : Env) (e : Syn) → Holds (shaped e) → (want : Option TyId) (s : TypingState) → Knows env s → Gives
-        s (IsInParts env want) (typing.for_parts env want e s)
-    for_parts_sound env (syn at form) h want s k =
-        gives_if (typing.is_place env form) (typing.place env at form >>= rows.place_for_parts env want) (typing.value
-        env at form want) (λ e. bind (place_sound env at form h e s k) λ n t g d. in_parts_sound env want n t (d t
-        (grows_refl t)) d) (λ e. weaker (IsInParts env want) (value_sound env at form h e want s k) λ n w all g v.
+    for_parts_sound : (env : Env) (e : Syn) → Holds (shaped e) → (expected : Option TyId) (s : TypingState) → Knows env s → Gives
+        s (IsInParts env expected) (typing.for_parts env expected e s)
+    for_parts_sound env (syn at form) h expected s k =
+        gives_if (typing.is_place env form) (typing.place env at form >>= rows.place_for_parts env expected) (typing.value
+        env at form expected) (λ e. bind (place_sound env at form h e s k) λ n t g d. in_parts_sound env expected n t (d t
+        (grows_refl t)) d) (λ e. weaker (IsInParts env expected) (value_sound env at form h e expected s k) λ n w all g v.
         record {
-          base = temporary_base env want w n v;
+          base = temporary_base env expected w n v;
           fit = v.value.fit;
           no_reference = alone_no_reference w.items (ty_of n) v.value.alone;
-          own = no_place_own want n v.is_no_place;
+          own = no_place_own expected n v.is_no_place;
         })
 
     args_sound : (env : Env) (args : Syns) → Holds (all_shaped args) → (params : List TyId) (s : TypingState) → Knows env s →
@@ -553,8 +553,8 @@ module _ (closures : (env : Env) (at : Pos) (captures params : Syns) (answer : M
 
     init_sound : (env : Env) (at : Pos) (name : Word) (init : MaybeSyn) → Holds (maybe_shaped init) → Sound env
         (typing.init_value env at name init)
-    init_sound env at name nothing h want s k = path_sound env at (Some name) None want s k
-    init_sound env at name (just e) h want s k = typed_sound env e h want s k
+    init_sound env at name nothing h expected s k = path_sound env at (Some name) None expected s k
+    init_sound env at name (just e) h expected s k = typed_sound env e h expected s k
 
     parts_sound : (env : Env) (parts : Syns) → Holds (all_shaped parts) → (wants : List (Option TyId)) (s : TypingState) →
         Knows env s → ((ty : TyId) → Contains wants (Some ty) → IsAlone s.items ty) → Gives s (λ w ps. AreParts env w
@@ -570,27 +570,27 @@ module _ (closures : (env : Env) (at : Pos) (captures params : Syns) (answer : M
         )
 
     elements_sound : (env : Env) (elements : Syns) → Holds (all_shaped elements) → SoundElements env (count_of elements)
-        (λ want. typing.typed_elements env want elements)
-    elements_sound env no_syn h want s k = given (no_node, []) λ ready w g. (tt, refl)
-    elements_sound env (a_syn e es) h want s k =
-        bind (typed_sound env e h.0 want s k) λ n t g d. bind (elements_sound env es h.1 want t (knows_later env g k)) λ
+        (λ expected. typing.typed_elements env expected elements)
+    elements_sound env no_syn h expected s k = given (no_node, []) λ ready w g. (tt, refl)
+    elements_sound env (a_syn e es) h expected s k =
+        bind (typed_sound env e h.0 expected s k) λ n t g d. bind (elements_sound env es h.1 expected t (knows_later env g k)) λ
         ns u i f. given (a_node n ns.0, ty_of n ∷ ns.1) λ ready w l. (
           ((d w (grows_trans i l), refl), (f w l).0),
           ap suc (f w l).1,
         )
 
-    arms_sound : (env : Env) (arms : Syns) → Holds (all_shaped arms) → (e : Expected) (ty : TyId) (want : Option TyId) (s
-        : TypingState) → Knows env s → IsReady s.items ty → Gives s (λ w ns. AreArms env e ty want w ns.0 ns.1 ×
-        (well.count_of ns.0 ≡ count_of arms)) (typing.typed_arms env e ty want arms s)
-    arms_sound env no_syn h e ty want s k ready = given (no_node, []) λ all w g. (tt, refl)
-    arms_sound env (a_syn (syn at (ArmOf p guard body)) rest) h e ty want s k ready =
+    arms_sound : (env : Env) (arms : Syns) → Holds (all_shaped arms) → (e : PatternContext) (ty : TyId) (expected : Option TyId) (s
+        : TypingState) → Knows env s → IsReady s.items ty → Gives s (λ w ns. AreArms env e ty expected w ns.0 ns.1 ×
+        (well.count_of ns.0 ≡ count_of arms)) (typing.typed_arms env e ty expected arms s)
+    arms_sound env no_syn h e ty expected s k ready = given (no_node, []) λ all w g. (tt, refl)
+    arms_sound env (a_syn (syn at (ArmOf p guard body)) rest) h e ty expected s k ready =
         bind (arm_sound env e ty (pattern env e ty p []) (λ xs. typing.typed_maybe (with_variables (in_guard xs) env)
         guard (Some bool)) (λ xs. typing.typed (with_variables xs env) body) (λ t r. matcher_sound env p e ty t r) (λ xs
         t. maybe_sound (with_variables (in_guard xs) env) guard h.0.0 (Some bool) t) (λ xs. typed_sound (with_variables
-        xs env) body h.0.1) want s k ready) λ n t g d. bind (arms_sound env rest h.1 e ty want t (knows_later env g k)
+        xs env) body h.0.1) expected s k ready) λ n t g d. bind (arms_sound env rest h.1 e ty expected t (knows_later env g k)
         (ready_later g.items ty ready)) λ ns u i f. given (
           a_node n ns.0,
           ty_of n
               ∷ ns.1,
         ) λ all w l. (((d w (grows_trans i l), refl), (f w l).0), ap suc (f w l).1)
-    arms_sound env (a_syn (syn at _) rest) h e ty want s k ready = gives_nothing Rule.T20 at
+    arms_sound env (a_syn (syn at _) rest) h e ty expected s k ready = gives_nothing Rule.T20 at

@@ -144,13 +144,13 @@ module _ (items : ItemTable) (ty : TyId) where
   carry_ty ready (present n) is = subst (λ t. IsTrue (is_same t (ty_of n))) is (same_self (ty_of n).0)
 
 pub loop_sound : (f : Tape) (env : Env) (at : Pos) (label : Option Word) (body : LabelledLoop → Typer) → ((a : LabelledLoop) → Sound
-    (within_loop a env) (body a)) → ((a : LabelledLoop) (want : Option TyId) → WalksNode f (body a want)) → SoundTemporary env
+    (within_loop a env) (body a)) → ((a : LabelledLoop) (expected : Option TyId) → WalksNode f (body a expected)) → SoundTemporary env
     (loop_row at label body)
-loop_sound f env at label body good walks want s k =
+loop_sound f env at label body good walks expected s k =
     after_number (bind_walked (good a (Some unit) s' k') (walks a (Some unit) s') λ b t g d walked.
     found Rule.T03 at (one_type t.items (types_for s.next_node t.breaks)) _ λ ty one.
     with_ready λ all.
-    settled_ends env want t s.next_node at ty (tree.Loop b) refl (λ w p. refl) λ w ready l.
+    settled_ends env expected t s.next_node at ty (tree.Loop b) refl (λ w p. refl) λ w ready l.
     let known = (knows_later (within_loop a env) g k').breaks in
     let common = one_is_common t.items all (types_for s.next_node t.breaks) ty one in
     let value = d (with_breaks t w) (grows_with l) in (
@@ -170,7 +170,7 @@ loop_sound f env at label body good walks want s k =
     s' = numbered s
 
     a : LabelledLoop
-    a = loop_around label s.next_node true want
+    a = loop_around label s.next_node true expected
 
     around : TyId → LoopAround
     around ty = record { loop = s.next_node; ty = ty; has_value = true }

@@ -20,7 +20,7 @@ use Rattle.typing_rules.specs.Named.{PathValue, Makes, IsBroken, path_value, Cal
 use Rattle.typing_rules.specs.Patterns.{pattern, count_of, target_of}
 use Rattle.typing_rules.specs.Places.{unit, bool, never, int, struct_field, numbered_part}
 use Rattle.typing_rules.specs.Rows as rows
-use Rattle.typing_rules.specs.Rows.{Typer, Referrer, Expected, Given, taken}
+use Rattle.typing_rules.specs.Rows.{Typer, Referrer, PatternContext, Given, taken}
 use Rattle.typing_rules.specs.Scope.{Env, NamedEntry, Capture, variable, with_variables, within_loop, jumps_to, in_guard, field_named}
 use Rattle.typing_rules.specs.Typed as typing
 use Rattle.src_ast.specs.Syntax.{Word, Syn, syn, Shape, Empty, Literal, TruthLiteral, Path, Minus, Bang, Star, Ampersand, Calculate, Compare, Both, Either, Store, CallOf, MethodOf, FieldOf, PartOf, ElementOf, StructOf, FieldInit, Ident, Parens, TupleOf, ArrayOf, Braces, IfElse, IfLetElse, MatchOn, ArmOf, LoopOf, WhileOf, WhileLetOf, BreakOf, ContinueOf, ReturnOf, MoveOf, PanicOf, LetOf, Semi, Syns, no_syn, a_syn, MaybeSyn, nothing, just}
@@ -54,19 +54,19 @@ use Rattle.typing_soundness.proofs.Walking.Steps.{walk, walk_obeyed, walk_found,
 -- ---- paths
 
 makes_walks : (at : Pos) (v : PathValue) → WalksTyper no_closure (typing.makes_unit at v)
-makes_walks at (Makes adt variant) want s =
-    walk_interned (Ty.Adt adt) s λ ty t e. walk_map (on.leaf_walks at ty (tree.Make adt variant no_field) refl want t) λ
+makes_walks at (Makes adt variant) expected s =
+    walk_interned (Ty.Adt adt) s λ ty t e. walk_map (on.leaf_walks at ty (tree.Make adt variant no_field) refl expected t) λ
     n u w. walks_both (on_same e (walks_none s)) w
-makes_walks at (IsBroken rule) want s = record { so = tt }
+makes_walks at (IsBroken rule) expected s = record { so = tt }
 
 path_alone_walks : (env : Env) (at : Pos) (first second : Option Word) → WalksTyper no_closure (typing.path_alone env at first
     second)
-path_alone_walks env at first second want s = makes_walks at (path_value s.items env first second) want s
+path_alone_walks env at first second expected s = makes_walks at (path_value s.items env first second) expected s
 
 path_by_walks : (env : Env) (at : Pos) (first second : Option Word) (x : Option NamedEntry) → WalksTyper no_closure (typing.path_by
     env at first second x)
-path_by_walks env at first second (Some x) want s = walk (on.variable_walks at x s) λ p t w. on.taken_walks env want p w
-path_by_walks env at first second None want s = path_alone_walks env at first second want s
+path_by_walks env at first second (Some x) expected s = walk (on.variable_walks at x s) λ p t w. on.taken_walks env expected p w
+path_by_walks env at first second None expected s = path_alone_walks env at first second expected s
 
 path_walks : (env : Env) (at : Pos) (first second : Option Word) → WalksTyper no_closure (typing.path env at first second)
 path_walks env at first second = path_by_walks env at first second (typing.variable_of env first second)
@@ -90,38 +90,38 @@ is_value _ = false
 called_walks : {f g : Tape} (at : Pos) (count : ℕ) (callee : Check Node) (args : List TyId → Check Nodes) (c : Callee) →
     (is_value c ≡ false → f ≡ no_closure) → WalksNode f callee → WalksArgs g count args → WalksTyper (f ⨾ g) (typing.called_by
     at count callee args c)
-called_walks at count callee args (Function body is_drop head) named good_c good want s =
+called_walks at count callee args (Function body is_drop head) named good_c good expected s =
     behind_none (typing.called_by at count callee args (Function body is_drop head)) (named refl) (on.call_walks at
-    (tree.Call body) head.result count head.params args (not is_drop) (λ ns. refl) good) want s
-called_walks at count callee args (Constructor adt variant tys) named good_c good want s =
-    behind_none (typing.called_by at count callee args (Constructor adt variant tys)) (named refl) (λ want s.
-    walk_interned (Ty.Adt adt) s λ ty t e. walk_map (on.make_walks at adt variant ty count tys args good want t) λ n u
-    w. walks_both (on_same e (walks_none s)) w) want s
-called_walks at count callee args Prints named good_c good want s =
+    (tree.Call body) head.result count head.params args (not is_drop) (λ ns. refl) good) expected s
+called_walks at count callee args (Constructor adt variant tys) named good_c good expected s =
+    behind_none (typing.called_by at count callee args (Constructor adt variant tys)) (named refl) (λ expected s.
+    walk_interned (Ty.Adt adt) s λ ty t e. walk_map (on.make_walks at adt variant ty count tys args good expected t) λ n u
+    w. walks_both (on_same e (walks_none s)) w) expected s
+called_walks at count callee args Prints named good_c good expected s =
     behind_none (typing.called_by at count callee args Prints) (named refl) (on.print_walks at count (int IntKind.I32 ∷
-    []) args good) want s
-called_walks at count callee args Asks named good_c good want s =
-    behind_none (typing.called_by at count callee args Asks) (named refl) (on.ask_walks at count [] args good) want s
-called_walks at count callee args Drops named good_c good want s =
-    behind_none (typing.called_by at count callee args Drops) (named refl) (on.drop_walks at count [] args good) want s
-called_walks at count callee args Forgets named good_c good want s =
-    behind_none (typing.called_by at count callee args Forgets) (named refl) (on.forget_walks at count [] args good) want s
-called_walks at count callee args Boxes named good_c good want s =
-    behind_none (typing.called_by at count callee args Boxes) (named refl) (on.new_box_walks at count args good) want s
-called_walks at count callee args AValue named good_c good want s = on.closure_call_walks at count callee args good_c
-    good want s
-called_walks at count callee args (Unnamed rule) named good_c good want s = record { so = tt }
-called_walks at count callee args NoCallee named good_c good want s = on.no_call_walks at Rule.T13 args want s
+    []) args good) expected s
+called_walks at count callee args Asks named good_c good expected s =
+    behind_none (typing.called_by at count callee args Asks) (named refl) (on.ask_walks at count [] args good) expected s
+called_walks at count callee args Drops named good_c good expected s =
+    behind_none (typing.called_by at count callee args Drops) (named refl) (on.drop_walks at count [] args good) expected s
+called_walks at count callee args Forgets named good_c good expected s =
+    behind_none (typing.called_by at count callee args Forgets) (named refl) (on.forget_walks at count [] args good) expected s
+called_walks at count callee args Boxes named good_c good expected s =
+    behind_none (typing.called_by at count callee args Boxes) (named refl) (on.new_box_walks at count args good) expected s
+called_walks at count callee args AValue named good_c good expected s = on.closure_call_walks at count callee args good_c
+    good expected s
+called_walks at count callee args (Unnamed rule) named good_c good expected s = record { so = tt }
+called_walks at count callee args NoCallee named good_c good expected s = on.no_call_walks at Rule.T13 args expected s
 
 passed_walks : (at : Pos) (by_value : Typer) (x : Option NamedEntry) → WalksTyper no_closure by_value → WalksReferrer no_closure
     (typing.passed at by_value x)
-passed_walks at by_value None good want unique to s = good (Some want) s
-passed_walks at by_value (Some x) good want unique to s = by (is_reference s.items x.ty)
+passed_walks at by_value None good expected unique to s = good (Some expected) s
+passed_walks at by_value (Some x) good expected unique to s = by (is_reference s.items x.ty)
   where
-    by : (b : Bool) → Walked (λ n t. Walks no_closure s t (nodes_of n)) ((if b then rows.passed_on at x want unique to
-        else by_value (Some want)) s)
-    by true = on.passed_on_walks at x want unique to s
-    by false = good (Some want) s
+    by : (b : Bool) → Walked (λ n t. Walks no_closure s t (nodes_of n)) ((if b then rows.passed_on at x expected unique to
+        else by_value (Some expected)) s)
+    by true = on.passed_on_walks at x expected unique to s
+    by false = good (Some expected) s
 
 minus_walks : {f : Tape} (at : Pos) (o : Option (ℕ × Option IntKind)) (operand : Typer) → (IsTrue (is_some o) → f ≡ no_closure)
     → WalksTyper f operand → WalksTyper f (typing.minus at o operand)
@@ -397,7 +397,7 @@ closure_walks : {f : Tape} (env : Env) (at : Pos) (captures params : Syns) (answ
     ((inner : Env) → bodies.all_rules inner ≡ bodies.all_rules env → WalksTyper f (block inner)) → WalksTyper (λ rest.
     Closure (record { around = bodies.all_rules env; name = []; params = params; answer = answer }) ∷ f rest) (bodies.closure env at
     captures params answer block)
-closure_walks {f} env at captures params answer block good want s =
+closure_walks {f} env at captures params answer block good expected s =
     walk (both_walk (bodies.captured env 0 captures [] s') (captured_walks env 0 captures [] s') (captured_stays env 0
     captures [] s')) λ caps t w. walk_interned_as (Ty.Closure (length t.items.closures)) (with_ caps.1 t) λ ty u e is.
     walk (body_added {Q = IsOf (bodies.all_rules env) (head_legal legal params answer) params answer (ty ∷ []) f (record u {
@@ -405,7 +405,7 @@ closure_walks {f} env at captures params answer block good want s =
       next_node = 0;
       breaks = [];
     })} s.next_body (in_closure env at s.next_body ty caps.1 params answer block) u (inner_walks env at s.next_body ty
-    caps.1 params answer block good (record u { bodies = []; next_node = 0; breaks = [] }))) λ b v g. walk_fitted want
+    caps.1 params answer block good (record u { bodies = []; next_node = 0; breaks = [] }))) λ b v g. walk_fitted expected
     (node s.next_node at ty None (tree.Closure (length t.items.closures) caps.0)) (walks_node at ty None (tree.Closure
     (length t.items.closures) caps.0) (walks_recast (numbered s) s' t v refl refl (g.number ∙ e.number) (g.breaks ∙
     e.breaks) (closure_ordered (numbered s) t u v (record {
@@ -493,9 +493,9 @@ Around env inner = bodies.all_rules inner ≡ bodies.all_rules env
 
 mutual
   pub typed_walks : (env : Env) (e : Syn) → WalksTyper (closures_of (bodies.all_rules env) e) (typing.typed env e)
-  typed_walks env (syn at form) want s =
-      either (typing.is_place env form) (typing.place env at form >>= taken env want) (typing.value env at form want) s
-      (walk (place_walks env at form s) λ p t w. on.taken_walks env want p w) (value_walks env at form want s)
+  typed_walks env (syn at form) expected s =
+      either (typing.is_place env form) (typing.place env at form >>= taken env expected) (typing.value env at form expected) s
+      (walk (place_walks env at form s) λ p t w. on.taken_walks env expected p w) (value_walks env at form expected s)
 
   base_of_walks : (env : Env) (e : Syn) → WalksNode (closures_of (bodies.all_rules env) e) (typing.base_of env e)
   base_of_walks env (syn at form) s =
@@ -517,85 +517,85 @@ mutual
 
   value_walks : (env : Env) (at : Pos) (form : Shape) → WalksTyper (closures_in (bodies.all_rules env) form) (typing.value
       env at form)
-  value_walks env at (Path first second) want s = path_alone_walks env at first second want s
-  value_walks env at (Parens inside) want s = typed_walks env inside want s
-  value_walks env at (Literal n suffix) want s = on.literal_walks at false n suffix want s
-  value_walks env at (TruthLiteral b) want s = on.leaf_walks at bool (tree.Truth b) refl want s
-  value_walks env at (Minus operand) want s = minus_walks at (typing.literal_in operand) (typing.typed env operand) (literal_alone
-      (bodies.all_rules env) operand) (typed_walks env operand) want s
-  value_walks env at (Bang operand) want s = on.not_walks at (typing.typed env operand) (typed_walks env operand) want s
-  value_walks env at (Ampersand unique base) want s = walk_nothing Rule.T08 at ((typing.base_of env base >>=
+  value_walks env at (Path first second) expected s = path_alone_walks env at first second expected s
+  value_walks env at (Parens inside) expected s = typed_walks env inside expected s
+  value_walks env at (Literal n suffix) expected s = on.literal_walks at false n suffix expected s
+  value_walks env at (TruthLiteral b) expected s = on.leaf_walks at bool (tree.Truth b) refl expected s
+  value_walks env at (Minus operand) expected s = minus_walks at (typing.literal_in operand) (typing.typed env operand) (literal_alone
+      (bodies.all_rules env) operand) (typed_walks env operand) expected s
+  value_walks env at (Bang operand) expected s = on.not_walks at (typing.typed env operand) (typed_walks env operand) expected s
+  value_walks env at (Ampersand unique base) expected s = walk_nothing Rule.T08 at ((typing.base_of env base >>=
       rows.no_reference) s)
-  value_walks env at (Calculate operator left right) want s = on.arithmetic_walks at operator (typing.is_plain left)
-      (typing.typed env left) (typing.typed env right) (plain_alone (bodies.all_rules env) left) (typed_walks env left) (typed_walks env right) want s
-  value_walks env at (Compare operator left right) want s = on.comparison_walks at operator (typing.is_plain left)
-      (typing.typed env left) (typing.typed env right) (plain_alone (bodies.all_rules env) left) (typed_walks env left) (typed_walks env right) want s
-  value_walks env at (Both left right) want s = on.and_walks at (typing.typed env left) (typing.typed env right)
-      (typed_walks env left) (typed_walks env right) want s
-  value_walks env at (Either left right) want s = on.or_walks at (typing.typed env left) (typing.typed env right)
-      (typed_walks env left) (typed_walks env right) want s
-  value_walks env at (Store left right) want s = on.store_walks env at (typing.base_of env left) (typing.typed env
-      right) (base_of_walks env left) (typed_walks env right) want s
-  value_walks env at (CallOf callee args) want s = called_walks at (count_of args) (typing.typed env callee None) (λ
+  value_walks env at (Calculate operator left right) expected s = on.arithmetic_walks at operator (typing.is_plain left)
+      (typing.typed env left) (typing.typed env right) (plain_alone (bodies.all_rules env) left) (typed_walks env left) (typed_walks env right) expected s
+  value_walks env at (Compare operator left right) expected s = on.comparison_walks at operator (typing.is_plain left)
+      (typing.typed env left) (typing.typed env right) (plain_alone (bodies.all_rules env) left) (typed_walks env left) (typed_walks env right) expected s
+  value_walks env at (Both left right) expected s = on.and_walks at (typing.typed env left) (typing.typed env right)
+      (typed_walks env left) (typed_walks env right) expected s
+  value_walks env at (Either left right) expected s = on.or_walks at (typing.typed env left) (typing.typed env right)
+      (typed_walks env left) (typed_walks env right) expected s
+  value_walks env at (Store left right) expected s = on.store_walks env at (typing.base_of env left) (typing.typed env
+      right) (base_of_walks env left) (typed_walks env right) expected s
+  value_walks env at (CallOf callee args) expected s = called_walks at (count_of args) (typing.typed env callee None) (λ
       params. typing.typed_args env params args) (callee_of s.items env callee) (named_alone (bodies.all_rules env)
       s.items env callee) (λ t. typed_walks env callee None t) (λ
-      params t. args_walk env params args t) want s
-  value_walks env at (MethodOf receiver name args) want s = on.method_walks env at (method_named name) (count_of args)
+      params t. args_walk env params args t) expected s
+  value_walks env at (MethodOf receiver name args) expected s = on.method_walks env at (method_named name) (count_of args)
       (typing.base_of env receiver) (λ params. typing.typed_args env params args) (base_of_walks env receiver) (λ params
-      t. args_walk env params args t) want s
-  value_walks env at (StructOf first second inits) want s =
+      t. args_walk env params args t) expected s
+  value_walks env at (StructOf first second inits) expected s =
       walk_found Rule.T01 at (target_of s.items env first second) _ λ t is. on.struct_walks at t.adt t.variant
       (typing.variant_of s.items t).fields (typing.typed_inits env (typing.variant_of s.items t) inits) (λ u. inits_walk
-      env (typing.variant_of s.items t) inits u) want s
-  value_walks env at (TupleOf no_syn) want s = on.leaf_walks at unit tree.UnitValue refl want s
-  value_walks env at (TupleOf (a_syn first rest)) want s = on.tuple_walks at (suc (count_of rest)) (λ wants.
-      typing.typed_parts env wants (a_syn first rest)) (λ wants t. parts_walk env wants (a_syn first rest) t) want s
-  value_walks env at (ArrayOf elements) want s = on.array_walks at (count_of elements) (λ want. typing.typed_elements
-      env want elements) (λ want t. elements_walk env want elements t) want s
-  value_walks env at (Braces statements tail) want s = on.block_walks (Around env) at (typing.typed_all env
+      env (typing.variant_of s.items t) inits u) expected s
+  value_walks env at (TupleOf no_syn) expected s = on.leaf_walks at unit tree.UnitValue refl expected s
+  value_walks env at (TupleOf (a_syn first rest)) expected s = on.tuple_walks at (suc (count_of rest)) (λ wants.
+      typing.typed_parts env wants (a_syn first rest)) (λ wants t. parts_walk env wants (a_syn first rest) t) expected s
+  value_walks env at (ArrayOf elements) expected s = on.array_walks at (count_of elements) (λ expected. typing.typed_elements
+      env expected elements) (λ expected t. elements_walk env expected elements t) expected s
+  value_walks env at (Braces statements tail) expected s = on.block_walks (Around env) at (typing.typed_all env
       statements) (λ inner. typing.typed_maybe inner tail) (λ t. all_walk env statements t) (λ inner same. subst (λ
       around. WalksMaybe (closures_if_any around tail) (typing.typed_maybe inner tail)) same (maybe_walks inner tail))
-      want s
-  value_walks env at (IfElse c body nothing) want s = on.if_alone_walks at (typing.typed env c) (typing.typed env body)
-      (typed_walks env c) (typed_walks env body) want s
-  value_walks env at (IfElse c body (just otherwise)) want s = on.if_else_walks at (typing.typed env c) (typing.typed
-      env body) (typing.typed env otherwise) (typed_walks env c) (typed_walks env body) (typed_walks env otherwise) want
+      expected s
+  value_walks env at (IfElse c body nothing) expected s = on.if_alone_walks at (typing.typed env c) (typing.typed env body)
+      (typed_walks env c) (typed_walks env body) expected s
+  value_walks env at (IfElse c body (just otherwise)) expected s = on.if_else_walks at (typing.typed env c) (typing.typed
+      env body) (typing.typed env otherwise) (typed_walks env c) (typed_walks env body) (typed_walks env otherwise) expected
       s
-  value_walks env at (IfLetElse p scrutinee body nothing) want s = on.if_let_alone_walks env at (typing.base_of env
+  value_walks env at (IfLetElse p scrutinee body nothing) expected s = on.if_let_alone_walks env at (typing.base_of env
       scrutinee) (typing.matcher env p) (λ xs. typing.typed (with_variables xs env) body) (base_of_walks env scrutinee)
-      (λ e ty t. pattern_walks env e ty p [] t) (λ xs. typed_walks (with_variables xs env) body) want s
-  value_walks env at (IfLetElse p scrutinee body (just otherwise)) want s = on.if_let_else_walks env at (typing.base_of
+      (λ e ty t. pattern_walks env e ty p [] t) (λ xs. typed_walks (with_variables xs env) body) expected s
+  value_walks env at (IfLetElse p scrutinee body (just otherwise)) expected s = on.if_let_else_walks env at (typing.base_of
       env scrutinee) (typing.matcher env p) (λ xs. typing.typed (with_variables xs env) body) (typing.typed env
       otherwise) (base_of_walks env scrutinee) (λ e ty t. pattern_walks env e ty p [] t) (λ xs. typed_walks
-      (with_variables xs env) body) (typed_walks env otherwise) want s
-  value_walks env at (MatchOn scrutinee arms) want s =
+      (with_variables xs env) body) (typed_walks env otherwise) expected s
+  value_walks env at (MatchOn scrutinee arms) expected s =
       walk_obeyed Rule.T20 at (typing.has_one arms) _ λ _. on.match_walks env at (typing.base_of env scrutinee) (λ e ty
-      want. typing.typed_arms env e ty want arms) (base_of_walks env scrutinee) (λ e ty want t. arms_walk env e ty want
-      arms t) want s
-  value_walks env at (LoopOf label body) want s = on.loop_walks at label (λ around. typing.typed (within_loop around
-      env) body) (λ a. typed_walks (within_loop a env) body) want s
-  value_walks env at (WhileOf label c body) want s = on.while_walks at label (λ around. typing.typed (within_loop around
+      expected. typing.typed_arms env e ty expected arms) (base_of_walks env scrutinee) (λ e ty expected t. arms_walk env e ty expected
+      arms t) expected s
+  value_walks env at (LoopOf label body) expected s = on.loop_walks at label (λ around. typing.typed (within_loop around
+      env) body) (λ a. typed_walks (within_loop a env) body) expected s
+  value_walks env at (WhileOf label c body) expected s = on.while_walks at label (λ around. typing.typed (within_loop around
       env) c) (λ around. typing.typed (within_loop around env) body) (λ a. typed_walks (within_loop a env) c) (λ a.
-      typed_walks (within_loop a env) body) want s
-  value_walks env at (WhileLetOf label p scrutinee body) want s = on.while_let_walks env at label (λ around.
+      typed_walks (within_loop a env) body) expected s
+  value_walks env at (WhileLetOf label p scrutinee body) expected s = on.while_let_walks env at label (λ around.
       typing.base_of (within_loop around env) scrutinee) (typing.matcher env p) (λ around xs. typing.typed
       (with_variables xs (within_loop around env)) body) (λ a. base_of_walks (within_loop a env) scrutinee) (λ e ty t.
-      pattern_walks env e ty p [] t) (λ a xs. typed_walks (with_variables xs (within_loop a env)) body) want s
-  value_walks env at (BreakOf label v) want s = on.break_walks at (jumps_to env.loops label) (typing.typed_maybe env v)
-      (λ want t. maybe_walks env v want t) want s
-  value_walks env at (ContinueOf label) want s = on.continue_walks at (jumps_to env.loops label) want s
-  value_walks env at (ReturnOf v) want s = on.return_walks at env.answer (typing.typed_maybe env v) (λ want t.
-      maybe_walks env v want t) want s
-  value_walks env at (MoveOf captures params answer body) want s = closure_walks env at captures params answer (λ inner. typing.typed
+      pattern_walks env e ty p [] t) (λ a xs. typed_walks (with_variables xs (within_loop a env)) body) expected s
+  value_walks env at (BreakOf label v) expected s = on.break_walks at (jumps_to env.loops label) (typing.typed_maybe env v)
+      (λ expected t. maybe_walks env v expected t) expected s
+  value_walks env at (ContinueOf label) expected s = on.continue_walks at (jumps_to env.loops label) expected s
+  value_walks env at (ReturnOf v) expected s = on.return_walks at env.answer (typing.typed_maybe env v) (λ expected t.
+      maybe_walks env v expected t) expected s
+  value_walks env at (MoveOf captures params answer body) expected s = closure_walks env at captures params answer (λ inner. typing.typed
       inner body) (λ inner same. subst (λ around. WalksTyper (closures_of around body) (typing.typed inner body)) same
-      (typed_walks inner body)) want s
-  value_walks env at PanicOf want s = on.leaf_walks at never tree.Panic refl want s
-  value_walks env at _ want s = record { so = tt }
+      (typed_walks inner body)) expected s
+  value_walks env at PanicOf expected s = on.leaf_walks at never tree.Panic refl expected s
+  value_walks env at _ expected s = record { so = tt }
 
   maybe_walks : (env : Env) (e : MaybeSyn) → WalksMaybe (closures_if_any (bodies.all_rules env) e) (typing.typed_maybe env
       e)
-  maybe_walks env nothing want s = walk_ends (walks_none s)
-  maybe_walks env (just e) want s = walk (typed_walks env e want s) λ n t w. walk_ends w
+  maybe_walks env nothing expected s = walk_ends (walks_none s)
+  maybe_walks env (just e) expected s = walk (typed_walks env e expected s) λ n t w. walk_ends w
 
   all_walk : (env : Env) (es : Syns) (s : TypingState) → Walked (λ done t. Walks (closures_among
       (bodies.all_rules env) es) s t (nodes_among done.0) × Around env done.2) (typing.typed_all env es s)
@@ -611,11 +611,11 @@ mutual
   statement_walks : (env : Env) (e : Syn) (s : TypingState) → Walked (λ done t. Walks (closures_of (bodies.all_rules env) e) s t
       (nodes_in_statement done.0) × Around env done.2) (typing.statement env e s)
   statement_walks env (syn at form) s =
-      either_so (typing.is_expression form) (typing.a_statement <$> rows.evaluate at env false (λ want. if
-      typing.is_place env form then (typing.place env at form >>= taken env want) else typing.value env at form want))
-      (typing.other_statement env at form) s (walk (on.evaluate_walks (Around env) at env false _ refl (λ want t.
-      either (typing.is_place env form) (typing.place env at form >>= taken env want) (typing.value env at form want) t
-      (walk (place_walks env at form t) λ p u w. on.taken_walks env want p w) (value_walks env at form want t)) s) λ n t
+      either_so (typing.is_expression form) (typing.a_statement <$> rows.evaluate at env false (λ expected. if
+      typing.is_place env form then (typing.place env at form >>= taken env expected) else typing.value env at form expected))
+      (typing.other_statement env at form) s (walk (on.evaluate_walks (Around env) at env false _ refl (λ expected t.
+      either (typing.is_place env form) (typing.place env at form >>= taken env expected) (typing.value env at form expected) t
+      (walk (place_walks env at form t) λ p u w. on.taken_walks env expected p w) (value_walks env at form expected t)) s) λ n t
       w. walk_ends w) (λ other. other_walks env at form other s)
 
   other_walks : (env : Env) (at : Pos) (form : Shape) → typing.is_expression form ≡ false → (s : TypingState) → Walked (λ done
@@ -624,8 +624,8 @@ mutual
   other_walks env at (LetOf p ty initialiser) other s =
       walk (on.let_walks (Around env) at env (typing.is_one_name s.items p) (typing.declared env ty)
       (typing.initialised env (typing.is_one_name s.items p) initialiser) (typing.matcher env p) (λ xs. with_variables
-      xs env) (λ xs. refl) (declared_still env ty) (λ want t. initialised_walks env (typing.is_one_name s.items p)
-      initialiser want t) (λ e ty t. pattern_walks env e ty p [] t) s) λ n t w. walk_ends w
+      xs env) (λ xs. refl) (declared_still env ty) (λ expected t. initialised_walks env (typing.is_one_name s.items p)
+      initialiser expected t) (λ e ty t. pattern_walks env e ty p [] t) s) λ n t w. walk_ends w
   other_walks env at (Semi e) other s =
       walk (on.evaluate_walks (Around env) at env true (typing.typed env e) refl (typed_walks env e) s) λ n t w.
       walk_ends w
@@ -633,15 +633,15 @@ mutual
   other_walks env at _ other s = absurd (false≢true (sym other))
 
   initialised_walks : (env : Env) (one : Bool) (e : MaybeSyn) → WalksMaybe (closures_if_any (bodies.all_rules env) e) (typing.initialised env one e)
-  initialised_walks env one nothing want s = walk_ends (walks_none s)
-  initialised_walks env true (just e) want s = walk (typed_walks env e want s) λ n t w. walk_ends w
-  initialised_walks env false (just e) want s = walk (for_parts_walks env want e s) λ n t w. walk_ends w
+  initialised_walks env one nothing expected s = walk_ends (walks_none s)
+  initialised_walks env true (just e) expected s = walk (typed_walks env e expected s) λ n t w. walk_ends w
+  initialised_walks env false (just e) expected s = walk (for_parts_walks env expected e s) λ n t w. walk_ends w
 
-  for_parts_walks : (env : Env) (want : Option TyId) (e : Syn) → WalksNode (closures_of (bodies.all_rules env) e) (typing.for_parts env want e)
-  for_parts_walks env want (syn at form) s =
-      either (typing.is_place env form) (typing.place env at form >>= rows.place_for_parts env want) (typing.value env
-      at form want) s (walk (place_walks env at form s) λ p t w. on.in_parts_walks env want p w) (value_walks env at
-      form want s)
+  for_parts_walks : (env : Env) (expected : Option TyId) (e : Syn) → WalksNode (closures_of (bodies.all_rules env) e) (typing.for_parts env expected e)
+  for_parts_walks env expected (syn at form) s =
+      either (typing.is_place env form) (typing.place env at form >>= rows.place_for_parts env expected) (typing.value env
+      at form expected) s (walk (place_walks env at form s) λ p t w. on.in_parts_walks env expected p w) (value_walks env at
+      form expected s)
 
   args_walk : (env : Env) (params : List TyId) (args : Syns) (s : TypingState) → Walked (λ ns t. Walks (closures_among
       (bodies.all_rules env) args) s t (nodes_among ns) ×
@@ -662,20 +662,20 @@ mutual
       )
 
   by_reference_walks : (env : Env) (e : Syn) → WalksReferrer (closures_of (bodies.all_rules env) e) (typing.by_reference env e)
-  by_reference_walks env (syn at form) want unique to s =
-      either (typing.may_refer form) (typing.reference_form env at form want unique to) (if typing.is_place env form
-      then (typing.place env at form >>= taken env (Some want)) else typing.value env at form (Some want)) s
-      (reference_walks env at form want unique to s) (either (typing.is_place env form) (typing.place env at form >>=
-      taken env (Some want)) (typing.value env at form (Some want)) s (walk (place_walks env at form s) λ p t w.
-      on.taken_walks env (Some want) p w) (value_walks env at form (Some want) s))
+  by_reference_walks env (syn at form) expected unique to s =
+      either (typing.may_refer form) (typing.reference_form env at form expected unique to) (if typing.is_place env form
+      then (typing.place env at form >>= taken env (Some expected)) else typing.value env at form (Some expected)) s
+      (reference_walks env at form expected unique to s) (either (typing.is_place env form) (typing.place env at form >>=
+      taken env (Some expected)) (typing.value env at form (Some expected)) s (walk (place_walks env at form s) λ p t w.
+      on.taken_walks env (Some expected) p w) (value_walks env at form (Some expected) s))
 
   reference_walks : (env : Env) (at : Pos) (form : Shape) → WalksReferrer (closures_in (bodies.all_rules env) form) (typing.reference_form env at form)
-  reference_walks env at (Ampersand unique base) want is_unique to s = on.borrow_walks at unique (typing.base_of env
-      base) (base_of_walks env base) want is_unique to s
-  reference_walks env at (Path first second) want unique to s = passed_walks at (typing.path env at first second)
-      (typing.variable_of env first second) (path_walks env at first second) want unique to s
-  reference_walks env at (Parens inside) want unique to s = by_reference_walks env inside want unique to s
-  reference_walks env at _ want unique to s = record { so = tt }
+  reference_walks env at (Ampersand unique base) expected is_unique to s = on.borrow_walks at unique (typing.base_of env
+      base) (base_of_walks env base) expected is_unique to s
+  reference_walks env at (Path first second) expected unique to s = passed_walks at (typing.path env at first second)
+      (typing.variable_of env first second) (path_walks env at first second) expected unique to s
+  reference_walks env at (Parens inside) expected unique to s = by_reference_walks env inside expected unique to s
+  reference_walks env at _ expected unique to s = record { so = tt }
 
   inits_walk : (env : Env) (v : Variant) (inits : Syns) (s : TypingState) → Walked (λ fs t. Walks (closures_among
       (bodies.all_rules env) inits) s t (nodes_of_fields fs.0))
@@ -688,8 +688,8 @@ mutual
 
   init_walks : (env : Env) (at : Pos) (name : Word) (init : MaybeSyn) → WalksTyper (closures_if_any (bodies.all_rules env)
       init) (typing.init_value env at name init)
-  init_walks env at name nothing want s = path_walks env at (Some name) None want s
-  init_walks env at name (just e) want s = typed_walks env e want s
+  init_walks env at name nothing expected s = path_walks env at (Some name) None expected s
+  init_walks env at name (just e) expected s = typed_walks env e expected s
 
   parts_walk : (env : Env) (wants : List (Option TyId)) (parts : Syns) (s : TypingState) → Walked (λ ps t. Walks (closures_among
       (bodies.all_rules env) parts) s t
@@ -699,19 +699,19 @@ mutual
       walk (typed_walks env e (typing.first_want wants) s) λ n t w. walk (parts_walk env (typing.other_wants wants) es
       t) λ ns u x. walk_ends (walks_both w x)
 
-  elements_walk : (env : Env) (want : Option TyId) (elements : Syns) (s : TypingState) → Walked (λ ps t. Walks
+  elements_walk : (env : Env) (expected : Option TyId) (elements : Syns) (s : TypingState) → Walked (λ ps t. Walks
       (closures_among (bodies.all_rules env) elements) s t
-      (nodes_among ps.0)) (typing.typed_elements env want elements s)
-  elements_walk env want no_syn s = walk_ends (walks_none s)
-  elements_walk env want (a_syn e es) s =
-      walk (typed_walks env e want s) λ n t w. walk (elements_walk env want es t) λ ns u x. walk_ends (walks_both w x)
+      (nodes_among ps.0)) (typing.typed_elements env expected elements s)
+  elements_walk env expected no_syn s = walk_ends (walks_none s)
+  elements_walk env expected (a_syn e es) s =
+      walk (typed_walks env e expected s) λ n t w. walk (elements_walk env expected es t) λ ns u x. walk_ends (walks_both w x)
 
-  arms_walk : (env : Env) (e : Expected) (ty : TyId) (want : Option TyId) (arms : Syns) (s : TypingState) → Walked
-      (λ ps t. Walks (closures_among (bodies.all_rules env) arms) s t (nodes_among ps.0)) (typing.typed_arms env e ty want arms s)
-  arms_walk env e ty want no_syn s = walk_ends (walks_none s)
-  arms_walk env e ty want (a_syn (syn at (ArmOf p guard body)) rest) s =
+  arms_walk : (env : Env) (e : PatternContext) (ty : TyId) (expected : Option TyId) (arms : Syns) (s : TypingState) → Walked
+      (λ ps t. Walks (closures_among (bodies.all_rules env) arms) s t (nodes_among ps.0)) (typing.typed_arms env e ty expected arms s)
+  arms_walk env e ty expected no_syn s = walk_ends (walks_none s)
+  arms_walk env e ty expected (a_syn (syn at (ArmOf p guard body)) rest) s =
       walk (on.arm_walks (pattern env e ty p []) (λ xs. typing.typed_maybe (with_variables (in_guard xs) env) guard
       (Some bool)) (λ xs. typing.typed (with_variables xs env) body) (λ t. pattern_walks env e ty p [] t) (λ xs t.
       maybe_walks (with_variables (in_guard xs) env) guard (Some bool) t) (λ xs. typed_walks (with_variables xs env)
-      body) want s) λ n t w. walk (arms_walk env e ty want rest t) λ ns u x. walk_ends (walks_both w x)
-  arms_walk env e ty want (a_syn (syn at _) rest) s = record { so = tt }
+      body) expected s) λ n t w. walk (arms_walk env e ty expected rest t) λ ns u x. walk_ends (walks_both w x)
+  arms_walk env e ty expected (a_syn (syn at _) rest) s = record { so = tt }

@@ -8,7 +8,7 @@ use Rattle.mir_ty.specs.ItemTable.{ItemTable, type_at}
 use Rattle.typed_tree.specs.Tree.{ParamTree}
 use Rattle.well_typed.specs.Types.{is_reference}
 use Rattle.typing_rules.specs.Bodies as bodies
-use Rattle.typing_rules.specs.Bodies.{param_expected, is_name_or_wildcard}
+use Rattle.typing_rules.specs.Bodies.{param_pattern_context, is_name_or_wildcard}
 use Rattle.typing_rules.specs.Check.{Check, TypingState}
 use Rattle.typing_rules.specs.Numbered.{param_renumbered}
 use Rattle.typing_rules.specs.Scope.{Env, NamedEntry}
@@ -59,7 +59,7 @@ module _ (env : Env) where
         (bodies.all_rules env) t.items p x.0.ty) (bodies.param env ty_of_param p earlier s)
     param_given (syn at (ParamOf p ty)) earlier s =
         walk (good ty s) λ t u g. walk_obeyed Rule.T08 at (is_name_or_wildcard p || not (is_reference u.items t)) _ λ
-        _. walk (pattern_walks env param_expected t p earlier u) λ n v w. walk_ends (
+        _. walk (pattern_walks env param_pattern_context t p earlier u) λ n v w. walk_ends (
           have_both s.items u.items v.items g.0 w.met.types,
           means_later (bodies.all_rules env) u.items v.items w.met.types ty t g.1,
         )

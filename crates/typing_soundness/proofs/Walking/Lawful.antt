@@ -5,7 +5,7 @@ use Rattle.mir_base.specs.declared.place_in_text.Pos.{Pos}
 use Rattle.mir_base.specs.declared.rule.Rule.{Rule}
 use Rattle.mir_ty.specs.declared.ty.TyId.{TyId}
 use Rattle.typing_rules.specs.Bodies as bodies
-use Rattle.typing_rules.specs.Bodies.{param_expected, is_name_or_wildcard}
+use Rattle.typing_rules.specs.Bodies.{param_pattern_context, is_name_or_wildcard}
 use Rattle.typing_rules.specs.Check.{Check, TypingState, Broken}
 use Rattle.typing_rules.specs.Scope.{Env, NamedEntry}
 use Rattle.typing_rules.specs.Written as types

@@ -9,7 +9,7 @@ use Rattle.typed_tree.specs.Tree as tree
 use Rattle.typed_tree.specs.Tree.{Node, BodyTree}
 use Rattle.well_typed.specs.Types.{is_reference}
 use Rattle.typing_rules.specs.Bodies as bodies
-use Rattle.typing_rules.specs.Bodies.{param_expected, is_name_or_wildcard}
+use Rattle.typing_rules.specs.Bodies.{param_pattern_context, is_name_or_wildcard}
 use Rattle.typing_rules.specs.Check.{Check, TypingState, interned, ◌>>=◌}
 use Rattle.typing_rules.specs.Rows.{Typer}
 use Rattle.typing_rules.specs.Scope.{Env, NamedEntry}
@@ -125,7 +125,7 @@ module _ (env : Env) (ty_of_param : Syn → Check TyId) (good : (ty : Syn) (s : 
       (bodies.param env ty_of_param p earlier s)
   param_walks (syn at (ParamOf p ty)) earlier s =
       walk (good ty s) λ t u e. walk_obeyed Rule.T08 at (is_name_or_wildcard p || not (is_reference u.items t)) _ λ _.
-      walk (pattern_walks env param_expected t p earlier u) λ n v w. walk_ends (from_same e w)
+      walk (pattern_walks env param_pattern_context t p earlier u) λ n v w. walk_ends (from_same e w)
   param_walks (syn at (SelfParam receiver)) earlier s =
       walk (receiver_still env at receiver s) λ ty t e. walk_ends (from_same e (walks_node at ty _ (tree.Binding
       self_name) (walks_none (numbered t))))

@@ -18,7 +18,7 @@ use Rattle.well_typed.specs.Types.{is_same, is_bool, is_dyn, is_enum, kind_of, a
 use Rattle.typing_rules.specs.Check.{Check, TypingState, breaks, pure, ◌>>=◌}
 use Rattle.typing_rules.specs.Patterns as rules
 use Rattle.typing_rules.specs.Places.{a_node_of}
-use Rattle.typing_rules.specs.Rows.{Expected, is_signed_kind, most, literal_value, all_given, are_known}
+use Rattle.typing_rules.specs.Rows.{PatternContext, is_signed_kind, most, literal_value, all_given, are_known}
 use Rattle.typing_rules.specs.Scope.{Env, NamedEntry, adt_named, kind_at, variable, field_named}
 use Rattle.src_ast.specs.Syntax.{Word, Syn, syn, Shape, AnyPattern, BindPattern, LiteralPattern, TruthPattern, PathPattern, PartsPattern, FieldsPattern, FieldPattern, ParensPattern, TuplePattern, ArrayPattern, Alternatives, Syns, no_syn, a_syn, nothing, just}
 use Rattle.typing_rules.proofs.Sound.Gives.{numbered}
@@ -35,7 +35,7 @@ Walks s t ns = walking.Walks (λ rest. rest) s t ns
 abbrev pub OfBound : TypingState → rules.BoundPattern → TypingState → Type 0
 OfBound s b t = Walks s t (nodes_of b.0)
 
-literal_walks : (at : Pos) (e : Expected) (ty : TyId) (is_negative : Bool) (value : ℕ) (suffix : Option IntKind) (s :
+literal_walks : (at : Pos) (e : PatternContext) (ty : TyId) (is_negative : Bool) (value : ℕ) (suffix : Option IntKind) (s :
     TypingState) → Walked (λ n t. Walks s t (nodes_of n)) (rules.literal_pattern at e ty is_negative value suffix s)
 literal_walks at e ty is_negative value suffix s =
     walk_found Rule.T03 at (kind_of s.items ty) _ λ kind is. walk_obeyed Rule.T03 at (rules.agrees_kind suffix ty &&
@@ -43,13 +43,13 @@ literal_walks at e ty is_negative value suffix s =
     _. walk_obeyed Rule.T18 at (not e.takes_all) _ λ _. walk_ends (walks_node at ty (Some Use.Test) (tree.NumberPattern
     (literal_value is_negative value)) (walks_none (numbered s)))
 
-truth_walks : (at : Pos) (e : Expected) (ty : TyId) (value : Bool) (s : TypingState) → Walked (λ n t. Walks s t (nodes_of n))
+truth_walks : (at : Pos) (e : PatternContext) (ty : TyId) (value : Bool) (s : TypingState) → Walked (λ n t. Walks s t (nodes_of n))
     (rules.truth_pattern at e ty value s)
 truth_walks at e ty value s =
     walk_obeyed Rule.T03 at (is_bool s.items ty) _ λ _. walk_obeyed Rule.T18 at (not e.takes_all) _ λ _. walk_ends
     (walks_node at ty (Some Use.Test) (tree.TruthPattern value) (walks_none (numbered s)))
 
-bind_walks : (at : Pos) (e : Expected) (ty : TyId) (name : Word) (earlier : List NamedEntry) (s : TypingState) → Walked (OfBound s)
+bind_walks : (at : Pos) (e : PatternContext) (ty : TyId) (name : Word) (earlier : List NamedEntry) (s : TypingState) → Walked (OfBound s)
     (rules.bind at e ty name earlier s)
 bind_walks at e ty name earlier s =
     walk_obeyed Rule.T02 at (not (is_some (variable earlier name))) _ λ _. walk_obeyed Rule.T07 at (is_copy s.items ty
@@ -71,11 +71,11 @@ tested_walks : {s t : TypingState} (b : Bool) (n : Node) → Walks s t (nodes_of
 tested_walks true n w = walks_used Use.Test n w
 tested_walks false n w = w
 
-abbrev WalksParts : (Expected → List TyId → Check (Fields × List NamedEntry × Bool × Bool)) → Type 0
-WalksParts parts = (e : Expected) (tys : List TyId) (s : TypingState) → Walked (λ ps t. Walks s t (nodes_of_fields ps.0))
+abbrev WalksParts : (PatternContext → List TyId → Check (Fields × List NamedEntry × Bool × Bool)) → Type 0
+WalksParts parts = (e : PatternContext) (tys : List TyId) (s : TypingState) → Walked (λ ps t. Walks s t (nodes_of_fields ps.0))
     (parts e tys s)
 
-target_walks : (at : Pos) (e : Expected) (ty : TyId) (t : rules.PatternTarget) (parts : Expected → List TyId → Check (Fields ×
+target_walks : (at : Pos) (e : PatternContext) (ty : TyId) (t : rules.PatternTarget) (parts : PatternContext → List TyId → Check (Fields ×
     List NamedEntry × Bool × Bool)) → WalksParts parts → (s : TypingState) → Walked (OfBound s) (rules.of_target at e ty t parts s)
 target_walks at e ty t parts good s =
     walk_interned (Ty.Adt t.adt) (numbered s) λ self u same. walk_obeyed Rule.T03 at (is_same ty self) _ λ _. walk (good
@@ -88,7 +88,7 @@ target_walks at e ty t parts good s =
 none_walk : (earlier : List NamedEntry) (is_whole : Bool) → WalksParts (rules.no_parts earlier is_whole)
 none_walk earlier is_whole e tys s = walk_ends (walks_none s)
 
-lone_walks : (env : Env) (at : Pos) (e : Expected) (ty : TyId) (adt : ℕ) (earlier : List NamedEntry) (s : TypingState) → Walked
+lone_walks : (env : Env) (at : Pos) (e : PatternContext) (ty : TyId) (adt : ℕ) (earlier : List NamedEntry) (s : TypingState) → Walked
     (OfBound s) (rules.lone_struct env at e ty adt earlier s)
 lone_walks env at e ty adt earlier s = by (rules.is_unit_kind (kind_at env.kinds adt 0))
   where
@@ -97,7 +97,7 @@ lone_walks env at e ty adt earlier s = by (rules.is_unit_kind (kind_at env.kinds
     by true = target_walks at e ty (rules.target adt 0) (rules.no_parts earlier true) (none_walk earlier true) s
     by false = record { so = tt }
 
-lone_name_walks : (env : Env) (at : Pos) (e : Expected) (ty : TyId) (name : Word) (earlier : List NamedEntry) (s : TypingState) →
+lone_name_walks : (env : Env) (at : Pos) (e : PatternContext) (ty : TyId) (name : Word) (earlier : List NamedEntry) (s : TypingState) →
     Walked (OfBound s) (rules.lone_name env at e ty name earlier s)
 lone_name_walks env at e ty name earlier s = by (adt_named s.items name)
   where
@@ -110,7 +110,7 @@ lone_name_walks env at e ty name earlier s = by (adt_named s.items name)
     by None = bind_walks at e ty name earlier s
     by (Some adt) = if_enum adt (is_enum s.items adt)
 
-path_walks : (env : Env) (at : Pos) (e : Expected) (ty : TyId) (first second : Option Word) (earlier : List NamedEntry) (s :
+path_walks : (env : Env) (at : Pos) (e : PatternContext) (ty : TyId) (first second : Option Word) (earlier : List NamedEntry) (s :
     TypingState) → Walked (OfBound s) (rules.path_alone env at e ty first second earlier s)
 path_walks env at e ty first None earlier s =
     walk_found Rule.T01 at env.self_adt _ λ adt is. walk_obeyed Rule.T01 at (not (is_enum s.items adt)) _ λ _.
@@ -145,11 +145,11 @@ field_by_walks v name earlier typed s good = by (rules.field_ty v.fields (field_
 
 module _ (env : Env) where
   mutual
-    pub pattern_walks : (e : Expected) (ty : TyId) (p : Syn) (earlier : List NamedEntry) (s : TypingState) → Walked (OfBound s)
+    pub pattern_walks : (e : PatternContext) (ty : TyId) (p : Syn) (earlier : List NamedEntry) (s : TypingState) → Walked (OfBound s)
         (rules.pattern env e ty p earlier s)
     pattern_walks e ty (syn at form) earlier s = form_walks e ty at form earlier s
 
-    form_walks : (e : Expected) (ty : TyId) (at : Pos) (form : Shape) (earlier : List NamedEntry) (s : TypingState) → Walked
+    form_walks : (e : PatternContext) (ty : TyId) (at : Pos) (form : Shape) (earlier : List NamedEntry) (s : TypingState) → Walked
         (OfBound s) (rules.pattern_form env e ty at form earlier s)
     form_walks e ty at AnyPattern earlier s = walk_ends (walks_node at ty None tree.Wildcard (walks_none (numbered s)))
     form_walks e ty at (BindPattern name) earlier s = lone_name_walks env at e ty name earlier s
@@ -192,7 +192,7 @@ module _ (env : Env) where
         (walks_node at ty None (tree.OrPattern ps.0) w)
     form_walks e ty at _ earlier s = record { so = tt }
 
-    parts_walk : (e : Expected) (tys : List TyId) (parts : Syns) (earlier : List NamedEntry) (s : TypingState) → Walked (λ ps t.
+    parts_walk : (e : PatternContext) (tys : List TyId) (parts : Syns) (earlier : List NamedEntry) (s : TypingState) → Walked (λ ps t.
         Walks s t (nodes_among ps.0)) (rules.part_patterns env e tys parts earlier s)
     parts_walk e tys no_syn earlier s = walk_ends (walks_none s)
     parts_walk e [] (a_syn first rest) earlier s = walk_ends (walks_none s)
@@ -200,21 +200,21 @@ module _ (env : Env) where
         walk (pattern_walks e ty first earlier s) λ p t w. walk (parts_walk e tys rest p.1 t) λ ps u x. walk_ends
         (walks_both w x)
 
-    each_walks : (e : Expected) (ty : TyId) (patterns : Syns) (earlier : List NamedEntry) (s : TypingState) → Walked (λ ps t. Walks
+    each_walks : (e : PatternContext) (ty : TyId) (patterns : Syns) (earlier : List NamedEntry) (s : TypingState) → Walked (λ ps t. Walks
         s t (nodes_among ps.0)) (rules.each_pattern env e ty patterns earlier s)
     each_walks e ty no_syn earlier s = walk_ends (walks_none s)
     each_walks e ty (a_syn first rest) earlier s =
         walk (pattern_walks e ty first earlier s) λ p t w. walk (each_walks e ty rest p.1 t) λ ps u x. walk_ends
         (walks_both w x)
 
-    fields_walk : (e : Expected) (v : Variant) (fields : Syns) (earlier : List NamedEntry) (s : TypingState) → Walked (λ ps t.
+    fields_walk : (e : PatternContext) (v : Variant) (fields : Syns) (earlier : List NamedEntry) (s : TypingState) → Walked (λ ps t.
         Walks s t (nodes_of_fields ps.0)) (rules.field_patterns env e v fields earlier s)
     fields_walk e v no_syn earlier s = walk_ends (walks_none s)
     fields_walk e v (a_syn first rest) earlier s =
         walk (field_walks e v first earlier s) λ p t w. walk (fields_walk e v rest p.1 t) λ ps u x. walk_ends (subst (λ
         ns. Walks s u ns) (sym (with_nodes p.0 ps.0)) (walks_both w x))
 
-    field_walks : (e : Expected) (v : Variant) (field : Syn) (earlier : List NamedEntry) (s : TypingState) → Walked (λ f t. Walks s
+    field_walks : (e : PatternContext) (v : Variant) (field : Syn) (earlier : List NamedEntry) (s : TypingState) → Walked (λ f t. Walks s
         t (nodes_in_field f.0)) (rules.field_pattern env e v field earlier s)
     field_walks e v (syn at (FieldPattern name nothing)) earlier s =
         field_by_walks v name earlier (λ ty. rules.bind at e ty name earlier) s (λ ty. bind_walks at e ty name earlier

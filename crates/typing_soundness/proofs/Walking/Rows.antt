@@ -28,7 +28,7 @@ use Rattle.mir_ty.specs.Facts.{is_copy}
 use Rattle.typing_rules.specs.Check.{Check, TypingState, ◌>>=◌, ◌>>◌, breaks, types_for}
 use Rattle.typing_rules.specs.Places.{place_in_text, used, a_node_of, unit, bool, never, int, Fit, Fits, Coerced, Differs, fit, meaning_form, variable_place, Member, through_at, through_in, through, is_fixed, in_own_guard, is_behind_shared, wanted}
 use Rattle.typing_rules.specs.Rows as rows
-use Rattle.typing_rules.specs.Rows.{Typer, Referrer, Method, OfAdt, OfTrait, Matcher, Expected, Given, ty_carried, borrow_by, used_if_place}
+use Rattle.typing_rules.specs.Rows.{Typer, Referrer, Method, OfAdt, OfTrait, Matcher, PatternContext, Given, ty_carried, borrow_by, used_if_place}
 use Rattle.typing_rules.specs.Scope.{Env, NamedEntry, LabelledLoop, VariableMeaning, Local, Capture, InGuard}
 use Rattle.src_ast.specs.Syntax.{Word}
 use Rattle.typing_rules.proofs.Sound.Fitted.{same_self}
@@ -48,10 +48,10 @@ abbrev pub ◌⨾◌ : Tape → Tape → Tape
 f ⨾ g = λ rest. f (g rest)
 
 abbrev pub WalksTyper : Tape → Typer → Type 0
-WalksTyper f check = (want : Option TyId) → WalksNode f (check want)
+WalksTyper f check = (expected : Option TyId) → WalksNode f (check expected)
 
 abbrev pub WalksMaybe : Tape → (Option TyId → Check MaybeNode) → Type 0
-WalksMaybe f check = (want : Option TyId) (s : TypingState) → Walked (λ v t. Walks f s t (nodes_if_any v)) (check want s)
+WalksMaybe f check = (expected : Option TyId) (s : TypingState) → Walked (λ v t. Walks f s t (nodes_if_any v)) (check expected s)
 
 -- the checks of so many arguments
 abbrev pub WalksArgs : Tape → ℕ → (List TyId → Check Nodes) → Type 0
@@ -59,24 +59,24 @@ WalksArgs f count args = (params : List TyId) (s : TypingState) → Walked (λ n
     count)) (args params s)
 
 abbrev pub WalksReferrer : Tape → Referrer → Type 0
-WalksReferrer f check = (want : TyId) (unique : Bool) (to : TyId) → WalksNode f (check want unique to)
+WalksReferrer f check = (expected : TyId) (unique : Bool) (to : TyId) → WalksNode f (check expected unique to)
 
 abbrev pub WalksMatcher : Matcher → Type 0
-WalksMatcher check = (e : Expected) (ty : TyId) (s : TypingState) → Walked (λ b t. Walks no_closure s t (nodes_of b.0)) (check e ty s)
+WalksMatcher check = (e : PatternContext) (ty : TyId) (s : TypingState) → Walked (λ b t. Walks no_closure s t (nodes_of b.0)) (check e ty s)
 
 -- ---- leaves
 
 pub leaf_walks : (at : Pos) (ty : TyId) (form : Form) → nodes_in form ≡ [] → WalksTyper no_closure (rows.leaf at ty form)
-leaf_walks at ty form none want s =
-    walk_fitted want (a_node_of s.next_node at ty form) (walks_node at ty None form (subst (λ ns. Walks no_closure (numbered s)
+leaf_walks at ty form none expected s =
+    walk_fitted expected (a_node_of s.next_node at ty form) (walks_node at ty None form (subst (λ ns. Walks no_closure (numbered s)
     (numbered s) ns) (sym none) (walks_none (numbered s))))
 
 pub literal_walks : (at : Pos) (is_negative : Bool) (value : ℕ) (suffix : Option IntKind) → WalksTyper no_closure (rows.literal at
     is_negative value suffix)
-literal_walks at is_negative value suffix want s =
-    walk_obeyed Rule.T03 at (not is_negative || rows.is_signed_kind (rows.chosen suffix (option_and_then (kind_of s.items) want))) _ λ _.
-    walk (walk_fitted want _ (walks_node at _ None (tree.Number (rows.literal_value is_negative value)) (walks_none
-    (numbered s)))) λ n u w. walk_obeyed Rule.T17 at (nat_le value (rows.most (rows.chosen suffix (option_and_then (kind_of s.items) want)) is_negative)) _ λ _. walk_ends w
+literal_walks at is_negative value suffix expected s =
+    walk_obeyed Rule.T03 at (not is_negative || rows.is_signed_kind (rows.chosen suffix (option_and_then (kind_of s.items) expected))) _ λ _.
+    walk (walk_fitted expected _ (walks_node at _ None (tree.Number (rows.literal_value is_negative value)) (walks_none
+    (numbered s)))) λ n u w. walk_obeyed Rule.T17 at (nat_le value (rows.most (rows.chosen suffix (option_and_then (kind_of s.items) expected)) is_negative)) _ λ _. walk_ends w
 
 -- ---- places
 
@@ -90,10 +90,10 @@ variable_walks at x s =
     walk_ends (walks_node at x.ty None (meaning_form x.name x.meaning) (subst (λ ns. Walks no_closure (numbered s) (numbered s) ns)
     (sym (meaning_nodes x.name x.meaning)) (walks_none (numbered s))))
 
-pub taken_walks : {f : Tape} (env : Env) (want : Option TyId) (n : Node) {s t : TypingState} → Walks f s t (nodes_of n) → Walked
-    (λ m u. Walks f s u (nodes_of m)) (rows.taken env want n t)
-taken_walks env want n {t = t} w =
-    walk (walk_fitted want (used (rows.taking t.items (ty_of n)) n) (walks_used _ n w)) λ m u w.
+pub taken_walks : {f : Tape} (env : Env) (expected : Option TyId) (n : Node) {s t : TypingState} → Walks f s t (nodes_of n) → Walked
+    (λ m u. Walks f s u (nodes_of m)) (rows.taken env expected n t)
+taken_walks env expected n {t = t} w =
+    walk (walk_fitted expected (used (rows.taking t.items (ty_of n)) n) (walks_used _ n w)) λ m u w.
     walk_obeyed Rule.T07 (place_in_text n) (is_copy t.items (ty_of n) || not (is_fixed t.items (in_own_guard env.variables) n || is_dyn t.items (ty_of n))) _ λ _. walk_obeyed Rule.T08 (place_in_text n) (not (is_reference t.items (ty_of n))) _ λ _. walk_ends w
 
 -- what is no reference by itself
@@ -141,19 +141,19 @@ element_walks at base index good good_i s =
 -- ---- operators
 
 pub not_walks : {f : Tape} (at : Pos) (operand : Typer) → WalksTyper f operand → WalksTyper f (rows.not_row at operand)
-not_walks at operand good want s =
-    walk (good None (numbered s)) λ n t w. walk_obeyed Rule.T03 at (fits t.items bool (ty_of n)) _ λ _. walk_fitted want _ (walks_node at bool None
+not_walks at operand good expected s =
+    walk (good None (numbered s)) λ n t w. walk_obeyed Rule.T03 at (fits t.items bool (ty_of n)) _ λ _. walk_fitted expected _ (walks_node at bool None
     (tree.Not n) w)
 
 pub negate_walks : {f : Tape} (at : Pos) (operand : Typer) → WalksTyper f operand → WalksTyper f (rows.negate at operand)
-negate_walks at operand good want s =
-    walk (good _ (numbered s)) λ n t w. walk_obeyed Rule.T03 at (is_same (ty_of n) (int IntKind.I32) || is_same (ty_of n) (int IntKind.I64)) _ λ _. walk_fitted want _ (walks_node at (ty_of n)
+negate_walks at operand good expected s =
+    walk (good _ (numbered s)) λ n t w. walk_obeyed Rule.T03 at (is_same (ty_of n) (int IntKind.I32) || is_same (ty_of n) (int IntKind.I64)) _ λ _. walk_fitted expected _ (walks_node at (ty_of n)
     None (tree.Negate n) w)
 
 -- a plain number has no closures, so it is the same which of two operands comes first
-pub operands_walk : {f g : Tape} (is_literal : Bool) (want : Option TyId) (left right : Typer) → (IsTrue is_literal → f ≡
+pub operands_walk : {f g : Tape} (is_literal : Bool) (expected : Option TyId) (left right : Typer) → (IsTrue is_literal → f ≡
     no_closure) → WalksTyper f left → WalksTyper g right → (s : TypingState) → Walked (λ (b : Node × Node) t. Walks (f ⨾ g) s t
-    (nodes_of b.0 ++ nodes_of b.1)) (rows.operands is_literal want left right s)
+    (nodes_of b.0 ++ nodes_of b.1)) (rows.operands is_literal expected left right s)
 operands_walk {f} {g} true None left right alone good_l good_r s =
     walk (good_r None s) λ r t w. walk (good_l (rows.unless_never t.items (ty_of r)) t) λ l u v. walk_ends (subst (λ h.
     Walks h s u (nodes_of l ++ nodes_of r)) (either_first (alone refl)) (walks_swapped w v))
@@ -163,37 +163,37 @@ operands_walk {f} {g} true None left right alone good_l good_r s =
 operands_walk true (Some ty) left right alone good_l good_r s =
     walk (good_l (Some ty) s) λ l t w. walk (good_r (rows.if_int t.items (ty_of l)) t) λ r u v. walk_ends (walks_both w
     v)
-operands_walk false want left right alone good_l good_r s =
-    walk (good_l want s) λ l t w. walk (good_r (rows.if_int t.items (ty_of l)) t) λ r u v. walk_ends (walks_both w v)
+operands_walk false expected left right alone good_l good_r s =
+    walk (good_l expected s) λ l t w. walk (good_r (rows.if_int t.items (ty_of l)) t) λ r u v. walk_ends (walks_both w v)
 
 pub arithmetic_walks : {f g : Tape} (at : Pos) (operator : Math) (is_literal : Bool) (left right : Typer) → (IsTrue is_literal → f ≡ no_closure) → WalksTyper f left →
     WalksTyper g right → WalksTyper (f ⨾ g) (rows.arithmetic at operator is_literal left right)
-arithmetic_walks at operator is_literal left right alone good_l good_r want s =
+arithmetic_walks at operator is_literal left right alone good_l good_r expected s =
     walk (operands_walk is_literal _ left right alone good_l good_r (numbered s)) λ b t w. walk_found Rule.T03 at (option_and_then (rows.if_int t.items) (rows.one_of_two t.items (ty_of b.0) (ty_of b.1))) _ λ ty is.
-    walk_fitted want _ (walks_node at ty None (tree.Arithmetic operator b.0 b.1) w)
+    walk_fitted expected _ (walks_node at ty None (tree.Arithmetic operator b.0 b.1) w)
 
 pub comparison_walks : {f g : Tape} (at : Pos) (operator : Cmp) (is_literal : Bool) (left right : Typer) → (IsTrue is_literal → f ≡ no_closure) → WalksTyper f left →
     WalksTyper g right → WalksTyper (f ⨾ g) (rows.comparison at operator is_literal left right)
-comparison_walks at operator is_literal left right alone good_l good_r want s =
+comparison_walks at operator is_literal left right alone good_l good_r expected s =
     walk (operands_walk is_literal None left right alone good_l good_r (numbered s)) λ b t w. walk_found Rule.T03 at (option_and_then (rows.int_or_bool t.items) (rows.one_of_two t.items (ty_of b.0) (ty_of b.1))) _ λ ty
-    is. walk_fitted want _ (walks_node at bool None (tree.Comparison operator b.0 b.1) w)
+    is. walk_fitted expected _ (walks_node at bool None (tree.Comparison operator b.0 b.1) w)
 
 pub and_walks : {f g : Tape} (at : Pos) (left right : Typer) → WalksTyper f left → WalksTyper g right → WalksTyper (f ⨾ g) (rows.logic at
     tree.And left right)
-and_walks at left right good_l good_r want s =
+and_walks at left right good_l good_r expected s =
     walk (good_l None (numbered s)) λ l t w. walk (good_r None t) λ r u v. walk_obeyed Rule.T03 at (fits u.items bool (ty_of l) && fits u.items bool (ty_of r)) _ λ _. walk_fitted
-    want _ (walks_node at bool None (tree.And l r) (walks_both w v))
+    expected _ (walks_node at bool None (tree.And l r) (walks_both w v))
 
 pub or_walks : {f g : Tape} (at : Pos) (left right : Typer) → WalksTyper f left → WalksTyper g right → WalksTyper (f ⨾ g) (rows.logic at tree.Or
     left right)
-or_walks at left right good_l good_r want s =
+or_walks at left right good_l good_r expected s =
     walk (good_l None (numbered s)) λ l t w. walk (good_r None t) λ r u v. walk_obeyed Rule.T03 at (fits u.items bool (ty_of l) && fits u.items bool (ty_of r)) _ λ _. walk_fitted
-    want _ (walks_node at bool None (tree.Or l r) (walks_both w v))
+    expected _ (walks_node at bool None (tree.Or l r) (walks_both w v))
 
 pub store_walks : {f g : Tape} (env : Env) (at : Pos) (place : Check Node) (value : Typer) → WalksNode f place → WalksTyper g value →
     WalksTyper (f ⨾ g) (rows.store env at place value)
-store_walks env at place value good good_v want s =
-    walk (plain_walks good (numbered s)) λ p t w. walk (good_v (Some (ty_of p)) t) λ v u w'. walk_obeyed Rule.T03 at (not (is_dyn u.items (ty_of p))) _ λ _. walk (walk_fitted want _ (walks_node at unit None (tree.Assign (used Use.Store p) v) (walks_both (walks_used
+store_walks env at place value good good_v expected s =
+    walk (plain_walks good (numbered s)) λ p t w. walk (good_v (Some (ty_of p)) t) λ v u w'. walk_obeyed Rule.T03 at (not (is_dyn u.items (ty_of p))) _ λ _. walk (walk_fitted expected _ (walks_node at unit None (tree.Assign (used Use.Store p) v) (walks_both (walks_used
     Use.Store p w) w'))) λ n x w. walk_obeyed Rule.T05 at (is_place (form_of p) && not (rows.own_in (in_own_guard env.variables) (form_of p))) _ λ _. walk_obeyed Rule.T08 (place_in_text p) (not (is_behind_shared u.items p)) _ λ _.
     walk_ends w
 
@@ -201,13 +201,13 @@ store_walks env at place value good good_v want s =
 
 pub borrow_walks : {f : Tape} (at : Pos) (unique : Bool) (base : Check Node) → WalksNode f base → WalksReferrer f (rows.borrow at unique
     base)
-borrow_walks at unique base good want is_unique to s =
+borrow_walks at unique base good expected is_unique to s =
     walk (plain_walks good (numbered s)) λ b t w. walk_obeyed Rule.T03 at (is_same (ty_of b) to && rows.is_same_truth unique is_unique) _ λ _. walk_obeyed Rule.T08 (place_in_text
     b) (not (unique && is_behind_shared t.items b)) _ λ _. walk_interned (rows.reference_ty unique (ty_of b)) t λ ty u e. walk_ends (walks_node at ty None (tree.Borrow unique (used_if_place
     (borrow_by unique) b)) (on_same e (walks_used_if (borrow_by unique) b w)))
 
 pub passed_on_walks : (at : Pos) (x : NamedEntry) → WalksReferrer no_closure (rows.passed_on at x)
-passed_on_walks at x want unique to s =
+passed_on_walks at x expected unique to s =
     walk_obeyed Rule.T03 at (rows.passes unique to (reference_of s.items x.ty)) _ λ _. walk {f = λ v. rows.borrow_of
     s.next_node at unique (a_node_of (suc s.next_node) at to (Deref v))} (variable_walks at x (numbered (numbered s))) λ
     v t w. walk_interned (rows.reference_ty unique to) t λ ty u e. walk_ends (walks_node at ty None (tree.Borrow unique (used (borrow_by unique) (a_node_of (suc s.next_node) at
@@ -227,13 +227,13 @@ argument_walks {f} param by_value by_reference good_v good_r s = by (reference_o
 pub call_walks : {f : Tape} (at : Pos) (form : Nodes → Form) (answer : TyId) (count : ℕ) (params : List TyId) (args : List TyId →
     Check Nodes) (may : Bool) → ((ns : Nodes) → nodes_in (form ns) ≡ nodes_among ns) → WalksArgs f count args →
     WalksTyper f (rows.call at form answer count params args may)
-call_walks {f} at form answer count params args may same good want s =
-    walk (good params (numbered s)) λ ns t w. walk (walk_fitted want _ (walks_node at answer None (form ns) (subst (λ
+call_walks {f} at form answer count params args may same good expected s =
+    walk (good params (numbered s)) λ ns t w. walk (walk_fitted expected _ (walks_node at answer None (form ns) (subst (λ
     xs. Walks f (numbered s) t xs) (sym (same ns)) w.0))) λ n u w. walk_obeyed Rule.T04 at (count == length params) _ λ _. walk_obeyed Rule.T13
     at may _ λ _. walk_ends w
 
 pub no_call_walks : {f : Tape} (at : Pos) (rule : Rule) (args : List TyId → Check Nodes) → WalksTyper f (rows.no_call at rule args)
-no_call_walks at rule args want s = walk_nothing rule at (args [] s)
+no_call_walks at rule args expected s = walk_nothing rule at (args [] s)
 
 made_nodes : (k : ℕ) (ns : Nodes) → nodes_of_fields (rows.numbered_fields k ns) ≡ nodes_among ns
 made_nodes k no_node = refl
@@ -267,42 +267,42 @@ received_walks {f} env at base self {s} {t} w = by (reference_of t.items self)
 pub method_walks : {f g : Tape} (env : Env) (at : Pos) (named : ItemTable → TyId → Option Method) (count : ℕ) (receiver : Check Node)
     (args : List TyId → Check Nodes) → WalksNode f receiver → WalksArgs g count args → WalksTyper (f ⨾ g) (rows.method_call env at
     named count receiver args)
-method_walks {f} {g} env at named count receiver args good_r good want s =
+method_walks {f} {g} env at named count receiver args good_r good expected s =
     walk (good_r (numbered s)) λ b t w. walk (through_walks named at b w) λ r u w. by r.0 r.1 u w
   where
     R : Node → TypingState → Type 0
     R n t = Walks (f ⨾ g) s t (nodes_of n)
 
     with_self : (base : Node) (m : Method) (params : List TyId) (u : TypingState) → Walks f (numbered s) u (nodes_of base) →
-        Walked R (rows.with_self env at s.next_node base m count args want params u)
+        Walked R (rows.with_self env at s.next_node base m count args expected params u)
     with_self base m [] u w = walk_nothing Rule.T12 at (args [] u)
     with_self base m (self ∷ params) u w =
-        walk (received_walks env at base self w) λ receiver t w. walk (good params t) λ ns v x. walk (walk_fitted want
+        walk (received_walks env at base self w) λ receiver t w. walk (good params t) λ ns v x. walk (walk_fitted expected
         (a_node_of s.next_node at (rows.head_of m).result (rows.method_form m receiver ns)) (walks_node at
         (rows.head_of m).result None (rows.method_form m receiver ns) (subst (λ xs. Walks (f ⨾ g) (numbered s) v xs) (sym
         (method_nodes m receiver ns)) (walks_both w x.0)))) λ n y w. walk_obeyed Rule.T04 at (count == length params) _ λ _. walk_obeyed
         Rule.T08 at (not (rows.is_unique_borrow (form_of receiver) && is_behind_shared y.items base)) _ λ _. walk_obeyed Rule.T13 at (not (rows.is_drop_method m)) _ λ _. walk_ends w
 
     if_takes : (base : Node) (m : Method) (u : TypingState) → Walks f (numbered s) u (nodes_of base) → (b : Bool) → Walked R
-        ((if b then rows.with_self env at s.next_node base m count args want (rows.head_of m).params else (args [] >>
+        ((if b then rows.with_self env at s.next_node base m count args expected (rows.head_of m).params else (args [] >>
         breaks Rule.T12 at)) u)
     if_takes base m u w true = with_self base m (rows.head_of m).params u w
     if_takes base m u w false = walk_nothing Rule.T12 at (args [] u)
 
     by : (base : Node) (o : Option Method) (u : TypingState) → Walks f (numbered s) u (nodes_of base) → Walked R
-        (rows.with_method env at s.next_node base o count args want u)
+        (rows.with_method env at s.next_node base o count args expected u)
     by base None u w = walk_nothing Rule.T12 at (args [] u)
     by base (Some m) u w = if_takes base m u w (rows.takes_self u.items (ty_of base) (rows.head_of m).params)
 
 pub closure_call_walks : {f g : Tape} (at : Pos) (count : ℕ) (callee : Check Node) (args : List TyId → Check Nodes) → WalksNode f callee → WalksArgs g count args → WalksTyper (f ⨾ g) (rows.closure_call at count callee args)
-closure_call_walks {f} {g} at count callee args good_c good want s =
+closure_call_walks {f} {g} at count callee args good_c good expected s =
     walk (good_c (numbered s)) λ c t w. by c t w _ _
   where
     by : (c : Node) (t : TypingState) → Walks f (numbered s) t (nodes_of c) → (body : ℕ) (o : Option Sig) → Walked (λ n u. Walks
-        (f ⨾ g) s u (nodes_of n)) (rows.with_closure at s.next_node c count args want body o t)
+        (f ⨾ g) s u (nodes_of n)) (rows.with_closure at s.next_node c count args expected body o t)
     by c t w body None = walk_nothing Rule.T13 at (args [] t)
     by c t w body (Some head) =
-        walk (good (drop 1 head.params) t) λ ns u x. walk (walk_fitted want _ (walks_node at head.result None
+        walk (good (drop 1 head.params) t) λ ns u x. walk (walk_fitted expected _ (walks_node at head.result None
         (tree.ClosureCall body c ns) (walks_both w x.0))) λ n y w. walk_obeyed Rule.T04 at (count == length (drop 1 head.params)) _ λ _. walk_ends w
 
 -- ---- built-in calls
@@ -325,8 +325,8 @@ none_given (a_node first rest) e = absurd (by (count_of rest) e)
 
 pub built_in_walks : {f : Tape} (at : Pos) (answer : TyId) (form : Nodes → Form) (count wants : ℕ) (params : List TyId) (args :
     List TyId → Check Nodes) → ((ns : Nodes) → count_of ns ≡ wants → nodes_in (form ns) ≡ nodes_among ns) → WalksArgs f count args → WalksTyper f (rows.built_in at answer form count wants (args params))
-built_in_walks {f} at answer form count wants params args same good want s =
-    walk (good params (numbered s)) λ ns t w. walk (fitted_when {C = IsTrue (count == wants)} want (a_node_of
+built_in_walks {f} at answer form count wants params args same good expected s =
+    walk (good params (numbered s)) λ ns t w. walk (fitted_when {C = IsTrue (count == wants)} expected (a_node_of
     s.next_node at answer (form ns)) (λ c. walks_node at answer None (form ns) (subst (λ xs. Walks f (numbered s) t xs)
     (sym (same ns (w.1 ∙ eqb-true count wants c))) w.0))) λ n u w. walk_obeyed Rule.T04 at (count == wants) _ λ c.
     walk_ends (w c)
@@ -352,15 +352,15 @@ ask_walks at count params args good =
     built_in_walks at (int IntKind.I32) rows.ask_form count 0 params args (λ ns e. sym (none_given ns e)) good
 
 pub new_box_walks : {f : Tape} (at : Pos) (count : ℕ) (args : List TyId → Check Nodes) → WalksArgs f count args → WalksTyper f (rows.new_box at count args)
-new_box_walks {f} at count args good want s =
-    walk (good _ (numbered s)) λ ns t w. by ns t (w.1) w.0 (wanted rows.box_wanted s.items want)
+new_box_walks {f} at count args good expected s =
+    walk (good _ (numbered s)) λ ns t w. by ns t (w.1) w.0 (wanted rows.box_wanted s.items expected)
   where
     by : (ns : Nodes) (t : TypingState) → count_of ns ≡ count → Walks f (numbered s) t (nodes_among ns) → (content : Option
-        TyId) → Walked (λ n u. Walks f s u (nodes_of n)) (rows.box_by at s.next_node count want content (rows.first_node
+        TyId) → Walked (λ n u. Walks f s u (nodes_of n)) (rows.box_by at s.next_node count expected content (rows.first_node
         ns) t)
     by no_node t e w content = record { so = tt }
     by (a_node first rest) t e w content =
-        walk_interned (Ty.Boxed (rows.part_ty content first)) t λ ty u same. walk (fitted_when {C = IsTrue (count == 1)} want (a_node_of s.next_node at ty
+        walk_interned (Ty.Boxed (rows.part_ty content first)) t λ ty u same. walk (fitted_when {C = IsTrue (count == 1)} expected (a_node_of s.next_node at ty
         (tree.NewBox first)) (λ c. walks_node at ty None (tree.NewBox first) (on_same same (subst (λ xs. Walks f (numbered
         s) t xs) (sym (one_alone (a_node first rest) tree.NewBox (λ n. refl) (e ∙ eqb-true count 1 c))) w)))) λ n x w.
         walk_obeyed Rule.T04 at (count == 1) _ λ c. walk_ends (w c)
@@ -370,109 +370,109 @@ new_box_walks {f} at count args good want s =
 pub struct_walks : {f : Tape} (at : Pos) (adt variant : ℕ) (types : List TyId) (fields : Check (Fields × Given)) → ((s : TypingState) →
     Walked (λ fs t. Walks f s t (nodes_of_fields fs.0)) (fields s)) → WalksTyper f (rows.struct_row at adt variant types
     fields)
-struct_walks at adt variant types fields good want s =
-    walk_interned (Ty.Adt adt) (numbered s) λ ty t e. walk (good t) λ fs u w. walk (walk_fitted want _ (walks_node at ty
+struct_walks at adt variant types fields good expected s =
+    walk_interned (Ty.Adt adt) (numbered s) λ ty t e. walk (good t) λ fs u w. walk (walk_fitted expected _ (walks_node at ty
     None (tree.Make adt variant fs.0) (walks_both (on_same e (walks_none (numbered s))) w))) λ n x w. walk_obeyed
     Rule.T04 at (rows.all_given (length types) fs.1 && length fs.1 == length types) _ λ _. walk_obeyed Rule.T12 at (rows.are_known fs.1) _ λ _. walk_ends w
 
 pub tuple_walks : {f : Tape} (at : Pos) (count : ℕ) (parts : List (Option TyId) → Check (Nodes × List TyId)) → ((wants : List
     (Option TyId)) (s : TypingState) → Walked (λ ps t. Walks f s t (nodes_among ps.0)) (parts wants s)) → WalksTyper f (rows.tuple_row at count parts)
-tuple_walks at count parts good want s =
-    walk (good _ (numbered s)) λ ps t w. walk_interned (Ty.Tuple ps.1) t λ ty u e. walk (walk_fitted want _ (walks_node at ty None
+tuple_walks at count parts good expected s =
+    walk (good _ (numbered s)) λ ps t w. walk_interned (Ty.Tuple ps.1) t λ ty u e. walk (walk_fitted expected _ (walks_node at ty None
     (tree.Tuple ps.0) (on_same e w))) λ n x w. walk_obeyed Rule.T19 at (nat_le count 12) _ λ _. walk_ends w
 
-pub array_walks : {f : Tape} (at : Pos) (count : ℕ) (elements : Option TyId → Check (Nodes × List TyId)) → ((want : Option TyId) (s
-    : TypingState) → Walked (λ ps t. Walks f s t (nodes_among ps.0)) (elements want s)) → WalksTyper f (rows.array_row at count
+pub array_walks : {f : Tape} (at : Pos) (count : ℕ) (elements : Option TyId → Check (Nodes × List TyId)) → ((expected : Option TyId) (s
+    : TypingState) → Walked (λ ps t. Walks f s t (nodes_among ps.0)) (elements expected s)) → WalksTyper f (rows.array_row at count
     elements)
-array_walks at count elements good want s =
-    walk (good _ (numbered s)) λ ps t w. walk_found Rule.T03 at (rows.element_ty t.items (wanted rows.element_wanted s.items want) ps.1) _ λ el is. walk_obeyed Rule.T16 at (is_some (wanted rows.element_wanted s.items want) || not (count == 0)) _ λ _.
-    walk_interned (Ty.Array el count) t λ ty u e. walk (walk_fitted want _ (walks_node at ty None (tree.Array ps.0) (on_same e w))) λ n x
+array_walks at count elements good expected s =
+    walk (good _ (numbered s)) λ ps t w. walk_found Rule.T03 at (rows.element_ty t.items (wanted rows.element_wanted s.items expected) ps.1) _ λ el is. walk_obeyed Rule.T16 at (is_some (wanted rows.element_wanted s.items expected) || not (count == 0)) _ λ _.
+    walk_interned (Ty.Array el count) t λ ty u e. walk (walk_fitted expected _ (walks_node at ty None (tree.Array ps.0) (on_same e w))) λ n x
     w. walk_obeyed Rule.T19 at (nat_le count 32) _ λ _. walk_ends w
 
 -- ---- blocks and branches
 
-settle : {f : Tape} (s : TypingState) (want : Option TyId) (at : Pos) (ty : TyId) (form : Form) {t : TypingState} → Walks f (numbered
-    s) t (nodes_in form) → Walked (λ m u. Walks f s u (nodes_of m)) (rows.settled want (a_node_of s.next_node at ty form) t)
-settle s want at ty form w = walk_settled want (a_node_of s.next_node at ty form) (walks_node at ty None form w)
+settle : {f : Tape} (s : TypingState) (expected : Option TyId) (at : Pos) (ty : TyId) (form : Form) {t : TypingState} → Walks f (numbered
+    s) t (nodes_in form) → Walked (λ m u. Walks f s u (nodes_of m)) (rows.settled expected (a_node_of s.next_node at ty form) t)
+settle s expected at ty form w = walk_settled expected (a_node_of s.next_node at ty form) (walks_node at ty None form w)
 
 pub block_walks : {f g : Tape} (P : Env → Type 0) (at : Pos) (check : Check (Nodes × Bool × Env)) (tail : Env → Option TyId → Check MaybeNode) → ((s :
     TypingState) → Walked (λ done t. Walks f s t (nodes_among done.0) × P done.2) (check s)) → ((inner : Env) → P inner → WalksMaybe g
     (tail inner)) →
     WalksTyper (f ⨾ g) (rows.block at check tail)
-block_walks P at check tail good good_t want s =
-    walk (good (numbered s)) λ done t w. walk (good_t done.2 w.1 want t) λ v u x. settle s want at (rows.block_ty v done.1)
+block_walks P at check tail good good_t expected s =
+    walk (good (numbered s)) λ done t w. walk (good_t done.2 w.1 expected t) λ v u x. settle s expected at (rows.block_ty v done.1)
     (tree.Block done.0 v) (walks_both w.0 x)
 
 nothing_more : {f : Tape} {s t : TypingState} {xs : List Node} → Walks f s t xs → Walks f s t (xs ++ [])
 nothing_more {f} {s} {t} {xs} w = subst (λ ns. Walks f s t ns) (sym (append-nil xs)) w
 
 pub if_alone_walks : {f g : Tape} (at : Pos) (c body : Typer) → WalksTyper f c → WalksTyper g body → WalksTyper (f ⨾ g) (rows.if_alone at c body)
-if_alone_walks at c body good_c good_b want s =
-    walk (good_c (Some bool) (numbered s)) λ n t w. walk (good_b (Some unit) t) λ b u x. settle s want at unit (tree.If n b absent) (nothing_more (walks_both w x))
+if_alone_walks at c body good_c good_b expected s =
+    walk (good_c (Some bool) (numbered s)) λ n t w. walk (good_b (Some unit) t) λ b u x. settle s expected at unit (tree.If n b absent) (nothing_more (walks_both w x))
 
 pub if_else_walks : {f g h : Tape} (at : Pos) (c body otherwise : Typer) → WalksTyper f c → WalksTyper g body → WalksTyper h otherwise →
     WalksTyper (f ⨾ g ⨾ h) (rows.if_else at c body otherwise)
-if_else_walks at c body otherwise good_c good_b good_o want s =
-    walk (good_c (Some bool) (numbered s)) λ n t w. walk (good_b want t) λ b u x. walk (good_o want u) λ o v y.
-    walk_found Rule.T03 at (rows.one_of_two v.items (ty_of b) (ty_of o)) _ λ ty is. settle s want at ty (tree.If n b (present o)) (walks_both (walks_both w x) y)
+if_else_walks at c body otherwise good_c good_b good_o expected s =
+    walk (good_c (Some bool) (numbered s)) λ n t w. walk (good_b expected t) λ b u x. walk (good_o expected u) λ o v y.
+    walk_found Rule.T03 at (rows.one_of_two v.items (ty_of b) (ty_of o)) _ λ ty is. settle s expected at ty (tree.If n b (present o)) (walks_both (walks_both w x) y)
 
 scrutinised_walks : {f : Tape} {check : Check Node} → WalksNode f check → WalksNode f (rows.scrutinised check)
 scrutinised_walks good s = walk (plain_walks good s) λ n t w. walk_ends (walks_used_if Use.Borrow n w)
 
 pub if_let_alone_walks : {f g : Tape} (env : Env) (at : Pos) (scrutinee : Check Node) (matcher : Matcher) (body : List NamedEntry → Typer)
     → WalksNode f scrutinee → WalksMatcher matcher → ((xs : List NamedEntry) → WalksTyper g (body xs)) → WalksTyper (f ⨾ g) (rows.if_let_alone env at scrutinee matcher body)
-if_let_alone_walks env at scrutinee matcher body good good_m good_b want s =
+if_let_alone_walks env at scrutinee matcher body good good_m good_b expected s =
     walk (scrutinised_walks good (numbered s)) λ n t w. walk (good_m _ (ty_of n) t) λ p u x. walk (good_b p.1 (Some
-    unit) u) λ b v y. settle s want at unit (tree.IfLet p.0 n b absent) (nothing_more (walks_both (walks_swapped w x) y))
+    unit) u) λ b v y. settle s expected at unit (tree.IfLet p.0 n b absent) (nothing_more (walks_both (walks_swapped w x) y))
 
 pub if_let_else_walks : {f g h : Tape} (env : Env) (at : Pos) (scrutinee : Check Node) (matcher : Matcher) (body : List NamedEntry → Typer)
     (otherwise : Typer) → WalksNode f scrutinee → WalksMatcher matcher → ((xs : List NamedEntry) → WalksTyper g (body xs)) →
     WalksTyper h otherwise → WalksTyper (f ⨾ g ⨾ h) (rows.if_let_else env at scrutinee matcher body otherwise)
-if_let_else_walks env at scrutinee matcher body otherwise good good_m good_b good_o want s =
-    walk (scrutinised_walks good (numbered s)) λ n t w. walk (good_m _ (ty_of n) t) λ p u x. walk (good_b p.1 want u) λ
-    b v y. walk (good_o want v) λ o z q. walk_found Rule.T03 at (rows.one_of_two z.items (ty_of b) (ty_of o)) _ λ ty is. settle s want at ty (tree.IfLet p.0 n b (present o)) (walks_both (walks_both (walks_swapped w x) y) q)
+if_let_else_walks env at scrutinee matcher body otherwise good good_m good_b good_o expected s =
+    walk (scrutinised_walks good (numbered s)) λ n t w. walk (good_m _ (ty_of n) t) λ p u x. walk (good_b p.1 expected u) λ
+    b v y. walk (good_o expected v) λ o z q. walk_found Rule.T03 at (rows.one_of_two z.items (ty_of b) (ty_of o)) _ λ ty is. settle s expected at ty (tree.IfLet p.0 n b (present o)) (walks_both (walks_both (walks_swapped w x) y) q)
 
 pub arm_walks : {f g : Tape} (check : Check (Node × List NamedEntry)) (guard : List NamedEntry → Check MaybeNode) (body : List NamedEntry → Typer) →
     ((s : TypingState) → Walked (λ b t. Walks no_closure s t (nodes_of b.0)) (check s)) → ((xs : List NamedEntry) (s : TypingState) → Walked (λ v
     t. Walks f s t (nodes_if_any v)) (guard xs s)) → ((xs : List NamedEntry) → WalksTyper g (body xs)) → WalksTyper (f ⨾ g) (rows.arm
     check guard body)
-arm_walks check guard body good good_g good_b want s =
-    walk (good (numbered s)) λ p t w. walk (good_g p.1 t) λ g u x. walk (good_b p.1 want u) λ b v y. walk_ends
+arm_walks check guard body good good_g good_b expected s =
+    walk (good (numbered s)) λ p t w. walk (good_g p.1 t) λ g u x. walk (good_b p.1 expected u) λ b v y. walk_ends
     (walks_node (place_in_text p.0) (ty_of b) None (tree.Arm p.0 g b) (walks_both (walks_both w x) y))
 
-pub match_walks : {f g : Tape} (env : Env) (at : Pos) (scrutinee : Check Node) (arms : Expected → TyId → Option TyId → Check (Nodes
-    × List TyId)) → WalksNode f scrutinee → ((e : Expected) (ty : TyId) (want : Option TyId) (s : TypingState) → Walked (λ ns
-    t. Walks g s t (nodes_among ns.0)) (arms e ty want s)) → WalksTyper (f ⨾ g) (rows.match_row env at scrutinee arms)
-match_walks env at scrutinee arms good good_a want s =
-    walk (scrutinised_walks good (numbered s)) λ n t w. walk (good_a _ (ty_of n) want t) λ ns u x. walk_found Rule.T03
-    at (rows.one_type u.items ns.1) _ λ ty is. settle s want at ty (tree.Match n ns.0) (walks_both w x)
+pub match_walks : {f g : Tape} (env : Env) (at : Pos) (scrutinee : Check Node) (arms : PatternContext → TyId → Option TyId → Check (Nodes
+    × List TyId)) → WalksNode f scrutinee → ((e : PatternContext) (ty : TyId) (expected : Option TyId) (s : TypingState) → Walked (λ ns
+    t. Walks g s t (nodes_among ns.0)) (arms e ty expected s)) → WalksTyper (f ⨾ g) (rows.match_row env at scrutinee arms)
+match_walks env at scrutinee arms good good_a expected s =
+    walk (scrutinised_walks good (numbered s)) λ n t w. walk (good_a _ (ty_of n) expected t) λ ns u x. walk_found Rule.T03
+    at (rows.one_type u.items ns.1) _ λ ty is. settle s expected at ty (tree.Match n ns.0) (walks_both w x)
 
 -- ---- loops and jumps
 
 pub loop_walks : {f : Tape} (at : Pos) (label : Option Word) (body : LabelledLoop → Typer) → ((a : LabelledLoop) → WalksTyper f (body a)) →
     WalksTyper f (rows.loop_row at label body)
-loop_walks at label body good want s =
-    walk (good _ (Some unit) (numbered s)) λ b t w. walk_found Rule.T03 at (rows.one_type t.items (types_for s.next_node t.breaks)) _ λ ty is. settle s want at ty (tree.Loop b) w
+loop_walks at label body good expected s =
+    walk (good _ (Some unit) (numbered s)) λ b t w. walk_found Rule.T03 at (rows.one_type t.items (types_for s.next_node t.breaks)) _ λ ty is. settle s expected at ty (tree.Loop b) w
 
 pub while_walks : {f g : Tape} (at : Pos) (label : Option Word) (c body : LabelledLoop → Typer) → ((a : LabelledLoop) → WalksTyper f (c a)) → ((a :
     LabelledLoop) → WalksTyper g (body a)) → WalksTyper (f ⨾ g) (rows.while_row at label c body)
-while_walks at label c body good_c good_b want s =
-    walk (good_c _ (Some bool) (numbered s)) λ n t w. walk (good_b _ (Some unit) t) λ b u x. settle s want at unit (tree.While n b) (walks_both w x)
+while_walks at label c body good_c good_b expected s =
+    walk (good_c _ (Some bool) (numbered s)) λ n t w. walk (good_b _ (Some unit) t) λ b u x. settle s expected at unit (tree.While n b) (walks_both w x)
 
 pub while_let_walks : {f g : Tape} (env : Env) (at : Pos) (label : Option Word) (scrutinee : LabelledLoop → Check Node) (matcher : Matcher)
     (body : LabelledLoop → List NamedEntry → Typer) → ((a : LabelledLoop) → WalksNode f (scrutinee a)) → WalksMatcher matcher → ((a :
     LabelledLoop) (xs : List NamedEntry) → WalksTyper g (body a xs)) → WalksTyper (f ⨾ g) (rows.while_let_row env at label scrutinee matcher
     body)
-while_let_walks env at label scrutinee matcher body good good_m good_b want s =
+while_let_walks env at label scrutinee matcher body good good_m good_b expected s =
     walk (scrutinised_walks (good _) (numbered s)) λ n t w. walk (good_m _ (ty_of n) t) λ p u x. walk (good_b _ p.1
-    (Some unit) u) λ b v y. settle s want at unit (tree.WhileLet p.0 n b) (walks_both (walks_swapped w x) y)
+    (Some unit) u) λ b v y. settle s expected at unit (tree.WhileLet p.0 n b) (walks_both (walks_swapped w x) y)
 
 -- a break carries what is added to the breaks
 pub break_walks : {f : Tape} (at : Pos) (to : Option LabelledLoop) (value : Option TyId → Check MaybeNode) → WalksMaybe f value →
     WalksTyper f (rows.break_row at to value)
-break_walks {f} at to value good want s =
+break_walks {f} at to value good expected s =
     walk (good _ (numbered s)) λ v t w. walk_found Rule.T06 at to _ λ a is. walk_obeyed Rule.T06 at (rows.may_carry v a) _ λ _.
-    walk_settled want (a_node_of s.next_node at never (Break a.loop v)) (carries v a.loop t (walks_node at never None (Break a.loop v) w))
+    walk_settled expected (a_node_of s.next_node at never (Break a.loop v)) (carries v a.loop t (walks_node at never None (Break a.loop v) w))
   where
     broken_off : (t : TypingState) (loop : ℕ) (v : MaybeNode) → Stays t (record t {
       breaks = t.breaks ++ (loop, ty_carried v) ∷
@@ -515,27 +515,27 @@ break_walks {f} at to value good want s =
         by b (inr new_) = last b (contains_cases (loop, ty_carried v) [] b new_)
 
 pub continue_walks : (at : Pos) (to : Option LabelledLoop) → WalksTyper no_closure (rows.continue_row at to)
-continue_walks at to want s =
-    walk_found Rule.T06 at to _ λ a is. settle s want at never (tree.Continue a.loop) (walks_none
+continue_walks at to expected s =
+    walk_found Rule.T06 at to _ λ a is. settle s expected at never (tree.Continue a.loop) (walks_none
     (numbered s))
 
 pub return_walks : {f : Tape} (at : Pos) (answer : TyId) (value : Option TyId → Check MaybeNode) → WalksMaybe f value → WalksTyper f (rows.return_row at answer value)
-return_walks at answer value good want s =
-    walk (good (Some answer) (numbered s)) λ v t w. walk_obeyed Rule.T03 at (rows.is_some_node v || is_unit t.items answer) _ λ _. settle s want at never (tree.Return v) w
+return_walks at answer value good expected s =
+    walk (good (Some answer) (numbered s)) λ v t w. walk_obeyed Rule.T03 at (rows.is_some_node v || is_unit t.items answer) _ λ _. settle s expected at never (tree.Return v) w
 
 -- ---- statements
 
-pub in_parts_walks : {f : Tape} (env : Env) (want : Option TyId) (n : Node) {s t : TypingState} → Walks f s t (nodes_of n) →
-    Walked (λ m u. Walks f s u (nodes_of m)) (rows.place_for_parts env want n t)
+pub in_parts_walks : {f : Tape} (env : Env) (expected : Option TyId) (n : Node) {s t : TypingState} → Walks f s t (nodes_of n) →
+    Walked (λ m u. Walks f s u (nodes_of m)) (rows.place_for_parts env expected n t)
 in_parts_walks env None n {t = t} w = walk_obeyed Rule.T08 (place_in_text n) (not (is_reference t.items (ty_of n))) _ λ _. walk_ends w
-in_parts_walks {f} env (Some want) n {s} {t} w =
-    walk_obeyed Rule.T03 (place_in_text n) (is_same (ty_of n) want || not (is_never t.items (ty_of n))) _ λ _. by (fit
-    t.items want (ty_of n))
+in_parts_walks {f} env (Some expected) n {s} {t} w =
+    walk_obeyed Rule.T03 (place_in_text n) (is_same (ty_of n) expected || not (is_never t.items (ty_of n))) _ λ _. by (fit
+    t.items expected (ty_of n))
   where
-    by : (how : Fit) → Walked (λ m u. Walks f s u (nodes_of m)) (rows.as_part env (Some want) n how t)
+    by : (how : Fit) → Walked (λ m u. Walks f s u (nodes_of m)) (rows.as_part env (Some expected) n how t)
     by Fits = walk_obeyed Rule.T08 (place_in_text n) (not (is_reference t.items (ty_of n))) _ λ _. walk_ends w
-    by (Coerced trait_no) = taken_walks env (Some want) n w
-    by Differs = taken_walks env (Some want) n w
+    by (Coerced trait_no) = taken_walks env (Some expected) n w
+    by Differs = taken_walks env (Some expected) n w
 
 pub let_walks : {f : Tape} (P : Env → Type 0) (at : Pos) (env : Env) (one : Bool) (written : Check (Option TyId)) (value : Option TyId → Check
     MaybeNode) (matcher : Matcher) (behind : List NamedEntry → Env) → ((xs : List NamedEntry) → P (behind xs)) → ((s : TypingState) → Walked (λ _ t. SameWalk s t) (written

@@ -120,24 +120,24 @@ interned_ends {R} ty s k = by (position_of (is_equal ty) s.items.types) refl
 
 -- ---- the end of a row
 
-fitted_so : {C : Type 0} {f : Tape} (want : TyId) (n : Node) {s t : TypingState} (how : Fit) → (C → Walks f s t (nodes_of n)) →
-    Walked (λ m u. C → Walks f s u (nodes_of m)) (fitted_by want n how t)
-fitted_so want n Fits p = walk_ends p
-fitted_so want n (Coerced trait_no) p = walk_ends (λ c. walks_outer (place_in_text n) want None (tree.Unsize trait_no n)
+fitted_so : {C : Type 0} {f : Tape} (expected : TyId) (n : Node) {s t : TypingState} (how : Fit) → (C → Walks f s t (nodes_of n)) →
+    Walked (λ m u. C → Walks f s u (nodes_of m)) (fitted_by expected n how t)
+fitted_so expected n Fits p = walk_ends p
+fitted_so expected n (Coerced trait_no) p = walk_ends (λ c. walks_outer (place_in_text n) expected None (tree.Unsize trait_no n)
     (p c))
-fitted_so want n Differs p = record { so = tt }
+fitted_so expected n Differs p = record { so = tt }
 
 -- a leaf, which may be coerced, where something is so
-pub fitted_when : {C : Type 0} {f : Tape} (want : Option TyId) (n : Node) {s t : TypingState} → (C → Walks f s t (nodes_of n)) →
-    Walked (λ m u. C → Walks f s u (nodes_of m)) (fitted want n t)
+pub fitted_when : {C : Type 0} {f : Tape} (expected : Option TyId) (n : Node) {s t : TypingState} → (C → Walks f s t (nodes_of n)) →
+    Walked (λ m u. C → Walks f s u (nodes_of m)) (fitted expected n t)
 fitted_when None n p = walk_ends p
-fitted_when (Some want) n {t = t} p = fitted_so want n (fit t.items want (ty_of n)) p
+fitted_when (Some expected) n {t = t} p = fitted_so expected n (fit t.items expected (ty_of n)) p
 
-pub walk_fitted : {f : Tape} (want : Option TyId) (n : Node) {s t : TypingState} → Walks f s t (nodes_of n) → Walked (λ m u. Walks f s u
-    (nodes_of m)) (fitted want n t)
-walk_fitted want n p = walk_map (fitted_when {C = Unit {0}} want n (λ _. p)) λ m u h. h tt
+pub walk_fitted : {f : Tape} (expected : Option TyId) (n : Node) {s t : TypingState} → Walks f s t (nodes_of n) → Walked (λ m u. Walks f s u
+    (nodes_of m)) (fitted expected n t)
+walk_fitted expected n p = walk_map (fitted_when {C = Unit {0}} expected n (λ _. p)) λ m u h. h tt
 
-pub walk_settled : {f : Tape} (want : Option TyId) (n : Node) {s t : TypingState} → Walks f s t (nodes_of n) → Walked (λ m u. Walks f s u
-    (nodes_of m)) (settled want n t)
-walk_settled want n {t = t} p = walk_obeyed Rule.T03 (place_in_text n) (agrees t.items want (ty_of n)) _ λ is. walk_ends
+pub walk_settled : {f : Tape} (expected : Option TyId) (n : Node) {s t : TypingState} → Walks f s t (nodes_of n) → Walked (λ m u. Walks f s u
+    (nodes_of m)) (settled expected n t)
+walk_settled expected n {t = t} p = walk_obeyed Rule.T03 (place_in_text n) (agrees t.items expected (ty_of n)) _ λ is. walk_ends
     p

@@ -5,22 +5,22 @@ use Rattle.typing_rules.specs.Accesses.{◌⊕◌}
 use Rattle.borrow_rules.specs.AccessView.{aliases_in, argument_in, place_if_any, told_in}
 use Rattle.borrow_rules.proofs.expressions.+told.Given as goal
 
-abbrev pub invariant-tell_all-loop-node : goal.invariant-tell_all-loop-node
-invariant-tell_all-loop-node l =
+abbrev pub invariant-collect_all-loop-node : goal.invariant-collect_all-loop-node
+invariant-collect_all-loop-node l =
     (told_in l.out ⊕ rules.told_all (aliases_in l.aliases) (nodes_from (map tree_of (drop l.node-index l.nodes))))
     ≡ (told_in l.fn.out ⊕ rules.told_all (aliases_in l.aliases) (nodes_from (map tree_of l.nodes)))
 
-abbrev pub invariant-tell_fields-loop-field : goal.invariant-tell_fields-loop-field
-invariant-tell_fields-loop-field l =
+abbrev pub invariant-collect_fields-loop-field : goal.invariant-collect_fields-loop-field
+invariant-collect_fields-loop-field l =
     (told_in l.out ⊕ rules.told_fields (aliases_in l.aliases) (fields_from (map field_of (drop l.field-index l.fields))))
     ≡ (told_in l.fn.out ⊕ rules.told_fields (aliases_in l.aliases) (fields_from (map field_of l.fields)))
 
-abbrev pub invariant-tell_arms-loop-arm : goal.invariant-tell_arms-loop-arm
-invariant-tell_arms-loop-arm l =
+abbrev pub invariant-collect_arms-loop-arm : goal.invariant-collect_arms-loop-arm
+invariant-collect_arms-loop-arm l =
     (told_in l.out ⊕ rules.told_arms (aliases_in l.aliases) (place_if_any l.place) (nodes_from (map tree_of (drop l.arm-index l.arms))))
     ≡ (told_in l.fn.out ⊕ rules.told_arms (aliases_in l.aliases) (place_if_any l.place) (nodes_from (map tree_of l.arms)))
 
-abbrev pub invariant-tell_arguments-loop-node : goal.invariant-tell_arguments-loop-node
-invariant-tell_arguments-loop-node l =
+abbrev pub invariant-collect_arguments-loop-node : goal.invariant-collect_arguments-loop-node
+invariant-collect_arguments-loop-node l =
     map argument_in l.args ++ rules.arguments (aliases_in l.aliases) (nodes_from (map tree_of (drop l.node-index l.nodes)))
     ≡ map argument_in l.fn.args ++ rules.arguments (aliases_in l.aliases) (nodes_from (map tree_of l.nodes))

@@ -21,7 +21,7 @@ use Rattle.lower_code.specs.View.{ops_of, around_of, destination_of, keys_seen, 
 use Rattle.lower_code.specs.Wanted.{codes_for, AsOperand, Category, code_for, made_into, finished_onto}
 use Rattle.lower_code.specs.declared.code.Code as words
 use Rattle.src_meaning.specs.Evaluation.{in_number_order, to_own_key}
-use Rattle.src_meaning.specs.Forms.{site_of_key, Around, is_never}
+use Rattle.src_meaning.specs.Forms.{site_of_key, LoopsAndGuards, is_never}
 use Rattle.src_meaning.specs.Shape.{shape_of, shape, BoundName, head}
 use Rattle.std.proofs.Common.{rules, ◌≡◌, ◌∙◌, ◌∷◌, ℕ, List, ap, sym, map, false, length}
 use Rattle.std.proofs.Math.ListN.{drop_of_length-le}
@@ -202,7 +202,7 @@ let_code-returns-in_ok-names-in-Some-2 t c =
     let pattern : tree.Node = tree_of c.args.pattern.now in
     let bounds : List BoundName = map bound_of c.as_slice-in-Some-2.result.now in
     let place : Place = named c.in_ok-place-in-Some-2.place in
-    let around : Around = around_of c.args.at.around in
+    let around : LoopsAndGuards = around_of c.args.at.around in
     let before : List CodeWord = ops_of c.args.code.now in
     let reached : List CodeWord = ops_of c.node_code-in-Some-2.new.code in
     let is_value : maybe_of c.args.initialiser.now ≡ tree.present (tree_of n) =
@@ -257,7 +257,7 @@ node_code-returns t c =
     let items : ItemTable = c.args.items.now in
     let n : Node = c.args.node.now in
     let w : Category = wanted_of c.args.wanted in
-    let around : Around = around_of c.args.around in
+    let around : LoopsAndGuards = around_of c.args.around in
     let before : List CodeWord = ops_of c.args.code.now in
     let goes : destination_of c.own_destination.result ≡ to_own_key (is_never items n.ty) n.id.0 (made_into w n.id.0) =
     c.own_destination.ensures ∙ ap (to_own_key (is_never items n.ty) n.id.0) c.destination_in.ensures in

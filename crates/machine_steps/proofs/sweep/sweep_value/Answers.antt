@@ -1,6 +1,6 @@
 use Rattle.std.proofs.Common.{◌≡◌, map, option_map, None, true, ap, sym, subst, ◌∙◌}
 use Rattle.machine_steps.proofs.SweepsOver.{parts_plain, parts_put, content_put}
-use Rattle.machine_steps.specs.Left.{is_still, own_impl}
+use Rattle.machine_steps.specs.Continuation.{is_still, own_impl}
 use Rattle.machine_steps.specs.Reading.{pair_of}
 use Rattle.machine_steps.specs.Swept.{GoneOver, ArePartsSwept, IsSwept, freed, freed_parts}
 use Rattle.machine_steps.specs.Turns.{stage_by}

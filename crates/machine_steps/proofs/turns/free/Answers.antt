@@ -5,7 +5,7 @@ use Rattle.machine_store.specs.Activations.{activations_of}
 use Rattle.machine_store.specs.Standing.{dynamic_of, with_activations}
 use Rattle.machine_steps.specs.Worlds.{state_of, run_setting}
 use Rattle.store_model.specs.Concrete.Location.{located_at}
-use Rattle.machine_steps.specs.Left.{is_still}
+use Rattle.machine_steps.specs.Continuation.{is_still}
 use Rattle.machine_steps.specs.Reading.{ShowsValue}
 use Rattle.machine_steps.proofs.TurnsLeft.{freed_box, something_found}
 use Rattle.mir_base.specs.declared.trace.Event.{Event}

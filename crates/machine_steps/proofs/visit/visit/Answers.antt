@@ -1,7 +1,7 @@
 use Rattle.std.proofs.Common.{◌≡◌, ◌++◌, true, option_map, map, ap, sym, subst, ◌∙◌}
 use Rattle.std.proofs.lemmas.Result.{IfOk-weaker}
 use Rattle.cfg_meaning.specs.Programs.{setting_of}
-use Rattle.machine_steps.specs.Left.{is_expected}
+use Rattle.machine_steps.specs.Continuation.{is_expected}
 use Rattle.machine_steps.specs.Seen.{IsSeen}
 use Rattle.machine_steps.specs.Swept.{SweptSo, Sweeping, freed, with_events}
 use Rattle.machine_steps.specs.Turns.{TurnLeft, stage_by}

@@ -18,9 +18,9 @@ pub returns-in-Fails-clause-refused : goal.returns-in-Fails-clause-refused
 returns-in-Fails-clause-refused c =
     fails_here c.args.characters.now c.loop-passed.passed c.in_ok-length.field-0 c.loop-passed-test.true
     (c.in_ok-length.ensures.value ∙ ap next_piece (take_rest c.args.characters.now c.loop-passed.passed))
-    c.in-Fails.fault c.in-Fails.before c.moved-place.result c.error.result c.in-Fails.is
+    c.in-Fails.fault c.in-Fails.before c.advance-place.result c.error.result c.in-Fails.is
     (subst (λ (r : Reading). Near c.in_ok-length.field-0.length r) c.in-Fails.is c.in_ok-length.ensures.fits.near)
-    c.moved-place.ensures c.error.ensures c.loop-passed.invariant.fails
+    c.advance-place.ensures c.error.ensures c.loop-passed.invariant.fails
 
 pub loop-passed-preserved : goal.loop-passed-preserved
 loop-passed-preserved c =
@@ -28,25 +28,25 @@ loop-passed-preserved c =
     let short : c.in_ok-length.field-0.length ≤ length (drop c.loop-passed.passed c.args.characters.now) =
     subst (λ (w : List ℕ). c.in_ok-length.field-0.length ≤ length w) (take_rest c.args.characters.now c.loop-passed.passed) c.in_ok-length.ensures.fits.within in
     record {
-      at = c.moved-after.ensures;
+      at = c.advance-after.ensures;
       within = omega (arith, short, length-drop c.loop-passed.passed c.args.characters.now);
       told =
           elim c.match-reading.branch [
             | in-Skipped w ↦
-                told_skipped c.args.characters.now c.loop-passed.passed c.loop-passed.cursor c.moved-after.result c.in_ok-length.field-0 c.loop-passed-test.true found
-                c.loop-passed.invariant.at c.moved-after.ensures c.loop-passed.tokens w.in-Skipped.is c.loop-passed.invariant.told
+                told_skipped c.args.characters.now c.loop-passed.passed c.loop-passed.cursor c.advance-after.result c.in_ok-length.field-0 c.loop-passed-test.true found
+                c.loop-passed.invariant.at c.advance-after.ensures c.loop-passed.tokens w.in-Skipped.is c.loop-passed.invariant.told
                 ∙ ap (λ (ts : List Spanned). ts ++ tokens_of (take (c.loop-passed.passed + c.in_ok-length.field-0.length) c.args.characters.now) (the_cuts (drop (c.loop-passed.passed + c.in_ok-length.field-0.length) c.args.characters.now))) (sym w.tokens-is)
             | in-Reads+in_ok-push-in-Reads w ↦
-                told_token c.args.characters.now c.loop-passed.passed c.loop-passed.cursor c.moved-after.result c.in_ok-length.field-0 c.loop-passed-test.true found
-                c.loop-passed.invariant.at c.moved-after.ensures c.loop-passed.tokens c.match-reading.tokens w.in-Reads.token w.in-Reads.is (w.tokens-is ∙ w.in_ok-push-in-Reads.ensures.pushed) c.loop-passed.invariant.told
+                told_token c.args.characters.now c.loop-passed.passed c.loop-passed.cursor c.advance-after.result c.in_ok-length.field-0 c.loop-passed-test.true found
+                c.loop-passed.invariant.at c.advance-after.ensures c.loop-passed.tokens c.match-reading.tokens w.in-Reads.token w.in-Reads.is (w.tokens-is ∙ w.in_ok-push-in-Reads.ensures.pushed) c.loop-passed.invariant.told
           ];
       fails =
           elim c.match-reading.branch [
             | in-Skipped w ↦
-                none_skipped c.args.characters.now c.loop-passed.passed c.loop-passed.cursor c.moved-after.result c.in_ok-length.field-0 c.loop-passed-test.true found
-                c.loop-passed.invariant.at c.moved-after.ensures w.in-Skipped.is c.loop-passed.invariant.fails
+                none_skipped c.args.characters.now c.loop-passed.passed c.loop-passed.cursor c.advance-after.result c.in_ok-length.field-0 c.loop-passed-test.true found
+                c.loop-passed.invariant.at c.advance-after.ensures w.in-Skipped.is c.loop-passed.invariant.fails
             | in-Reads+in_ok-push-in-Reads w ↦
-                none_token c.args.characters.now c.loop-passed.passed c.loop-passed.cursor c.moved-after.result c.in_ok-length.field-0 c.loop-passed-test.true found
-                c.loop-passed.invariant.at c.moved-after.ensures w.in-Reads.token w.in-Reads.is c.loop-passed.invariant.fails
+                none_token c.args.characters.now c.loop-passed.passed c.loop-passed.cursor c.advance-after.result c.in_ok-length.field-0 c.loop-passed-test.true found
+                c.loop-passed.invariant.at c.advance-after.ensures w.in-Reads.token w.in-Reads.is c.loop-passed.invariant.fails
           ];
     }

@@ -1,7 +1,7 @@
 use Rattle.std.proofs.Common.{◌≡◌}
 use Rattle.src_ast.specs.Seen.{nodes_of}
 use Rattle.src_ast.specs.Syntax.{list_of}
-use Rattle.typeck_checker.specs.Stand.{Same, env, state}
+use Rattle.typeck_checker.specs.Stand.{ChangesNothing, env, state}
 use Rattle.typing_rules.specs.Patterns as sizes
 use Rattle.typing_rules.specs.Program as rules
 use Rattle.type_check.proofs.bodies.method_bodies.Given as goal
@@ -11,7 +11,7 @@ invariant-loop-split l =
     record {
       gives : rules.all_fn_rules (env l.initial.checker) (list_of (nodes_of l.nodes)) (state l.initial.checker)
           ≡ rules.all_fn_rules (env l.initial.checker) (list_of (nodes_of l.rest)) (state l.checker);
-      same : Same l.initial.checker l.checker;
+      same : ChangesNothing l.initial.checker l.checker;
     }
 
 abbrev pub decreases-loop-split : goal.decreases-loop-split

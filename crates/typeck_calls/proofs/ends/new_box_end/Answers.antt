@@ -13,7 +13,7 @@ returns-clause-gives c =
     let there = c.in_ok-first_alone.ensures in
     let some : 0 < c.args.count = omega (arith, c.if-count-eq0.false) in
     subst (λ (o : Result (Node × TypingState) Broken). Gives o c.box_end.result c.box_end.new.checker)
-    (ap (λ (t : TypingState). box_rest c.args.id.0 c.args.at c.args.count c.args.want c.args.content (top (stack c.first_alone.new.checker)) t) there.state
-    ∙ ap (λ (ns : List Node). box_rest c.args.id.0 c.args.at c.args.count c.args.want c.args.content (top ns) (state before)) there.left
-    ∙ sym (ap (λ (n : Option Node). box_by c.args.at c.args.id.0 c.args.count c.args.want c.args.content n (state before)) (first_is c.args.count (stack before) some)))
+    (ap (λ (t : TypingState). box_rest c.args.id.0 c.args.at c.args.count c.args.expected c.args.content (top (stack c.first_alone.new.checker)) t) there.state
+    ∙ ap (λ (ns : List Node). box_rest c.args.id.0 c.args.at c.args.count c.args.expected c.args.content (top ns) (state before)) there.left
+    ∙ sym (ap (λ (n : Option Node). box_by c.args.at c.args.id.0 c.args.count c.args.expected c.args.content n (state before)) (first_is c.args.count (stack before) some)))
     c.box_end.ensures.gives

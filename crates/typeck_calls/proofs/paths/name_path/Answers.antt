@@ -14,7 +14,7 @@ returns-in_ok-put_variable-in-Some-clause-gives c =
     let put = c.in_ok-put_variable-in-Some.ensures in
     let first = c.args.name.now in
     subst (λ (o : Result (Node × TypingState) Broken). Gives o c.use_value.result c.use_value.new.self)
-    (ap (λ (e : Env). taken e c.args.want (top (stack there)) (state there)) put.kept.1.0
-    ∙ sym (ap (λ (x : Option NamedEntry). path_by (env before) c.args.at (Some first) None x c.args.want (state before)) (sym c.in-Some.ensures)
-    ∙ ap (λ o. and_then o (taken (env before) c.args.want)) put.gives))
+    (ap (λ (e : Env). taken e c.args.expected (top (stack there)) (state there)) put.kept.1.0
+    ∙ sym (ap (λ (x : Option NamedEntry). path_by (env before) c.args.at (Some first) None x c.args.expected (state before)) (sym c.in-Some.ensures)
+    ∙ ap (λ o. and_then o (taken (env before) c.args.expected)) put.gives))
     c.use_value.ensures.gives

@@ -14,6 +14,6 @@ returns-clause-gives c =
     let receiver = top (below_all c.args.count s) in
     let given = last_nodes c.args.count s in
     subst (λ (o : Result (Node × TypingState) Broken). Gives o c.refused_end.result c.refused_end.new.checker)
-    (ap (λ (b : Bool). refused_rest c.args.id.0 c.args.at c.args.called c.args.is_count b c.args.want receiver given t) c.is_refused-is_refused.ensures
-    ∙ refused_as c.args.id.0 c.args.at c.args.called c.args.want receiver given t c.args.is_count)
+    (ap (λ (b : Bool). refused_rest c.args.id.0 c.args.at c.args.called c.args.is_count b c.args.expected receiver given t) c.is_refused-is_refused.ensures
+    ∙ refused_as c.args.id.0 c.args.at c.args.called c.args.expected receiver given t c.args.is_count)
     c.refused_end.ensures.gives

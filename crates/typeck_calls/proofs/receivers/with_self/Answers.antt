@@ -5,10 +5,10 @@ use Rattle.typeck_checker.specs.Stand.{env, stack, state, top}
 use Rattle.typeck_calls.proofs.receivers.with_self.Goals as goal
 
 pub returns-clause-gives : goal.returns-clause-gives
-returns-clause-gives c id found seen is want count args =
+returns-clause-gives c id found seen is expected count args =
     let before = c.args.checker.now in
     let after = c.check_receiver.new.checker in
-    given_behind (env before) c.args.at id (top (stack before)) found count args want (state before) c.args.self_ty is
+    given_behind (env before) c.args.at id (top (stack before)) found count args expected (state before) c.args.self_ty is
     (record { behind = c.behind_of.result; answer = c.answer_of-answer.result; is_unique = c.in_ok-is_unique.is_unique; is_drop = c.is_drop-is_drop.result })
     c.in_ok-params.params (top (stack after)) (state after) c.in_ok-is_unique.ensures.gives.0 c.in_ok-is_unique.ensures.gives.1
     (c.in_ok-params.ensures.copy found seen) (c.answer_of-answer.ensures found seen)

@@ -7,5 +7,5 @@ use Rattle.typeck_exprs.proofs.aggregates.box_end.Goals as goal
 pub returns-clause-gives : goal.returns-clause-gives
 returns-clause-gives c =
     let before = c.args.checker.now in
-    subst (λ (ty : TyId). Gives (box_of_rest c.args.id.0 c.args.at c.args.count c.args.want ty (top (stack before)) (state before)) c.box_of.result c.box_of.new.checker)
+    subst (λ (ty : TyId). Gives (box_of_rest c.args.id.0 c.args.at c.args.count c.args.expected ty (top (stack before)) (state before)) c.box_of.result c.box_of.new.checker)
     c.part_ty-inside.ensures c.box_of.ensures.gives

@@ -2,7 +2,7 @@ use Rattle.std.proofs.Common.{◌≡◌}
 use Rattle.src_ast.specs.ItemForms.{name_seen}
 use Rattle.src_ast.specs.Seen.{nodes_of}
 use Rattle.src_ast.specs.Syntax.{list_of}
-use Rattle.typeck_checker.specs.Stand.{Same, env, state}
+use Rattle.typeck_checker.specs.Stand.{ChangesNothing, env, state}
 use Rattle.typing_rules.specs.Patterns as sizes
 use Rattle.typing_rules.specs.Program as rules
 use Rattle.typeck_items.proofs.methods.method_heads.Given as goal
@@ -12,7 +12,7 @@ invariant-loop-split l =
     record {
       gives : rules.method_heads (env l.initial.checker) (name_seen l.trait_) l.owner l.initial.seen (list_of (nodes_of l.nodes)) (state l.initial.checker)
           ≡ rules.method_heads (env l.initial.checker) (name_seen l.trait_) l.owner l.seen (list_of (nodes_of l.rest)) (state l.checker);
-      same : Same l.initial.checker l.checker;
+      same : ChangesNothing l.initial.checker l.checker;
     }
 
 abbrev pub decreases-loop-split : goal.decreases-loop-split

@@ -2,7 +2,7 @@ use Rattle.std.proofs.Common.{true, ◌∙◌, ap, subst}
 use Rattle.typeck_patterns.specs.Fields.{below_given, last_fields}
 use Rattle.typeck_patterns.specs.Rests.{target_rest}
 use Rattle.typeck_patterns.specs.Targets.{target_of}
-use Rattle.typeck_checker.specs.Stand.{Gives, Keeps, stack, state}
+use Rattle.typeck_checker.specs.Stand.{Gives, KeepsStack, stack, state}
 use Rattle.typeck_patterns.proofs.Closings.{first_below, first_fields}
 use Rattle.typeck_patterns.proofs.ends.ordered_end.Goals as goal
 
@@ -16,6 +16,6 @@ returns-clause-gives c =
 pub returns-clause-kept : goal.returns-clause-kept
 returns-clause-kept c =
     let before = c.args.checker.now in
-    subst (λ others. Keeps others before c.target_end.result c.target_end.new.checker)
+    subst (λ others. KeepsStack others before c.target_end.result c.target_end.new.checker)
     (ap (λ given. below_given given (stack before)) c.in_ok-given.ensures.made ∙ first_below c.args.count (stack before))
     c.target_end.ensures.kept

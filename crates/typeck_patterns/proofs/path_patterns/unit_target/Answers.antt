@@ -1,5 +1,5 @@
 use Rattle.std.proofs.Common.{sym, subst}
-use Rattle.typeck_patterns.specs.Expected.{GivesBeside, expected_of}
+use Rattle.typeck_patterns.specs.PatternContext.{GivesBeside, pattern_context_of}
 use Rattle.typeck_patterns.specs.Rests.{unit_rest}
 use Rattle.typeck_patterns.specs.Targets.{target_of}
 use Rattle.typeck_patterns.proofs.Units.{beside, unit_beside}
@@ -11,5 +11,5 @@ returns-clause-gives c =
     λ earlier.
     let before = state c.args.checker.now in
     subst (λ o. GivesBeside o c.unit_node.result earlier c.unit_node.new.checker)
-    (sym (unit_beside c.args.at (expected_of c.args.e) c.args.ty (target_of c.args.target) c.args.is_whole earlier before))
+    (sym (unit_beside c.args.at (pattern_context_of c.args.e) c.args.ty (target_of c.args.target) c.args.is_whole earlier before))
     (beside (unit_rest c.args.at c.args.e.takes_all c.args.ty (target_of c.args.target) c.args.is_whole before) c.unit_node.result earlier c.unit_node.new.checker c.unit_node.ensures.gives)

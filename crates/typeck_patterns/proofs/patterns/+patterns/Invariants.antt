@@ -2,7 +2,7 @@ use Rattle.std.proofs.Common.{◌≡◌, ◌≤◌, ◌+◌, ◌*◌, drop, map,
 use Rattle.std.specs.Option.{option_map}
 use Rattle.typeck_checker.specs.Lists.{below_all}
 use Rattle.mir_ty.specs.declared.adt.Variant.{Variant}
-use Rattle.typeck_patterns.specs.Expected.{expected_of}
+use Rattle.typeck_patterns.specs.PatternContext.{pattern_context_of}
 use Rattle.typeck_patterns.specs.Fields.{below_given}
 use Rattle.typeck_patterns.specs.Members.{part_of, parts_named}
 use Rattle.src_ast.specs.Seen.{maybe_of, nodes_of, syn_of}
@@ -15,8 +15,8 @@ use Rattle.typeck_patterns.proofs.patterns.+patterns.Given as goal
 abbrev pub invariant-part_patterns-loop-ty : goal.invariant-part_patterns-loop-ty
 invariant-part_patterns-loop-ty l =
     record {
-      gives : rules.part_patterns (env l.initial.checker) (expected_of l.e) l.types (nodes_of l.initial.rest) (reverse l.initial.bound) (state l.initial.checker)
-          ≡ behind l.count (stack l.checker) (rules.part_patterns (env l.initial.checker) (expected_of l.e) (drop l.ty-index l.types) (nodes_of l.rest) (reverse l.bound) (state l.checker));
+      gives : rules.part_patterns (env l.initial.checker) (pattern_context_of l.e) l.types (nodes_of l.initial.rest) (reverse l.initial.bound) (state l.initial.checker)
+          ≡ behind l.count (stack l.checker) (rules.part_patterns (env l.initial.checker) (pattern_context_of l.e) (drop l.ty-index l.types) (nodes_of l.rest) (reverse l.bound) (state l.checker));
       under : below_all l.count (stack l.checker) ≡ stack l.initial.checker;
       place : Stays l.initial.checker l.checker;
       smaller : sizes (nodes_of l.rest) ≤ sizes (nodes_of l.initial.rest);
@@ -25,8 +25,8 @@ invariant-part_patterns-loop-ty l =
 abbrev pub invariant-each_pattern-loop-split : goal.invariant-each_pattern-loop-split
 invariant-each_pattern-loop-split l =
     record {
-      gives : rules.each_pattern (env l.initial.checker) (expected_of l.e) l.ty (nodes_of l.initial.rest) (reverse l.initial.bound) (state l.initial.checker)
-          ≡ behind l.count (stack l.checker) (rules.each_pattern (env l.initial.checker) (expected_of l.e) l.ty (nodes_of l.rest) (reverse l.bound) (state l.checker));
+      gives : rules.each_pattern (env l.initial.checker) (pattern_context_of l.e) l.ty (nodes_of l.initial.rest) (reverse l.initial.bound) (state l.initial.checker)
+          ≡ behind l.count (stack l.checker) (rules.each_pattern (env l.initial.checker) (pattern_context_of l.e) l.ty (nodes_of l.rest) (reverse l.bound) (state l.checker));
       under : below_all l.count (stack l.checker) ≡ stack l.initial.checker;
       place : Stays l.initial.checker l.checker;
       smaller : sizes (nodes_of l.rest) ≤ sizes (nodes_of l.initial.rest);
@@ -36,8 +36,8 @@ abbrev pub invariant-field_patterns-loop-part : goal.invariant-field_patterns-lo
 invariant-field_patterns-loop-part l =
     record {
       gives : (v : Variant) → map (option_map part_of) l.parts ≡ parts_named v (nodes_of l.initial.rest) →
-          (rules.field_patterns (env l.initial.checker) (expected_of l.e) v (nodes_of l.initial.rest) (reverse l.initial.bound) (state l.initial.checker)
-          ≡ fields_behind l.given (stack l.checker) (rules.field_patterns (env l.initial.checker) (expected_of l.e) v (nodes_of l.rest) (reverse l.bound) (state l.checker)))
+          (rules.field_patterns (env l.initial.checker) (pattern_context_of l.e) v (nodes_of l.initial.rest) (reverse l.initial.bound) (state l.initial.checker)
+          ≡ fields_behind l.given (stack l.checker) (rules.field_patterns (env l.initial.checker) (pattern_context_of l.e) v (nodes_of l.rest) (reverse l.bound) (state l.checker)))
           × (map (option_map part_of) (drop l.part-index l.parts) ≡ parts_named v (nodes_of l.rest));
       under : below_given l.given (stack l.checker) ≡ stack l.initial.checker;
       place : Stays l.initial.checker l.checker;

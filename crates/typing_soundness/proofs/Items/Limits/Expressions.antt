@@ -25,7 +25,7 @@ use Rattle.typing_rules.specs.Named.{PathValue, Makes, IsBroken, path_value, Cal
 use Rattle.typing_rules.specs.Patterns.{pattern, count_of, target_of}
 use Rattle.typing_rules.specs.Places.{unit, bool, never, int, struct_field, numbered_part, used, a_node_of}
 use Rattle.typing_rules.specs.Rows as rows
-use Rattle.typing_rules.specs.Rows.{Typer, Referrer, Expected, taken}
+use Rattle.typing_rules.specs.Rows.{Typer, Referrer, PatternContext, taken}
 use Rattle.typing_rules.specs.Scope.{Env, NamedEntry, Capture, variable, with_variables, within_loop, jumps_to, in_guard, field_named, adt_named, adt_at_head, body_named, method_of, kind_at}
 use Rattle.typing_rules.specs.Typed as typing
 use Rattle.typing_rules.specs.Written as types
@@ -190,20 +190,20 @@ module _ (b : Bounds) where
       form_is _ = tt
 
   makes_kept : (at : Pos) (v : PathValue) → IsMade v → KeepsTyper b (typing.makes_unit at v)
-  makes_kept at (Makes adt variant) below want s h =
-      walk (intern_kept b (Ty.Adt adt) s h below) λ ty t k. on.leaf_kept b at ty (tree.Make adt variant no_field) want t k
-  makes_kept at (IsBroken rule) below want s h = record { so = tt }
+  makes_kept at (Makes adt variant) below expected s h =
+      walk (intern_kept b (Ty.Adt adt) s h below) λ ty t k. on.leaf_kept b at ty (tree.Make adt variant no_field) expected t k
+  makes_kept at (IsBroken rule) below expected s h = record { so = tt }
 
   path_alone_kept : (env : Env) → IsNamed b env → (at : Pos) (first second : Option Word) → KeepsTyper b (typing.path_alone env
       at first second)
-  path_alone_kept env named at first second want s h =
-      makes_kept at (path_value s.items env first second) (path_made s.items h env named first second) want s h
+  path_alone_kept env named at first second expected s h =
+      makes_kept at (path_value s.items env first second) (path_made s.items h env named first second) expected s h
 
   path_by_kept : (env : Env) → IsNamed b env → (at : Pos) (first second : Option Word) (x : Option NamedEntry) → KeepsTyper b
       (typing.path_by env at first second x)
-  path_by_kept env named at first second (Some x) want s h =
-      walk (on.variable_kept b at x s h) λ p t k. on.taken_kept b env want p t k
-  path_by_kept env named at first second None want s h = path_alone_kept env named at first second want s h
+  path_by_kept env named at first second (Some x) expected s h =
+      walk (on.variable_kept b at x s h) λ p t k. on.taken_kept b env expected p t k
+  path_by_kept env named at first second None expected s h = path_alone_kept env named at first second expected s h
 
   path_kept : (env : Env) → IsNamed b env → (at : Pos) (first second : Option Word) → KeepsTyper b (typing.path env at first
       second)
@@ -219,36 +219,36 @@ module _ (b : Bounds) where
   called_kept : (items : ItemTable) (g : Inside b items) (env : Env) (named : IsNamed b env) (at : Pos) (count : ℕ) (callee :
       Check Node) (args : List TyId → Check Nodes) (c : Callee) → IsCallee items g env named c → Keeps b callee → KeepsArgs
       args → KeepsTyper b (typing.called_by at count callee args c)
-  called_kept items g env named at count callee args (Function body is_drop head) is good_c good want s h =
-      on.call_kept b at (tree.Call body) head.result count head.params args (not is_drop) good want s h
-  called_kept items g env named at count callee args (Constructor adt variant tys) is good_c good want s h =
-      walk (intern_kept b (Ty.Adt adt) s h is) λ ty t k. on.call_kept b at (rows.make adt variant) ty count tys args true good want
+  called_kept items g env named at count callee args (Function body is_drop head) is good_c good expected s h =
+      on.call_kept b at (tree.Call body) head.result count head.params args (not is_drop) good expected s h
+  called_kept items g env named at count callee args (Constructor adt variant tys) is good_c good expected s h =
+      walk (intern_kept b (Ty.Adt adt) s h is) λ ty t k. on.call_kept b at (rows.make adt variant) ty count tys args true good expected
       t k
-  called_kept items g env named at count callee args Prints is good_c good want s h =
-      on.built_in_kept b at unit rows.print_form count 1 (args (int IntKind.I32 ∷ [])) (good (int IntKind.I32 ∷ [])) want s h
-  called_kept items g env named at count callee args Asks is good_c good want s h =
-      on.built_in_kept b at (int IntKind.I32) rows.ask_form count 0 (args []) (good []) want s h
-  called_kept items g env named at count callee args Drops is good_c good want s h =
-      on.built_in_kept b at unit rows.drop_form count 1 (args []) (good []) want s h
-  called_kept items g env named at count callee args Forgets is good_c good want s h =
-      on.built_in_kept b at unit rows.forget_form count 1 (args []) (good []) want s h
-  called_kept items g env named at count callee args Boxes is good_c good want s h =
-      on.new_box_kept b at count args good want s h
-  called_kept items g env named at count callee args AValue is good_c good want s h =
-      on.closure_call_kept b at count callee args good_c good want s h
-  called_kept items g env named at count callee args (Unnamed rule) is good_c good want s h = record { so = tt }
-  called_kept items g env named at count callee args NoCallee is good_c good want s h =
-      on.no_call_kept b at Rule.T13 args want s h
+  called_kept items g env named at count callee args Prints is good_c good expected s h =
+      on.built_in_kept b at unit rows.print_form count 1 (args (int IntKind.I32 ∷ [])) (good (int IntKind.I32 ∷ [])) expected s h
+  called_kept items g env named at count callee args Asks is good_c good expected s h =
+      on.built_in_kept b at (int IntKind.I32) rows.ask_form count 0 (args []) (good []) expected s h
+  called_kept items g env named at count callee args Drops is good_c good expected s h =
+      on.built_in_kept b at unit rows.drop_form count 1 (args []) (good []) expected s h
+  called_kept items g env named at count callee args Forgets is good_c good expected s h =
+      on.built_in_kept b at unit rows.forget_form count 1 (args []) (good []) expected s h
+  called_kept items g env named at count callee args Boxes is good_c good expected s h =
+      on.new_box_kept b at count args good expected s h
+  called_kept items g env named at count callee args AValue is good_c good expected s h =
+      on.closure_call_kept b at count callee args good_c good expected s h
+  called_kept items g env named at count callee args (Unnamed rule) is good_c good expected s h = record { so = tt }
+  called_kept items g env named at count callee args NoCallee is good_c good expected s h =
+      on.no_call_kept b at Rule.T13 args expected s h
 
   passed_kept : (at : Pos) (by_value : Typer) (x : Option NamedEntry) → KeepsTyper b by_value → KeepsReferrer b (typing.passed at
       by_value x)
-  passed_kept at by_value None good want unique to s h = good (Some want) s h
-  passed_kept at by_value (Some x) good want unique to s h = by (is_reference s.items x.ty)
+  passed_kept at by_value None good expected unique to s h = good (Some expected) s h
+  passed_kept at by_value (Some x) good expected unique to s h = by (is_reference s.items x.ty)
     where
-      by : (c : Bool) → Walked (λ _ t. Inside b t.items) ((if c then rows.passed_on at x want unique to else by_value (Some
-          want)) s)
-      by true = on.passed_on_kept b at x want unique to s h
-      by false = good (Some want) s h
+      by : (c : Bool) → Walked (λ _ t. Inside b t.items) ((if c then rows.passed_on at x expected unique to else by_value (Some
+          expected)) s)
+      by true = on.passed_on_kept b at x expected unique to s h
+      by false = good (Some expected) s h
 
   minus_kept : (at : Pos) (o : Option (ℕ × Option IntKind)) (operand : Typer) → KeepsTyper b operand → KeepsTyper b
       (typing.minus at o operand)
@@ -321,7 +321,7 @@ module _ (b : Bounds) where
   closure_kept : (env : Env) → IsNamed b env → (at : Pos) (captures params : Syns) (answer : MaybeSyn) (block : Env → Typer) →
       ((inner : Env) → IsNamed b inner → KeepsTyper b (block inner)) → KeepsTyper b (bodies.closure env at captures params
       answer block)
-  closure_kept env named at captures params answer block good want s h =
+  closure_kept env named at captures params answer block good expected s h =
       walk (captured_kept env 0 captures [] (record (numbered s) { next_body = suc s.next_body }) h) λ caps t k. walk (intern_kept
       b (Ty.Closure (length t.items.closures)) (with_ caps.1 t) (with_closure_kept t.items (def caps.1) k) (inr (closure_more
       t.items.closures (def caps.1)))) λ ty u l. walk (body_kept (in_closure env at s.next_body ty caps.1 params answer block) u
@@ -329,7 +329,7 @@ module _ (b : Bounds) where
         bodies = [];
         next_node = 0;
         breaks = [];
-      }) l)) λ m v q. fitted_kept b want _ _ q
+      }) l)) λ m v q. fitted_kept b expected _ _ q
     where
       def : List NamedEntry → ClosureDef
       def captures = record { captures = bodies.types_of captures; body = s.next_body }
@@ -347,9 +347,9 @@ module _ (b : Bounds) where
 
   mutual
     pub typed_kept : (env : Env) → IsNamed b env → (e : Syn) → KeepsTyper b (typing.typed env e)
-    typed_kept env named (syn at form) want s h =
-        either (typing.is_place env form) (typing.place env at form >>= taken env want) (typing.value env at form want) s
-        (walk (place_kept env named at form s h) λ p t k. on.taken_kept b env want p t k) (value_kept env named at form want s h)
+    typed_kept env named (syn at form) expected s h =
+        either (typing.is_place env form) (typing.place env at form >>= taken env expected) (typing.value env at form expected) s
+        (walk (place_kept env named at form s h) λ p t k. on.taken_kept b env expected p t k) (value_kept env named at form expected s h)
 
     base_of_kept : (env : Env) → IsNamed b env → (e : Syn) → Keeps b (typing.base_of env e)
     base_of_kept env named (syn at form) s h =
@@ -371,95 +371,95 @@ module _ (b : Bounds) where
     place_kept env named at _ s h = record { so = tt }
 
     value_kept : (env : Env) → IsNamed b env → (at : Pos) (form : Shape) → KeepsTyper b (typing.value env at form)
-    value_kept env named at (Path first second) want s h = path_alone_kept env named at first second want s h
-    value_kept env named at (Parens inside) want s h = typed_kept env named inside want s h
-    value_kept env named at (Literal n suffix) want s h = on.literal_kept b at false n suffix want s h
-    value_kept env named at (TruthLiteral c) want s h = on.leaf_kept b at bool (tree.Truth c) want s h
-    value_kept env named at (Minus operand) want s h =
-        minus_kept at (typing.literal_in operand) (typing.typed env operand) (typed_kept env named operand) want s h
-    value_kept env named at (Bang operand) want s h =
-        on.not_kept b at (typing.typed env operand) (typed_kept env named operand) want s h
-    value_kept env named at (Ampersand unique base) want s h =
+    value_kept env named at (Path first second) expected s h = path_alone_kept env named at first second expected s h
+    value_kept env named at (Parens inside) expected s h = typed_kept env named inside expected s h
+    value_kept env named at (Literal n suffix) expected s h = on.literal_kept b at false n suffix expected s h
+    value_kept env named at (TruthLiteral c) expected s h = on.leaf_kept b at bool (tree.Truth c) expected s h
+    value_kept env named at (Minus operand) expected s h =
+        minus_kept at (typing.literal_in operand) (typing.typed env operand) (typed_kept env named operand) expected s h
+    value_kept env named at (Bang operand) expected s h =
+        on.not_kept b at (typing.typed env operand) (typed_kept env named operand) expected s h
+    value_kept env named at (Ampersand unique base) expected s h =
         walk_nothing Rule.T08 at ((typing.base_of env base >>= rows.no_reference) s)
-    value_kept env named at (Calculate operator left right) want s h =
+    value_kept env named at (Calculate operator left right) expected s h =
         on.arithmetic_kept b at operator (typing.is_plain left) (typing.typed env left) (typing.typed env right) (typed_kept env
-        named left) (typed_kept env named right) want s h
-    value_kept env named at (Compare operator left right) want s h =
+        named left) (typed_kept env named right) expected s h
+    value_kept env named at (Compare operator left right) expected s h =
         on.comparison_kept b at operator (typing.is_plain left) (typing.typed env left) (typing.typed env right) (typed_kept env
-        named left) (typed_kept env named right) want s h
-    value_kept env named at (Both left right) want s h =
+        named left) (typed_kept env named right) expected s h
+    value_kept env named at (Both left right) expected s h =
         on.logic_kept b at tree.And (typing.typed env left) (typing.typed env right) (typed_kept env named left) (typed_kept env
-        named right) want s h
-    value_kept env named at (Either left right) want s h =
+        named right) expected s h
+    value_kept env named at (Either left right) expected s h =
         on.logic_kept b at tree.Or (typing.typed env left) (typing.typed env right) (typed_kept env named left) (typed_kept env
-        named right) want s h
-    value_kept env named at (Store left right) want s h =
+        named right) expected s h
+    value_kept env named at (Store left right) expected s h =
         on.store_kept b env at (typing.base_of env left) (typing.typed env right) (base_of_kept env named left) (typed_kept env
-        named right) want s h
-    value_kept env named at (CallOf callee args) want s h =
+        named right) expected s h
+    value_kept env named at (CallOf callee args) expected s h =
         called_kept s.items h env named at (count_of args) (typing.typed env callee None) (λ params. typing.typed_args env
         params args) (callee_of s.items env callee) (callee_is s.items h env named callee) (typed_kept env named callee None) (λ
-        params. args_kept env named params args) want s h
-    value_kept env named at (MethodOf receiver name args) want s h =
+        params. args_kept env named params args) expected s h
+    value_kept env named at (MethodOf receiver name args) expected s h =
         on.method_kept b env at (method_named name) (count_of args) (typing.base_of env receiver) (λ params. typing.typed_args
-        env params args) (base_of_kept env named receiver) (λ params. args_kept env named params args) want s h
-    value_kept env named at (StructOf first second inits) want s h =
+        env params args) (base_of_kept env named receiver) (λ params. args_kept env named params args) expected s h
+    value_kept env named at (StructOf first second inits) expected s h =
         walk_found Rule.T01 at (target_of s.items env first second) _ λ t is. on.struct_kept b at t.adt t.variant
         (typing.variant_of s.items t).fields (typing.typed_inits env (typing.variant_of s.items t) inits) (target_below b
-        s.items h env named first second t is) (inits_kept env named (typing.variant_of s.items t) inits) want s h
-    value_kept env named at (TupleOf no_syn) want s h = on.leaf_kept b at unit tree.UnitValue want s h
-    value_kept env named at (TupleOf (a_syn first rest)) want s h =
+        s.items h env named first second t is) (inits_kept env named (typing.variant_of s.items t) inits) expected s h
+    value_kept env named at (TupleOf no_syn) expected s h = on.leaf_kept b at unit tree.UnitValue expected s h
+    value_kept env named at (TupleOf (a_syn first rest)) expected s h =
         on.tuple_kept b at (suc (count_of rest)) (λ wants. typing.typed_parts env wants (a_syn first rest)) (lt-ltb 0 (suc
-        (count_of rest)) (omega arith)) (λ wants. parts_kept env named wants (a_syn first rest)) want s h
-    value_kept env named at (ArrayOf elements) want s h =
-        on.array_kept b at (count_of elements) (λ want. typing.typed_elements env want elements) (λ want. elements_kept env named
-        want elements) want s h
-    value_kept env named at (Braces statements tail) want s h =
+        (count_of rest)) (omega arith)) (λ wants. parts_kept env named wants (a_syn first rest)) expected s h
+    value_kept env named at (ArrayOf elements) expected s h =
+        on.array_kept b at (count_of elements) (λ expected. typing.typed_elements env expected elements) (λ expected. elements_kept env named
+        expected elements) expected s h
+    value_kept env named at (Braces statements tail) expected s h =
         on.block_kept b (IsNamed b) at (typing.typed_all env statements) (λ inner. typing.typed_maybe inner tail) (all_kept env
-        named statements) (λ inner is. maybe_kept inner is tail) want s h
-    value_kept env named at (IfElse c body nothing) want s h =
-        on.if_alone_kept b at (typing.typed env c) (typing.typed env body) (typed_kept env named c) (typed_kept env named body) want
+        named statements) (λ inner is. maybe_kept inner is tail) expected s h
+    value_kept env named at (IfElse c body nothing) expected s h =
+        on.if_alone_kept b at (typing.typed env c) (typing.typed env body) (typed_kept env named c) (typed_kept env named body) expected
         s h
-    value_kept env named at (IfElse c body (just otherwise)) want s h =
+    value_kept env named at (IfElse c body (just otherwise)) expected s h =
         on.if_else_kept b at (typing.typed env c) (typing.typed env body) (typing.typed env otherwise) (typed_kept env named c)
-        (typed_kept env named body) (typed_kept env named otherwise) want s h
-    value_kept env named at (IfLetElse p scrutinee body nothing) want s h =
+        (typed_kept env named body) (typed_kept env named otherwise) expected s h
+    value_kept env named at (IfLetElse p scrutinee body nothing) expected s h =
         on.if_let_alone_kept b env at (typing.base_of env scrutinee) (typing.matcher env p) (λ xs. typing.typed (with_variables
         xs env) body) (base_of_kept env named scrutinee) (λ e ty. pattern_kept b env named e ty p []) (λ xs. typed_kept
-        (with_variables xs env) named body) want s h
-    value_kept env named at (IfLetElse p scrutinee body (just otherwise)) want s h =
+        (with_variables xs env) named body) expected s h
+    value_kept env named at (IfLetElse p scrutinee body (just otherwise)) expected s h =
         on.if_let_else_kept b env at (typing.base_of env scrutinee) (typing.matcher env p) (λ xs. typing.typed (with_variables
         xs env) body) (typing.typed env otherwise) (base_of_kept env named scrutinee) (λ e ty. pattern_kept b env named e ty p [])
-        (λ xs. typed_kept (with_variables xs env) named body) (typed_kept env named otherwise) want s h
-    value_kept env named at (MatchOn scrutinee arms) want s h =
-        walk_obeyed Rule.T20 at (typing.has_one arms) _ λ _. on.match_kept b env at (typing.base_of env scrutinee) (λ e ty want.
-        typing.typed_arms env e ty want arms) (base_of_kept env named scrutinee) (λ e ty want. arms_kept env named e ty want arms)
-        want s h
-    value_kept env named at (LoopOf label body) want s h =
+        (λ xs. typed_kept (with_variables xs env) named body) (typed_kept env named otherwise) expected s h
+    value_kept env named at (MatchOn scrutinee arms) expected s h =
+        walk_obeyed Rule.T20 at (typing.has_one arms) _ λ _. on.match_kept b env at (typing.base_of env scrutinee) (λ e ty expected.
+        typing.typed_arms env e ty expected arms) (base_of_kept env named scrutinee) (λ e ty expected. arms_kept env named e ty expected arms)
+        expected s h
+    value_kept env named at (LoopOf label body) expected s h =
         on.loop_kept b at label (λ around. typing.typed (within_loop around env) body) (λ a. typed_kept (within_loop a env) named
-        body) want s h
-    value_kept env named at (WhileOf label c body) want s h =
+        body) expected s h
+    value_kept env named at (WhileOf label c body) expected s h =
         on.while_kept b at label (λ around. typing.typed (within_loop around env) c) (λ around. typing.typed (within_loop around
-        env) body) (λ a. typed_kept (within_loop a env) named c) (λ a. typed_kept (within_loop a env) named body) want s h
-    value_kept env named at (WhileLetOf label p scrutinee body) want s h =
+        env) body) (λ a. typed_kept (within_loop a env) named c) (λ a. typed_kept (within_loop a env) named body) expected s h
+    value_kept env named at (WhileLetOf label p scrutinee body) expected s h =
         on.while_let_kept b env at label (λ around. typing.base_of (within_loop around env) scrutinee) (typing.matcher env p) (λ
         around xs. typing.typed (with_variables xs (within_loop around env)) body) (λ a. base_of_kept (within_loop a env) named
         scrutinee) (λ e ty. pattern_kept b env named e ty p []) (λ a xs. typed_kept (with_variables xs (within_loop a env)) named
-        body) want s h
-    value_kept env named at (BreakOf label v) want s h =
-        on.break_kept b at (jumps_to env.loops label) (typing.typed_maybe env v) (λ want. maybe_kept env named v want) want s h
-    value_kept env named at (ContinueOf label) want s h = on.continue_kept b at (jumps_to env.loops label) want s h
-    value_kept env named at (ReturnOf v) want s h =
-        on.return_kept b at env.answer (typing.typed_maybe env v) (λ want. maybe_kept env named v want) want s h
-    value_kept env named at (MoveOf captures params answer body) want s h =
+        body) expected s h
+    value_kept env named at (BreakOf label v) expected s h =
+        on.break_kept b at (jumps_to env.loops label) (typing.typed_maybe env v) (λ expected. maybe_kept env named v expected) expected s h
+    value_kept env named at (ContinueOf label) expected s h = on.continue_kept b at (jumps_to env.loops label) expected s h
+    value_kept env named at (ReturnOf v) expected s h =
+        on.return_kept b at env.answer (typing.typed_maybe env v) (λ expected. maybe_kept env named v expected) expected s h
+    value_kept env named at (MoveOf captures params answer body) expected s h =
         closure_kept env named at captures params answer (λ inner. typing.typed inner body) (λ inner is. typed_kept inner is body)
-        want s h
-    value_kept env named at PanicOf want s h = on.leaf_kept b at never tree.Panic want s h
-    value_kept env named at _ want s h = record { so = tt }
+        expected s h
+    value_kept env named at PanicOf expected s h = on.leaf_kept b at never tree.Panic expected s h
+    value_kept env named at _ expected s h = record { so = tt }
 
-    maybe_kept : (env : Env) → IsNamed b env → (e : MaybeSyn) (want : Option TyId) → Keeps b (typing.typed_maybe env e want)
-    maybe_kept env named nothing want s h = walk_ends h
-    maybe_kept env named (just e) want s h = walk (typed_kept env named e want s h) λ n t k. walk_ends k
+    maybe_kept : (env : Env) → IsNamed b env → (e : MaybeSyn) (expected : Option TyId) → Keeps b (typing.typed_maybe env e expected)
+    maybe_kept env named nothing expected s h = walk_ends h
+    maybe_kept env named (just e) expected s h = walk (typed_kept env named e expected s h) λ n t k. walk_ends k
 
     all_kept : (env : Env) → IsNamed b env → (es : Syns) (s : TypingState) → Inside b s.items → Walked (λ done t. Inside b t.items ×
         IsNamed b done.2) (typing.typed_all env es s)
@@ -470,11 +470,11 @@ module _ (b : Bounds) where
     statement_kept : (env : Env) → IsNamed b env → (e : Syn) (s : TypingState) → Inside b s.items → Walked (λ done t. Inside b
         t.items × IsNamed b done.2) (typing.statement env e s)
     statement_kept env named (syn at form) s h =
-        either (typing.is_expression form) (typing.a_statement <$> rows.evaluate at env false (λ want. if typing.is_place env
-        form then (typing.place env at form >>= taken env want) else typing.value env at form want)) (typing.other_statement
-        env at form) s (walk (on.evaluate_kept b (IsNamed b) at env false _ named (λ want t k. either (typing.is_place env form)
-        (typing.place env at form >>= taken env want) (typing.value env at form want) t (walk (place_kept env named at form t k)
-        λ p u l. on.taken_kept b env want p u l) (value_kept env named at form want t k)) s h) λ n t k. walk_ends k) (other_kept env
+        either (typing.is_expression form) (typing.a_statement <$> rows.evaluate at env false (λ expected. if typing.is_place env
+        form then (typing.place env at form >>= taken env expected) else typing.value env at form expected)) (typing.other_statement
+        env at form) s (walk (on.evaluate_kept b (IsNamed b) at env false _ named (λ expected t k. either (typing.is_place env form)
+        (typing.place env at form >>= taken env expected) (typing.value env at form expected) t (walk (place_kept env named at form t k)
+        λ p u l. on.taken_kept b env expected p u l) (value_kept env named at form expected t k)) s h) λ n t k. walk_ends k) (other_kept env
         named at form s h)
 
     other_kept : (env : Env) → IsNamed b env → (at : Pos) (form : Shape) (s : TypingState) → Inside b s.items → Walked (λ done t.
@@ -482,24 +482,24 @@ module _ (b : Bounds) where
     other_kept env named at (LetOf p ty initialiser) s h =
         walk (on.let_kept b (IsNamed b) at env (typing.is_one_name s.items p) (typing.declared env ty) (typing.initialised env
         (typing.is_one_name s.items p) initialiser) (typing.matcher env p) (λ xs. with_variables xs env) (λ xs. named)
-        (declared_kept env named ty) (λ want. initialised_kept env named (typing.is_one_name s.items p) initialiser want) (λ e ty.
+        (declared_kept env named ty) (λ expected. initialised_kept env named (typing.is_one_name s.items p) initialiser expected) (λ e ty.
         pattern_kept b env named e ty p []) s h) λ n t k. walk_ends k
     other_kept env named at (Semi e) s h =
         walk (on.evaluate_kept b (IsNamed b) at env true (typing.typed env e) named (typed_kept env named e) s h) λ n t k.
         walk_ends k
     other_kept env named at _ s h = walk_ends (h, named)
 
-    initialised_kept : (env : Env) → IsNamed b env → (one : Bool) (e : MaybeSyn) (want : Option TyId) → Keeps b
-        (typing.initialised env one e want)
-    initialised_kept env named one nothing want s h = walk_ends h
-    initialised_kept env named true (just e) want s h = walk (typed_kept env named e want s h) λ n t k. walk_ends k
-    initialised_kept env named false (just e) want s h = walk (for_parts_kept env named want e s h) λ n t k. walk_ends k
+    initialised_kept : (env : Env) → IsNamed b env → (one : Bool) (e : MaybeSyn) (expected : Option TyId) → Keeps b
+        (typing.initialised env one e expected)
+    initialised_kept env named one nothing expected s h = walk_ends h
+    initialised_kept env named true (just e) expected s h = walk (typed_kept env named e expected s h) λ n t k. walk_ends k
+    initialised_kept env named false (just e) expected s h = walk (for_parts_kept env named expected e s h) λ n t k. walk_ends k
 
-    for_parts_kept : (env : Env) → IsNamed b env → (want : Option TyId) (e : Syn) → Keeps b (typing.for_parts env want e)
-    for_parts_kept env named want (syn at form) s h =
-        either (typing.is_place env form) (typing.place env at form >>= rows.place_for_parts env want) (typing.value env at
-        form want) s (walk (place_kept env named at form s h) λ p t k. on.in_parts_kept b env want p t k) (value_kept env named at
-        form want s h)
+    for_parts_kept : (env : Env) → IsNamed b env → (expected : Option TyId) (e : Syn) → Keeps b (typing.for_parts env expected e)
+    for_parts_kept env named expected (syn at form) s h =
+        either (typing.is_place env form) (typing.place env at form >>= rows.place_for_parts env expected) (typing.value env at
+        form expected) s (walk (place_kept env named at form s h) λ p t k. on.in_parts_kept b env expected p t k) (value_kept env named at
+        form expected s h)
 
     args_kept : (env : Env) → IsNamed b env → (params : List TyId) (args : Syns) → Keeps b (typing.typed_args env params args)
     args_kept env named params no_syn s h = walk_ends h
@@ -510,22 +510,22 @@ module _ (b : Bounds) where
         env named e) s h) λ n t k. walk (args_kept env named params es t k) λ ns u l. walk_ends l
 
     by_reference_kept : (env : Env) → IsNamed b env → (e : Syn) → KeepsReferrer b (typing.by_reference env e)
-    by_reference_kept env named (syn at form) want unique to s h =
-        either (typing.may_refer form) (typing.reference_form env at form want unique to) (if typing.is_place env form then
-        (typing.place env at form >>= taken env (Some want)) else typing.value env at form (Some want)) s (reference_kept env
-        named at form want unique to s h) (either (typing.is_place env form) (typing.place env at form >>= taken env (Some
-        want)) (typing.value env at form (Some want)) s (walk (place_kept env named at form s h) λ p t k. on.taken_kept b env
-        (Some want) p t k) (value_kept env named at form (Some want) s h))
+    by_reference_kept env named (syn at form) expected unique to s h =
+        either (typing.may_refer form) (typing.reference_form env at form expected unique to) (if typing.is_place env form then
+        (typing.place env at form >>= taken env (Some expected)) else typing.value env at form (Some expected)) s (reference_kept env
+        named at form expected unique to s h) (either (typing.is_place env form) (typing.place env at form >>= taken env (Some
+        expected)) (typing.value env at form (Some expected)) s (walk (place_kept env named at form s h) λ p t k. on.taken_kept b env
+        (Some expected) p t k) (value_kept env named at form (Some expected) s h))
 
     reference_kept : (env : Env) → IsNamed b env → (at : Pos) (form : Shape) → KeepsReferrer b (typing.reference_form env at
         form)
-    reference_kept env named at (Ampersand unique base) want is_unique to s h =
-        on.borrow_kept b at unique (typing.base_of env base) (base_of_kept env named base) want is_unique to s h
-    reference_kept env named at (Path first second) want unique to s h =
+    reference_kept env named at (Ampersand unique base) expected is_unique to s h =
+        on.borrow_kept b at unique (typing.base_of env base) (base_of_kept env named base) expected is_unique to s h
+    reference_kept env named at (Path first second) expected unique to s h =
         passed_kept at (typing.path env at first second) (typing.variable_of env first second) (path_kept env named at first
-        second) want unique to s h
-    reference_kept env named at (Parens inside) want unique to s h = by_reference_kept env named inside want unique to s h
-    reference_kept env named at _ want unique to s h = record { so = tt }
+        second) expected unique to s h
+    reference_kept env named at (Parens inside) expected unique to s h = by_reference_kept env named inside expected unique to s h
+    reference_kept env named at _ expected unique to s h = record { so = tt }
 
     inits_kept : (env : Env) → IsNamed b env → (v : Variant) (inits : Syns) → Keeps b (typing.typed_inits env v inits)
     inits_kept env named v no_syn s h = walk_ends h
@@ -536,8 +536,8 @@ module _ (b : Bounds) where
 
     init_kept : (env : Env) → IsNamed b env → (at : Pos) (name : Word) (init : MaybeSyn) → KeepsTyper b (typing.init_value env
         at name init)
-    init_kept env named at name nothing want s h = path_kept env named at (Some name) None want s h
-    init_kept env named at name (just e) want s h = typed_kept env named e want s h
+    init_kept env named at name nothing expected s h = path_kept env named at (Some name) None expected s h
+    init_kept env named at name (just e) expected s h = typed_kept env named e expected s h
 
     parts_kept : (env : Env) → IsNamed b env → (wants : List (Option TyId)) (parts : Syns) (s : TypingState) → Inside b s.items →
         Walked (λ ps t. Inside b t.items × (length ps.1 ≡ count_of parts)) (typing.typed_parts env wants parts s)
@@ -546,18 +546,18 @@ module _ (b : Bounds) where
         walk (typed_kept env named e (typing.first_want wants) s h) λ n t k. walk (parts_kept env named (typing.other_wants wants)
         es t k) λ ns u l. walk_ends (l.0, ap suc l.1)
 
-    elements_kept : (env : Env) → IsNamed b env → (want : Option TyId) (elements : Syns) → Keeps b (typing.typed_elements env
-        want elements)
-    elements_kept env named want no_syn s h = walk_ends h
-    elements_kept env named want (a_syn e es) s h =
-        walk (typed_kept env named e want s h) λ n t k. walk (elements_kept env named want es t k) λ ns u l. walk_ends l
+    elements_kept : (env : Env) → IsNamed b env → (expected : Option TyId) (elements : Syns) → Keeps b (typing.typed_elements env
+        expected elements)
+    elements_kept env named expected no_syn s h = walk_ends h
+    elements_kept env named expected (a_syn e es) s h =
+        walk (typed_kept env named e expected s h) λ n t k. walk (elements_kept env named expected es t k) λ ns u l. walk_ends l
 
-    arms_kept : (env : Env) → IsNamed b env → (e : Expected) (ty : TyId) (want : Option TyId) (arms : Syns) → Keeps b
-        (typing.typed_arms env e ty want arms)
-    arms_kept env named e ty want no_syn s h = walk_ends h
-    arms_kept env named e ty want (a_syn (syn at (ArmOf p guard body)) rest) s h =
+    arms_kept : (env : Env) → IsNamed b env → (e : PatternContext) (ty : TyId) (expected : Option TyId) (arms : Syns) → Keeps b
+        (typing.typed_arms env e ty expected arms)
+    arms_kept env named e ty expected no_syn s h = walk_ends h
+    arms_kept env named e ty expected (a_syn (syn at (ArmOf p guard body)) rest) s h =
         walk (on.arm_kept b (pattern env e ty p []) (λ xs. typing.typed_maybe (with_variables (in_guard xs) env) guard (Some
         bool)) (λ xs. typing.typed (with_variables xs env) body) (pattern_kept b env named e ty p []) (λ xs. maybe_kept
-        (with_variables (in_guard xs) env) named guard (Some bool)) (λ xs. typed_kept (with_variables xs env) named body) want s
-        h) λ n t k. walk (arms_kept env named e ty want rest t k) λ ns u l. walk_ends l
-    arms_kept env named e ty want (a_syn (syn at _) rest) s h = record { so = tt }
+        (with_variables (in_guard xs) env) named guard (Some bool)) (λ xs. typed_kept (with_variables xs env) named body) expected s
+        h) λ n t k. walk (arms_kept env named e ty expected rest t k) λ ns u l. walk_ends l
+    arms_kept env named e ty expected (a_syn (syn at _) rest) s h = record { so = tt }

@@ -13,10 +13,10 @@ use Rattle.mir_ty.specs.ItemTable.{ItemTable}
 use Rattle.typed_tree.specs.Tree.{Fields}
 use Rattle.well_typed.specs.Types.{is_same, is_bool, is_dyn, is_enum, is_reference, kind_of, array_of, variant_at}
 use Rattle.typing_rules.specs.Bodies as bodies
-use Rattle.typing_rules.specs.Bodies.{param_expected, is_name_or_wildcard}
+use Rattle.typing_rules.specs.Bodies.{param_pattern_context, is_name_or_wildcard}
 use Rattle.typing_rules.specs.Check.{Check, TypingState, breaks, pure, ◌>>=◌}
 use Rattle.typing_rules.specs.Patterns as rules
-use Rattle.typing_rules.specs.Rows.{Expected, is_signed_kind, most, all_given, are_known}
+use Rattle.typing_rules.specs.Rows.{PatternContext, is_signed_kind, most, all_given, are_known}
 use Rattle.typing_rules.specs.Scope.{Env, NamedEntry, adt_named, adt_at_head, kind_at, variable, variant_named, field_named}
 use Rattle.typing_rules.specs.Written as types
 use Rattle.src_ast.specs.Syntax.{Word, Receiver, ByValue, ByShared, ByUnique, Syn, syn, Shape, AnyPattern, BindPattern, LiteralPattern, TruthPattern, PathPattern, PartsPattern, FieldsPattern, FieldPattern, ParensPattern, TuplePattern, ArrayPattern, Alternatives, ParamOf, SelfParam, Syns, no_syn, a_syn, MaybeSyn, nothing, just}
@@ -29,18 +29,18 @@ use Rattle.typing_soundness.proofs.Walking.Params.{written_still, written_param_
 use Rattle.typing_soundness.proofs.Walking.Steps.{walk, walk_map, walk_obeyed, walk_found, walk_ends}
 
 module _ (b : Bounds) where
-  literal_kept : (at : Pos) (e : Expected) (ty : TyId) (is_negative : Bool) (value : ℕ) (suffix : _) → Keeps b
+  literal_kept : (at : Pos) (e : PatternContext) (ty : TyId) (is_negative : Bool) (value : ℕ) (suffix : _) → Keeps b
       (rules.literal_pattern at e ty is_negative value suffix)
   literal_kept at e ty is_negative value suffix s h =
       walk_found Rule.T03 at (kind_of s.items ty) _ λ kind is. walk_obeyed Rule.T03 at (rules.agrees_kind suffix ty && (not
       is_negative || is_signed_kind kind)) _ λ _. walk_obeyed Rule.T17 at (nat_le value (most kind is_negative)) _ λ _.
       walk_obeyed Rule.T18 at (not e.takes_all) _ λ _. walk_ends h
 
-  truth_kept : (at : Pos) (e : Expected) (ty : TyId) (value : Bool) → Keeps b (rules.truth_pattern at e ty value)
+  truth_kept : (at : Pos) (e : PatternContext) (ty : TyId) (value : Bool) → Keeps b (rules.truth_pattern at e ty value)
   truth_kept at e ty value s h =
       walk_obeyed Rule.T03 at (is_bool s.items ty) _ λ _. walk_obeyed Rule.T18 at (not e.takes_all) _ λ _. walk_ends h
 
-  bind_kept : (at : Pos) (e : Expected) (ty : TyId) (name : Word) (earlier : List NamedEntry) → Keeps b (rules.bind at e ty name
+  bind_kept : (at : Pos) (e : PatternContext) (ty : TyId) (name : Word) (earlier : List NamedEntry) → Keeps b (rules.bind at e ty name
       earlier)
   bind_kept at e ty name earlier s h =
       walk_obeyed Rule.T02 at (not (is_some (variable earlier name))) _ λ _. walk_obeyed Rule.T07 at (is_copy s.items ty ||
@@ -78,10 +78,10 @@ module _ (b : Bounds) where
       by None e is = absurd (none-some t is)
       by (Some n) e is = if_enum n (head_below b items h env named first n e) (is_enum items n) is
 
-  abbrev KeepsParts : (Expected → List TyId → Check (Fields × List NamedEntry × Bool × Bool)) → Type 0
-  KeepsParts parts = (e : Expected) (tys : List TyId) → Keeps b (parts e tys)
+  abbrev KeepsParts : (PatternContext → List TyId → Check (Fields × List NamedEntry × Bool × Bool)) → Type 0
+  KeepsParts parts = (e : PatternContext) (tys : List TyId) → Keeps b (parts e tys)
 
-  target_kept : (at : Pos) (e : Expected) (ty : TyId) (t : rules.PatternTarget) (parts : Expected → List TyId → Check (Fields × List
+  target_kept : (at : Pos) (e : PatternContext) (ty : TyId) (t : rules.PatternTarget) (parts : PatternContext → List TyId → Check (Fields × List
       NamedEntry × Bool × Bool)) → t.adt < b.adts → KeepsParts parts → Keeps b (rules.of_target at e ty t parts)
   target_kept at e ty t parts below good s h =
       walk (intern_kept b (Ty.Adt t.adt) (numbered s) h below) λ self u k. walk_obeyed Rule.T03 at (is_same ty self) _ λ _. walk
@@ -92,7 +92,7 @@ module _ (b : Bounds) where
   none_kept : (earlier : List NamedEntry) (is_whole : Bool) → KeepsParts (rules.no_parts earlier is_whole)
   none_kept earlier is_whole e tys s h = walk_ends h
 
-  lone_kept : (env : Env) (at : Pos) (e : Expected) (ty : TyId) (adt : ℕ) (earlier : List NamedEntry) → adt < b.adts → Keeps b
+  lone_kept : (env : Env) (at : Pos) (e : PatternContext) (ty : TyId) (adt : ℕ) (earlier : List NamedEntry) → adt < b.adts → Keeps b
       (rules.lone_struct env at e ty adt earlier)
   lone_kept env at e ty adt earlier below s h = by (rules.is_unit_kind (kind_at env.kinds adt 0))
     where
@@ -101,7 +101,7 @@ module _ (b : Bounds) where
       by true = target_kept at e ty (rules.target adt 0) (rules.no_parts earlier true) below (none_kept earlier true) s h
       by false = record { so = tt }
 
-  lone_name_kept : (env : Env) (at : Pos) (e : Expected) (ty : TyId) (name : Word) (earlier : List NamedEntry) → Keeps b
+  lone_name_kept : (env : Env) (at : Pos) (e : PatternContext) (ty : TyId) (name : Word) (earlier : List NamedEntry) → Keeps b
       (rules.lone_name env at e ty name earlier)
   lone_name_kept env at e ty name earlier s h = by (adt_named s.items name) refl
     where
@@ -115,7 +115,7 @@ module _ (b : Bounds) where
       by None is = bind_kept at e ty name earlier s h
       by (Some adt) is = if_enum adt (named_below b s.items h name adt is) (is_enum s.items adt)
 
-  path_kept : (env : Env) → IsNamed b env → (at : Pos) (e : Expected) (ty : TyId) (first second : Option Word) (earlier : List
+  path_kept : (env : Env) → IsNamed b env → (at : Pos) (e : PatternContext) (ty : TyId) (first second : Option Word) (earlier : List
       NamedEntry) → Keeps b (rules.path_alone env at e ty first second earlier)
   path_kept env named at e ty first None earlier s h =
       walk_found Rule.T01 at env.self_adt _ λ adt is. walk_obeyed Rule.T01 at (not (is_enum s.items adt)) _ λ _. lone_kept env
@@ -135,10 +135,10 @@ module _ (b : Bounds) where
 
   module _ (env : Env) (named : IsNamed b env) where
     mutual
-      pub pattern_kept : (e : Expected) (ty : TyId) (p : Syn) (earlier : List NamedEntry) → Keeps b (rules.pattern env e ty p earlier)
+      pub pattern_kept : (e : PatternContext) (ty : TyId) (p : Syn) (earlier : List NamedEntry) → Keeps b (rules.pattern env e ty p earlier)
       pattern_kept e ty (syn at form) earlier s h = form_kept e ty at form earlier s h
 
-      form_kept : (e : Expected) (ty : TyId) (at : Pos) (form : Shape) (earlier : List NamedEntry) → Keeps b (rules.pattern_form env
+      form_kept : (e : PatternContext) (ty : TyId) (at : Pos) (form : Shape) (earlier : List NamedEntry) → Keeps b (rules.pattern_form env
           e ty at form earlier)
       form_kept e ty at AnyPattern earlier s h = walk_ends h
       form_kept e ty at (BindPattern name) earlier s h = lone_name_kept env at e ty name earlier s h
@@ -179,26 +179,26 @@ module _ (b : Bounds) where
           h) λ ps t k. walk_obeyed Rule.T18 at (not (rules.has_names earlier ps.1)) _ λ _. walk_ends k
       form_kept e ty at _ earlier s h = record { so = tt }
 
-      parts_kept : (e : Expected) (tys : List TyId) (parts : Syns) (earlier : List NamedEntry) → Keeps b (rules.part_patterns env e
+      parts_kept : (e : PatternContext) (tys : List TyId) (parts : Syns) (earlier : List NamedEntry) → Keeps b (rules.part_patterns env e
           tys parts earlier)
       parts_kept e tys no_syn earlier s h = walk_ends h
       parts_kept e [] (a_syn first rest) earlier s h = walk_ends h
       parts_kept e (ty ∷ tys) (a_syn first rest) earlier s h =
           walk (pattern_kept e ty first earlier s h) λ p t k. walk (parts_kept e tys rest p.1 t k) λ ps u l. walk_ends l
 
-      each_kept : (e : Expected) (ty : TyId) (patterns : Syns) (earlier : List NamedEntry) → Keeps b (rules.each_pattern env e ty
+      each_kept : (e : PatternContext) (ty : TyId) (patterns : Syns) (earlier : List NamedEntry) → Keeps b (rules.each_pattern env e ty
           patterns earlier)
       each_kept e ty no_syn earlier s h = walk_ends h
       each_kept e ty (a_syn first rest) earlier s h =
           walk (pattern_kept e ty first earlier s h) λ p t k. walk (each_kept e ty rest p.1 t k) λ ps u l. walk_ends l
 
-      fields_kept : (e : Expected) (v : Variant) (fields : Syns) (earlier : List NamedEntry) → Keeps b (rules.field_patterns env e v
+      fields_kept : (e : PatternContext) (v : Variant) (fields : Syns) (earlier : List NamedEntry) → Keeps b (rules.field_patterns env e v
           fields earlier)
       fields_kept e v no_syn earlier s h = walk_ends h
       fields_kept e v (a_syn first rest) earlier s h =
           walk (field_kept e v first earlier s h) λ p t k. walk (fields_kept e v rest p.1 t k) λ ps u l. walk_ends l
 
-      field_kept : (e : Expected) (v : Variant) (field : Syn) (earlier : List NamedEntry) → Keeps b (rules.field_pattern env e v field
+      field_kept : (e : PatternContext) (v : Variant) (field : Syn) (earlier : List NamedEntry) → Keeps b (rules.field_pattern env e v field
           earlier)
       field_kept e v (syn at (FieldPattern name nothing)) earlier s h =
           field_by_kept v name earlier (λ ty. rules.bind at e ty name earlier) (λ ty. bind_kept at e ty name earlier) s h
@@ -237,7 +237,7 @@ module _ (b : Bounds) where
       param_kept : (p : Syn) (earlier : List NamedEntry) → Keeps b (bodies.param env ty_of_param p earlier)
       param_kept (syn at (ParamOf p ty)) earlier s h =
           walk (good ty s h) λ t u k. walk_obeyed Rule.T08 at (is_name_or_wildcard p || not (is_reference u.items t)) _ λ _.
-          walk (pattern_kept param_expected t p earlier u k) λ n v l. walk_ends l
+          walk (pattern_kept param_pattern_context t p earlier u k) λ n v l. walk_ends l
       param_kept (syn at (SelfParam receiver)) earlier s h = walk (receiver_kept at receiver s h) λ ty t k. walk_ends k
       param_kept (syn at _) earlier s h = record { so = tt }
 

@@ -20,7 +20,7 @@ use Rattle.well_typed.specs.Types.{inside_of, reference_of, is_reference, is_dyn
 use Rattle.typing_rules.specs.Check.{Check, TypingState, ◌>>=◌, ◌>>◌, breaks, types_for, interned}
 use Rattle.typing_rules.specs.Places.{place_in_text, used, a_node_of, unit, bool, never, int, Fit, Fits, Coerced, Differs, fit, variable_place, Member, through_at, through_in, through, is_fixed, in_own_guard, is_behind_shared, wanted, agrees}
 use Rattle.typing_rules.specs.Rows as rows
-use Rattle.typing_rules.specs.Rows.{Typer, Referrer, Method, Matcher, Expected, Given, borrow_by}
+use Rattle.typing_rules.specs.Rows.{Typer, Referrer, Method, Matcher, PatternContext, Given, borrow_by}
 use Rattle.typing_rules.specs.Scope.{Env, NamedEntry, LabelledLoop, adt_named, adt_at_head}
 use Rattle.src_ast.specs.Syntax.{Word}
 use Rattle.typing_rules.proofs.Sound.Gives.{numbered}
@@ -42,13 +42,13 @@ abbrev pub Keeps : Bounds → {A : Type 0} → Check A → Type 0
 Keeps b {A} check = (s : TypingState) → Inside b s.items → Walked (λ (_ : A) t. Inside b t.items) (check s)
 
 abbrev pub KeepsTyper : Bounds → Typer → Type 0
-KeepsTyper b check = (want : Option TyId) → Keeps b (check want)
+KeepsTyper b check = (expected : Option TyId) → Keeps b (check expected)
 
 abbrev pub KeepsReferrer : Bounds → Referrer → Type 0
-KeepsReferrer b check = (want : TyId) (unique : Bool) (to : TyId) → Keeps b (check want unique to)
+KeepsReferrer b check = (expected : TyId) (unique : Bool) (to : TyId) → Keeps b (check expected unique to)
 
 abbrev pub KeepsMatcher : Bounds → Matcher → Type 0
-KeepsMatcher b check = (e : Expected) (ty : TyId) → Keeps b (check e ty)
+KeepsMatcher b check = (e : PatternContext) (ty : TyId) → Keeps b (check e ty)
 
 -- the names of an environment
 abbrev pub IsNamed : Bounds → Env → Type 0
@@ -91,45 +91,45 @@ module _ (b : Bounds) where
   -- ---- the end of a row
 
   -- what only numbers a node
-  fitted_as : (P : ItemTable → Type 0) (want : Option TyId) (n : Node) (s : TypingState) → P s.items → Walked (λ _ t. P t.items)
-      (rows.fitted want n s)
+  fitted_as : (P : ItemTable → Type 0) (expected : Option TyId) (n : Node) (s : TypingState) → P s.items → Walked (λ _ t. P t.items)
+      (rows.fitted expected n s)
   fitted_as P None n s h = walk_ends h
-  fitted_as P (Some want) n s h = by (fit s.items want (ty_of n))
+  fitted_as P (Some expected) n s h = by (fit s.items expected (ty_of n))
     where
-      by : (how : Fit) → Walked (λ _ t. P t.items) (rows.fitted_by want n how s)
+      by : (how : Fit) → Walked (λ _ t. P t.items) (rows.fitted_by expected n how s)
       by Fits = walk_ends h
       by (Coerced trait_no) = walk_ends h
       by Differs = record { so = tt }
 
-  pub fitted_kept : (want : Option TyId) (n : Node) (s : TypingState) → Inside b s.items → Walked (λ _ t. Inside b t.items)
-      (rows.fitted want n s)
-  fitted_kept want n s h = fitted_as (Inside b) want n s h
+  pub fitted_kept : (expected : Option TyId) (n : Node) (s : TypingState) → Inside b s.items → Walked (λ _ t. Inside b t.items)
+      (rows.fitted expected n s)
+  fitted_kept expected n s h = fitted_as (Inside b) expected n s h
 
-  settled_kept : (id : ℕ) (at : Pos) (want : Option TyId) (ty : TyId) (form : Form) (s : TypingState) → Inside b s.items → Walked (λ _ t.
-      Inside b t.items) (rows.settled want (a_node_of id at ty form) s)
-  settled_kept id at want ty form s h = walk_obeyed Rule.T03 at (agrees s.items want ty) _ λ _. walk_ends h
+  settled_kept : (id : ℕ) (at : Pos) (expected : Option TyId) (ty : TyId) (form : Form) (s : TypingState) → Inside b s.items → Walked (λ _ t.
+      Inside b t.items) (rows.settled expected (a_node_of id at ty form) s)
+  settled_kept id at expected ty form s h = walk_obeyed Rule.T03 at (agrees s.items expected ty) _ λ _. walk_ends h
 
   -- ---- leaves
 
   pub leaf_kept : (at : Pos) (ty : TyId) (form : Form) → KeepsTyper b (rows.leaf at ty form)
-  leaf_kept at ty form want s h = fitted_kept want (a_node_of s.next_node at ty form) (numbered s) h
+  leaf_kept at ty form expected s h = fitted_kept expected (a_node_of s.next_node at ty form) (numbered s) h
 
   pub literal_kept : (at : Pos) (is_negative : Bool) (value : ℕ) (suffix : Option IntKind) → KeepsTyper b (rows.literal at
       is_negative value suffix)
-  literal_kept at is_negative value suffix want s h =
+  literal_kept at is_negative value suffix expected s h =
       walk_obeyed Rule.T03 at (not is_negative || rows.is_signed_kind (rows.chosen suffix (option_and_then (kind_of s.items)
-      want))) _ λ _. walk (fitted_kept want _ _ h) λ n t k. walk_obeyed Rule.T17 at (nat_le value (rows.most (rows.chosen suffix
-      (option_and_then (kind_of s.items) want)) is_negative)) _ λ _. walk_ends k
+      expected))) _ λ _. walk (fitted_kept expected _ _ h) λ n t k. walk_obeyed Rule.T17 at (nat_le value (rows.most (rows.chosen suffix
+      (option_and_then (kind_of s.items) expected)) is_negative)) _ λ _. walk_ends k
 
   -- ---- places
 
   pub variable_kept : (at : Pos) (x : NamedEntry) → Keeps b (variable_place at x)
   variable_kept at x s h = walk_ends h
 
-  pub taken_kept : (env : Env) (want : Option TyId) (n : Node) (s : TypingState) → Inside b s.items → Walked (λ _ t. Inside b t.items)
-      (rows.taken env want n s)
-  taken_kept env want n s h =
-      walk (fitted_kept want (used (rows.taking s.items (ty_of n)) n) s h) λ m t k. walk_obeyed Rule.T07 (place_in_text n)
+  pub taken_kept : (env : Env) (expected : Option TyId) (n : Node) (s : TypingState) → Inside b s.items → Walked (λ _ t. Inside b t.items)
+      (rows.taken env expected n s)
+  taken_kept env expected n s h =
+      walk (fitted_kept expected (used (rows.taking s.items (ty_of n)) n) s h) λ m t k. walk_obeyed Rule.T07 (place_in_text n)
       (is_copy s.items (ty_of n) || not (is_fixed s.items (in_own_guard env.variables) n || is_dyn s.items (ty_of n))) _ λ _.
       walk_obeyed Rule.T08 (place_in_text n) (not (is_reference s.items (ty_of n))) _ λ _. walk_ends k
 
@@ -177,49 +177,49 @@ module _ (b : Bounds) where
   -- ---- operators
 
   pub not_kept : (at : Pos) (operand : Typer) → KeepsTyper b operand → KeepsTyper b (rows.not_row at operand)
-  not_kept at operand good want s h =
-      walk (good None (numbered s) h) λ n t k. walk_obeyed Rule.T03 at (fits t.items bool (ty_of n)) _ λ _. fitted_kept want _ _
+  not_kept at operand good expected s h =
+      walk (good None (numbered s) h) λ n t k. walk_obeyed Rule.T03 at (fits t.items bool (ty_of n)) _ λ _. fitted_kept expected _ _
       k
 
   pub negate_kept : (at : Pos) (operand : Typer) → KeepsTyper b operand → KeepsTyper b (rows.negate at operand)
-  negate_kept at operand good want s h =
+  negate_kept at operand good expected s h =
       walk (good _ (numbered s) h) λ n t k. walk_obeyed Rule.T03 at (is_same (ty_of n) (int IntKind.I32) || is_same (ty_of n)
-      (int IntKind.I64)) _ λ _. fitted_kept want _ _ k
+      (int IntKind.I64)) _ λ _. fitted_kept expected _ _ k
 
-  operands_kept : (is_literal : Bool) (want : Option TyId) (left right : Typer) → KeepsTyper b left → KeepsTyper b right →
-      Keeps b (rows.operands is_literal want left right)
+  operands_kept : (is_literal : Bool) (expected : Option TyId) (left right : Typer) → KeepsTyper b left → KeepsTyper b right →
+      Keeps b (rows.operands is_literal expected left right)
   operands_kept true None left right good_l good_r s h =
       walk (good_r None s h) λ r t k. walk (good_l (rows.unless_never t.items (ty_of r)) t k) λ l u m. walk_ends m
   operands_kept true (Some ty) left right good_l good_r s h =
       walk (good_l (Some ty) s h) λ l t k. walk (good_r (rows.if_int t.items (ty_of l)) t k) λ r u m. walk_ends m
-  operands_kept false want left right good_l good_r s h =
-      walk (good_l want s h) λ l t k. walk (good_r (rows.if_int t.items (ty_of l)) t k) λ r u m. walk_ends m
+  operands_kept false expected left right good_l good_r s h =
+      walk (good_l expected s h) λ l t k. walk (good_r (rows.if_int t.items (ty_of l)) t k) λ r u m. walk_ends m
 
   pub arithmetic_kept : (at : Pos) (operator : Math) (is_literal : Bool) (left right : Typer) → KeepsTyper b left → KeepsTyper b
       right → KeepsTyper b (rows.arithmetic at operator is_literal left right)
-  arithmetic_kept at operator is_literal left right good_l good_r want s h =
+  arithmetic_kept at operator is_literal left right good_l good_r expected s h =
       walk (operands_kept is_literal _ left right good_l good_r (numbered s) h) λ n t k. walk_found Rule.T03 at
-      (option_and_then (rows.if_int t.items) (rows.one_of_two t.items (ty_of n.0) (ty_of n.1))) _ λ ty is. fitted_kept want _ _
+      (option_and_then (rows.if_int t.items) (rows.one_of_two t.items (ty_of n.0) (ty_of n.1))) _ λ ty is. fitted_kept expected _ _
       k
 
   pub comparison_kept : (at : Pos) (operator : Cmp) (is_literal : Bool) (left right : Typer) → KeepsTyper b left → KeepsTyper b
       right → KeepsTyper b (rows.comparison at operator is_literal left right)
-  comparison_kept at operator is_literal left right good_l good_r want s h =
+  comparison_kept at operator is_literal left right good_l good_r expected s h =
       walk (operands_kept is_literal None left right good_l good_r (numbered s) h) λ n t k. walk_found Rule.T03 at
-      (option_and_then (rows.int_or_bool t.items) (rows.one_of_two t.items (ty_of n.0) (ty_of n.1))) _ λ ty is. fitted_kept want
+      (option_and_then (rows.int_or_bool t.items) (rows.one_of_two t.items (ty_of n.0) (ty_of n.1))) _ λ ty is. fitted_kept expected
       _ _ k
 
   pub logic_kept : (at : Pos) (form : Node → Node → Form) (left right : Typer) → KeepsTyper b left → KeepsTyper b right →
       KeepsTyper b (rows.logic at form left right)
-  logic_kept at form left right good_l good_r want s h =
+  logic_kept at form left right good_l good_r expected s h =
       walk (good_l None (numbered s) h) λ l t k. walk (good_r None t k) λ r u m. walk_obeyed Rule.T03 at (fits u.items bool
-      (ty_of l) && fits u.items bool (ty_of r)) _ λ _. fitted_kept want _ _ m
+      (ty_of l) && fits u.items bool (ty_of r)) _ λ _. fitted_kept expected _ _ m
 
   pub store_kept : (env : Env) (at : Pos) (place : Check Node) (value : Typer) → Keeps b place → KeepsTyper b value →
       KeepsTyper b (rows.store env at place value)
-  store_kept env at place value good good_v want s h =
+  store_kept env at place value good good_v expected s h =
       walk (plain_kept good (numbered s) h) λ p t k. walk (good_v (Some (ty_of p)) t k) λ v u l. walk_obeyed Rule.T03 at (not
-      (is_dyn u.items (ty_of p))) _ λ _. walk (fitted_kept want _ _ l) λ n w m. walk_obeyed Rule.T05 at (is_place (form_of p) &&
+      (is_dyn u.items (ty_of p))) _ λ _. walk (fitted_kept expected _ _ l) λ n w m. walk_obeyed Rule.T05 at (is_place (form_of p) &&
       not (rows.own_in (in_own_guard env.variables) (form_of p))) _ λ _. walk_obeyed Rule.T08 (place_in_text p) (not
       (is_behind_shared u.items p)) _ λ _. walk_ends m
 
@@ -232,13 +232,13 @@ module _ (b : Bounds) where
       λ ty t k. walk_ends k
 
   pub borrow_kept : (at : Pos) (unique : Bool) (base : Check Node) → Keeps b base → KeepsReferrer b (rows.borrow at unique base)
-  borrow_kept at unique base good want is_unique to s h =
+  borrow_kept at unique base good expected is_unique to s h =
       walk (plain_kept good (numbered s) h) λ n t k. walk_obeyed Rule.T03 at (is_same (ty_of n) to && rows.is_same_truth unique
       is_unique) _ λ _. walk_obeyed Rule.T08 (place_in_text n) (not (unique && is_behind_shared t.items n)) _ λ _.
       borrow_of_kept s.next_node at unique n t k
 
   pub passed_on_kept : (at : Pos) (x : NamedEntry) → KeepsReferrer b (rows.passed_on at x)
-  passed_on_kept at x want unique to s h =
+  passed_on_kept at x expected unique to s h =
       walk_obeyed Rule.T03 at (rows.passes unique to (reference_of s.items x.ty)) _ λ _. walk {f = λ v. rows.borrow_of
       s.next_node at unique (a_node_of (suc s.next_node) at to (Deref v))} (variable_kept at x (numbered (numbered s)) h) λ v t
       k. borrow_of_kept s.next_node at unique (a_node_of (suc s.next_node) at to (Deref v)) t k
@@ -258,12 +258,12 @@ module _ (b : Bounds) where
 
   pub call_kept : (at : Pos) (form : Nodes → Form) (answer : TyId) (count : ℕ) (params : List TyId) (args : List TyId → Check
       Nodes) (may : Bool) → KeepsArgs args → KeepsTyper b (rows.call at form answer count params args may)
-  call_kept at form answer count params args may good want s h =
-      walk (good params (numbered s) h) λ ns t k. walk (fitted_kept want _ _ k) λ n u l. walk_obeyed Rule.T04 at (count == length
+  call_kept at form answer count params args may good expected s h =
+      walk (good params (numbered s) h) λ ns t k. walk (fitted_kept expected _ _ k) λ n u l. walk_obeyed Rule.T04 at (count == length
       params) _ λ _. walk_obeyed Rule.T13 at may _ λ _. walk_ends l
 
   pub no_call_kept : (at : Pos) (rule : Rule) (args : List TyId → Check Nodes) → KeepsTyper b (rows.no_call at rule args)
-  no_call_kept at rule args want s h = walk_nothing rule at (args [] s)
+  no_call_kept at rule args expected s h = walk_nothing rule at (args [] s)
 
   received_kept : (env : Env) (at : Pos) (base : Node) (self : TyId) (s : TypingState) → Inside b s.items → Walked (λ _ t. Inside b
       t.items) (rows.received env at base self s)
@@ -281,67 +281,67 @@ module _ (b : Bounds) where
   pub method_kept : (env : Env) (at : Pos) (named : ItemTable → TyId → Option Method) (count : ℕ) (receiver : Check Node) (args :
       List TyId → Check Nodes) → Keeps b receiver → KeepsArgs args → KeepsTyper b (rows.method_call env at named count
       receiver args)
-  method_kept env at named count receiver args good_r good want s h =
+  method_kept env at named count receiver args good_r good expected s h =
       walk (good_r (numbered s) h) λ n t k. walk (through_kept named at n t k) λ r u l. by r.0 r.1 u l
     where
       with_self : (base : Node) (m : Method) (params : List TyId) (u : TypingState) → Inside b u.items → Walked (λ _ t. Inside b
-          t.items) (rows.with_self env at s.next_node base m count args want params u)
+          t.items) (rows.with_self env at s.next_node base m count args expected params u)
       with_self base m [] u l = walk_nothing Rule.T12 at (args [] u)
       with_self base m (self ∷ params) u l =
-          walk (received_kept env at base self u l) λ receiver t k. walk (good params t k) λ ns v q. walk (fitted_kept want
+          walk (received_kept env at base self u l) λ receiver t k. walk (good params t k) λ ns v q. walk (fitted_kept expected
           (a_node_of s.next_node at (rows.head_of m).result (rows.method_form m receiver ns)) v q) λ n y w. walk_obeyed
           Rule.T04 at (count == length params) _ λ _. walk_obeyed Rule.T08 at (not (rows.is_unique_borrow (form_of receiver)
           && is_behind_shared y.items base)) _ λ _. walk_obeyed Rule.T13 at (not (rows.is_drop_method m)) _ λ _. walk_ends w
 
       if_takes : (base : Node) (m : Method) (u : TypingState) → Inside b u.items → (c : Bool) → Walked (λ _ t. Inside b t.items) ((if
-          c then rows.with_self env at s.next_node base m count args want (rows.head_of m).params else (args [] >> breaks
+          c then rows.with_self env at s.next_node base m count args expected (rows.head_of m).params else (args [] >> breaks
           Rule.T12 at)) u)
       if_takes base m u l true = with_self base m (rows.head_of m).params u l
       if_takes base m u l false = walk_nothing Rule.T12 at (args [] u)
 
       by : (base : Node) (o : Option Method) (u : TypingState) → Inside b u.items → Walked (λ _ t. Inside b t.items)
-          (rows.with_method env at s.next_node base o count args want u)
+          (rows.with_method env at s.next_node base o count args expected u)
       by base None u l = walk_nothing Rule.T12 at (args [] u)
       by base (Some m) u l = if_takes base m u l (rows.takes_self u.items (ty_of base) (rows.head_of m).params)
 
   pub closure_call_kept : (at : Pos) (count : ℕ) (callee : Check Node) (args : List TyId → Check Nodes) → Keeps b callee →
       KeepsArgs args → KeepsTyper b (rows.closure_call at count callee args)
-  closure_call_kept at count callee args good_c good want s h =
+  closure_call_kept at count callee args good_c good expected s h =
       walk (good_c (numbered s) h) λ c t k. by c t k _ _
     where
       by : (c : Node) (t : TypingState) → Inside b t.items → (body : ℕ) (o : Option Sig) → Walked (λ _ u. Inside b u.items)
-          (rows.with_closure at s.next_node c count args want body o t)
+          (rows.with_closure at s.next_node c count args expected body o t)
       by c t k body None = walk_nothing Rule.T13 at (args [] t)
       by c t k body (Some head) =
-          walk (good (drop 1 head.params) t k) λ ns u l. walk (fitted_kept want _ _ l) λ n y w. walk_obeyed Rule.T04 at (count ==
+          walk (good (drop 1 head.params) t k) λ ns u l. walk (fitted_kept expected _ _ l) λ n y w. walk_obeyed Rule.T04 at (count ==
           length (drop 1 head.params)) _ λ _. walk_ends w
 
   -- ---- built-in calls
 
   pub built_in_kept : (at : Pos) (answer : TyId) (form : Nodes → Form) (count wants : ℕ) (args : Check Nodes) → Keeps b args →
       KeepsTyper b (rows.built_in at answer form count wants args)
-  built_in_kept at answer form count wants args good want s h =
-      walk (good (numbered s) h) λ ns t k. walk (fitted_kept want _ _ k) λ n u l. walk_obeyed Rule.T04 at (count == wants) _ λ
+  built_in_kept at answer form count wants args good expected s h =
+      walk (good (numbered s) h) λ ns t k. walk (fitted_kept expected _ _ k) λ n u l. walk_obeyed Rule.T04 at (count == wants) _ λ
       _. walk_ends l
 
   pub new_box_kept : (at : Pos) (count : ℕ) (args : List TyId → Check Nodes) → KeepsArgs args → KeepsTyper b (rows.new_box at
       count args)
-  new_box_kept at count args good want s h =
-      walk (good _ (numbered s) h) λ ns t k. by (wanted rows.box_wanted s.items want) (rows.first_node ns) t k
+  new_box_kept at count args good expected s h =
+      walk (good _ (numbered s) h) λ ns t k. by (wanted rows.box_wanted s.items expected) (rows.first_node ns) t k
     where
       by : (content : Option TyId) (o : Option Node) (t : TypingState) → Inside b t.items → Walked (λ _ u. Inside b u.items)
-          (rows.box_by at s.next_node count want content o t)
+          (rows.box_by at s.next_node count expected content o t)
       by content None t k = record { so = tt }
       by content (Some c) t k =
-          walk (intern_kept (Ty.Boxed (rows.part_ty content c)) t k tt) λ ty u l. walk (fitted_kept want _ _ l) λ n v m.
+          walk (intern_kept (Ty.Boxed (rows.part_ty content c)) t k tt) λ ty u l. walk (fitted_kept expected _ _ l) λ n v m.
           walk_obeyed Rule.T04 at (count == 1) _ λ _. walk_ends m
 
   -- ---- constructors
 
   pub struct_kept : (at : Pos) (adt variant : ℕ) (types : List TyId) (fields : Check (Fields × Given)) → adt < b.adts → Keeps b
       fields → KeepsTyper b (rows.struct_row at adt variant types fields)
-  struct_kept at adt variant types fields below good want s h =
-      walk (intern_kept (Ty.Adt adt) (numbered s) h below) λ ty t k. walk (good t k) λ fs u l. walk (fitted_kept want _ _ l) λ n v
+  struct_kept at adt variant types fields below good expected s h =
+      walk (intern_kept (Ty.Adt adt) (numbered s) h below) λ ty t k. walk (good t k) λ fs u l. walk (fitted_kept expected _ _ l) λ n v
       m. walk_obeyed Rule.T04 at (rows.all_given (length types) fs.1 && length fs.1 == length types) _ λ _. walk_obeyed
       Rule.T12 at (rows.are_known fs.1) _ λ _. walk_ends m
 
@@ -349,38 +349,38 @@ module _ (b : Bounds) where
   pub tuple_kept : (at : Pos) (count : ℕ) (parts : List (Option TyId) → Check (Nodes × List TyId)) → IsTrue (nat_lt 0 count) →
       ((wants : List (Option TyId)) (s : TypingState) → Inside b s.items → Walked (λ ps t. Inside b t.items × (length ps.1 ≡
       count)) (parts wants s)) → KeepsTyper b (rows.tuple_row at count parts)
-  tuple_kept at count parts some good want s h =
+  tuple_kept at count parts some good expected s h =
       walk (good _ (numbered s) h) λ ps t k. walk (intern_when {C = IsTrue (nat_le count 12)} (Ty.Tuple ps.1) t k.0 λ few.
       subst (λ n. IsTrue (nat_lt 0 n && nat_le n 12)) (sym k.1) (and_from (nat_lt 0 count) _ some few)) λ ty u l. walk
-      (fitted_as (λ items. IsTrue (nat_le count 12) → Inside b items) want _ _ l) λ n v m. walk_obeyed Rule.T19 at (nat_le
+      (fitted_as (λ items. IsTrue (nat_le count 12) → Inside b items) expected _ _ l) λ n v m. walk_obeyed Rule.T19 at (nat_le
       count 12) _ λ few. walk_ends (m few)
 
-  pub array_kept : (at : Pos) (count : ℕ) (elements : Option TyId → Check (Nodes × List TyId)) → ((want : Option TyId) → Keeps b
-      (elements want)) → KeepsTyper b (rows.array_row at count elements)
-  array_kept at count elements good want s h =
+  pub array_kept : (at : Pos) (count : ℕ) (elements : Option TyId → Check (Nodes × List TyId)) → ((expected : Option TyId) → Keeps b
+      (elements expected)) → KeepsTyper b (rows.array_row at count elements)
+  array_kept at count elements good expected s h =
       walk (good _ (numbered s) h) λ ps t k. walk_found Rule.T03 at (rows.element_ty t.items (wanted rows.element_wanted
-      s.items want) ps.1) _ λ el is. walk_obeyed Rule.T16 at (is_some (wanted rows.element_wanted s.items want) || not (count
+      s.items expected) ps.1) _ λ el is. walk_obeyed Rule.T16 at (is_some (wanted rows.element_wanted s.items expected) || not (count
       == 0)) _ λ _. walk (intern_when {C = IsTrue (nat_le count 32)} (Ty.Array el count) t k λ few. few) λ ty u l. walk
-      (fitted_as (λ items. IsTrue (nat_le count 32) → Inside b items) want _ _ l) λ n v m. walk_obeyed Rule.T19 at (nat_le
+      (fitted_as (λ items. IsTrue (nat_le count 32) → Inside b items) expected _ _ l) λ n v m. walk_obeyed Rule.T19 at (nat_le
       count 32) _ λ few. walk_ends (m few)
 
   -- ---- blocks and branches
 
   pub block_kept : (P : Env → Type 0) (at : Pos) (check : Check (Nodes × Bool × Env)) (tail : Env → Option TyId → Check
       MaybeNode) → ((s : TypingState) → Inside b s.items → Walked (λ done t. Inside b t.items × P done.2) (check s)) → ((inner :
-      Env) → P inner → (want : Option TyId) → Keeps b (tail inner want)) → KeepsTyper b (rows.block at check tail)
-  block_kept P at check tail good good_t want s h =
-      walk (good (numbered s) h) λ done t k. walk (good_t done.2 k.1 want t k.0) λ v u l. settled_kept s.next_node at want (rows.block_ty v done.1) (tree.Block done.0 v) u l
+      Env) → P inner → (expected : Option TyId) → Keeps b (tail inner expected)) → KeepsTyper b (rows.block at check tail)
+  block_kept P at check tail good good_t expected s h =
+      walk (good (numbered s) h) λ done t k. walk (good_t done.2 k.1 expected t k.0) λ v u l. settled_kept s.next_node at expected (rows.block_ty v done.1) (tree.Block done.0 v) u l
 
   pub if_alone_kept : (at : Pos) (c body : Typer) → KeepsTyper b c → KeepsTyper b body → KeepsTyper b (rows.if_alone at c body)
-  if_alone_kept at c body good_c good_b want s h =
-      walk (good_c (Some bool) (numbered s) h) λ n t k. walk (good_b (Some unit) t k) λ m u l. settled_kept s.next_node at want unit (tree.If n m absent) u l
+  if_alone_kept at c body good_c good_b expected s h =
+      walk (good_c (Some bool) (numbered s) h) λ n t k. walk (good_b (Some unit) t k) λ m u l. settled_kept s.next_node at expected unit (tree.If n m absent) u l
 
   pub if_else_kept : (at : Pos) (c body otherwise : Typer) → KeepsTyper b c → KeepsTyper b body → KeepsTyper b otherwise →
       KeepsTyper b (rows.if_else at c body otherwise)
-  if_else_kept at c body otherwise good_c good_b good_o want s h =
-      walk (good_c (Some bool) (numbered s) h) λ n t k. walk (good_b want t k) λ m u l. walk (good_o want u l) λ o v q.
-      walk_found Rule.T03 at (rows.one_of_two v.items (ty_of m) (ty_of o)) _ λ ty is. settled_kept s.next_node at want ty (tree.If n m (present o)) v q
+  if_else_kept at c body otherwise good_c good_b good_o expected s h =
+      walk (good_c (Some bool) (numbered s) h) λ n t k. walk (good_b expected t k) λ m u l. walk (good_o expected u l) λ o v q.
+      walk_found Rule.T03 at (rows.one_of_two v.items (ty_of m) (ty_of o)) _ λ ty is. settled_kept s.next_node at expected ty (tree.If n m (present o)) v q
 
   scrutinised_kept : {check : Check Node} → Keeps b check → Keeps b (rows.scrutinised check)
   scrutinised_kept good s h = walk (plain_kept good s h) λ n t k. walk_ends k
@@ -388,84 +388,84 @@ module _ (b : Bounds) where
   pub if_let_alone_kept : (env : Env) (at : Pos) (scrutinee : Check Node) (matcher : Matcher) (body : List NamedEntry → Typer) →
       Keeps b scrutinee → KeepsMatcher b matcher → ((xs : List NamedEntry) → KeepsTyper b (body xs)) → KeepsTyper b
       (rows.if_let_alone env at scrutinee matcher body)
-  if_let_alone_kept env at scrutinee matcher body good good_m good_b want s h =
+  if_let_alone_kept env at scrutinee matcher body good good_m good_b expected s h =
       walk (scrutinised_kept good (numbered s) h) λ n t k. walk (good_m _ (ty_of n) t k) λ p u l. walk (good_b p.1 (Some unit) u
-      l) λ m v q. settled_kept s.next_node at want unit (tree.IfLet p.0 n m absent) v q
+      l) λ m v q. settled_kept s.next_node at expected unit (tree.IfLet p.0 n m absent) v q
 
   pub if_let_else_kept : (env : Env) (at : Pos) (scrutinee : Check Node) (matcher : Matcher) (body : List NamedEntry → Typer)
       (otherwise : Typer) → Keeps b scrutinee → KeepsMatcher b matcher → ((xs : List NamedEntry) → KeepsTyper b (body xs)) →
       KeepsTyper b otherwise → KeepsTyper b (rows.if_let_else env at scrutinee matcher body otherwise)
-  if_let_else_kept env at scrutinee matcher body otherwise good good_m good_b good_o want s h =
-      walk (scrutinised_kept good (numbered s) h) λ n t k. walk (good_m _ (ty_of n) t k) λ p u l. walk (good_b p.1 want u l) λ m
-      v q. walk (good_o want v q) λ o z w. walk_found Rule.T03 at (rows.one_of_two z.items (ty_of m) (ty_of o)) _ λ ty is.
-      settled_kept s.next_node at want ty (tree.IfLet p.0 n m (present o)) z w
+  if_let_else_kept env at scrutinee matcher body otherwise good good_m good_b good_o expected s h =
+      walk (scrutinised_kept good (numbered s) h) λ n t k. walk (good_m _ (ty_of n) t k) λ p u l. walk (good_b p.1 expected u l) λ m
+      v q. walk (good_o expected v q) λ o z w. walk_found Rule.T03 at (rows.one_of_two z.items (ty_of m) (ty_of o)) _ λ ty is.
+      settled_kept s.next_node at expected ty (tree.IfLet p.0 n m (present o)) z w
 
   pub arm_kept : (check : Check (Node × List NamedEntry)) (guard : List NamedEntry → Check MaybeNode) (body : List NamedEntry → Typer) → Keeps
       b check → ((xs : List NamedEntry) → Keeps b (guard xs)) → ((xs : List NamedEntry) → KeepsTyper b (body xs)) → KeepsTyper b
       (rows.arm check guard body)
-  arm_kept check guard body good good_g good_b want s h =
-      walk (good (numbered s) h) λ p t k. walk (good_g p.1 t k) λ g u l. walk (good_b p.1 want u l) λ m v q. walk_ends q
+  arm_kept check guard body good good_g good_b expected s h =
+      walk (good (numbered s) h) λ p t k. walk (good_g p.1 t k) λ g u l. walk (good_b p.1 expected u l) λ m v q. walk_ends q
 
-  pub match_kept : (env : Env) (at : Pos) (scrutinee : Check Node) (arms : Expected → TyId → Option TyId → Check (Nodes × List
-      TyId)) → Keeps b scrutinee → ((e : Expected) (ty : TyId) (want : Option TyId) → Keeps b (arms e ty want)) → KeepsTyper b
+  pub match_kept : (env : Env) (at : Pos) (scrutinee : Check Node) (arms : PatternContext → TyId → Option TyId → Check (Nodes × List
+      TyId)) → Keeps b scrutinee → ((e : PatternContext) (ty : TyId) (expected : Option TyId) → Keeps b (arms e ty expected)) → KeepsTyper b
       (rows.match_row env at scrutinee arms)
-  match_kept env at scrutinee arms good good_a want s h =
-      walk (scrutinised_kept good (numbered s) h) λ n t k. walk (good_a _ (ty_of n) want t k) λ ns u l. walk_found Rule.T03 at
-      (rows.one_type u.items ns.1) _ λ ty is. settled_kept s.next_node at want ty (tree.Match n ns.0) u l
+  match_kept env at scrutinee arms good good_a expected s h =
+      walk (scrutinised_kept good (numbered s) h) λ n t k. walk (good_a _ (ty_of n) expected t k) λ ns u l. walk_found Rule.T03 at
+      (rows.one_type u.items ns.1) _ λ ty is. settled_kept s.next_node at expected ty (tree.Match n ns.0) u l
 
   -- ---- loops and jumps
 
   pub loop_kept : (at : Pos) (label : Option Word) (body : LabelledLoop → Typer) → ((a : LabelledLoop) → KeepsTyper b (body a)) → KeepsTyper
       b (rows.loop_row at label body)
-  loop_kept at label body good want s h =
+  loop_kept at label body good expected s h =
       walk (good _ (Some unit) (numbered s) h) λ n t k. walk_found Rule.T03 at (rows.one_type t.items (types_for s.next_node
-      t.breaks)) _ λ ty is. settled_kept s.next_node at want ty (tree.Loop n) t k
+      t.breaks)) _ λ ty is. settled_kept s.next_node at expected ty (tree.Loop n) t k
 
   pub while_kept : (at : Pos) (label : Option Word) (c body : LabelledLoop → Typer) → ((a : LabelledLoop) → KeepsTyper b (c a)) → ((a :
       LabelledLoop) → KeepsTyper b (body a)) → KeepsTyper b (rows.while_row at label c body)
-  while_kept at label c body good_c good_b want s h =
-      walk (good_c _ (Some bool) (numbered s) h) λ n t k. walk (good_b _ (Some unit) t k) λ m u l. settled_kept s.next_node at want unit (tree.While n m) u l
+  while_kept at label c body good_c good_b expected s h =
+      walk (good_c _ (Some bool) (numbered s) h) λ n t k. walk (good_b _ (Some unit) t k) λ m u l. settled_kept s.next_node at expected unit (tree.While n m) u l
 
   pub while_let_kept : (env : Env) (at : Pos) (label : Option Word) (scrutinee : LabelledLoop → Check Node) (matcher : Matcher) (body :
       LabelledLoop → List NamedEntry → Typer) → ((a : LabelledLoop) → Keeps b (scrutinee a)) → KeepsMatcher b matcher → ((a : LabelledLoop) (xs :
       List NamedEntry) → KeepsTyper b (body a xs)) → KeepsTyper b (rows.while_let_row env at label scrutinee matcher body)
-  while_let_kept env at label scrutinee matcher body good good_m good_b want s h =
+  while_let_kept env at label scrutinee matcher body good good_m good_b expected s h =
       walk (scrutinised_kept (good _) (numbered s) h) λ n t k. walk (good_m _ (ty_of n) t k) λ p u l. walk (good_b _ p.1 (Some
-      unit) u l) λ m v q. settled_kept s.next_node at want unit (tree.WhileLet p.0 n m) v q
+      unit) u l) λ m v q. settled_kept s.next_node at expected unit (tree.WhileLet p.0 n m) v q
 
-  pub break_kept : (at : Pos) (to : Option LabelledLoop) (value : Option TyId → Check MaybeNode) → ((want : Option TyId) → Keeps b
-      (value want)) → KeepsTyper b (rows.break_row at to value)
-  break_kept at to value good want s h =
+  pub break_kept : (at : Pos) (to : Option LabelledLoop) (value : Option TyId → Check MaybeNode) → ((expected : Option TyId) → Keeps b
+      (value expected)) → KeepsTyper b (rows.break_row at to value)
+  break_kept at to value good expected s h =
       walk (good _ (numbered s) h) λ v t k. walk_found Rule.T06 at to _ λ a is. walk_obeyed Rule.T06 at (rows.may_carry v a) _
-      λ _. settled_kept s.next_node at want never (tree.Break a.loop v) (record t { breaks = t.breaks ++ (a.loop, rows.ty_carried v) ∷ [] }) k
+      λ _. settled_kept s.next_node at expected never (tree.Break a.loop v) (record t { breaks = t.breaks ++ (a.loop, rows.ty_carried v) ∷ [] }) k
 
   pub continue_kept : (at : Pos) (to : Option LabelledLoop) → KeepsTyper b (rows.continue_row at to)
-  continue_kept at to want s h = walk_found Rule.T06 at to _ λ a is. settled_kept s.next_node at want never (tree.Continue a.loop) (numbered s) h
+  continue_kept at to expected s h = walk_found Rule.T06 at to _ λ a is. settled_kept s.next_node at expected never (tree.Continue a.loop) (numbered s) h
 
-  pub return_kept : (at : Pos) (answer : TyId) (value : Option TyId → Check MaybeNode) → ((want : Option TyId) → Keeps b (value
-      want)) → KeepsTyper b (rows.return_row at answer value)
-  return_kept at answer value good want s h =
+  pub return_kept : (at : Pos) (answer : TyId) (value : Option TyId → Check MaybeNode) → ((expected : Option TyId) → Keeps b (value
+      expected)) → KeepsTyper b (rows.return_row at answer value)
+  return_kept at answer value good expected s h =
       walk (good (Some answer) (numbered s) h) λ v t k. walk_obeyed Rule.T03 at (rows.is_some_node v || is_unit t.items
-      answer) _ λ _. settled_kept s.next_node at want never (tree.Return v) t k
+      answer) _ λ _. settled_kept s.next_node at expected never (tree.Return v) t k
 
   -- ---- statements
 
-  pub in_parts_kept : (env : Env) (want : Option TyId) (n : Node) (s : TypingState) → Inside b s.items → Walked (λ _ t. Inside b
-      t.items) (rows.place_for_parts env want n s)
+  pub in_parts_kept : (env : Env) (expected : Option TyId) (n : Node) (s : TypingState) → Inside b s.items → Walked (λ _ t. Inside b
+      t.items) (rows.place_for_parts env expected n s)
   in_parts_kept env None n s h =
       walk_obeyed Rule.T08 (place_in_text n) (not (is_reference s.items (ty_of n))) _ λ _. walk_ends h
-  in_parts_kept env (Some want) n s h =
-      walk_obeyed Rule.T03 (place_in_text n) (is_same (ty_of n) want || not (is_never s.items (ty_of n))) _ λ _. by (fit
-      s.items want (ty_of n))
+  in_parts_kept env (Some expected) n s h =
+      walk_obeyed Rule.T03 (place_in_text n) (is_same (ty_of n) expected || not (is_never s.items (ty_of n))) _ λ _. by (fit
+      s.items expected (ty_of n))
     where
-      by : (how : Fit) → Walked (λ _ t. Inside b t.items) (rows.as_part env (Some want) n how s)
+      by : (how : Fit) → Walked (λ _ t. Inside b t.items) (rows.as_part env (Some expected) n how s)
       by Fits = walk_obeyed Rule.T08 (place_in_text n) (not (is_reference s.items (ty_of n))) _ λ _. walk_ends h
-      by (Coerced trait_no) = taken_kept env (Some want) n s h
-      by Differs = taken_kept env (Some want) n s h
+      by (Coerced trait_no) = taken_kept env (Some expected) n s h
+      by Differs = taken_kept env (Some expected) n s h
 
   pub let_kept : (P : Env → Type 0) (at : Pos) (env : Env) (one : Bool) (written : Check (Option TyId)) (value : Option TyId →
       Check MaybeNode) (matcher : Matcher) (behind : List NamedEntry → Env) → ((xs : List NamedEntry) → P (behind xs)) → Keeps b written →
-      ((want : Option TyId) → Keeps b (value want)) → KeepsMatcher b matcher → (s : TypingState) → Inside b s.items → Walked (λ done
+      ((expected : Option TyId) → Keeps b (value expected)) → KeepsMatcher b matcher → (s : TypingState) → Inside b s.items → Walked (λ done
       t. Inside b t.items × P done.2) (rows.let_row at env one written value matcher behind s)
   let_kept P at env one written value matcher behind stays good_w good_v good_m s h =
       walk (good_w (numbered s) h) λ ty t k. walk (good_v ty t k) λ v u l. walk_found Rule.T16 at (rows.let_ty ty v) _ λ x is.

@@ -1,7 +1,7 @@
 use Rattle.std.proofs.lemmas.Result.{IfOk-weaker}
 use Rattle.std.proofs.Common.{◌≡◌, Some, None, option_map, ap, sym, subst, ◌∙◌}
 use Rattle.machine_steps.specs.declared.drops.Turn.{Turn}
-use Rattle.machine_steps.specs.Left.{own_impl}
+use Rattle.machine_steps.specs.Continuation.{own_impl}
 use Rattle.machine_steps.specs.Reading.{pair_of}
 use Rattle.machine_steps.specs.declared.level.Level.{Level}
 use Rattle.machine_steps.specs.Turns.{Begins, stage_by, enters_of}

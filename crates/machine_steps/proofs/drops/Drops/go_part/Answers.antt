@@ -1,6 +1,6 @@
 use Rattle.std.proofs.Common.{◌≡◌, ◌==◌, false, Some, ap, sym, subst, ◌∙◌, arith}
 use Rattle.machine_steps.specs.declared.drops.Turn.{Turn}
-use Rattle.machine_steps.specs.Left.{found_of, type_of_number}
+use Rattle.machine_steps.specs.Continuation.{found_of, type_of_number}
 use Rattle.machine_steps.specs.Turns.{GoesOnPart, expected_by}
 use Rattle.machine_steps.proofs.TurnsLeft.{part_past, part_untyped, part_entered}
 use Rattle.machine_store.specs.declared.types.Dynamic.{Dynamic}
