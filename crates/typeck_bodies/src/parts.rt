@@ -21,7 +21,7 @@ pub fn capture_types(alloc: Global, bound: &Variables) -> Result<List<TyId>, Rul
     let mut tys = List::new(alloc);
     for n in 0..bound.len() {
         let Some(variable) = bound.at(n) else {
-            return Err(RuleError::cannot_be());
+            unreachable!();
         };
         push_to(&mut tys, variable.ty)?;
     }

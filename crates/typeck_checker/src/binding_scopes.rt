@@ -109,7 +109,7 @@ pub fn enter_all(
 {
     for n in 0..bound.len() {
         let Some(variable) = bound.at(n) else {
-            return Err(RuleError::cannot_be());
+            unreachable!();
         };
         enter_again(checker, variable, within_guard)?;
     }
