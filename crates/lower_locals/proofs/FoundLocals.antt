@@ -16,7 +16,7 @@ use Rattle.lower_locals.specs.Groups.{has_branches, has_members, has_operands, h
 use Rattle.lower_locals.specs.Own.{where_true}
 use Rattle.lower_locals.specs.View.{locals_if_any, asked_of_initialiser}
 use Rattle.lower_locals.specs.declared.own.AskedAs.{AskedAs}
-use Rattle.lower_locals.proofs.Following.{two_behind, three_behind}
+use Rattle.typed_tree.proofs.Following.{two_behind, three_behind}
 use Rattle.lower_locals.proofs.OwnFirst.{initialiser}
 
 -- how parts are asked for that may be missing

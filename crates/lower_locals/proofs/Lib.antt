@@ -1,5 +1,4 @@
 pub mod Bodies
-pub mod Following
 pub mod OwnFirst
 pub mod FoundLocals
 pub mod Placing

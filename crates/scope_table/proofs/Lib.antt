@@ -1,6 +1,5 @@
 pub mod Entering
 mod Examples
-pub mod Following
 pub mod InForm
 pub mod Naming
 pub mod Passing

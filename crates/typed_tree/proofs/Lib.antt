@@ -2,6 +2,6 @@ pub mod FormNodes
 pub mod NumberLemmas
 pub mod SearchLemmas
 pub mod ViewLemmas
-mod Following
+pub mod Following
 pub mod PlainForms
 mod FoundNodes

@@ -1,7 +1,7 @@
 use Rattle.std.proofs.Common.{rules, ◌≡◌, ◌∙◌, ◌∷◌, ◌+◌, ℕ, List, [], refl, map, ap}
 use Rattle.typed_tree.specs.View.{body_of}
 use Rattle.typed_tree.specs.declared.body.TBody.{TBody}
-use Rattle.lower_locals.proofs.Following.{one_more}
+use Rattle.typed_tree.proofs.Following.{one_more}
 use Rattle.lower_rules.specs.Lower as low
 use Rattle.cfg_build.proofs.Claimed.{body_more}
 use Rattle.cfg_build.proofs.programs.add_bodies.Goals as goal

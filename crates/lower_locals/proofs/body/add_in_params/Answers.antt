@@ -2,7 +2,7 @@ use Rattle.std.proofs.Common.{◌≡◌, ◌++◌, ◌∙◌, List, refl, sym, a
 use Rattle.typed_tree.specs.declared.body.Param.{Param}
 use Rattle.typed_tree.specs.View.{param_tree}
 use Rattle.lower_locals.specs.View.{entry_of, inside, inside_params}
-use Rattle.lower_locals.proofs.Following.{one_more}
+use Rattle.typed_tree.proofs.Following.{one_more}
 use Rattle.typed_tree.proofs.PlainForms.{node_seen}
 use Rattle.lower_locals.proofs.body.add_in_params.Goals as goal
 

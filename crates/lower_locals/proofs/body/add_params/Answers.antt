@@ -6,7 +6,7 @@ use Rattle.typed_tree.specs.Nodes.{number_of}
 use Rattle.typed_tree.specs.View.{tree_of, param_tree}
 use Rattle.src_meaning.specs.Scopes.{Entry}
 use Rattle.lower_locals.specs.View.{entry_of, param_entry}
-use Rattle.lower_locals.proofs.Following.{one_more}
+use Rattle.typed_tree.proofs.Following.{one_more}
 use Rattle.lower_locals.proofs.body.add_params.Goals as goal
 
 pub loop-param-preserved : goal.loop-param-preserved

@@ -7,7 +7,7 @@ use Rattle.typed_tree.specs.declared.node.NumberedField.{NumberedField}
 use Rattle.typed_tree.specs.View.{tree_of, form_of, field_of, nodes_from, fields_from}
 use Rattle.lower_locals.specs.Own.{own_local}
 use Rattle.lower_locals.specs.View.{entry_of, locals_of, asked_of_initialiser}
-use Rattle.lower_locals.proofs.Following.{one_more, two_behind}
+use Rattle.typed_tree.proofs.Following.{one_more, two_behind}
 use Rattle.lower_locals.proofs.OwnFirst.{own_first}
 use Rattle.typed_tree.proofs.PlainForms.{node_seen, value_seen}
 use Rattle.lower_locals.proofs.FoundLocals.{arm_found, block_found, call_found, if_found, if_let_found, let_found, match_found, operands_found, reaching_found, shortcut_found, while_found, while_let_found}

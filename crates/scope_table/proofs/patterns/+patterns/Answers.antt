@@ -5,7 +5,7 @@ use Rattle.typed_tree.specs.declared.node.Form.{the_lemmas}
 use Rattle.typed_tree.specs.declared.node.Node.{Node}
 use Rattle.typed_tree.specs.declared.node.NumberedField.{NumberedField}
 use Rattle.typed_tree.specs.View.{tree_of, field_of, nodes_from, fields_from}
-use Rattle.scope_table.proofs.Following.{one_more, two_behind}
+use Rattle.typed_tree.proofs.Following.{one_more, two_behind}
 use Rattle.scope_table.proofs.InForm.{of_pattern}
 use Rattle.scope_table.proofs.patterns.+patterns.Goals as goal
 

@@ -5,7 +5,7 @@ use Rattle.typed_tree.specs.declared.node.Form.{the_lemmas}
 use Rattle.typed_tree.specs.declared.node.Node.{Node}
 use Rattle.typed_tree.specs.declared.node.NumberedField.{NumberedField}
 use Rattle.typed_tree.specs.View.{tree_of, field_of, nodes_from, fields_from}
-use Rattle.scope_table.proofs.Following.{one_more, two_behind, three_behind, four_behind}
+use Rattle.typed_tree.proofs.Following.{one_more, two_behind, three_behind, four_behind}
 use Rattle.scope_table.proofs.InForm.{in_index, in_two_operands, in_two_alone, in_assign, in_if, in_while_let, in_if_let, in_match, in_called, in_block, in_arm, of_value, of_matched, of_node, of_arm}
 use Rattle.scope_table.proofs.walking.+rows.Goals as goal
 

@@ -5,7 +5,7 @@ use Rattle.typed_tree.specs.Tree.{node}
 use Rattle.typed_tree.specs.View.{tree_of, form_of, param_tree}
 use Rattle.scope_table.specs.declared.row.ScopeRow.{ScopeRow}
 use Rattle.scope_table.specs.Table.{row, name_in, pattern_rows_in, param_rows, rows_of_params}
-use Rattle.scope_table.proofs.Following.{one_more}
+use Rattle.typed_tree.proofs.Following.{one_more}
 use Rattle.scope_table.proofs.walking.add_params.Goals as goal
 
 pub loop-param-preserved : goal.loop-param-preserved
