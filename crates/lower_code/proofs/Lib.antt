@@ -1,4 +1,4 @@
-mod Following
-mod Nodes
+pub mod Following
+pub mod Nodes
 mod Ordered
-mod Wanting
+pub mod Wanting

@@ -1,9 +1,6 @@
 mod Elements
 mod Grouped
-mod Nodes
 mod OfOperands
 mod Params
 mod Statements
-mod Wanting
-mod Ways
 mod Whole

@@ -15,7 +15,7 @@ use Rattle.lower_code.specs.Ops.{CodeWord, Then, onto, operated_onto}
 use Rattle.lower_code.specs.View.{around_of, destination_of}
 use Rattle.lower_code.specs.Wanted.{AsOperand, codes_for}
 use Rattle.lower_code.specs.declared.context.Context.{Context}
-use Rattle.lower_forms.proofs.Nodes.{as_operands, keys_are, field_keys_are}
+use Rattle.lower_code.proofs.Nodes.{as_operands, keys_are, field_keys_are}
 
 pub shape_is : (items : ItemTable) (n : tree.Node) → (code items n).shape ≡ shape items n
 shape_is items (tree.node id at ty by form) = refl

@@ -10,8 +10,8 @@ use Rattle.lower_code.specs.Code.{Code, Innermost, AroundInnermost}
 use Rattle.lower_code.specs.Forms.{NodeWords, no_code, a_code, code, statements, bind, declared, let_value, letting, arms, matching, scrutinised, touched}
 use Rattle.lower_code.specs.Ops.{CodeWord, InScope, Then, Matches, BeforeArms, onto, arms_onto, own_scope_onto, pending_onto}
 use Rattle.lower_code.specs.Wanted.{UnderOwnKey, codes_for}
-use Rattle.lower_forms.proofs.Ways.{in_own, pending}
-use Rattle.lower_forms.proofs.Nodes.{as_statements}
+use Rattle.lower_code.proofs.Following.{in_own, pending}
+use Rattle.lower_code.proofs.Nodes.{as_statements}
 
 -- statements are made one after the other, and then a tail
 pub of_block : (id : ℕ) (own : Bool) (around : LoopsAndGuards) (ms : List NodeWords) (tail : Code) (before made all after : List CodeWord) → after ≡ InScope id own ∷ Then ∷ all → all ≡ onto tail made → made ≡ onto (codes_for UnderOwnKey ms around) before → after ≡ onto (plain.InScope id own (plain.Then (statements around ms) tail)) before

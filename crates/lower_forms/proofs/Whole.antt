@@ -13,7 +13,7 @@ use Rattle.lower_code.specs.Forms.{code, code_of_form}
 use Rattle.lower_code.specs.Ops.{CodeWord, onto}
 use Rattle.lower_code.specs.View.{done}
 use Rattle.lower_code.specs.Wanted.{Category, code_for, own_in, made_into, finished_onto}
-use Rattle.lower_forms.proofs.Wanting.{of_node}
+use Rattle.lower_code.proofs.Wanting.{of_node}
 
 pub of_words : (items : ItemTable) (w : Category) (id : ℕ) (at : Pos) (ty : TyId) (by : Option Use) (form : Form) (around : LoopsAndGuards) (h : NodeHead) (own : Bool) (to : Destination) (before words after : List CodeWord) → h ≡ head id ty by → own ≡ own_in w → to ≡ to_own_key (is_never items ty) id (made_into w id) → words ≡ onto (done (code_of_form items form h (shape_of items form h)) around own to) before → after ≡ finished_onto items w (shape items (tree.node id at ty by form)).is_place (head id ty by) (shape items (tree.node id at ty by form)) around words → after ≡ onto (code_for w (code items (tree.node id at ty by form)) around) before
 of_words items w id at ty by form around h own to before words after heads owns goes made finished =

@@ -9,7 +9,7 @@ use Rattle.src_meaning.specs.FieldKeys.{field_keys, moved_fields}
 use Rattle.cfg_graph.specs.Places.{named}
 use Rattle.mir_ty.specs.ItemTable.{ItemTable}
 use Rattle.pattern_lower.specs.Seen.{bound_of}
-use Rattle.lower_forms.proofs.Nodes.{each_onto, codes_onto, so_many, so_many_fields, as_operands}
+use Rattle.lower_code.proofs.Nodes.{each_onto, codes_onto, so_many, so_many_fields, as_operands}
 use Rattle.lower_code.specs.Code as plain
 use Rattle.lower_code.specs.Code.{Code}
 use Rattle.lower_code.specs.Forms.{code, codes_of_fields, acting, deliver, array_around, reach_element, NodeWords, codes, matching, touched, code_if_any, tail_of, statements, declared, letting, operands}

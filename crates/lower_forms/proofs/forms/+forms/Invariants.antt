@@ -5,7 +5,7 @@ use Rattle.lower_code.specs.Forms as forms
 use Rattle.lower_code.specs.Ops.{arms_onto}
 use Rattle.lower_code.specs.Wanted.{AsOperand}
 use Rattle.lower_code.specs.View.{ops_of, around_of, wanted_of, destination_of}
-use Rattle.lower_forms.proofs.Nodes.{each_onto}
+use Rattle.lower_code.proofs.Nodes.{each_onto}
 use Rattle.lower_forms.proofs.forms.+forms.Given as goal
 
 abbrev pub invariant-nodes_code-loop-node : goal.invariant-nodes_code-loop-node
