@@ -4,7 +4,7 @@ use Rattle.mir_base.specs.declared.place_in_text.Pos.{Pos}
 use Rattle.mir_base.specs.declared.rule.Rule.{Rule}
 use Rattle.typed_tree.specs.Tree.{BodyTree, ParamTree, ProgramTree}
 use Rattle.typed_tree.specs.Nodes.{number_of}
-use Rattle.well_typed.specs.Nodes.{is_drop_body}
+use Rattle.mir_ty.specs.DropBodies.{is_drop_body}
 use Rattle.typing_rules.specs.Borrows.{all_broken, broken, of_self, overlaps, replaced_self, replacements, replacing}
 use Rattle.typing_rules.specs.Check.{Broken}
 use Rattle.typing_rules.specs.Replaced.{BodyParameter, Passing, bodies_of, is_among, passings, replaceable, stores}

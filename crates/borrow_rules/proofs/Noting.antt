@@ -13,7 +13,8 @@ use Rattle.std.proofs.lemmas.List.{length-map}
 use Rattle.borrow_rules.specs.declared.facts.ParameterFact.{ParameterFact}
 use Rattle.borrow_rules.specs.View.{fact_in, param_in, params_in}
 use Rattle.borrow_rules.specs.declared.facts.ParamNo.{ParamNo}
-use Rattle.borrow_rules.proofs.Sets.{any_map, fewer, put}
+use Rattle.mir_ty.proofs.Sets.{put}
+use Rattle.borrow_rules.proofs.Sets.{any_map, fewer}
 
 -- ---- one key more
 

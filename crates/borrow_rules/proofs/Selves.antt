@@ -9,7 +9,7 @@ use Rattle.typed_tree.specs.declared.body.TBody.{TBody}
 use Rattle.typing_rules.specs.Borrows.{of_self, replaced_self, replacements}
 use Rattle.typing_rules.specs.Check.{Broken}
 use Rattle.typing_rules.specs.Replaced.{BodyParameter}
-use Rattle.well_typed.specs.Nodes.{is_drop_body}
+use Rattle.mir_ty.specs.DropBodies.{is_drop_body}
 
 module _ (items : ItemTable) (params : List BodyParameter) (body : TBody) where
   abbrev B : BodyTree

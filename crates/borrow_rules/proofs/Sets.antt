@@ -1,45 +1,9 @@
--- Keys of a set, one more; and tests over lists.
-use Rattle.std.proofs.Common.{◌≡◌, ℕ, zero, suc, ◌+◌, ◌<◌, ◌≤◌, Bool, true, false, not, ◌||◌, ◌==◌, List, [], ◌∷◌, length, get_or, map, Option, MatchBool, IsTrue, Contains, ◌++◌, refl, ap, sym, ◌∙◌, inl, inr, arith}
+-- Tests over lists, and how many pass.
+use Rattle.std.proofs.Common.{◌≡◌, ℕ, zero, suc, ◌+◌, ◌<◌, ◌≤◌, Bool, true, false, ◌||◌, List, [], ◌∷◌, length, get_or, map, Option, IsTrue, Contains, ◌++◌, refl, ap, ◌∙◌, arith}
 use Rattle.std.specs.List.{list_any, filter_map, flat_map, cons_option}
-use Rattle.std.specs.List.Sorted.{IsPermutation}
-use Rattle.std.proofs.lemmas.Bool.{or_left, or_right, or_cases}
-use Rattle.std.proofs.lemmas.Bool.Decides.{nat_tests}
 use Rattle.std.proofs.lemmas.List.Folds.{list_any-from_Any}
-use Rattle.std.proofs.lemmas.List.Sorted.{list_any-IsPermutation}
 use Rattle.typing_rules.specs.Replaced.{Facts}
 use Rattle.borrow_rules.specs.Found.{count_of, one_if}
-
-any_grows : {X : Type 0} (P Q : X → Bool) → ((x : X) → P x ≡ true → Q x ≡ true) → (xs : List X) → list_any P xs ≡ true → list_any Q xs ≡ true
-any_grows P Q sub [] h = h
-any_grows P Q sub (x ∷ xs) h =
-    elim (or_cases (P x) (list_any P xs) h) [
-      | inl here ↦ or_left (Q x) (list_any Q xs) (sub x here)
-      | inr later ↦ or_right (Q x) (list_any Q xs) (any_grows P Q sub xs later)
-    ]
-
-turned : (a b : Bool) → (a || b) ≡ (b || a)
-turned true true = refl
-turned true false = refl
-turned false true = refl
-turned false false = refl
-
-absorbed : (a b : Bool) → (b ≡ true → a ≡ true) → a ≡ (a || b)
-absorbed true b h = refl
-absorbed false true h = h refl
-absorbed false false h = refl
-
-not_false : (b : Bool) → false ≡ not b → b ≡ true
-not_false true h = refl
-not_false false h = absurd (cc)
-
--- what a test says of the keys with one more
-pub put : {K : Type 0} (same : K → K → Bool) (P : K → Bool) (key : K) (old new : List K) (added : Bool) → ((x : K) → P key ≡ true → same key x ≡ true → P x ≡ true) → MatchBool added (IsPermutation (key ∷ old) new) (new ≡ old) → added ≡ not (list_any (same key) old) → list_any P new ≡ (list_any P old || P key)
-put same P key old new true like h is =
-    sym (list_any-IsPermutation P (key ∷ old) new h) ∙ turned (P key) (list_any P old)
-put same P key old new false like h is =
-    ap (list_any P) h
-    ∙ absorbed (list_any P old) (P key)
-    (λ here. any_grows (same key) P (λ x y. like x here y) old (not_false (list_any (same key) old) is))
 
 pub any_map : {X Y : Type 0} (p : Y → Bool) (f : X → Y) (xs : List X) → list_any p (map f xs) ≡ list_any (λ x. p (f x)) xs
 any_map p f [] = refl
@@ -91,16 +55,3 @@ fewer p q h (x ∷ xs) zero d within out there =
     one_lt (p x) (q x) (count_of p xs) (count_of q xs) out there (no_more p q h xs)
 fewer p q h (x ∷ xs) (suc k) d within out there =
     one_less (p x) (q x) (count_of p xs) (count_of q xs) (h x) (fewer p q h xs k d (omega (arith, within)) out there)
-
--- ---- numbers
-
-pub like_number : (body key x : ℕ) → (key == body) ≡ true → (key == x) ≡ true → (x == body) ≡ true
-like_number body key x a b = grind (arith, nat_tests)
-
-pub or_assoc : (a b c : Bool) → ((a || b) || c) ≡ (a || (b || c))
-or_assoc true b c = refl
-or_assoc false b c = refl
-
-pub or_false : (a : Bool) → (a || false) ≡ a
-or_false true = refl
-or_false false = refl

@@ -6,7 +6,7 @@ use Rattle.mir_ty.specs.declared.def.ImplDef.{ImplDef}
 use Rattle.mir_ty.specs.ItemTable.{ItemTable}
 use Rattle.typed_tree.specs.Tree.{ProgramTree}
 use Rattle.typing_rules.specs.Replaced.{BodyParameter, Facts, Replaceable, is_among, is_param, is_replaced, replaceable}
-use Rattle.well_typed.specs.Nodes.{is_drop_body}
+use Rattle.mir_ty.specs.DropBodies.{is_drop_body}
 
 -- the method that an impl has for one of a trait is found
 abbrev pub method_found : List BodyParameter → ℕ → ℕ → ℕ → ImplDef → Bool

@@ -7,7 +7,7 @@ ghost use Rattle.borrow_rules.specs.Answers.{Answers, fault_in, faults_of};
 ghost use Rattle.borrow_rules.specs.Found.{HasDropBodies};
 ghost use Rattle.borrow_rules.specs.View.{params_in, passing_in};
 
-use crate::drop_bodies::{drop_bodies, is_drop_body};
+use crate::drop_bodies::is_drop_body;
 use crate::facts::ParamNo;
 use crate::passings::{Passing, passings, stores};
 use crate::replaceable::{is_replaced, replaceable};
@@ -133,7 +133,7 @@ fn all_faults(alloc: Global, typed: &Typed) -> Result<Vec<BrokenRule>, NoMemory>
     ensures { IfOk result (λ faults. map fault_in faults.items ≡ rules.all_broken (program_of typed.now)) }
 {
     let found = replaceable(alloc, typed)?;
-    let drops = drop_bodies(alloc, &typed.items)?;
+    let drops = typed.items.drop_bodies(alloc)?;
     let mut faults = Vec::new(alloc);
     add_bodies(
         alloc,

@@ -40,6 +40,7 @@ use Rattle.src_meaning.specs.Shape.{NodeHead, head, Shape, Aliases, kind_of, sha
 use Rattle.src_meaning.specs.FieldKeys.{field_keys, moved_fields}
 use Rattle.well_typed.specs.Claim.{Claim, Holds, fact, some, ◌&◌}
 use Rattle.well_typed.specs.Names.{are_distinct_numbers}
+use Rattle.mir_ty.specs.DropBodies as of_drops
 use Rattle.well_typed.specs.Nodes as typing
 use Rattle.well_typed.specs.Patterns as patterns
 use Rattle.well_typed.specs.Patterns.{Matched, entries_of}
@@ -308,7 +309,7 @@ module _ (g : Ground) where
   count_moved n (a_node first rest) = ap suc (count_moved n rest)
 
   -- a body that is called is that of no `Drop` impl
-  drop_same : (n : ℕ) → typing.is_drop_body g.items n ≡ is_drop_body g.items n
+  drop_same : (n : ℕ) → of_drops.is_drop_body g.items n ≡ is_drop_body g.items n
   drop_same n = of_adts g.items.adts
     where
       swapped : (b : ℕ) → (b == n) ≡ (n == b)
@@ -327,8 +328,8 @@ module _ (g : Ground) where
       let t = g.known (g.local_of key) ty k in
       typed_lines.call_ok g.items g.bodies B _ ty t.0 callee sig _ (base.key_at g key ty t.0 k t.1) t.2 e (sym (eqb-true ty.0 sig.result.0 same)) no_drop (g.callable callee sig e) (given_moved id ms sig.params given) n u
 
-  not_drop_body : (callee : ℕ) → (not (typing.is_drop_body g.items callee) && not (typing.is_closure_body g.items callee)) ≡ true → is_drop_body g.items callee ≡ false
-  not_drop_body callee e = sym (drop_same callee) ∙ base.not_true (typing.is_drop_body g.items callee) (and_first _ _ e)
+  not_drop_body : (callee : ℕ) → (not (of_drops.is_drop_body g.items callee) && not (typing.is_closure_body g.items callee)) ≡ true → is_drop_body g.items callee ≡ false
+  not_drop_body callee e = sym (drop_same callee) ∙ base.not_true (of_drops.is_drop_body g.items callee) (and_first _ _ e)
 
   called_virtually : (id trait_no method key : ℕ) (ty : TyId) (sig : Sig) (ms : List NodeLower) → method_at g.items trait_no method ≡ Some sig → types.is_same ty sig.result ≡ true → rules.Given g ms sig.params → base.KeyIs g key ty → ActOk id (effects.CallVirtual (site_in id key) trait_no method (lower.all_moved id ms))
   called_virtually id trait_no method key ty sig ms e same given k n u =

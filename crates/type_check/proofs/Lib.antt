@@ -1,7 +1,6 @@
 pub mod BodyForms
 pub mod EachItem
 pub mod Outside
-pub mod DropBodies
 pub mod KindForms
 pub mod KindWalk
 pub mod Starting

@@ -1,5 +1,4 @@
 pub mod Forms
 pub mod Checks
-pub mod Drops
 pub mod Kinds
 pub mod Start

@@ -10,7 +10,7 @@ use Rattle.typeck_env.specs.Coerced.{HasImpls}
 use Rattle.typeck_env.specs.Members.{all_names}
 use Rattle.typeck_checker.specs.Tables.{adt_words, body_words, method_words, trait_words, all_kinds_of}
 use Rattle.typing_rules.specs.Items.{adt_names, all_kinds, item_syns, items_of, trait_names}
-use Rattle.well_typed.specs.Nodes.{is_drop_body}
+use Rattle.mir_ty.specs.DropBodies.{is_drop_body}
 use Rattle.type_check.specs.declared.start.TextTables.{TextTables}
 use Rattle.type_check.specs.declared.start.ItemTables.{ItemTables}
 use Rattle.type_check.specs.declared.start.ImplTables.{ImplTables}

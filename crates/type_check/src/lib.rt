@@ -3,7 +3,6 @@
 #![tactic(auto)]
 
 mod bodies;
-mod drops;
 mod functions;
 mod items;
 mod kinds;

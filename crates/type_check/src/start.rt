@@ -10,7 +10,6 @@ ghost use Rattle.typeck_checker.specs.Stand.{env, stack, state};
 ghost use Rattle.typeck_checker.specs.Tables.{AreTablesOf, all_kinds_of};
 ghost use Rattle.type_check.specs.Start.{HasImplTables, HasItemTables, HasTextTables, HasNamesOf};
 
-use crate::drops::drop_bodies;
 use crate::items::{adt_names, body_names, method_names, trait_names};
 use crate::kinds::kinds;
 use mir_base::{List, NoMemory};
@@ -92,7 +91,7 @@ fn impl_tables(alloc: Global, items: &Items) -> Result<ImplTables, NoMemory>
     ensures { IfOk result (λ tables. HasImplTables items.now tables) }
 {
     let pairs = impl_pairs(alloc, items)?;
-    let drop_bodies = drop_bodies(alloc, items)?;
+    let drop_bodies = items.drop_bodies(alloc)?;
     Ok(ImplTables { pairs, drop_bodies })
 }
 

@@ -15,7 +15,7 @@ use Rattle.typing_rules.specs.Check.{Check, TypingState, and_then, ◌>>=◌, in
 use Rattle.typing_rules.specs.Named as named
 use Rattle.typing_rules.specs.Named.{function_by}
 use Rattle.typing_rules.specs.Typed.{called_by, no_variant}
-use Rattle.well_typed.specs.Nodes.{is_drop_body}
+use Rattle.mir_ty.specs.DropBodies.{is_drop_body}
 use Rattle.typeck_calls.specs.CalleeRests.{begun_rest, ending_rest}
 use Rattle.typeck_calls.specs.declared.resolve.ResolvedCall.{ResolvedCall}
 use Rattle.typeck_calls.specs.declared.resolve.CallEnding.{CallEnding}

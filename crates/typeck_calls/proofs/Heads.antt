@@ -14,7 +14,7 @@ use Rattle.typeck_checker.specs.Tables.{AreTablesOf, method_words}
 use Rattle.typeck_checker.specs.declared.tables.Tables.{Tables}
 use Rattle.typing_rules.specs.Named.{trait_method}
 use Rattle.typing_rules.specs.Rows as rows
-use Rattle.well_typed.specs.Nodes.{is_drop_body}
+use Rattle.mir_ty.specs.DropBodies.{is_drop_body}
 use Rattle.typeck_calls.specs.Methods.{IsMethod, is_drop_of, method_seen}
 use Rattle.typeck_calls.specs.declared.methods.Method.{Method}
 

@@ -13,7 +13,7 @@ use Rattle.typing_rules.specs.Check.{Broken, TypingState}
 use Rattle.typing_rules.specs.Named.{with_head}
 use Rattle.typing_rules.specs.Places.{is_behind_shared}
 use Rattle.typing_rules.specs.Rows as rows
-use Rattle.well_typed.specs.Nodes.{is_drop_body}
+use Rattle.mir_ty.specs.DropBodies.{is_drop_body}
 use Rattle.well_typed.specs.Places.{form_of}
 use Rattle.well_typed.specs.Types.{is_same, reference_of}
 use Rattle.typeck_calls.specs.declared.methods.Method.{Method}

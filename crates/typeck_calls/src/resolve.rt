@@ -16,7 +16,7 @@ ghost use Rattle.typing_rules.specs.Named as named;
 ghost use Rattle.typing_rules.specs.Places as places;
 ghost use Rattle.typing_rules.specs.Rows as rows;
 ghost use Rattle.typing_rules.specs.Typed as typed;
-ghost use Rattle.well_typed.specs.Nodes.{is_drop_body};
+ghost use Rattle.mir_ty.specs.DropBodies.{is_drop_body};
 ghost use Rattle.well_typed.specs.Types as types;
 
 use crate::callees::Callee;

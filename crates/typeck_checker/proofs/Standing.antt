@@ -10,7 +10,7 @@ use Rattle.typeck_checker.specs.declared.body_scope.BodyScope.{BodyScope}
 use Rattle.typeck_checker.specs.declared.tables.Tables.{Tables}
 use Rattle.typing_rules.specs.Bodies.{all_rules}
 use Rattle.typing_rules.specs.Written.{WrittenScope}
-use Rattle.well_typed.specs.Nodes.{is_drop_body}
+use Rattle.mir_ty.specs.DropBodies.{is_drop_body}
 
 abbrev pub names_in : Tables → BodyScope → WrittenScope
 names_in t s = record { has_limits = true; self_adt = s.self_adt; adts = t.adts; traits = t.traits }

@@ -8,7 +8,7 @@ use Rattle.mir_ty.specs.ItemTable.{ItemTable}
 use Rattle.src_ast.specs.ItemForms.{kind_seen}
 use Rattle.src_ast.specs.Syntax.{FieldsKind, Word}
 use Rattle.src_ast.specs.declared.item.FieldKind.{FieldKind}
-use Rattle.well_typed.specs.Nodes.{is_drop_body}
+use Rattle.mir_ty.specs.DropBodies.{is_drop_body}
 use Rattle.typeck_env.specs.Coerced.{HasImpls}
 use Rattle.typeck_env.specs.Members.{all_names}
 use Rattle.typeck_checker.specs.declared.tables.Tables.{Tables}

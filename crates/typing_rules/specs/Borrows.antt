@@ -9,7 +9,7 @@ use Rattle.mir_ty.specs.ItemTable.{ItemTable}
 use Rattle.src_tree.specs.Layout.{Parts}
 use Rattle.typed_tree.specs.Nodes.{number_of}
 use Rattle.typed_tree.specs.Tree.{BodyTree, ParamTree, ProgramTree}
-use Rattle.well_typed.specs.Nodes.{is_drop_body}
+use Rattle.mir_ty.specs.DropBodies.{is_drop_body}
 use Rattle.typing_rules.specs.Accesses.{told}
 use Rattle.typing_rules.specs.Check.{Broken}
 use Rattle.typing_rules.specs.Program.{typed_program}

@@ -18,7 +18,7 @@ use Rattle.typing_rules.specs.Scope.{Env, NamedEntry, LabelledLoop, within_loop,
 use Rattle.src_ast.specs.Syntax.{Word, Syn}
 use Rattle.mir_ty.specs.declared.adt.Variant.{Variant}
 use Rattle.mir_ty.specs.declared.def.Sig.{Sig}
-use Rattle.well_typed.specs.Nodes.{is_drop_body}
+use Rattle.mir_ty.specs.DropBodies.{is_drop_body}
 use Rattle.well_typed.specs.Types.{variant_at}
 use Rattle.typing_rules.specs.Named.{Makes, method_named}
 use Rattle.typing_rules.specs.Patterns.{pattern}

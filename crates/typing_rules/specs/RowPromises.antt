@@ -8,7 +8,8 @@ use Rattle.mir_ty.specs.ItemTable.{ItemTable, type_at}
 use Rattle.mir_ty.specs.Parts.{held_by, parts_of, field_ty}
 use Rattle.typed_tree.specs.Tree.{Node, Nodes, no_node, a_node, MaybeNode, absent, present, Fields, no_field, a_field}
 use Rattle.well_typed.specs.Claim.{Claim, Holds}
-use Rattle.well_typed.specs.Nodes.{is_drop_body, typed, statements, ends_in, arm, is_one_name}
+use Rattle.mir_ty.specs.DropBodies.{is_drop_body}
+use Rattle.well_typed.specs.Nodes.{typed, statements, ends_in, arm, is_one_name}
 use Rattle.well_typed.specs.Patterns.{Matched, count_of}
 use Rattle.well_typed.specs.Places.{Context, ty_of, form_of, is_place, Wanted, Passed}
 use Rattle.well_typed.specs.Types.{is_same, closure_in, reference_in, is_reference, reference_of, has_fields, inside_in}

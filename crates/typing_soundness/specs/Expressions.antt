@@ -4,7 +4,7 @@ use Rattle.mir_base.specs.declared.place_in_text.Pos.{Pos}
 use Rattle.mir_ty.specs.declared.adt.Variant.{Variant}
 use Rattle.mir_ty.specs.declared.ty.TyId.{TyId}
 use Rattle.well_typed.specs.Claim.{Holds}
-use Rattle.well_typed.specs.Nodes.{is_drop_body}
+use Rattle.mir_ty.specs.DropBodies.{is_drop_body}
 use Rattle.well_typed.specs.Types.{variant_at}
 use Rattle.typing_rules.specs.Bodies.{closure, fn_body}
 use Rattle.typing_rules.specs.Check.{TypingState}

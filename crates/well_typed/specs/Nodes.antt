@@ -3,6 +3,7 @@
 use Rattle.std.specs.Prelude.{ℕ, nat_lt, Bool, true, false, ◌==◌, ◌&&◌, ◌||◌, not, List, [], ◌∷◌, Option, Some, None, is_none, is_some, length, slice_get, option_and_then, if◌then◌else◌}
 use Rattle.std.specs.List.{list_any, filter_map}
 use Rattle.std.specs.Option.{option_map_or}
+use Rattle.mir_ty.specs.DropBodies.{is_drop_body}
 use Rattle.mir_ty.specs.declared.ty.TyId.{TyId}
 use Rattle.mir_ty.specs.ItemTable.{ItemTable, type_at}
 use Rattle.mir_ty.specs.Parts.{field_ty}
@@ -66,10 +67,7 @@ carries_ty items ty (present value) = is_same ty (ty_of value)
 abbrev pub is_loop_ty : ItemTable → TyId → List MaybeNode → Bool
 is_loop_ty items ty values = is_never items ty || list_any (carries_ty items ty) values
 
--- a body that is entered by a call of its function: not that of a `Drop` impl, and not that of a closure
-abbrev pub is_drop_body : ItemTable → ℕ → Bool
-is_drop_body items body = list_any (λ adt. option_map_or (λ b. b == body) adt.drop_body false) items.adts
-
+-- a body that is entered by a call of its function is not that of a `Drop` impl, and not that of a closure
 abbrev pub is_closure_body : ItemTable → ℕ → Bool
 is_closure_body items body = list_any (λ def. def.body == body) items.closures
 

@@ -17,7 +17,8 @@ use Rattle.mir_ty.specs.ItemTable.{ItemTable, type_at}
 use Rattle.typed_tree.specs.Tree as tree
 use Rattle.typed_tree.specs.Tree.{Node, node, Form, Nodes}
 use Rattle.well_typed.specs.Claim.{Claim, Holds, some, fact, both}
-use Rattle.well_typed.specs.Nodes.{typed, row, arguments, first_and_rest, is_closure_body, is_drop_body, is_leaf}
+use Rattle.mir_ty.specs.DropBodies.{is_drop_body}
+use Rattle.well_typed.specs.Nodes.{typed, row, arguments, first_and_rest, is_closure_body, is_leaf}
 use Rattle.well_typed.specs.Places as well
 use Rattle.well_typed.specs.Places.{Context, ty_of, form_of, is_place, is_borrow, Taken, Base, Passed}
 use Rattle.well_typed.specs.Types.{closure_of, closure_in, fits, is_same, is_reference, reference_of, reference_in, is_dyn}

@@ -20,7 +20,8 @@ use Rattle.typed_tree.specs.Tree as tree
 use Rattle.typed_tree.specs.Tree.{Node, node, Form, Nodes, no_node, a_node, Fields, no_field, a_field}
 use Rattle.well_typed.specs.Claim.{Holds, some, fact, both}
 use Rattle.well_typed.specs.Names.{are_distinct_numbers, is_number_among}
-use Rattle.well_typed.specs.Nodes.{typed, row, arguments, made_fields, is_drop_body, is_closure_body}
+use Rattle.mir_ty.specs.DropBodies.{is_drop_body}
+use Rattle.well_typed.specs.Nodes.{typed, row, arguments, made_fields, is_closure_body}
 use Rattle.well_typed.specs.Patterns.{count_of, field_numbers}
 use Rattle.well_typed.specs.Places.{Context, Wanted}
 use Rattle.well_typed.specs.Types.{is_same, is_kind, is_reference, kind_in, adt_in, variant_at}

@@ -15,7 +15,7 @@ use Rattle.mir_ty.specs.declared.def.Sig.{Sig}
 use Rattle.mir_ty.specs.declared.ty.Ty.{Ty}
 use Rattle.mir_ty.specs.ItemTable.{ItemTable}
 use Rattle.well_typed.specs.Claim.{Holds}
-use Rattle.well_typed.specs.Nodes.{is_drop_body}
+use Rattle.mir_ty.specs.DropBodies.{is_drop_body}
 use Rattle.well_typed.specs.Types.{closure_in, closure_of, is_enum, variant_at}
 use Rattle.typing_rules.specs.Check.{TypingState}
 use Rattle.typing_rules.specs.Named as looks

@@ -6,7 +6,7 @@ use Rattle.typed_tree.specs.declared.body.Param.{Param}
 use Rattle.typed_tree.specs.declared.node.Form.{the_lemmas}
 use Rattle.typing_rules.specs.Borrows.{replaced_self, replacements}
 use Rattle.typing_rules.specs.Check.{Broken}
-use Rattle.well_typed.specs.Nodes.{is_drop_body}
+use Rattle.mir_ty.specs.DropBodies.{is_drop_body}
 use Rattle.borrow_rules.specs.Answers.{fault_in}
 use Rattle.borrow_rules.specs.View.{params_in}
 use Rattle.borrow_rules.proofs.Selves.{with_self, without_self}

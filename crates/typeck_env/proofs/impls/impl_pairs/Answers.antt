@@ -2,7 +2,8 @@ use Rattle.std.proofs.Common.{◌≡◌, Some, None, slice_get, rules, refl, ap,
 use Rattle.std.specs.List.{list_any}
 use Rattle.typeck_env.specs.Coerced.{is_impl}
 use Rattle.std.proofs.lemmas.Option.{slice_get_within}
-use Rattle.typeck_env.proofs.ImplPairs.{all_taken, noted}
+use Rattle.mir_ty.proofs.Sets.{all_taken}
+use Rattle.typeck_env.proofs.ImplPairs.{noted}
 use Rattle.typeck_env.proofs.impls.impl_pairs.Goals as goal
 
 pub loop-def-preserved : goal.loop-def-preserved

@@ -2,7 +2,7 @@ use Rattle.std.proofs.Common.{◌≡◌, ◌∷◌, [], ◌++◌, take, Some, No
 use Rattle.std.proofs.lemmas.List.{map_push}
 use Rattle.std.proofs.lemmas.Option.{slice_get_within}
 use Rattle.typeck_env.specs.Members.{adt_names, all_names}
-use Rattle.typeck_env.proofs.ImplPairs.{all_taken, with_next}
+use Rattle.mir_ty.proofs.Sets.{all_taken, with_next}
 use Rattle.typeck_env.proofs.members.member_names.Goals as goal
 
 pub loop-adt-preserved : goal.loop-adt-preserved
