@@ -25,20 +25,20 @@ use std::alloc::Global;
 use store_model::{Addr, Value};
 
 /// The number of the impl of a trait for a struct or an enum.
-fn impl_number(items: &Items, trait_no: u32, adt: u32) -> Result<Option<u32>, NoMemory>
-    ensures { IfOk result (λ found. found ≡ impl_of items.now trait_no adt) }
+fn impl_number(items: &Items, trait_no: u32, adt: u32) -> Option<u32>
+    ensures { result ≡ impl_of items.now trait_no adt }
 {
     for n in 0..u32::MAX {
         match items.impl_def(n) {
             Some(of) => {
                 if of.trait_no == trait_no && of.adt == adt {
-                    return Ok(Some(n));
+                    return Some(n);
                 }
             }
-            None => return Ok(None),
+            None => return None,
         }
     }
-    Err(NoMemory::cannot_be())
+    unreachable!()
 }
 
 /// A box as one of a trait object with the row of this impl.
@@ -119,7 +119,7 @@ impl World<'_> {
             (adt_in_box (run_setting self.now) (state_of [] self.now) operand.now)) }
     {
         match self.adt_in_box(operand) {
-            Some(adt) => impl_number(&self.graph.items, trait_no, adt),
+            Some(adt) => Ok(impl_number(&self.graph.items, trait_no, adt)),
             None => Ok(None),
         }
     }

@@ -31,20 +31,20 @@ fn is_main(name: &Name) -> bool
 }
 
 /// The number of the body with the name `main`, or 0.
-fn main_number(items: &Items) -> Result<u32, NoMemory>
-    ensures { IfOk result (λ number. number ≡ main_of items.now) }
+fn main_number(items: &Items) -> u32
+    ensures { result ≡ main_of items.now }
 {
     for n in 0..u32::MAX {
         match items.body_sig(n) {
             Some(sig) => {
                 if is_main(&sig.name) {
-                    return Ok(n);
+                    return n;
                 }
             }
-            None => return Ok(0),
+            None => return 0,
         }
     }
-    Err(NoMemory::cannot_be())
+    unreachable!()
 }
 
 /// How a run has ended, if it has.
@@ -169,10 +169,7 @@ fn run_graph<K: Sink>(
     ensures part { IfErr result (TookPart (run_text graph.now (run_by strict graph.now asks.now ticks)) (K.taken out.old)
         (K.taken out.new)) }
 {
-    let main = match main_number(&graph.items) {
-        Ok(main) => main,
-        Err(NoMemory) => return Err(RunError::Memory),
-    };
+    let main = main_number(&graph.items);
     let mut world = World {
         graph,
         strict,
