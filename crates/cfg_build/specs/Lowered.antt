@@ -1,5 +1,5 @@
 -- What contracts see of a body that is lowered.
-use Rattle.std.specs.Prelude.{ℕ, ◌-◌, List, [], Option, length, map, option_map}
+use Rattle.std.specs.Prelude.{ℕ, ◌-◌, ◌<◌, ◌^◌, List, [], Option, length, map, option_map}
 use Rattle.std.specs.Option.{unwrap_or}
 use Rattle.cfg_graph.specs.declared.graph.Block.{Block}
 use Rattle.cfg_graph.specs.declared.graph.Kind.{Kind}
@@ -13,6 +13,10 @@ use Rattle.lower_blocks.specs.Building.{made_of}
 use Rattle.lower_blocks.specs.declared.blocks.MadeBlock.{MadeBlock}
 use Rattle.lower_passes.specs.Spans.{Stands}
 use Rattle.lower_passes.specs.declared.spans.Spans.{Spans}
+
+-- so few lines that a number of 32 bits counts them and one more
+abbrev pub HasFewLines : Block → Type 0
+HasFewLines block = length block.stmts < 2 ^ 32 - 1
 
 -- a body of which nothing is built, and one whose block 0 is given out, and whose block 1 returns
 abbrev pub unbuilt : ℕ → BlockRest × Building

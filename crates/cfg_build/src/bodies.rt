@@ -10,9 +10,10 @@ ghost use Rattle.lower_code.specs.View.{op_of};
 ghost use Rattle.src_meaning.specs.Locals.OfBody as of_body;
 ghost use Rattle.typed_tree.specs.View.{body_of};
 ghost use Rattle.cfg_build.specs.Lowered.{unbuilt, begun, IsWhole};
+ghost use Rattle.cfg_graph.specs.WellFormed.Faults.{IsCountedBody};
 ghost use Rattle.lower_rules.specs.Listed.{ids_of, nodes_of_body};
 
-use crate::parts::{add_parts, add_tys};
+use crate::parts::{MANY, add_parts, add_tys};
 use bumpalo::Bump;
 use cfg_graph::{Body, Kind, Term};
 use lower_blocks::{Blocks, BuildContext, MadeBlock, Ways, build};
@@ -170,11 +171,13 @@ fn count_of(params: &[Param]) -> Result<u32, NoMemory>
 ///
 /// # Errors
 ///
-/// [`NoMemory`] where memory is wanted, and where there are more parameters, locals or blocks than 32 bits count.
+/// [`NoMemory`] where memory is wanted, and where there are more parameters, locals, blocks or lines of a block than 32
+/// bits count.
 pub fn lower_body(alloc: Global, items: &Items, body: &TBody) -> Result<LoweredBody, NoMemory>
     ensures body { IfOk result (λ lowered. lowered.body ≡ low.body_of items.now (body_of body.now)) }
     ensures locals { IfOk result (λ lowered. lowered.locals ≡ of_body.locals items.now (body_of body.now)) }
     ensures nodes { IfOk result (λ lowered. map ids_of lowered.nodes ≡ nodes_of_body items.now (body_of body.now)) }
+    ensures counted { IfOk result (λ lowered. IsCountedBody lowered.body) }
 {
     let params = count_of(body.params.as_slice())?;
     let found = locals(alloc, items, body)?;
@@ -189,6 +192,9 @@ pub fn lower_body(alloc: Global, items: &Items, body: &TBody) -> Result<LoweredB
     let mut blocks = List::from_vec(Vec::with_capacity(alloc, made.len())?);
     let mut nodes = List::from_vec(Vec::with_capacity(alloc, made.len())?);
     add_parts(alloc, made, &mut blocks, &mut nodes)?;
+    if tys.len() >= MANY || blocks.len() >= MANY {
+        return Err(NoMemory::past_32_bits());
+    }
     Ok(LoweredBody {
         body: Body {
             params,

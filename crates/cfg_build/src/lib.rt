@@ -17,4 +17,4 @@ pub use blocks::body_sites;
 pub use bodies::{LoweredBody, lower_body};
 pub use lower_rules::Site;
 pub use names::{PlaceNames, node_with, place_name, rise};
-pub use programs::{Lowered, lower};
+pub use programs::{Lowered, lower, lower_owned};

@@ -1,8 +1,8 @@
 //! Blocks that are made, with the nodes of their lines, as parts of a body.
-ghost use Rattle.std.specs.Prelude.{◌≡◌, ◌++◌, ◌∷◌, [], OnOk, map};
+ghost use Rattle.std.specs.Prelude.{◌≡◌, ◌++◌, ◌∷◌, [], All, OnOk, map};
 ghost use Rattle.lower_locals.specs.View.{tys as tys_of, entry_of};
 ghost use Rattle.src_meaning.specs.Scopes as scopes;
-ghost use Rattle.cfg_build.specs.Lowered.{block_of, line_nodes};
+ghost use Rattle.cfg_build.specs.Lowered.{HasFewLines, block_of, line_nodes};
 ghost use Rattle.lower_rules.specs.Listed.{ids_of};
 
 use cfg_graph::{Block, Kind, Term};
@@ -22,6 +22,9 @@ pub fn add_tys(locals: &[Local], tys: &mut List<TyId>) -> Result<(), NoMemory>
     Ok(())
 }
 
+/// So many members are too many for a number of 32 bits to count them and one more.
+pub const MANY: usize = u32::MAX as usize;
+
 /// A block, and the nodes of its lines, are put behind others. Where a number was given out and no block was made, which
 /// there is not, a block stands that returns.
 fn add_part(
@@ -31,11 +34,15 @@ fn add_part(
     nodes: &mut List<List<NodeId>>,
 ) -> Result<(), NoMemory>
     ensures { OnOk result ((blocks.new ≡ blocks.old ++ block_of made ∷ [])
-        × (map ids_of nodes.new ≡ map ids_of nodes.old ++ line_nodes made ∷ [])) }
+        × (map ids_of nodes.new ≡ map ids_of nodes.old ++ line_nodes made ∷ [])
+        × (All HasFewLines blocks.old → All HasFewLines blocks.new)) }
 {
     match made {
         Some(made) => {
             let MadeBlock { block, nodes: own } = made;
+            if block.stmts.len() >= MANY {
+                return Err(NoMemory::past_32_bits());
+            }
             blocks.push(block)?;
             nodes.push(own)
         }
@@ -59,7 +66,8 @@ pub fn add_parts(
     nodes: &mut List<List<NodeId>>,
 ) -> Result<(), NoMemory>
     ensures { OnOk result ((blocks.new ≡ blocks.old ++ map block_of made)
-        × (map ids_of nodes.new ≡ map ids_of nodes.old ++ map line_nodes made)) }
+        × (map ids_of nodes.new ≡ map ids_of nodes.old ++ map line_nodes made)
+        × (All HasFewLines blocks.old → All HasFewLines blocks.new)) }
 {
     for one in made.into_vec() {
         add_part(alloc, one, blocks, nodes)?;

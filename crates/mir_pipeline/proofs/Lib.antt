@@ -1,5 +1,4 @@
 pub mod Accepted
-pub mod Counted
 pub mod Fewer
 pub mod Finding
 pub mod FirstBad

@@ -98,11 +98,9 @@ each P program holds n tree there =
     (body_of program.items tree, (slice_get-map (body_of program.items) program.bodies n ∙ ap (option_map (body_of program.items)) there, holds n tree there))
 
 -- the graph that was made of a program
-pub is_graph : (program : ProgramTree) → HasGraph program → (lowered same : Lowered) → lowered.graph ≡ graph_of program → lowered.sites ≡ program_sites program →
-    (same ≡ lowered) × IsCounted same.graph → IsGraphOf program same
-is_graph program (named, rises, well_formed) lowered same graph sites (is, counted) =
-    let made = ap (λ (l : Lowered). l.graph) is ∙ graph in
-    let listed = ap (λ (l : Lowered). l.sites) is ∙ sites in
+pub is_graph : (program : ProgramTree) → HasGraph program → (same : Lowered) → same.graph ≡ graph_of program → same.sites ≡ program_sites program →
+    IsCounted same.graph → IsGraphOf program same
+is_graph program (named, rises, well_formed) same made listed counted =
     record {
       graph = made;
       sites = listed;

@@ -18,4 +18,5 @@ loop-body-preserved c =
       sites = body_more c.args.items.now c.args.all.now c.loop-body.body-index c.loop-body.number c.in_ok-number.number c.body-item.result
           c.loop-body.sites c.add_body.new.sites _ c.loop-body.invariant.number on c.loop-body-test.true c.body-item.is
           c.in_ok-add_body.ensures.1 c.loop-body.invariant.sites;
+      counted = λ all. c.in_ok-add_body.ensures.2 (c.loop-body.invariant.counted all);
     }
