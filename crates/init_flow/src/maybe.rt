@@ -151,6 +151,24 @@ fn switches_of(
     })
 }
 
+/// The switches of a body of a graph over the forest of the paths of that body.
+fn switches_in(
+    alloc: Global,
+    graph: &Graph,
+    body: u32,
+    forest: &Forest,
+    gone: bool,
+) -> Result<Switches, NoMemory>
+    requires body { body < length graph.now.bodies }
+    requires forest { (found : GraphBody) → slice_get graph.now.bodies body ≡ Some found → IsForest graph.now.items found forest.now }
+    ensures is_for { IfOk result (λ switches. (found : GraphBody) → slice_get graph.now.bodies body ≡ Some found → length switches.blocks ≡ length found.blocks) }
+    ensures says { IfOk result (λ switches. (found : GraphBody) → slice_get graph.now.bodies body ≡ Some found → Says graph.now.items found forest.now.paths gone (target graph.now.items found) (λ block way row. passed_by switches block way row) switches.first) }
+    ensures masks { IfOk result (λ switches. switches.below ≡ masks_of forest.now.paths) }
+{
+    let body = &graph.bodies.as_slice()[body as usize];
+    switches_of(alloc, body, forest, gone)
+}
+
 impl MaybeGone {
     /// The analysis of a body of a graph over the forest of the paths of that body. What a path of the body carries to a
     /// block says of each path of the forest whether it is gone there.
@@ -166,9 +184,8 @@ impl MaybeGone {
         ensures says { IfOk result (λ a. (found : GraphBody) → slice_get graph.now.bodies body ≡ Some found → Says graph.now.items found forest.now.paths true (target graph.now.items found) (λ block way row. passed_by a.switches block way row) a.switches.first) }
         ensures masks { IfOk result (λ a. a.switches.below ≡ masks_of forest.now.paths) }
     {
-        let body = &graph.bodies.as_slice()[body as usize];
         Ok(MaybeGone {
-            switches: switches_of(alloc, body, forest, true)?,
+            switches: switches_in(alloc, graph, body, forest, true)?,
         })
     }
 
@@ -196,9 +213,8 @@ impl MaybeInit {
         ensures is_for { IfOk result (λ a. (found : GraphBody) → slice_get graph.now.bodies body ≡ Some found → length a.switches.blocks ≡ length found.blocks) }
         ensures says { IfOk result (λ a. (found : GraphBody) → slice_get graph.now.bodies body ≡ Some found → Says graph.now.items found forest.now.paths false (target graph.now.items found) (λ block way row. passed_by a.switches block way row) a.switches.first) }
     {
-        let body = &graph.bodies.as_slice()[body as usize];
         Ok(MaybeInit {
-            switches: switches_of(alloc, body, forest, false)?,
+            switches: switches_in(alloc, graph, body, forest, false)?,
         })
     }
 }
