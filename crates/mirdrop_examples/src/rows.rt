@@ -20,7 +20,7 @@ enum RowQuestion {
     Listing,
 }
 
-static FILES: [(&str, RowQuestion); 12] = [
+static FILES: [(&str, RowQuestion); 13] = [
     ("grammar.rows", RowQuestion::Tree),
     ("item_rules.rows", RowQuestion::Items),
     ("items.rows", RowQuestion::Check),
@@ -31,6 +31,7 @@ static FILES: [(&str, RowQuestion); 12] = [
     ("borrows.rows", RowQuestion::Check),
     ("programs.rows", RowQuestion::Check),
     ("writing.rows", RowQuestion::Check),
+    ("refusals.rows", RowQuestion::Check),
     ("words.rows", RowQuestion::Words),
     ("damaged_listing.rows", RowQuestion::Listing),
 ];
