@@ -1,6 +1,6 @@
--- A block that is no turn and not the first, from its beginning up to those of the next ones: what the raw block does,
--- the elaborated one does. What a drop does is a premise here.
-use Rattle.std.proofs.Common.{◌≡◌, ◌⊎◌, inl, inr, ℕ, zero, suc, ◌≤◌, ◌<◌, Bool, true, false, List, [], ◌∷◌, ◌++◌, map, length, Option, Some, None, slice_get, refl, ap, sym, ◌∙◌, subst, append_assoc, arith}
+-- A block from its first statement up to the beginnings of the next ones: what the raw block does, the elaborated one
+-- does. What a drop does is a premise here.
+use Rattle.std.proofs.Common.{◌≡◌, ◌⊎◌, inl, inr, ℕ, zero, suc, ◌≤◌, ◌<◌, ◌==◌, Bool, true, false, List, [], ◌∷◌, ◌++◌, map, length, Option, Some, None, slice_get, Contains, refl, ap, sym, ◌∙◌, subst, append_assoc, arith}
 use Rattle.mir_base.specs.declared.trace.Event.{Event}
 use Rattle.mir_ty.specs.declared.ty.Ty.{Ty}
 use Rattle.mir_ty.specs.declared.ty.TyId.{TyId}
@@ -12,7 +12,7 @@ use Rattle.cfg_graph.specs.declared.place.Place as graph
 use Rattle.cfg_graph.specs.declared.statement.Stmt.{Stmt}
 use Rattle.cfg_graph.specs.declared.terminator.Term.{Term}
 use Rattle.cfg_graph.specs.declared.terminator.Unwind.{Unwind}
-use Rattle.cfg_graph.specs.Edges.{is_turn, is_turn_kind}
+use Rattle.cfg_graph.specs.Edges.{is_turn, is_turn_kind, onward, unwind_of}
 use Rattle.cfg_graph.specs.Moves.Actions.{at_line}
 use Rattle.cfg_graph.specs.Moves.Gone.{PathAction}
 use Rattle.cfg_graph.specs.Uses.{PlaceUse, Stores, stored_by_term, term_uses}
@@ -30,24 +30,24 @@ use Rattle.store_model.specs.Values.Datum.{Datum}
 use Rattle.drop_values.specs.Like.{body_at, Flags, Like, Same, SameBodies, IsStuck, raw_setting, strict_setting, Extends}
 use Rattle.drop_values.proofs.Actions.{ActionOk, MayCall, StoreTyped, Stays, ChoiceWay, act-Same}
 use Rattle.drop_elaborate.proofs.Walks.{unplaced, Walks}
-use Rattle.drop_elaborate.proofs.Statements.{Tell, After, uses-set, At}
+use Rattle.drop_elaborate.proofs.Statements.{up_to, Tell, After, uses-set, At}
 use Rattle.drop_elaborate.specs.Elaborated.{flag_at, flags_of_uses, BlockIs, EdgeTo, next_of, onward_to, result_flags}
 use Rattle.cfg_meaning.specs.Actions.{action_of}
 use Rattle.cfg_graph.specs.Moves.Actions.{stmt_actions}
 use Rattle.cfg_graph.specs.Uses.{stmt_uses}
 use Rattle.drop_values.proofs.Counting.{after}
 use Rattle.drop_elaborate.proofs.Statements.{ActionOwed, begin-sets, stmts-Same}
-use Rattle.drop_elaborate.proofs.Terminators.{TermOwed, used_at, stored_at_end, result-Ends}
+use Rattle.drop_elaborate.proofs.Terminators.{TermOwed, used_at, stored_at_end, MayGo, result-Ends}
 use Rattle.drop_elaborate.specs.Elaborated.{first_flags, is_drop, kind_after, at_start, with_flags, Ends, result, dead, plain, ladder, BlockDone}
 
 module _ (items : ItemTable) (local_ty local_ty' : (body local : ℕ) → Option TyId)
-    (extends : Extends local_ty local_ty') (number depth : ℕ) (body : Body) (flagged : List Place)
+    (extends : Extends local_ty local_ty') (number depth : ℕ) (outer : Flags) (body : Body) (flagged : List Place)
     (flag_ty : TyId) (flag_is : type_at items flag_ty ≡ Some Ty.Bool)
     (added : (n : ℕ) → n < length flagged → (local_ty number (flag_at items body flagged n) ≡ None)
     × (local_ty' number (flag_at items body flagged n) ≡ Some flag_ty))
     (run run' : Bodies) (bound most : ℕ) (good : ℕ → List Datum → State → Type 0)
     (tie : SameBodies local_ty good most run run')
-    (stays : (flags : Flags) (event : Event) (callee : ℕ) (args : List Datum) (w : State) →
+    (stays : (flags : Flags) (event : Event) (callee : ℕ) (args : List Datum) (w : State) → good callee args w →
     Stays items local_ty local_ty' extends flags depth number w (run event callee args w))
     (Known : List PathAction → State → Type 0)
     (body' : Body) (WalkE : Next State) (walks : Walks
@@ -69,7 +69,7 @@ module _ (items : ItemTable) (local_ty local_ty' : (body local : ℕ) → Option
   node line = 0
 
   abbrev AtHere : List PathAction → State → State → Type 0
-  AtHere acts w w' = At items local_ty local_ty' extends number depth body flagged flag_ty flag_is
+  AtHere acts w w' = At items local_ty local_ty' extends number depth outer body flagged flag_ty flag_is
       added run' bound run most good tie stays Known acts w w'
 
   nil : (xs : List Stmt) → xs ++ [] ≡ xs
@@ -89,18 +89,30 @@ module _ (items : ItemTable) (local_ty local_ty' : (body local : ℕ) → Option
   module _ (P : Out State → Out State → Type 0) (stuck : (halt : Halt) (w : State) (o : Out State) →
       IsStuck halt → P (Halts halt w) o) (halts : (halt : Halt) (w w' : State) → w'.trace ≡ w.trace →
       P (Halts halt w) (Halts halt w')) where
+    abbrev MayGoHere : Term → State → Type 0
+    MayGoHere term w =
+        MayGo items local_ty local_ty' extends number depth outer body flagged flag_ty flag_is added run run' bound
+        most good tie
+        stays Known body' WalkE walks P stuck halts term w
+
     -- what is owed of a block, after some actions of a path that comes to it
     pub record BlockOwed (n : ℕ) (block : Block) (before : List PathAction) (nextR : Next State) : Type 0 where
       pub stmts : (k : ℕ) (stmt : Stmt) → slice_get block.stmts k ≡ Some stmt →
-          ActionOwed items local_ty local_ty' extends number depth body flagged flag_ty flag_is
-          added run' bound run most good tie stays Known (at_line n (after 0 k) (stmt_uses stmt)) (action_of 0 stmt)
-      pub term : (v : State) → TermOwed items local_ty local_ty' extends number depth body flagged
+          ActionOwed items local_ty local_ty' extends number depth outer body flagged flag_ty flag_is
+          added run' bound run most good tie stays Known (up_to n 0 before block.stmts k)
+          (at_line n (after 0 k) (stmt_uses stmt)) (action_of 0 stmt)
+      pub term : (v v' : State) → AtHere (before ++ stmt_actions n 0 block.stmts) v v' → TermOwed items local_ty
+          local_ty' extends number depth outer body flagged
           flag_ty flag_is added run run' bound most good tie stays Known body' WalkE walks P stuck halts n
           (length block.stmts) block.term (before ++ stmt_actions n 0 block.stmts) v
-      pub goes : (m : ℕ) (v v' : State) → AtHere (((before ++ stmt_actions n 0 block.stmts)
+      pub goes : (m : ℕ) → Contains (onward block.term) m → (u u' : State) →
+          AtHere (before ++ stmt_actions n 0 block.stmts) u u' → MayGoHere block.term u → (v v' : State) → AtHere
+          (((before ++ stmt_actions n 0 block.stmts)
           ++ at_line n (length block.stmts) (term_uses block.term)) ++ at_line n (length block.stmts)
           (map (λ place. (Stores, place)) (stored_by_term block.term))) v v' → P (nextR m v) (WalkE m v')
-      pub panics : (unwind : Unwind) (v v' : State) → AtHere ((before ++ stmt_actions n 0 block.stmts)
+      pub panics : is_drop items body flagged body' block.term ≡ false → (unwind : Unwind) → (unwind ≡ Unwind.Resume)
+          ⊎ Contains (unwind_of block.term) unwind →
+          (v v' : State) → AtHere ((before ++ stmt_actions n 0 block.stmts)
           ++ at_line n (length block.stmts) (term_uses block.term)) v v' → P (unwinding unwind nextR v)
           (unwinding unwind WalkE v')
       pub gives : (v v' : State) → AtHere (before ++ stmt_actions n 0 block.stmts) v v' →
@@ -131,13 +143,14 @@ module _ (items : ItemTable) (local_ty local_ty' : (body local : ℕ) → Option
             (subst (λ stmts. P (term_does p 0 block.term nextR v)
             (stmts_do q node line' stmts (term_does q 0 (onward_to items body flagged body' from block.term) WalkE)
             v')) (nil (flags_of_uses items body flagged (term_uses block.term)))
-            (result-Ends items local_ty local_ty' extends number depth body flagged flag_ty flag_is
+            (result-Ends items local_ty local_ty' extends number depth outer body flagged flag_ty flag_is
             added run run' bound most good tie stays Known body' WalkE walks P stuck halts n
             (length block.stmts) block.term (kind_after items body flagged body' block.kind) from nextR line'
             (before ++ stmt_actions n 0 block.stmts) v v' (no-turn block.kind)
             (subst (λ t. EdgeTo items body flagged body' (kind_after items body flagged body' block.kind)
             (result_flags items body flagged body' t) from (next_of items body flagged body' t)) e edge)
-            (owed.term v) at owed.goes owed.panics owed.gives (no-drop block.term h)))
+            (owed.term v v' at) at (λ m c g. owed.goes m c v v' at g) (owed.panics h) owed.gives (no-drop block.term
+            h)))
         no-result e h (dead place next unwind) = absurd (no-drop block.term h place next unwind (sym e))
         no-result e h (plain place next unwind) = absurd (no-drop block.term h place next unwind (sym e))
         no-result e h (ladder plan place next from unwind code) =
@@ -148,118 +161,59 @@ module _ (items : ItemTable) (local_ty local_ty' : (body local : ℕ) → Option
         by true h = owed.drops ending term' line' v v' h ends at
         by false h = no-result refl h ends
 
-    -- from the beginning of a block
-    pub block-Ends : (n : ℕ) (block : Block) (before : List PathAction) (nextR : Next State) (w w' : State) →
-        BlockDone items body flagged body' (suc n) block → is_turn block ≡ false →
-        BlockOwed (suc n) block before nextR → AtHere before w w' →
-        P (block_does p (λ line. 0) block nextR w) (WalkE (suc n) w')
-    block-Ends n block before nextR w w' done flat owed at =
-        subst (P (block_does p (λ line. 0) block nextR w)) (sym there)
-        (stmts-Same items local_ty local_ty' extends number depth body flagged flag_ty flag_is added
+    -- what the elaborated block does, from its first statement on
+    abbrev pub entered : (n : ℕ) (block : Block) → BlockDone items body flagged body' n block → State → Out State
+    entered n block done v =
+        stmts_do q node 0 (at_start items body flagged n ++ (with_flags items body flagged block.stmts ++ done.ending))
+        (term_does q 0 done.term WalkE) v
+
+    pub enters : (n : ℕ) (block : Block) (done : BlockDone items body flagged body' n block) (w' : State) →
+        is_turn block ≡ false → w'.ticks ≤ most → WalkE n w' ≡ entered n block done w'
+    enters n block done w' flat few' =
+        walks.plain n done.there.block done.there.there (ap is_turn_kind done.there.kind_is ∙ flat) w' few'
+        ∙ ap (λ stmts. stmts_do q node 0 stmts (term_does q 0 done.there.block.term WalkE) w') done.there.stmts_are
+        ∙ ap (λ term. stmts_do q node 0 (at_start items body flagged n ++ (with_flags items body flagged block.stmts
+        ++ done.ending)) (term_does q 0 term WalkE) w') done.there.term_is
+
+    -- a turn spends a tick before
+    pub turns : (n : ℕ) (block : Block) (done : BlockDone items body flagged body' n block) (w' : State) →
+        block.kind ≡ Kind.Turn → w'.ticks ≤ most →
+        WalkE n w' ≡ ◌>>=◌ (renamed unplaced (spend w'.ticks w')) (entered n block done)
+    turns n block done w' is_turn few' =
+        walks.turn n done.there.block done.there.there (done.there.kind_is ∙ is_turn) w' few'
+        ∙ ap (λ stmts. ◌>>=◌ (renamed unplaced (spend w'.ticks w'))
+        (λ v. stmts_do q node 0 stmts (term_does q 0 done.there.block.term WalkE) v)) done.there.stmts_are
+        ∙ ap (λ term. ◌>>=◌ (renamed unplaced (spend w'.ticks w'))
+        (λ v. stmts_do q node 0 (at_start items body flagged n ++ (with_flags items body flagged block.stmts
+        ++ done.ending)) (term_does q 0 term WalkE) v)) done.there.term_is
+
+    -- from the first statement of a block
+    pub block-Rest : (n : ℕ) (block : Block) (before : List PathAction) (nextR : Next State) (w w' : State) →
+        (done : BlockDone items body flagged body' (suc n) block) → BlockOwed (suc n) block before nextR →
+        AtHere before w w' → P (block_does p (λ line. 0) block nextR w) (entered (suc n) block done w')
+    block-Rest n block before nextR w w' done owed at =
+        stmts-Same items local_ty local_ty' extends number depth outer body flagged flag_ty flag_is added
         run' bound run most good tie stays Known P stuck halts (suc n) 0 block.stmts before 0 done.ending
         (term_does p 0 block.term nextR) (term_does q 0 done.term WalkE) w w' owed.stmts at
-        (λ line' v v' a. term-Ends (suc n) block before nextR owed done.ending done.term done.ends line' v v' a))
-      where
-        few' : w'.ticks ≤ most
-        few' = let t = at.like.ticks in let k = at.few in omega (arith, t, k)
+        (λ line' v v' a. term-Ends (suc n) block before nextR owed done.ending done.term done.ends line' v v' a)
 
-        there : WalkE (suc n) w' ≡ stmts_do q node 0 (with_flags items body flagged block.stmts ++ done.ending)
-            (term_does q 0 done.term WalkE) w'
-        there =
-            walks.plain (suc n) done.there.block done.there.there (ap is_turn_kind done.there.kind_is ∙ flat) w' few'
-            ∙ ap (λ stmts. stmts_do q node 0 stmts (term_does q 0 done.there.block.term WalkE) w') done.there.stmts_are
-            ∙ ap (λ term. stmts_do q node 0 (with_flags items body flagged block.stmts ++ done.ending)
-            (term_does q 0 term WalkE) w') done.there.term_is
-
-    -- from the beginning of a turn block, which spends a tick
-    pub turn-Ends : (n : ℕ) (block : Block) (before : List PathAction) (nextR : Next State) (w w' : State) →
-        BlockDone items body flagged body' (suc n) block → block.kind ≡ Kind.Turn →
-        ((t : ℕ) → suc t ≡ w.ticks → BlockOwed (suc n) block before nextR) →
-        ((t : ℕ) → suc t ≡ w.ticks → Known before (record w { ticks = t })) → AtHere before w w' →
-        P (◌>>=◌ (p.tick w) (block_does p (λ line. 0) block nextR)) (WalkE (suc n) w')
-    turn-Ends n block before nextR w w' done is_turn owed spent at =
-        subst (P (◌>>=◌ (p.tick w) (block_does p (λ line. 0) block nextR))) (sym there)
-        (subst (λ t. P (◌>>=◌ (p.tick w) (block_does p (λ line. 0) block nextR))
-        (◌>>=◌ (renamed unplaced (spend t w')) onward)) (sym at.like.ticks) (by w.ticks refl))
-      where
-        onward : State → Out State
-        onward v = stmts_do q node 0 (with_flags items body flagged block.stmts ++ done.ending)
-            (term_does q 0 done.term WalkE) v
-
-        few' : w'.ticks ≤ most
-        few' = let t = at.like.ticks in let k = at.few in omega (arith, t, k)
-
-        there : WalkE (suc n) w' ≡ ◌>>=◌ (renamed unplaced (spend w'.ticks w')) onward
-        there =
-            walks.turn (suc n) done.there.block done.there.there (done.there.kind_is ∙ is_turn) w' few'
-            ∙ ap (λ stmts. ◌>>=◌ (renamed unplaced (spend w'.ticks w'))
-            (λ v. stmts_do q node 0 stmts (term_does q 0 done.there.block.term WalkE) v)) done.there.stmts_are
-            ∙ ap (λ term. ◌>>=◌ (renamed unplaced (spend w'.ticks w'))
-            (λ v. stmts_do q node 0 (with_flags items body flagged block.stmts ++ done.ending)
-            (term_does q 0 term WalkE) v)) done.there.term_is
-
-        by : (t : ℕ) → w.ticks ≡ t → P (◌>>=◌ (renamed unplaced (spend t w)) (block_does p (λ line. 0) block nextR))
-            (◌>>=◌ (renamed unplaced (spend t w')) onward)
-        by zero e = halts OutOfTicks w w' at.like.trace
-        by (suc t) e =
-            stmts-Same items local_ty local_ty' extends number depth body flagged flag_ty flag_is
-            added run' bound run most good tie stays Known P stuck halts (suc n) 0 block.stmts before 0 done.ending
-            (term_does p 0 block.term nextR) (term_does q 0 done.term WalkE)
-            (record w { ticks = t }) (record w' { ticks = t }) (owed t (sym e)).stmts
-            (record {
-              flags = at.flags;
-              like = (let l = at.like in record {
-                asked = l.asked;
-                ticks = refl;
-                serial = l.serial;
-                trace =
-                    l.trace;
-                count = l.count;
-                bodies = l.bodies;
-                covers = l.covers;
-                flags_are = l.flags_are;
-              });
-              tell = at.tell;
-              deep = at.deep;
-              number_is = at.number_is;
-              few = (let k = at.few in omega (arith, e, k));
-              known = spent t (sym e);
-            })
-            (λ line' v v' a. term-Ends (suc n) block before nextR (owed t (sym e)) done.ending done.term
-            done.ends line' v v' a)
-
-    -- the first block, where the flags hold nothing yet
-    pub first-Ends : (block : Block) (nextR : Next State) (flags : Flags) (w w' : State) →
-        BlockDone items body flagged body' 0 block → is_turn block ≡ false → BlockOwed 0 block [] nextR →
+    -- from that of the first block, where the flags hold nothing yet
+    pub first-Rest : (block : Block) (nextR : Next State) (flags : Flags) (w w' : State) →
+        (done : BlockDone items body flagged body' 0 block) → BlockOwed 0 block [] nextR →
         Like local_ty flags w w' → length w.activations ≡ suc depth → body_at depth w ≡ Some number →
-        w.ticks ≤ most → Known [] w →
-        P (block_does p (λ line. 0) block nextR w) (WalkE 0 w')
-    first-Ends block nextR flags w w' done flat owed like deep is few known =
-        subst (P (block_does p (λ line. 0) block nextR w)) (sym (there ∙ a.does))
-        (stmts-Same items local_ty local_ty' extends number depth body flagged flag_ty flag_is added
+        ((d k : ℕ) → (d == depth) ≡ false → flags d k ≡ outer d k) →
+        w.ticks ≤ most → Known [] w → P (block_does p (λ line. 0) block nextR w) (entered 0 block done w')
+    first-Rest block nextR flags w w' done owed like deep is beyond few known =
+        subst (P (block_does p (λ line. 0) block nextR w)) (sym a.does)
+        (stmts-Same items local_ty local_ty' extends number depth outer body flagged flag_ty flag_is added
         run' bound run most good tie stays Known P stuck halts 0 0 block.stmts [] a.line' done.ending
         (term_does p 0 block.term nextR) (term_does q 0 done.term WalkE) w a.v' owed.stmts
         (record { flags = a.new; like = a.like; tell = a.tell; deep = deep; number_is = is; few = few; known = known })
         (λ line' v v' z. term-Ends 0 block [] nextR owed done.ending done.term done.ends line' v v' z))
       where
-        more : List Stmt
-        more = with_flags items body flagged block.stmts ++ done.ending
-
-        a : After items local_ty local_ty' extends number depth body flagged flag_ty flag_is added run' bound []
+        a : After items local_ty local_ty' extends number depth outer body flagged flag_ty flag_is added run' bound []
             (first_flags items body flagged flagged 0) 0 (with_flags items body flagged block.stmts ++ done.ending)
             (term_does q 0 done.term WalkE) w w'
-        a = begin-sets items local_ty local_ty' extends number depth body flagged flag_ty flag_is added run' bound 0
-            (with_flags items body flagged block.stmts ++ done.ending) (term_does q 0 done.term WalkE)
-            flags w w' like deep is
-
-        few' : w'.ticks ≤ most
-        few' = let t = like.ticks in omega (arith, t, few)
-
-        there : WalkE 0 w' ≡ stmts_do q node 0 (first_flags items body flagged flagged 0
-            ++ (with_flags items body flagged block.stmts ++ done.ending)) (term_does q 0 done.term WalkE) w'
-        there =
-            walks.plain 0 done.there.block done.there.there (ap is_turn_kind done.there.kind_is ∙ flat) w' few'
-            ∙ ap (λ stmts. stmts_do q node 0 stmts (term_does q 0 done.there.block.term WalkE) w') done.there.stmts_are
-            ∙ ap (λ term. stmts_do q node 0 (first_flags items body flagged flagged 0
-            ++ (with_flags items body flagged block.stmts ++ done.ending)) (term_does q 0 term WalkE) w')
-            done.there.term_is
+        a = begin-sets items local_ty local_ty' extends number depth outer body flagged flag_ty flag_is added run' bound
+            0 (with_flags items body flagged block.stmts ++ done.ending) (term_does q 0 done.term WalkE)
+            flags w w' like deep is beyond

@@ -1,6 +1,6 @@
 -- A place behind references is followed to its end: each reference is followed at most once, so a body's references are
 -- enough.
-use Rattle.std.proofs.Common.{◌≡◌, ◌≢◌, ◌⊎◌, inl, inr, ℕ, zero, suc, ◌+◌, ◌==◌, ◌<◌, ◌≤◌, not, Bool, true, false, List, [], ◌∷◌, ◌++◌, map, length, Option, Some, None, if◌then◌else◌, slice_get, refl, ap, sym, ◌∙◌, subst, arith}
+use Rattle.std.proofs.Common.{◌≡◌, ◌≢◌, ◌⊎◌, inl, inr, ℕ, zero, suc, ◌+◌, ◌==◌, ◌<◌, ◌≤◌, not, Bool, true, false, List, [], ◌∷◌, ◌++◌, map, length, Option, Some, None, if◌then◌else◌, slice_get, refl, ap, sym, ◌∙◌, subst, append_assoc, arith}
 use Rattle.std.specs.Prelude.{find}
 use Rattle.std.specs.Option.{option_map_or}
 use Rattle.std.proofs.lemmas.Bool.{false≢true}
@@ -158,6 +158,50 @@ module _ (made : List (ℕ × Place)) where
       (p : Place) × (o ≡ Some p) × (q ≡ further steps p)
   some-behind None steps q e = absurd (none-some q e)
   some-behind (Some p) steps q e = (p, refl, (let x : Some (further steps p) ≡ Some q = e in cc))
+
+  -- ---- the same from a place further on
+
+  -- through a local in which no reference is made nothing is followed
+  pub none-follows : (local : ℕ) (steps : List Step) → named_by local made ≡ None → behind made local steps ≡ None
+  none-follows local [] e = refl
+  none-follows local (ToPart i ∷ steps) e = refl
+  none-follows local (ToField v i ∷ steps) e = refl
+  none-follows local (ToElement i ∷ steps) e = refl
+  none-follows local (ToContent ∷ steps) e = ap (λ o. option_map_or (λ place. Some (further steps place)) o None) e
+
+  further-behind : (local : ℕ) (steps rest : List Step) (q : Place) → behind made local steps ≡ Some q →
+      behind made local (steps ++ rest) ≡ Some (further rest q)
+  further-behind local [] rest q e = absurd (none-some q e)
+  further-behind local (ToPart i ∷ steps) rest q e = absurd (none-some q e)
+  further-behind local (ToField v i ∷ steps) rest q e = absurd (none-some q e)
+  further-behind local (ToElement i ∷ steps) rest q e = absurd (none-some q e)
+  further-behind local (ToContent ∷ steps) rest q e =
+      let s = some-behind (named_by local made) steps q e in
+      ap (λ o. option_map_or (λ place. Some (further (steps ++ rest) place)) o None) s.1
+      ∙ ap Some (ap (λ l. record s.0 { steps = l }) (sym (append_assoc s.0.steps steps rest))
+      ∙ ap (further rest) (sym s.2))
+
+  -- where a place is followed to is where it leads, if it ends there
+  pub leads-of : (most : ℕ) (p r : Place) (n : ℕ) → slice_get (follow made most p) n ≡ Some r →
+      behind made r.local r.steps ≡ None → Leads p r n
+  leads-of zero p r zero e h = let same : p ≡ r = cc in subst (λ x. Leads x r 0) (sym same) (at_end r h)
+  leads-of zero p r (suc n) e h = absurd (none-some r e)
+  leads-of (suc most) p r zero e h = let same : p ≡ r = cc in subst (λ x. Leads x r 0) (sym same) (at_end r h)
+  leads-of (suc most) p r (suc n) e h = by (behind made p.local p.steps) refl e (λ q e2. leads-of most q r n e2 h)
+    where
+      by : (o : Option Place) → behind made p.local p.steps ≡ o →
+          slice_get (option_map_or (follow made most) o []) n ≡ Some r →
+          ((q : Place) → slice_get (follow made most q) n ≡ Some r → Leads q r n) → Leads p r (suc n)
+      by None eo e again = absurd (none-some r e)
+      by (Some q) eo e again = onward p q r n eo (again q e)
+
+  pub leads-further : {p r : Place} {n : ℕ} (rest : List Step) → named_by r.local made ≡ None → Leads p r n →
+      Leads (further rest p) (further rest r) n
+  leads-further rest none (at_end p' h) =
+      at_end (further rest p') (none-follows p'.local (p'.steps ++ rest) none)
+  leads-further rest none (onward p' q r' m e more) =
+      onward (further rest p') (further rest q) (further rest r') m (further-behind p'.local p'.steps rest q e)
+      (leads-further rest none more)
 
   -- no reference names a local of a reference
   abbrev pub NamesNone : Type 0

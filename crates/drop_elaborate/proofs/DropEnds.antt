@@ -43,13 +43,13 @@ stuck-unplaced Infeasible h = h
 stuck-unplaced Unreachable h = h
 
 module _ (items : ItemTable) (local_ty local_ty' : (body local : ℕ) → Option TyId)
-    (extends : Extends local_ty local_ty') (number depth : ℕ) (body : Body) (flagged : List Place)
+    (extends : Extends local_ty local_ty') (number depth : ℕ) (outer : Flags) (body : Body) (flagged : List Place)
     (flag_ty : TyId) (flag_is : type_at items flag_ty ≡ Some Ty.Bool)
     (added : (n : ℕ) → n < length flagged → (local_ty number (flag_at items body flagged n) ≡ None)
     × (local_ty' number (flag_at items body flagged n) ≡ Some flag_ty))
     (run run' : Bodies) (bound most : ℕ) (good : ℕ → List Datum → State → Type 0)
     (tie : SameBodies local_ty good most run run')
-    (stays : (flags : Flags) (event : Event) (callee : ℕ) (args : List Datum) (w : State) →
+    (stays : (flags : Flags) (event : Event) (callee : ℕ) (args : List Datum) (w : State) → good callee args w →
     Stays items local_ty local_ty' extends flags depth number w (run event callee args w))
     (Known : List PathAction → State → Type 0)
     (body' : Body) (WalkE : Next State) (walks : Walks
@@ -62,8 +62,11 @@ module _ (items : ItemTable) (local_ty local_ty' : (body local : ℕ) → Option
   node line = 0
 
   abbrev AtHere : List PathAction → State → State → Type 0
-  AtHere acts w w' = At items local_ty local_ty' extends number depth body flagged flag_ty flag_is
+  AtHere acts w w' = At items local_ty local_ty' extends number depth outer body flagged flag_ty flag_is
       added run' bound run most good tie stays Known acts w w'
+
+  abbrev TellHere : Flags → List PathAction → Type 0
+  TellHere = Tell items local_ty local_ty' extends number depth outer body flagged flag_ty flag_is added run' bound
 
   -- what a drop leaves, on each way on
   pub record Leaves (dropped : List PathAction) (done : List PathAction) (v : State) : Type 0 where
@@ -85,8 +88,8 @@ module _ (items : ItemTable) (local_ty local_ty' : (body local : ℕ) → Option
   module _ (P : Out State → Out State → Type 0) (stuck : (halt : Halt) (w : State) (o : Out State) →
       IsStuck halt → P (Halts halt w) o) (halts : (halt : Halt) (w w' : State) → w'.trace ≡ w.trace →
       P (Halts halt w) (Halts halt w'))
-      (resumes : (flags : Flags) (w w' : State) → Like local_ty flags w w' → length w.activations ≡ suc depth →
-      w.ticks ≤ most → P (Unwinds w) (Unwinds w')) where
+      (resumes : (flags : Flags) (acts : List PathAction) (w w' : State) → Like local_ty flags w w' →
+      TellHere flags acts → length w.activations ≡ suc depth → P (Unwinds w) (Unwinds w')) where
     halted : (halt : Halt) (v v' : State) (out : Out State) → out ≡ Halts halt v' → v'.trace ≡ v.trace →
         P (Halts (unplaced halt) v) out
     halted Aborted v v' out e t = subst (P (Halts Aborted v)) (sym e) (halts Aborted v v' t)
@@ -105,7 +108,7 @@ module _ (items : ItemTable) (local_ty local_ty' : (body local : ℕ) → Option
         is_turn_kind kind ≡ false →
         LadderTo items body flagged body' plan kind place from next unwind →
         ((to : ℕ) (ending : Ending) → LadderAt body' plan place from to ending → Led flags to ending o
-        (WalkE from w')) → Tell items local_ty local_ty' extends number depth body flagged flag_ty
+        (WalkE from w')) → Tell items local_ty local_ty' extends number depth outer body flagged flag_ty
         flag_is added run' bound flags done →
         ((v : State) → (o ≡ Go v) ⊎ (o ≡ Unwinds v) → Leaves (at_line block line ((Drops, place) ∷ [])) done v) →
         ((v v' : State) → AtHere (done ++ at_line block line ((Drops, place) ∷ [])) v v' →
@@ -120,7 +123,7 @@ module _ (items : ItemTable) (local_ty local_ty' : (body local : ℕ) → Option
             P (acts (renamed unplaced x) nextR next (Unwind.Block c)) (WalkE from w')
         by (Go v) e h =
             let l = leaves v (inl e) in
-            let t = edge-leads items local_ty local_ty' extends number depth body flagged flag_ty
+            let t = edge-leads items local_ty local_ty' extends number depth outer body flagged flag_ty
             flag_is added run run' bound most good tie stays Known body' WalkE walks kind flat block line
             ((Drops, place) ∷ []) done code.0 next flags v h.0 code.2 h.1 tell l.deep l.number_is l.few in
             subst (P (nextR next v)) (sym (h.2 ∙ t.2))
@@ -136,7 +139,7 @@ module _ (items : ItemTable) (local_ty local_ty' : (body local : ℕ) → Option
             }))
         by (Unwinds v) e h =
             let l = leaves v (inr e) in
-            let t = edge-leads items local_ty local_ty' extends number depth body flagged flag_ty
+            let t = edge-leads items local_ty local_ty' extends number depth outer body flagged flag_ty
             flag_is added run run' bound most good tie stays Known body' WalkE walks Kind.Cleanup refl block line
             ((Drops, place) ∷ []) done code.1 c flags v h.0 code.3 h.1 tell l.deep l.number_is l.few in
             subst (P (nextR c v)) (sym (h.2 ∙ t.2))
@@ -159,7 +162,7 @@ module _ (items : ItemTable) (local_ty local_ty' : (body local : ℕ) → Option
             P (acts (renamed unplaced x) nextR next Unwind.Abort) (WalkE from w')
         by (Go v) e h =
             let l = leaves v (inl e) in
-            let t = edge-leads items local_ty local_ty' extends number depth body flagged flag_ty
+            let t = edge-leads items local_ty local_ty' extends number depth outer body flagged flag_ty
             flag_is added run run' bound most good tie stays Known body' WalkE walks kind flat block line
             ((Drops, place) ∷ []) done code.0 next flags v h.0 code.1 h.1 tell l.deep l.number_is l.few in
             subst (P (nextR next v)) (sym (h.2 ∙ t.2))
@@ -183,7 +186,7 @@ module _ (items : ItemTable) (local_ty local_ty' : (body local : ℕ) → Option
             P (acts (renamed unplaced x) nextR next Unwind.Resume) (WalkE from w')
         by (Go v) e h =
             let l = leaves v (inl e) in
-            let t = edge-leads items local_ty local_ty' extends number depth body flagged flag_ty
+            let t = edge-leads items local_ty local_ty' extends number depth outer body flagged flag_ty
             flag_is added run run' bound most good tie stays Known body' WalkE walks kind flat block line
             ((Drops, place) ∷ []) done code.0 next flags v h.0 code.2 h.1 tell l.deep l.number_is l.few in
             subst (P (nextR next v)) (sym (h.2 ∙ t.2))
@@ -204,7 +207,7 @@ module _ (items : ItemTable) (local_ty local_ty' : (body local : ℕ) → Option
             (ap is_turn_kind code.3.kind_is) h.0 few'
             ∙ ap (λ stmts. stmts_do q node 0 stmts (term_does q 0 code.3.block.term WalkE) h.0) code.3.stmts_are
             ∙ ap (λ term. term_does q 0 term WalkE h.0) code.3.term_is))
-            (resumes flags v h.0 h.1 l.deep l.few)
+            (resumes flags done v h.0 h.1 tell l.deep)
         by (Halts halt v) e (inl st) = stuck (unplaced halt) v _ (stuck-unplaced halt st)
         by (Halts halt v) e (inr h) = halted halt v h.0 (WalkE from w') h.1 h.2
 
@@ -227,10 +230,10 @@ module _ (items : ItemTable) (local_ty local_ty' : (body local : ℕ) → Option
     dead-Ends block line place next unwind nextR line' done w w' o at unseen leaves goes =
         subst (P (acts (renamed unplaced o) nextR next unwind)) (sym a.does) (by o refl (unseen a.new a.v' a.like))
       where
-        a : After items local_ty local_ty' extends number depth body flagged flag_ty flag_is added run' bound
+        a : After items local_ty local_ty' extends number depth outer body flagged flag_ty flag_is added run' bound
             (done ++ at_line block line ((Drops, place) ∷ [])) (flags_of_uses items body flagged ((Drops, place) ∷ []))
             line' [] (λ v. WalkE next v) w w'
-        a = uses-set items local_ty local_ty' extends number depth body flagged flag_ty flag_is
+        a = uses-set items local_ty local_ty' extends number depth outer body flagged flag_ty flag_is
             added run' bound block line ((Drops, place) ∷ []) done line' [] (λ v. WalkE next v)
             at.flags w w' at.like at.deep at.number_is at.tell
 
@@ -267,10 +270,10 @@ module _ (items : ItemTable) (local_ty local_ty' : (body local : ℕ) → Option
     plain-Ends block line place next unwind nextR line' done w w' o strictly at same leaves goes panics =
         subst (P (acts (renamed unplaced o) nextR next unwind)) (sym a.does) (by o refl (same a.new a.v' a.like))
       where
-        a : After items local_ty local_ty' extends number depth body flagged flag_ty flag_is added run' bound
+        a : After items local_ty local_ty' extends number depth outer body flagged flag_ty flag_is added run' bound
             (done ++ at_line block line ((Drops, place) ∷ [])) (flags_of_uses items body flagged ((Drops, place) ∷ []))
             line' [] (λ v. acts (renamed unplaced (strictly v)) WalkE next unwind) w w'
-        a = uses-set items local_ty local_ty' extends number depth body flagged flag_ty flag_is
+        a = uses-set items local_ty local_ty' extends number depth outer body flagged flag_ty flag_is
             added run' bound block line ((Drops, place) ∷ []) done line' []
             (λ v. acts (renamed unplaced (strictly v)) WalkE next unwind) at.flags w w' at.like
             at.deep at.number_is at.tell

@@ -91,7 +91,7 @@ module _ (raw_graph : Graph) (bodies : List Body) (good : ℕ → List Datum →
   strict_laws n = values_laws strict (run_strict n) (body_thrifty strict (code_of elaborated)
       (graph_keeps elaborated) n) (suc n)
 
-  abbrev Outcome : Flags → ℕ → Out State → Out State → Type 0
+  abbrev pub Outcome : Flags → ℕ → Out State → Out State → Type 0
   Outcome flags depth o o' = SameWithin raw_graph.items raw.local_ty strict.local_ty (code_of raw_graph)
       (code_of elaborated) (λ n args. refl) (λ n. refl) good flags depth 0 o o'
 

@@ -1,6 +1,5 @@
 -- What holds of a raw run within a body after the actions of a path, and that it holds after one action more: a place
--- is
--- read, moved out of, stored into, or lies behind a reference.
+-- is read, moved out of, stored into, or lies behind a reference.
 use Rattle.std.proofs.Common.{◌≡◌, ◌⊎◌, inl, inr, ℕ, zero, suc, ◌==◌, ◌&&◌, ◌||◌, not, Bool, true, false, List, [], ◌∷◌, ◌++◌, length, Option, Some, None, if◌then◌else◌, slice_get, refl, ap, sym, ◌∙◌, subst, append_assoc}
 use Rattle.std.proofs.Math.Path.{fun_ext}
 use Rattle.std.specs.Prelude.{option_and_then}

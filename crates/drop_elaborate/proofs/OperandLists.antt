@@ -1,7 +1,6 @@
 -- All operands of a raw line in turn: full values of their types, and addresses at which values may come still, since
--- no
--- operand takes what a reference names that another operand uses.
-use Rattle.std.proofs.Common.{◌≡◌, ◌⊎◌, inl, inr, ℕ, zero, suc, ◌==◌, ◌&&◌, Bool, true, false, List, [], ◌∷◌, ◌++◌, flat_map, length, Option, Some, None, slice_get, Contains, refl, ap, sym, ◌∙◌, subst, append_assoc}
+-- no operand takes what a reference names that another operand uses.
+use Rattle.std.proofs.Common.{◌≡◌, ◌⊎◌, inl, inr, ℕ, zero, suc, ◌==◌, ◌&&◌, Bool, true, false, List, [], ◌∷◌, ◌++◌, map, flat_map, length, Option, Some, None, slice_get, Contains, refl, ap, sym, ◌∙◌, subst, append_assoc}
 use Rattle.std.specs.Prelude.{option_and_then}
 use Rattle.std.specs.Option.{option_map_or}
 use Rattle.std.proofs.lemmas.Bool.{false≢true}
@@ -65,7 +64,7 @@ module _ (items : ItemTable) (local_ty : (body local : ℕ) → Option TyId) (nu
       (named_by r (references_made body) ≡ None)
       ⊎ (spares body r (record { how = Moves; place = named place; block = n; line = line }) ≡ true)
   Spares r n line {operand} {id} (copied place end ok) = Unit {0}
-  Spares r n line {operand} {id} (a_number value kind end is inside) = Unit {0}
+  Spares r n line {operand} {id} (a_number value kind end is) = Unit {0}
   Spares r n line {operand} {id} (a_truth value end is) = Unit {0}
   Spares r n line {operand} {id} (a_unit end is) = Unit {0}
 
@@ -155,7 +154,7 @@ module _ (items : ItemTable) (local_ty : (body local : ℕ) → Option TyId) (nu
             | inr one ↦ spared-apart body r b action o.arrives.path one refl itself n (x.named_so deep) key
                 (way-runs o.arrives.way)
           ]
-  given-still n line _ id (a_number value kind _ is inside) actions w v u used h e r s b x =
+  given-still n line _ id (a_number value kind _ is) actions w v u used h e r s b x =
       constant-still actions (Number value) v w u r b e x
   given-still n line _ id (a_truth value _ is) actions w v u used h e r s b x =
       constant-still actions (Truth value) v w u r b e x
@@ -163,23 +162,52 @@ module _ (items : ItemTable) (local_ty : (body local : ℕ) → Option TyId) (nu
 
   -- ---- a list of them
 
-  pub data OperandsAre : List Operand → List TyId → Type 0 where
-    none_is : OperandsAre [] []
-    each_is : (operand : Operand) (operands : List Operand) (id : TyId) (ids : List TyId) → Is operand id →
-        OperandsAre operands ids → OperandsAre (operand ∷ operands) (id ∷ ids)
+  -- an operand that reads no place
+  abbrev pub IsConstant : Operand → Type 0
+  IsConstant (Operand.Copied place) = ⊥
+  IsConstant (Operand.Moved place) = ⊥
+  IsConstant (Operand.Number value kind) = Unit {0}
+  IsConstant (Operand.Truth value) = Unit {0}
+  IsConstant Operand.Unit = Unit {0}
 
-  abbrev pub AllUsed : (n line : ℕ) → List PathAction → {operands : List Operand} {ids : List TyId} →
+  -- operands with the types of their values; that of a constant may be left open
+  pub data OperandsAre : List Operand → List (Option TyId) → Type 0 where
+    none_is : OperandsAre [] []
+    each_is : (operand : Operand) (operands : List Operand) (id : TyId) (ids : List (Option TyId)) → Is operand id →
+        OperandsAre operands ids → OperandsAre (operand ∷ operands) (Some id ∷ ids)
+    any_is : (operand : Operand) (operands : List Operand) (ids : List (Option TyId)) → IsConstant operand →
+        OperandsAre operands ids → OperandsAre (operand ∷ operands) (None ∷ ids)
+
+  -- as many values as types, each full of its type, if it is known
+  abbrev pub FullIf : List (Option TyId) → List Datum → Type 0
+  FullIf [] [] = Unit {0}
+  FullIf (Some id ∷ ids) (v ∷ vs) = IsFull items (OfType id) v × FullIf ids vs
+  FullIf (None ∷ ids) (v ∷ vs) = FullIf ids vs
+  FullIf [] (v ∷ vs) = ⊥
+  FullIf (id ∷ ids) [] = ⊥
+
+  pub all-full : (ids : List TyId) (vs : List Datum) → FullIf (map Some ids) vs → AllFull items ids vs
+  all-full [] [] f = f
+  all-full (id ∷ ids) (v ∷ vs) f = (f.0, all-full ids vs f.1)
+  all-full [] (v ∷ vs) f = f
+  all-full (id ∷ ids) [] f = f
+
+  abbrev pub AllUsed : (n line : ℕ) → List PathAction → {operands : List Operand} {ids : List (Option TyId)} →
       OperandsAre operands ids → Type 0
   AllUsed n line actions {operands} {ids} none_is = Unit {0}
   AllUsed n line actions {operands} {ids} (each_is operand rest id others is are) =
       OperandUsed items local_ty number depth body addresses before given locals_are actions is
       × AllUsed n line (After n line actions operand) are
+  AllUsed n line actions {operands} {ids} (any_is operand rest others constant are) =
+      AllUsed n line (After n line actions operand) are
 
-  abbrev pub AllSpare : ℕ → (n line : ℕ) → {operands : List Operand} {ids : List TyId} → OperandsAre operands ids →
+  abbrev pub AllSpare : ℕ → (n line : ℕ) → {operands : List Operand} {ids : List (Option TyId)} → OperandsAre operands
+      ids →
       Type 0
   AllSpare r n line {operands} {ids} none_is = Unit {0}
   AllSpare r n line {operands} {ids} (each_is operand rest id others is are) =
       Spares r n line is × AllSpare r n line are
+  AllSpare r n line {operands} {ids} (any_is operand rest others constant are) = AllSpare r n line are
 
   -- the local that an operand reads as a whole
   abbrev pub Reads : ℕ → Operand → Type 0
@@ -190,10 +218,12 @@ module _ (items : ItemTable) (local_ty : (body local : ℕ) → Option TyId) (nu
   Reads r Operand.Unit = ⊥
 
   -- no operand takes what a reference names that one before it gave
-  abbrev pub LineSpares : (n line : ℕ) → {operands : List Operand} {ids : List TyId} → OperandsAre operands ids → Type 0
+  abbrev pub LineSpares : (n line : ℕ) → {operands : List Operand} {ids : List (Option TyId)} → OperandsAre operands
+      ids → Type 0
   LineSpares n line {operands} {ids} none_is = Unit {0}
   LineSpares n line {operands} {ids} (each_is operand rest id others is are) =
       ((r : ℕ) → Reads r operand → AllSpare r n line are) × LineSpares n line are
+  LineSpares n line {operands} {ids} (any_is operand rest others constant are) = LineSpares n line are
 
   -- an address that an operand gives is that of the reference which it reads
   pub record Origin (operand : Operand) (b : Addr) : Type 0 where
@@ -245,7 +275,7 @@ module _ (items : ItemTable) (local_ty : (body local : ℕ) → Option TyId) (nu
             named_so = origin-of actions w place.local b
                 (h.refers place.local b (got.from b (ap (λ (x : Datum × State). x.0) both ∙ eb)));
           }
-  origin _ id (a_number value kind _ is inside) actions w v u used h e b eb =
+  origin _ id (a_number value kind _ is) actions w v u used h e b eb =
       let both : ◌≡◌ {A = Datum × State} (Number value, w) (v, u) = cc in
       absurd (let x : Number value ≡ Address b = ap (λ (x : Datum × State). x.0) both ∙ eb in cc)
   origin _ id (a_truth value _ is) actions w v u used h e b eb =
@@ -256,9 +286,9 @@ module _ (items : ItemTable) (local_ty : (body local : ℕ) → Option TyId) (nu
       absurd (let x : UnitValue ≡ Address b = ap (λ (x : Datum × State). x.0) both ∙ eb in cc)
 
   -- what all of them give
-  pub record TookAll (actions : List PathAction) (ids : List TyId) (w : State) (vs : List Datum) (u : State) :
+  pub record TookAll (actions : List PathAction) (ids : List (Option TyId)) (w : State) (vs : List Datum) (u : State) :
       Type 0 where
-    pub full : AllFull items ids vs
+    pub full : FullIf ids vs
     pub opened : (b : Addr) → Contains (addresses_of vs) b → OpensNow actions u b
     pub held_now : HeldNow actions u
 
@@ -313,7 +343,43 @@ module _ (items : ItemTable) (local_ty : (body local : ℕ) → Option TyId) (nu
       append_assoc actions (at_line n line (operand_uses operand)) (UsesOf n line operands)
       ∙ ap (λ l. actions ++ l) (sym (at_line-append n line (operand_uses operand) (flat_map operand_uses operands)))
 
-  all-still : (n line : ℕ) {operands : List Operand} {ids : List TyId} (are : OperandsAre operands ids)
+  -- a constant changes nothing
+  record Constantly (operand : Operand) (w : State) (v : Datum) (u : State) : Type 0 where
+    pub same : w ≡ u
+    pub plain : (b : Addr) → v ≡ Address b → ⊥
+    pub no_use : operand_uses operand ≡ []
+
+  constant-gives : (operand : Operand) (w : State) (v : Datum) (u : State) → IsConstant operand →
+      evaluate_operand raw (operand_of 0 operand) w ≡ Some (v, u) → Constantly operand w v u
+  constant-gives (Operand.Copied place) w v u c e = absurd c
+  constant-gives (Operand.Moved place) w v u c e = absurd c
+  constant-gives (Operand.Number value kind) w v u c e =
+      let both : ◌≡◌ {A = Datum × State} (Number value, w) (v, u) = cc in record {
+        same = ap (λ (x : Datum × State). x.1) both;
+        plain = λ b eb. absurd (let x : Number value ≡ Address b = ap (λ (x : Datum × State). x.0) both ∙ eb in cc);
+        no_use = refl;
+      }
+  constant-gives (Operand.Truth value) w v u c e =
+      let both : ◌≡◌ {A = Datum × State} (Truth value, w) (v, u) = cc in record {
+        same = ap (λ (x : Datum × State). x.1) both;
+        plain = λ b eb. absurd (let x : Truth value ≡ Address b = ap (λ (x : Datum × State). x.0) both ∙ eb in cc);
+        no_use = refl;
+      }
+  constant-gives Operand.Unit w v u c e =
+      let both : ◌≡◌ {A = Datum × State} (UnitValue, w) (v, u) = cc in record {
+        same = ap (λ (x : Datum × State). x.1) both;
+        plain = λ b eb. absurd (let x : UnitValue ≡ Address b = ap (λ (x : Datum × State). x.0) both ∙ eb in cc);
+        no_use = refl;
+      }
+
+  -- what holds before it holds after it
+  after-constant : (P : List PathAction → State → Type 0) (n line : ℕ) (actions : List PathAction) (operand : Operand)
+      (w : State) (v : Datum) (u : State) → Constantly operand w v u → P actions w → P (After n line actions operand) u
+  after-constant P n line actions operand w v u c p =
+      subst (λ uses. P (actions ++ at_line n line uses) u) (sym c.no_use)
+      (subst (λ l. P l u) (sym (no_more actions)) (subst (P actions) c.same p))
+
+  all-still : (n line : ℕ) {operands : List Operand} {ids : List (Option TyId)} (are : OperandsAre operands ids)
       (actions : List PathAction) (w : State) (vs : List Datum) (u : State) → AllUsed n line actions are →
       HeldNow actions w → evaluate_operands raw (operands_of 0 operands) w ≡ Some (vs, u) → (r : ℕ) →
       AllSpare r n line are → (b : Addr) → GivenBy r actions w b → GivenBy r (actions ++ UsesOf n line operands) u b
@@ -329,6 +395,13 @@ module _ (items : ItemTable) (local_ty : (body local : ℕ) → Option TyId) (nu
       subst (λ l. GivenBy r l u b) (after-all n line actions operand operands)
       (all-still n line are (After n line actions operand) k.mid k.rest u used.1 t.held_now k.others r s.1 b
       (given-still n line operand id is actions w k.v k.mid used.0 h k.first r s.0 b x))
+  all-still n line (any_is operand operands ids constant are) actions w vs u used h e r s b x =
+      let k = evaluated-all operand operands w vs u e in
+      let c = constant-gives operand w k.v k.mid constant k.first in
+      subst (λ l. GivenBy r l u b) (after-all n line actions operand operands)
+      (all-still n line are (After n line actions operand) k.mid k.rest u used
+      (after-constant HeldNow n line actions operand w k.v k.mid c h) k.others r s b
+      (after-constant (λ l v. GivenBy r l v b) n line actions operand w k.v k.mid c x))
 
   -- an address among those of the arguments is the first's, or one of the others'
   among-more : (v : Datum) (rest : List Datum) (b : Addr) → Contains (addresses_of (v ∷ rest)) b →
@@ -347,7 +420,7 @@ module _ (items : ItemTable) (local_ty : (body local : ℕ) → Option TyId) (nu
   among-more (Box x y z) rest b c = inr c
 
   -- all operands of a line give full values of their types, and addresses at which values may come still
-  pub operands-Took : (n line : ℕ) {operands : List Operand} {ids : List TyId} (are : OperandsAre operands ids)
+  pub operands-Took : (n line : ℕ) {operands : List Operand} {ids : List (Option TyId)} (are : OperandsAre operands ids)
       (actions : List PathAction) (w : State) (vs : List Datum) (u : State) → AllUsed n line actions are →
       LineSpares n line are → HeldNow actions w → evaluate_operands raw (operands_of 0 operands) w ≡ Some (vs, u) →
       TookAll (actions ++ UsesOf n line operands) ids w vs u
@@ -369,8 +442,9 @@ module _ (items : ItemTable) (local_ty : (body local : ℕ) → Option TyId) (nu
       line operand id is actions w
       k.v k.mid used.0 h k.first in
       let r = operands-Took n line are (After n line actions operand) k.mid k.rest u used.1 s.1 t.held_now k.others in
-      subst (λ l. TookAll l (id ∷ ids) w vs u) (after-all n line actions operand operands)
-      (subst (λ vs. TookAll (After n line actions operand ++ UsesOf n line operands) (id ∷ ids) w vs u) (sym k.all_are)
+      subst (λ l. TookAll l (Some id ∷ ids) w vs u) (after-all n line actions operand operands)
+      (subst (λ vs. TookAll (After n line actions operand ++ UsesOf n line operands) (Some id ∷ ids) w vs u) (sym
+      k.all_are)
       (record {
         full = (t.full, r.full);
         opened = λ b c. elim (among-more k.v k.rest b c) [
@@ -379,5 +453,18 @@ module _ (items : ItemTable) (local_ty : (body local : ℕ) → Option TyId) (nu
               (all-still n line are (After n line actions operand) k.mid k.rest u used.1 t.held_now k.others o.local
               (s.0 o.local o.reads_it) b (record { opened = t.opened b x; named_so = o.named_so })).opened)
         ];
+        held_now = r.held_now;
+      }))
+  operands-Took n line (any_is operand operands ids constant are) actions w vs u used s h e =
+      let k = evaluated-all operand operands w vs u e in
+      let c = constant-gives operand w k.v k.mid constant k.first in
+      let r = operands-Took n line are (After n line actions operand) k.mid k.rest u used s
+      (after-constant HeldNow n line actions operand w k.v k.mid c h) k.others in
+      subst (λ l. TookAll l (None ∷ ids) w vs u) (after-all n line actions operand operands)
+      (subst (λ vs. TookAll (After n line actions operand ++ UsesOf n line operands) (None ∷ ids) w vs u) (sym
+      k.all_are)
+      (record {
+        full = r.full;
+        opened = λ b m. elim (among-more k.v k.rest b m) [ inr x ↦ r.opened b x | inl x ↦ absurd (c.plain b x) ];
         held_now = r.held_now;
       }))

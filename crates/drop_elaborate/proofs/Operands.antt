@@ -1,6 +1,5 @@
 -- The operands of a raw line, one after another: each gives a full value of its type, a reference that is used names
--- what may
--- be stored into, and what is known holds after each.
+-- what may be stored into, and what is known holds after each.
 use Rattle.std.proofs.Common.{◌≡◌, ◌⊎◌, inl, inr, ℕ, zero, suc, ◌==◌, ◌&&◌, not, Bool, true, false, ℤ, List, [], ◌∷◌, ◌++◌, length, Option, Some, None, if◌then◌else◌, slice_get, Contains, refl, ap, sym, ◌∙◌, subst, append_assoc}
 use Rattle.std.specs.Option.{option_map_or}
 use Rattle.std.proofs.lemmas.Bool.{false≢true}
@@ -23,7 +22,7 @@ use Rattle.cfg_meaning.specs.Actions.{site_of, operand_of}
 use Rattle.store_model.specs.declared.address.Addr.{Addr}
 use Rattle.store_model.specs.declared.address.At.{At}
 use Rattle.store_model.specs.Abstract.Presence.{is_present}
-use Rattle.store_model.specs.Concrete.Effects.{fits, if_so, whole, whole_at, evaluate_operand}
+use Rattle.store_model.specs.Concrete.Effects.{if_so, whole, whole_at, evaluate_operand}
 use Rattle.store_model.specs.Concrete.Location.{Setting, DynamicType, OfType, Located, Reached, Reaches, CutOff, Nowhere, reach, on_reached, stored_at}
 use Rattle.store_model.specs.Concrete.State.{State}
 use Rattle.store_model.specs.Effects.{EffectSite}
@@ -163,7 +162,7 @@ module _ (items : ItemTable) (local_ty : (body local : ℕ) → Option TyId) (nu
         BodilessSteps items (named place).steps start → LeadsItself body (named place) →
         OperandIs (Operand.Moved place) id
     a_number : (value : ℤ) (kind : IntKind) (id : TyId) → type_at items id ≡ Some (Ty.Int kind) →
-        fits kind value ≡ true → OperandIs (Operand.Number value kind) id
+        OperandIs (Operand.Number value kind) id
     a_truth : (value : Bool) (id : TyId) → type_at items id ≡ Some Ty.Bool → OperandIs (Operand.Truth value) id
     a_unit : (id : TyId) → type_at items id ≡ Some Ty.Unit → OperandIs Operand.Unit id
 
@@ -171,7 +170,7 @@ module _ (items : ItemTable) (local_ty : (body local : ℕ) → Option TyId) (nu
   OperandUsed actions {operand} {id} (copied place end ok) = UseOk actions (named place) end ok
   OperandUsed actions {operand} {id} (moved place end start ok typed plain bodiless itself) =
       UseOk actions (named place) end ok
-  OperandUsed actions {operand} {id} (a_number value kind end is inside) = Unit {0}
+  OperandUsed actions {operand} {id} (a_number value kind end is) = Unit {0}
   OperandUsed actions {operand} {id} (a_truth value end is) = Unit {0}
   OperandUsed actions {operand} {id} (a_unit end is) = Unit {0}
 
@@ -274,9 +273,9 @@ module _ (items : ItemTable) (local_ty : (body local : ℕ) → Option TyId) (nu
               no-part deep key (to_own e named there) =
                   not-named items local_ty number depth body addresses before given locals_are place.local b
                   (ap (λ k. named_by k (references_made body)) (sym key) ∙ named.rooted) named
-  operand-Took n line _ id (a_number value kind _ is inside) actions w v u used h e =
+  operand-Took n line _ id (a_number value kind _ is) actions w v u used h e =
       constant actions id (Number value) v w u
-      (a_type id, (refl, (kind, ap int_kind is, inside))) (λ b x. absurd (let y : Number value ≡ Address b = x in cc))
+      (a_type id, (refl, (kind, ap int_kind is))) (λ b x. absurd (let y : Number value ≡ Address b = x in cc))
       e h
   operand-Took n line _ id (a_truth value _ is) actions w v u used h e =
       constant actions id (Truth value) v w u (a_type id, (refl, ap is_bool is))

@@ -20,7 +20,8 @@ use Rattle.drop_values.specs.Planning.{IsTyped, plan_of}
 use Rattle.drop_values.proofs.Frame.{Sound, Frames}
 use Rattle.drop_values.proofs.Knows.{PlainSteps, Knows, Own, own_place, own_fits}
 use Rattle.drop_values.proofs.OwnNames.{own-names}
-use Rattle.drop_values.proofs.PlanFits.{Told, Flagged, plan-fits}
+use Rattle.drop_values.proofs.Told.{Told, Flagged}
+use Rattle.drop_values.proofs.PlanFits.{plan-fits}
 use Rattle.drop_values.proofs.Stand.{Changed, Stands}
 use Rattle.drop_elaborate.proofs.Ladder.{IsFlag, Ends, ladder}
 use Rattle.drop_elaborate.proofs.Walks.{unplaced, Walks}

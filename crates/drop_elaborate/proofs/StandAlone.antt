@@ -1,6 +1,5 @@
 -- Where references stand alone, no container of a place holds one but its local; so each place of a body is a part of
--- one of
--- its locals, an element of an array there, or lies behind a reference in a local.
+-- one of its locals, an element of an array there, or lies behind a reference in a local.
 use Rattle.std.proofs.Common.{◌≡◌, ◌⊎◌, inl, inr, ℕ, zero, suc, ◌==◌, ◌&&◌, ◌||◌, not, Bool, true, false, List, [], ◌∷◌, ◌++◌, replicate, Option, Some, None, if◌then◌else◌, slice_get, refl, ap, sym, ◌∙◌, subst}
 use Rattle.std.specs.Prelude.{option_and_then}
 use Rattle.std.specs.List.{list_any, list_all}

@@ -43,6 +43,13 @@ or-or : {A : Type 0} (a b c : Option A) → option_or (option_or a b) c ≡ opti
 or-or None b c = refl
 or-or (Some x) b c = refl
 
+-- the actions before a statement, after those before the first of them
+abbrev pub up_to : (block line : ℕ) → List PathAction → List Stmt → ℕ → List PathAction
+up_to block line acts stmts zero = acts
+up_to block line acts [] (suc n) = acts
+up_to block line acts (stmt ∷ stmts) (suc n) =
+    up_to block (suc line) (acts ++ at_line block line (stmt_uses stmt)) stmts n
+
 module _ (items : ItemTable) (body : Body) where
   last-more : (place : Place) (acts : List PathAction) (action : PathAction) → last_left items body place
       (acts ++ action ∷ []) ≡ option_or (left_by items body place action) (last_left items body place acts)
@@ -70,7 +77,7 @@ module _ (items : ItemTable) (body : Body) where
       (last-more place acts action ∙ ap (λ o. option_or o (last_left items body place acts)) e)
 
 module _ (items : ItemTable) (local_ty local_ty' : (body local : ℕ) → Option TyId)
-    (extends : Extends local_ty local_ty') (number depth : ℕ) (body : Body) (flagged : List Place)
+    (extends : Extends local_ty local_ty') (number depth : ℕ) (outer : Flags) (body : Body) (flagged : List Place)
     (flag_ty : TyId) (flag_is : type_at items flag_ty ≡ Some Ty.Bool)
     (added : (n : ℕ) → n < length flagged → (local_ty number (flag_at items body flagged n) ≡ None)
     × (local_ty' number (flag_at items body flagged n) ≡ Some flag_ty))
@@ -106,6 +113,10 @@ module _ (items : ItemTable) (local_ty local_ty' : (body local : ℕ) → Option
           no false e = refl
           no true e = absurd (d (let x = (Decides-eqb (flag n) (flag m)).0 e in omega (arith, x)))
 
+  other_depth : (m d k : ℕ) (flags : Flags) (value : Datum) → (d == depth) ≡ false →
+      with_flag flags depth m value d k ≡ flags d k
+  other_depth m d k flags value e = ap (λ b. if b && (k == m) then value else flags d k) e
+
   this_flag : (n : ℕ) (flags : Flags) (value : Datum) → with_flag flags depth (flag n) value depth (flag n) ≡ value
   this_flag n flags value =
       ap (λ b. if b && (flag n == flag n) then value else flags depth (flag n)) ((Decides-eqb depth depth).1 refl)
@@ -123,6 +134,7 @@ module _ (items : ItemTable) (local_ty local_ty' : (body local : ℕ) → Option
     pub later : (n : ℕ) (path : Place) → slice_get paths n ≡ Some path → new depth (flag (after k n)) ≡ chosen
         (is_at_or_above place path) present (flags depth (flag (after k n)))
     pub earlier : (m : ℕ) → m < k → new depth (flag m) ≡ flags depth (flag m)
+    pub others : (d k : ℕ) → (d == depth) ≡ false → new d k ≡ flags d k
 
   pub sets : (place : Place) (present : Bool) (paths : List Place) (k line : ℕ) (more : List Stmt)
       (rest : State → Out State) (flags : Flags) (w w' : State) → k + length paths ≤ length flagged →
@@ -138,6 +150,7 @@ module _ (items : ItemTable) (local_ty local_ty' : (body local : ℕ) → Option
         later =
             λ n path e. absurd (none-some path e);
         earlier = λ m h. refl;
+        others = λ d k h. refl;
       }
   sets place present (path ∷ paths) k line more rest flags w w' l like deep is =
       by (is_at_or_above place path) refl (λ flags1 v1 line1 like1. sets place present paths
@@ -165,6 +178,7 @@ module _ (items : ItemTable) (local_ty local_ty' : (body local : ℕ) → Option
             like = s.like;
             later = later s;
             earlier = λ m h. s.earlier m (omega (arith, h));
+            others = s.others;
           }
         where
           later : (s : Set place present paths (suc k) line more rest flags w w') (n : ℕ) (p : Place) →
@@ -192,6 +206,7 @@ module _ (items : ItemTable) (local_ty local_ty' : (body local : ℕ) → Option
             later = later a.0 s;
             earlier = λ m h. s.earlier m (omega (arith, h))
                 ∙ other_flag m k (λ x. absurd (let never : ⊥ = omega (arith, h, x) in never)) flags (Truth present);
+            others = λ d j h. s.others d j h ∙ other_depth (flag k) d j flags (Truth present) h;
           }
         where
           later : (v1 : State) (s : Set place present paths (suc k) (suc line) more rest
@@ -219,6 +234,7 @@ module _ (items : ItemTable) (local_ty local_ty' : (body local : ℕ) → Option
     pub later : (n : ℕ) (path : Place) → slice_get paths n ≡ Some path → new depth (flag (after k n)) ≡ Truth
         (is_param items body path.local)
     pub earlier : (m : ℕ) → m < k → new depth (flag m) ≡ flags depth (flag m)
+    pub others : (d k : ℕ) → (d == depth) ≡ false → new d k ≡ flags d k
 
   pub firsts : (paths : List Place) (k line : ℕ) (more : List Stmt) (rest : State → Out State) (flags : Flags)
       (w w' : State) → k + length paths ≤ length flagged → Like local_ty flags w w' → length w.activations ≡ suc depth →
@@ -233,6 +249,7 @@ module _ (items : ItemTable) (local_ty local_ty' : (body local : ℕ) → Option
     like = like;
     later = λ n path e. absurd (none-some path e);
     earlier = λ m h. refl;
+    others = λ d k h. refl;
   }
   firsts (path ∷ paths) k line more rest flags w w' l like deep is =
       let below_k : k < length flagged = omega (arith, l) in
@@ -250,6 +267,7 @@ module _ (items : ItemTable) (local_ty local_ty' : (body local : ℕ) → Option
         later = later a.0 s;
         earlier = λ m h. s.earlier m (omega (arith, h))
             ∙ other_flag m k (λ x. absurd (let never : ⊥ = omega (arith, h, x) in never)) flags (Truth present);
+        others = λ d j h. s.others d j h ∙ other_depth (flag k) d j flags (Truth present) h;
       }
     where
       later : (v1 : State) (s : First paths (suc k) (suc line) more rest
@@ -262,9 +280,11 @@ module _ (items : ItemTable) (local_ty local_ty' : (body local : ℕ) → Option
 
   -- ---- flags tell what is present
 
-  abbrev pub Tell : Flags → List PathAction → Type 0
-  Tell flags acts = (n : ℕ) (path : Place) → slice_get flagged n ≡ Some path → flags depth (flag n) ≡ Truth
-      (not (is_gone_after items body acts path))
+  -- the flags of this body do, and those of older ones hold what they held
+  pub record Tell (flags : Flags) (acts : List PathAction) : Type 0 where
+    pub own : (n : ℕ) (path : Place) → slice_get flagged n ≡ Some path → flags depth (flag n) ≡ Truth
+        (not (is_gone_after items body acts path))
+    pub others : (d k : ℕ) → (d == depth) ≡ false → flags d k ≡ outer d k
 
   -- after the flags of a use, or of some uses, were set
   pub record After (acts : List PathAction) (stmts : List Stmt) (line : ℕ) (more : List Stmt) (rest : State → Out State)
@@ -290,9 +310,12 @@ module _ (items : ItemTable) (local_ty local_ty' : (body local : ℕ) → Option
     line' = line;
     does = refl;
     like = like;
-    tell = λ n path e. tell n path e ∙ ap (λ b. Truth (not b))
-        (sym (gone-kept items body acts action path
-        (ap (λ b. if b && is_at_or_above action.place path then leaves_gone action.how else None) ec)));
+    tell = record {
+      own = λ n path e. tell.own n path e ∙ ap (λ b. Truth (not b))
+          (sym (gone-kept items body acts action path
+          (ap (λ b. if b && is_at_or_above action.place path then leaves_gone action.how else None) ec)));
+      others = tell.others;
+    };
   }
   use-sets acts action line more rest flags w w' like deep is tell true ec None eg = record {
     new = flags;
@@ -300,8 +323,11 @@ module _ (items : ItemTable) (local_ty local_ty' : (body local : ℕ) → Option
     line' = line;
     does = refl;
     like = like;
-    tell = λ n path e. tell n path e ∙ ap (λ b. Truth (not b))
-        (sym (gone-kept items body acts action path (left-none path)));
+    tell = record {
+      own = λ n path e. tell.own n path e ∙ ap (λ b. Truth (not b))
+          (sym (gone-kept items body acts action path (left-none path)));
+      others = tell.others;
+    };
   }
     where
       left-none : (path : Place) → left_by items body path action ≡ None
@@ -314,10 +340,13 @@ module _ (items : ItemTable) (local_ty local_ty' : (body local : ℕ) → Option
         line' = s.line';
         does = s.does;
         like = s.like;
-        tell = λ n path e. subst (λ m. s.new depth (flag m) ≡ Truth
-            (not (is_gone_after items body (acts ++ action ∷ []) path))) (here-after n)
-            (s.later n path e ∙ by path (is_at_or_above action.place path) refl
-            (ap (λ m. flags depth (flag m)) (here-after n) ∙ tell n path e));
+        tell = record {
+          own = λ n path e. subst (λ m. s.new depth (flag m) ≡ Truth
+              (not (is_gone_after items body (acts ++ action ∷ []) path))) (here-after n)
+              (s.later n path e ∙ by path (is_at_or_above action.place path) refl
+              (ap (λ m. flags depth (flag m)) (here-after n) ∙ tell.own n path e));
+          others = λ d k h. s.others d k h ∙ tell.others d k h;
+        };
       }
     where
       by : (path : Place) (b : Bool) → is_at_or_above action.place path ≡ b → {old : Datum} →
@@ -372,16 +401,20 @@ module _ (items : ItemTable) (local_ty local_ty' : (body local : ℕ) → Option
 
   pub begin-sets : (line : ℕ) (more : List Stmt) (rest : State → Out State) (flags : Flags) (w w' : State) →
       Like local_ty flags w w' → length w.activations ≡ suc depth → body_at depth w ≡ Some number →
+      ((d k : ℕ) → (d == depth) ≡ false → flags d k ≡ outer d k) →
       After [] (first_flags items body flagged flagged 0) line more rest w w'
-  begin-sets line more rest flags w w' like deep is =
+  begin-sets line more rest flags w w' like deep is beyond =
       let f = firsts flagged 0 line more rest flags w w' (omega arith) like deep is in record {
         new = f.new;
         v' = f.v';
         line' = f.line';
         does = f.does;
         like = f.like;
-        tell = λ n path e. ap (λ m. f.new depth (flag m)) (sym (here-after n)) ∙ f.later n path e
-            ∙ ap Truth (sym (twice (is_param items body path.local)));
+        tell = record {
+          own = λ n path e. ap (λ m. f.new depth (flag m)) (sym (here-after n)) ∙ f.later n path e
+              ∙ ap Truth (sym (twice (is_param items body path.local)));
+          others = λ d k h. f.others d k h ∙ beyond d k h;
+        };
       }
     where
       twice : (b : Bool) → not (not b) ≡ b
@@ -396,7 +429,7 @@ module _ (items : ItemTable) (local_ty local_ty' : (body local : ℕ) → Option
   -- `Known` is what is known of the raw run after some actions of its path, whatever it is
   module _ (run : Bodies) (most : ℕ) (good : ℕ → List Datum → State → Type 0)
       (tie : SameBodies local_ty good most run run')
-      (stays : (flags : Flags) (event : Event) (callee : ℕ) (args : List Datum) (w : State) →
+      (stays : (flags : Flags) (event : Event) (callee : ℕ) (args : List Datum) (w : State) → good callee args w →
       Stays items local_ty local_ty' extends flags depth number w (run event callee args w))
       (Known : List PathAction → State → Type 0) where
     abbrev p : Effects State
@@ -412,21 +445,21 @@ module _ (items : ItemTable) (local_ty local_ty' : (body local : ℕ) → Option
       pub few : w.ticks ≤ most
       pub known : Known acts w
 
-    -- what is owed of an action of the raw run: it may be done, and what is known is kept
-    pub record ActionOwed (uses : List PathAction) (action : Action) : Type 0 where
+    -- what is owed of an action of the raw run after some others: it may be done, and what is known is kept
+    pub record ActionOwed (acts uses : List PathAction) (action : Action) : Type 0 where
       pub ok : (flags : Flags) → ActionOk items local_ty local_ty' extends flags depth number most run run' good tie
           (stays flags) action
-      pub may : (flags : Flags) (acts : List PathAction) (w : State) → Known acts w →
+      pub may : (flags : Flags) (w : State) → Known acts w →
           MayCall items local_ty local_ty' extends flags depth number most run run' good tie (stays flags) action w
       pub typed : (flags : Flags) → StoreTyped items local_ty local_ty' extends flags depth number
           most run run' good tie (stays flags) action
-      pub keeps : (acts : List PathAction) (w v : State) → Known acts w → act raw run action w ≡ Go v →
+      pub keeps : (w v : State) → Known acts w → act raw run action w ≡ Go v →
           Known (acts ++ uses) v
-      pub frame : (acts : List PathAction) (w v : State) → Known acts w → length w.activations ≡ suc depth →
+      pub frame : (w v : State) → Known acts w → length w.activations ≡ suc depth →
           body_at depth w ≡ Some number → act raw run action w ≡ Go v → (length v.activations ≡ suc depth)
           × (body_at depth v ≡ Some number) × (v.ticks ≤ w.ticks)
 
-    pub acts-Same : (uses acts : List PathAction) (action : Action) (w w' : State) → ActionOwed uses action →
+    pub acts-Same : (uses acts : List PathAction) (action : Action) (w w' : State) → ActionOwed acts uses action →
         (at : At acts w w') → Same local_ty (Like local_ty at.flags) (act raw run action w) (act strict run' action w')
     acts-Same uses acts action w w' owed at =
         act-Same items local_ty local_ty' extends at.flags depth number most run run' good tie
@@ -436,7 +469,7 @@ module _ (items : ItemTable) (local_ty local_ty' : (body local : ℕ) → Option
           number_is = at.number_is;
           few =
               at.few;
-        }) (owed.ok at.flags) (owed.may at.flags acts w at.known) (owed.typed at.flags)
+        }) (owed.ok at.flags) (owed.may at.flags w at.known) (owed.typed at.flags)
 
     module _ (P : Out State → Out State → Type 0) (stuck : (halt : Halt) (w : State) (o : Out State) →
         IsStuck halt → P (Halts halt w) o) (halts : (halt : Halt) (w w' : State) → w'.trace ≡ w.trace →
@@ -455,7 +488,8 @@ module _ (items : ItemTable) (local_ty local_ty' : (body local : ℕ) → Option
       pub stmts-Same : (block line : ℕ) (stmts : List Stmt) (acts : List PathAction) (line' : ℕ)
           (more : List Stmt) (rest rest' : State → Out State) (w w' : State) →
           ((n : ℕ) (stmt : Stmt) → slice_get stmts n ≡ Some stmt →
-          ActionOwed (at_line block (after line n) (stmt_uses stmt)) (action_of 0 stmt)) → At acts w w' →
+          ActionOwed (up_to block line acts stmts n) (at_line block (after line n) (stmt_uses stmt))
+          (action_of 0 stmt)) → At acts w w' →
           ((line' : ℕ) (v v' : State) → At (acts ++ stmt_actions block line stmts) v v' →
           P (rest v) (stmts_do q node line' more rest' v')) →
           P (stmts_do p node line stmts rest w) (stmts_do q node line' (with_flags items body flagged stmts ++ more)
@@ -469,15 +503,15 @@ module _ (items : ItemTable) (local_ty local_ty' : (body local : ℕ) → Option
       stmts-Same block line (stmt ∷ stmts) acts line' more rest rest' w w' owed at next =
           by (act raw run (action_of 0 stmt) w) refl (acts-Same (at_line block line (stmt_uses stmt)) acts
           (action_of 0 stmt) w w' (owed 0 stmt refl) at)
-          (λ acts1 line1 v v'. stmts-Same block (suc line) stmts acts1 line1 more rest rest' v v'
-          (λ n s e. owed (suc n) s e))
+          (λ line1 v v'. stmts-Same block (suc line) stmts (acts ++ at_line block line (stmt_uses stmt)) line1 more rest
+          rest' v v' (λ n s e. owed (suc n) s e))
         where
           uses : List PathAction
           uses = at_line block line (stmt_uses stmt)
 
           Again : Type 0
-          Again = (acts1 : List PathAction) (line1 : ℕ) (v v' : State) → At acts1 v v' →
-              ((line2 : ℕ) (u u' : State) → At (acts1 ++ stmt_actions block (suc line) stmts) u u' →
+          Again = (line1 : ℕ) (v v' : State) → At (acts ++ uses) v v' →
+              ((line2 : ℕ) (u u' : State) → At ((acts ++ uses) ++ stmt_actions block (suc line) stmts) u u' →
               P (rest u) (stmts_do q node line2 more rest' u')) →
               P (stmts_do p node (suc line) stmts rest v)
               (stmts_do q node line1 (with_flags items body flagged stmts ++ more) rest' v')
@@ -494,20 +528,20 @@ module _ (items : ItemTable) (local_ty local_ty' : (body local : ℕ) → Option
               P (◌>>=◌ (renamed unplaced o) (λ v. stmts_do p node (suc line) stmts rest v))
               (onward (act strict run' (action_of 0 stmt) w'))
           by (Go v) e s again =
-              let fr = (owed 0 stmt refl).frame acts w v at.known at.deep at.number_is e in
+              let fr = (owed 0 stmt refl).frame w v at.known at.deep at.number_is e in
               let a = uses-set block line (stmt_uses stmt) acts (suc line') (with_flags items body flagged stmts
               ++ more) rest' at.flags v s.0 s.2 fr.0 fr.1 at.tell in
               subst (P (stmts_do p node (suc line) stmts rest v))
               (sym (ap onward s.1 ∙ ap (λ l. stmts_do q node (suc line') l rest' s.0)
               (append_assoc sets_here (with_flags items body flagged stmts) more) ∙ a.does))
-              (again (acts ++ uses) a.line' v a.v' (record {
+              (again a.line' v a.v' (record {
                 flags = a.new;
                 like = a.like;
                 tell = a.tell;
                 deep = fr.0;
                 number_is = fr.1;
                 few = let l = fr.2 in let k = at.few in omega arith;
-                known = (owed 0 stmt refl).keeps acts w v at.known e;
+                known = (owed 0 stmt refl).keeps w v at.known e;
               }) (λ line2 u u' z. next line2 u u' (subst (λ l. At l u u')
               (append_assoc acts uses (stmt_actions block (suc line) stmts)) z)))
           by (Unwind v) e s again = stuck Stuck v _ tt

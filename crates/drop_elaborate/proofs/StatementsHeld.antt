@@ -37,7 +37,7 @@ use Rattle.drop_values.proofs.Sites.{IsOpen}
 use Rattle.drop_values.proofs.Touched.{SameCells, same_cells, AllNameFull}
 use Rattle.drop_elaborate.proofs.Apart.{IsNamed}
 use Rattle.drop_elaborate.proofs.Held.{Held}
-use Rattle.drop_elaborate.proofs.OperandLists.{OperandsAre, none_is, each_is, AllUsed, LineSpares, TookAll, operands-Took, UsesOf, at_line-append}
+use Rattle.drop_elaborate.proofs.OperandLists.{OperandsAre, FullIf, all-full, AllUsed, LineSpares, TookAll, operands-Took, at_line-append}
 use Rattle.drop_elaborate.proofs.Operands.{PlaceOk}
 use Rattle.drop_elaborate.proofs.SinceMade.{IsLive}
 use Rattle.drop_elaborate.proofs.Stores.{put-Held}
@@ -139,7 +139,7 @@ module _ (items : ItemTable) (local_ty : (body local : ℕ) → Option TyId) (nu
   abbrev HeldNow : List PathAction → State → Type 0
   HeldNow actions w = Held items local_ty number depth body addresses before given locals_are actions w
 
-  abbrev Are : List Operand → List TyId → Type 0
+  abbrev Are : List Operand → List (Option TyId) → Type 0
   Are operands ids = OperandsAre items local_ty number depth body addresses before given locals_are operands ids
 
   pub same-Held : (actions : List PathAction) (w v : State) → SameCells w v → HeldNow actions w → HeldNow actions v
@@ -148,7 +148,7 @@ module _ (items : ItemTable) (local_ty : (body local : ℕ) → Option TyId) (nu
       (present_after items body actions) w v s h
 
   -- the operands of a line, as they are used
-  pub record Operated (n line : ℕ) (actions : List PathAction) {operands : List Operand} {ids : List TyId}
+  pub record Operated (n line : ℕ) (actions : List PathAction) {operands : List Operand} {ids : List (Option TyId)}
       (are : Are operands ids) : Type 0 where
     pub used : AllUsed items local_ty number depth body addresses before given locals_are n line actions are
     pub spare : LineSpares items local_ty number depth body addresses before given locals_are n line are
@@ -188,12 +188,12 @@ module _ (items : ItemTable) (local_ty : (body local : ℕ) → Option TyId) (nu
       no-more (x ∷ xs) = ap (λ l. x ∷ l) (no-more xs)
 
   -- a line that stores a value which it makes of its operands
-  pub line-Held : (n line : ℕ) (actions : List PathAction) {operands : List Operand} {ids : List TyId}
+  pub line-Held : (n line : ℕ) (actions : List PathAction) {operands : List Operand} {ids : List (Option TyId)}
       (are : Are operands ids) (place : graph.Place) (id : TyId) → Operated n line actions are →
       StoreOk n line (actions ++ at_line n line (flat_map operand_uses operands)) place id → (w x : State)
       (vs : List Datum) (u m v : State) (value : Datum) → HeldNow actions w →
       evaluate_operands raw (operands_of 0 operands) w ≡ Some (vs, u) →
-      (AllFull items ids vs →
+      (FullIf items local_ty number depth body addresses before given locals_are ids vs →
       IsFull items (OfType id) value) →
       SameCells u m → put raw (site_of 0 place) value m ≡ Go v → SameCells v x →
       HeldNow (actions ++ at_line n line (flat_map operand_uses operands ++ [] ++ (Stores, place) ∷ [])) x
@@ -208,7 +208,7 @@ module _ (items : ItemTable) (local_ty : (body local : ℕ) → Option TyId) (nu
       stores))
 
   -- a line that stores nothing
-  pub quiet-Held : (n line : ℕ) (actions : List PathAction) {operands : List Operand} {ids : List TyId}
+  pub quiet-Held : (n line : ℕ) (actions : List PathAction) {operands : List Operand} {ids : List (Option TyId)}
       (are : Are operands ids) → Operated n line actions are → (w x : State) (vs : List Datum) (u : State) →
       HeldNow actions w → evaluate_operands raw (operands_of 0 operands) w ≡ Some (vs, u) → SameCells u x →
       HeldNow (actions ++ at_line n line (flat_map operand_uses operands ++ [] ++ [])) x
@@ -231,7 +231,7 @@ module _ (items : ItemTable) (local_ty : (body local : ℕ) → Option TyId) (nu
     pub is : o ≡ Some value
     pub stores : put raw site value u ≡ Go x
 
-  put-if : (site : EffectSite) (o : Option Datum) (u x : State) → put_if raw site o u ≡ Go x → PutIf site o u x
+  pub put-if : (site : EffectSite) (o : Option Datum) (u x : State) → put_if raw site o u ≡ Go x → PutIf site o u x
   put-if site None u x e = absurd (let y : Halts Stuck u ≡ Go x = e in cc)
   put-if site (Some d) u x e = record { value = d; is = refl; stores = e }
 
@@ -328,7 +328,7 @@ module _ (items : ItemTable) (local_ty : (body local : ℕ) → Option TyId) (nu
 
   -- a line that stores an aggregate of its operands
   pub build-line : (run : Bodies) (n line : ℕ) (actions : List PathAction) (w x : State) (to : graph.Place)
-      (kind : AggregateKind) (parts : List Operand) (id : TyId) (ids : List TyId) (are : Are parts ids) →
+      (kind : AggregateKind) (parts : List Operand) (id : TyId) (ids : List TyId) (are : Are parts (map Some ids)) →
       Operated n line actions are → StoreOk n line (actions ++ at_line n line (flat_map operand_uses parts)) to id →
       KindIs kind id ids → HeldNow actions w →
       act raw run (effects.Build (site_of 0 to) kind (operands_of 0 parts)) w ≡ Go x →
@@ -340,13 +340,15 @@ module _ (items : ItemTable) (local_ty : (body local : ℕ) → Option TyId) (nu
       let took = operands-Took items local_ty number depth body addresses before given locals_are
       n line are actions w t.vs
       t.u o.used o.spare h t.gives in
-      let b = built-full (site_of 0 to) kind id ids k t.vs t.u x took.full t.then_does in
+      let b = built-full (site_of 0 to) kind id ids k t.vs t.u x (all-full items local_ty number depth body addresses
+      before
+      given locals_are ids t.vs took.full) t.then_does in
       line-Held n line actions are to id o s w x t.vs t.u b.start b.stored b.value h t.gives (λ f. b.full) b.before_it
       b.stores b.after_it
 
   module _ (run : Bodies) (n line : ℕ) (actions : List PathAction) (w x : State) (h : HeldNow actions w) where
     -- the operand itself
-    pub put-line : (to : graph.Place) (from : Operand) (id : TyId) (is : Are (from ∷ []) (id ∷ [])) →
+    pub put-line : (to : graph.Place) (from : Operand) (id : TyId) (is : Are (from ∷ []) (Some id ∷ [])) →
         Operated n line actions is → StoreOk n line (actions ++ at_line n line (flat_map operand_uses (from ∷ [])))
         to id →
         act raw run (effects.Put (site_of 0 to) (operand_of 0 from)) w ≡ Go x →
@@ -359,7 +361,8 @@ module _ (items : ItemTable) (local_ty : (body local : ℕ) → Option TyId) (nu
         (one-of-list raw (operand_of 0 from) w t.v t.u t.gives) (λ f. f.0) (same_cells t.u) t.then_does (same_cells x)
 
     -- the other truth value
-    pub not-line : (to : graph.Place) (operand : Operand) (id of : TyId) (is : Are (operand ∷ []) (of ∷ [])) →
+    pub not-line : (to : graph.Place) (operand : Operand) (id : TyId) (of : Option TyId)
+        (is : Are (operand ∷ []) (of ∷ [])) →
         Operated n line actions is →
         StoreOk n line (actions ++ at_line n line (flat_map operand_uses (operand ∷ []))) to id →
         is_bool (type_at items id) ≡ true →
@@ -377,8 +380,8 @@ module _ (items : ItemTable) (local_ty : (body local : ℕ) → Option TyId) (nu
         (same_cells x)
 
     -- what a comparison gives
-    pub compare-line : (to : graph.Place) (operator : Cmp) (left right : Operand) (id of other : TyId)
-        (is : Are (left ∷ right ∷ []) (of ∷ other ∷ [])) → Operated n line actions is →
+    pub compare-line : (to : graph.Place) (operator : Cmp) (left right : Operand) (id : TyId)
+        (of other : Option TyId) (is : Are (left ∷ right ∷ []) (of ∷ other ∷ [])) → Operated n line actions is →
         StoreOk n line (actions ++ at_line n line (flat_map operand_uses (left ∷ right ∷ []))) to id →
         is_bool (type_at items id) ≡ true →
         act raw run (effects.Compare (site_of 0 to) operator (operand_of 0 left) (operand_of 0 right)) w ≡ Go x →
@@ -402,7 +405,7 @@ module _ (items : ItemTable) (local_ty : (body local : ℕ) → Option TyId) (nu
 
     -- a new box
     pub box-line : (to : graph.Place) (operand : Operand) (id content : TyId)
-        (is : Are (operand ∷ []) (content ∷ [])) → Operated n line actions is →
+        (is : Are (operand ∷ []) (Some content ∷ [])) → Operated n line actions is →
         StoreOk n line (actions ++ at_line n line (flat_map operand_uses (operand ∷ []))) to id →
         type_at items id ≡ Some (Ty.Boxed content) → is_dyn (type_at items content) ≡ false →
         act raw run (effects.NewBox (site_of 0 to) (operand_of 0 operand)) w ≡ Go x →
@@ -421,7 +424,8 @@ module _ (items : ItemTable) (local_ty : (body local : ℕ) → Option TyId) (nu
         (subst (SameCells told.before) told.is (told-cells raw (Event.Boxed k.u.serial) told.before))
 
     -- a value that is forgotten
-    pub forget-line : (operand : Operand) (id : TyId) (is : Are (operand ∷ []) (id ∷ [])) → Operated n line actions is →
+    pub forget-line : (operand : Operand) (id : Option TyId) (is : Are (operand ∷ []) (id ∷ [])) → Operated n line
+        actions is →
         act raw run (effects.Forget (operand_of 0 operand)) w ≡ Go x →
         HeldNow (actions ++ at_line n line (stmt_uses (Stmt.Forget operand))) x
     forget-line operand id is o e =

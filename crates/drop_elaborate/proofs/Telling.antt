@@ -18,7 +18,7 @@ use Rattle.cfg_graph.proofs.AllPresent.{whole_is_all_present}
 use Rattle.cfg_graph.proofs.Present.{gone_is_not_present}
 use Rattle.drop_values.specs.Facts.{Tree, at_path, Branches, no_branch, a_branch, Facts, possible}
 use Rattle.drop_values.specs.Planning.{branch_by}
-use Rattle.drop_values.proofs.PlanFits.{IsTold, Told, ToldBelow, Else, Sunk}
+use Rattle.drop_values.proofs.Told.{IsTold, Told, ToldBelow, Else, Sunk}
 use Rattle.drop_values.proofs.Steps.{same_step-sound, same_step-refl}
 
 -- what begins with the first of these steps begins with more of them too

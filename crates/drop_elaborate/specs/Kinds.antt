@@ -16,7 +16,8 @@ use Rattle.cfg_graph.specs.Moves.Actions.{actions_on}
 use Rattle.cfg_graph.specs.Moves.Gone.{PathAction, below, has_index, is_gone_after, IsWholeAfter}
 use Rattle.cfg_graph.specs.Moves.Paths.{IsPath}
 use Rattle.cfg_graph.specs.Places.{named}
-use Rattle.store_model.specs.Places.Place.{Step, Place, place_ty}
+use Rattle.mir_ty.specs.Parts.{parts_of}
+use Rattle.store_model.specs.Places.Place.{Step, ToPart, Place, is_enum, place_ty}
 use Rattle.store_model.specs.Places.TypeForms.{is_dyn, box_content}
 
 -- all but the last
@@ -86,7 +87,23 @@ module _ (items : ItemTable) (body : Body) where
     IsKind n place Conditional = (IsDead n place → ⊥) × (IsSure n place → ⊥) × (IsOpenable place → ⊥)
     IsKind n place Opened = (IsDead n place → ⊥) × (IsSure n place → ⊥) × IsOpenable place
 
-    -- a drop that is conditional or opened needs a flag of a path at or below it
+    -- a path lies at or below a place
+    abbrev pub HasPath : Place → Type 0
+    HasPath place = (steps : List Step) × Contains paths (below place steps)
+
+    -- What is done at a path, where it may be present and may be gone, reads the flag of its own part: where all of it
+    -- is one rung, as it is with no path below, or with a `Drop` body; for the freeing of a box; before the variants
+    -- of an enum; and for a part that needs dropping and is no path. Parts that are paths have flags of their own.
+    pub data ReadsOwnFlag (path : Place) (id : TyId) : Type 0 where
+      no_path_below : ((step : Step) → HasPath (below path (step ∷ [])) → ⊥) → ReadsOwnFlag path id
+      with_body : has_drop_impl items id ≡ true → ReadsOwnFlag path id
+      as_box : is_box (type_at items id) ≡ true → ReadsOwnFlag path id
+      as_enum : option_map_or (is_enum items) (type_at items id) false ≡ true → ReadsOwnFlag path id
+      for_part : (k : ℕ) (part : TyId) →
+          slice_get (option_map_or (λ ty. parts_of items ty 0) (type_at items id) []) k ≡ Some part →
+          needs_drop items part ≡ true → (HasPath (below path (ToPart k ∷ [])) → ⊥) → ReadsOwnFlag path id
+
+    -- a drop that is conditional or opened needs a flag of a path at or below it, if it reads one
     pub record NeedsFlag (n : ℕ) (place path : Place) : Type 0 where
       pub not_dead : IsDead n place → ⊥
       pub not_sure : IsSure n place → ⊥
@@ -96,6 +113,10 @@ module _ (items : ItemTable) (body : Body) where
       pub id : TyId
       pub typed : place_ty items (slice_get body.locals) path ≡ Some id
       pub needed : needs_drop items id ≡ true
+      pub reads : ReadsOwnFlag path id
+      -- what has a `Drop` body is not taken apart
+      pub apart : (upper lower : List Step) (step : Step) (outer : TyId) → steps ≡ upper ++ step ∷ lower →
+          place_ty items (slice_get body.locals) (below place upper) ≡ Some outer → has_drop_impl items outer ≡ false
       pub present : (before : List PathAction) × Comes n before × (is_gone_after items body before path ≡ false)
       pub gone : (before : List PathAction) × Comes n before × (is_gone_after items body before path ≡ true)
 

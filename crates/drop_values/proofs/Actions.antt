@@ -67,7 +67,7 @@ module _ (items : ItemTable) (local_ty local_ty' : (body local : ℕ) → Option
     pub stands' : Stands strict w' s
     pub is_whole : IsWhole s.value
 
-  used_there : (most : ℕ) (w w' : State) (site : EffectSite) (s : Located) → Both most w w' → SiteOk site →
+  pub used_there : (most : ℕ) (w w' : State) (site : EffectSite) (s : Located) → Both most w w' → SiteOk site →
       whole_at raw w site ≡ Some s → UsedThere w w' site s
   used_there most w w' site s b ok e = by (reach raw w site.place) refl e
     where
@@ -253,12 +253,12 @@ module _ (items : ItemTable) (local_ty local_ty' : (body local : ℕ) → Option
 
   module _ (run run' : Bodies) (most : ℕ) (good : ℕ → List Datum → State → Type 0)
       (tie : SameBodies local_ty good most run run') (stays : (event : Event) (body : ℕ) (args : List Datum)
-      (w : State) → Stays w (run event body args w)) where
+      (w : State) → good body args w → Stays w (run event body args w)) where
     pub called-Same : (to : EffectSite) (body : ℕ) (args : List Datum) (w w' : State) → Both most w w' →
         good body args w → SiteOk to → Way (called raw run to (Some body) args w)
         (called strict run' to (Some body) args w')
     called-Same to body args w w' b may ok = by (run (Event.Call body) body args w)
-        (stays (Event.Call body) body args w) (tie flags (Event.Call body) body args w w' may b.like b.few)
+        (stays (Event.Call body) body args w may) (tie flags (Event.Call body) body args w w' may b.like b.few)
       where
         by : (a : Answer) → Stays w a → SameAnswer local_ty flags a (run' (Event.Call body) body args w') →
             Way (answered raw to a) (answered strict to (run' (Event.Call body) body args w'))
@@ -641,7 +641,8 @@ module _ (items : ItemTable) (local_ty local_ty' : (body local : ℕ) → Option
             (sym r.0.reaches) (tested s.value r.0.other r.0.covers)
 
     module _ (run run' : Bodies) (good : ℕ → List Datum → State → Type 0) (tie : SameBodies local_ty good most run run')
-        (stays : (event : Event) (body : ℕ) (args : List Datum) (w : State) → Stays w (run event body args w)) where
+        (stays : (event : Event) (body : ℕ) (args : List Datum) (w : State) → good body args w →
+        Stays w (run event body args w)) where
       called-it : (to : EffectSite) (body : ℕ) (args : List Datum) (w w' : State) → Both most w w' →
           good body args w → SiteOk to → Way (answered raw to (run (Event.Call body) body args w))
           (answered strict to (run' (Event.Call body) body args w'))

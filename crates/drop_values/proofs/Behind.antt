@@ -1,6 +1,5 @@
 -- A whole value comes to a place that a reference names: what is known of the body's own locals is kept, where
--- all of
--- the place is known as present; and it is known so still after such a store, wherever it was.
+-- all of the place is known as present; and it is known so still after such a store, wherever it was.
 use Rattle.std.proofs.Common.{◌≡◌, ◌⊎◌, inl, inr, ℕ, zero, suc, ◌==◌, ◌&&◌, Bool, true, false, List, [], ◌∷◌, ◌++◌, length, Option, Some, None, if◌then◌else◌, refl, ap, sym, ◌∙◌, subst}
 use Rattle.std.specs.Prelude.{option_and_then}
 use Rattle.std.specs.Cmp.{first_so, second_so}

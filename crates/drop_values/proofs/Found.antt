@@ -11,7 +11,7 @@ use Rattle.mir_ty.specs.ItemTable.{ItemTable, type_at}
 use Rattle.mir_ty.specs.Parts.{parts_of}
 use Rattle.store_model.specs.Concrete.Location.{DynamicType, OfType, content_type, type_in_box, type_of_field}
 use Rattle.store_model.specs.Places.TypeForms.{is_dyn, box_content}
-use Rattle.drop_values.specs.Typed.{Proper, a_type, an_object}
+use Rattle.drop_values.specs.Typed.{has_impl, Proper, a_type, an_object}
 
 module _ (items : ItemTable) where
   pub field_at : (o : Option Ty) (variant n : ℕ) (f : DynamicType) → type_of_field items variant n o ≡ Some f →
@@ -64,13 +64,14 @@ module _ (items : ItemTable) where
   dyn-is (Some (Ty.Closure k)) e = absurd (false≢true e)
 
   pub content-proper : (content : TyId) (impl_no : Option ℕ) → is_some impl_no ≡ is_dyn (type_at items content) →
-      Proper items (content_type content impl_no)
-  content-proper content None e = a_type content
-  content-proper content (Some impl_no) e = let d = dyn-is (type_at items content) (sym e) in an_object
-      content impl_no d.0 d.1
+      has_impl items (type_at items content) impl_no ≡ true → Proper items (content_type content impl_no)
+  content-proper content None e h = a_type content
+  content-proper content (Some impl_no) e h =
+      let d = dyn-is (type_at items content) (sym e) in
+      an_object content impl_no d.0 d.1 (ap (λ o. has_impl items o (Some impl_no)) (sym d.1) ∙ h)
 
   pub box-proper : (o : Option Ty) (content : TyId) (impl_no : Option ℕ) (f : DynamicType) →
       box_content o ≡ Some content → is_some impl_no ≡ is_dyn (type_at items content) →
-      type_in_box impl_no o ≡ Some f → Proper items f
-  box-proper o content impl_no f e d h =
-      subst (Proper items) (sym (boxed-is o content impl_no f e h)) (content-proper content impl_no d)
+      has_impl items (type_at items content) impl_no ≡ true → type_in_box impl_no o ≡ Some f → Proper items f
+  box-proper o content impl_no f e d i h =
+      subst (Proper items) (sym (boxed-is o content impl_no f e h)) (content-proper content impl_no d i)

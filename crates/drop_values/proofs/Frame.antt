@@ -108,7 +108,7 @@ module _ (items : ItemTable) where
     full-Sound (Box serial impl_no inside) found h =
         let b = h.1 in
         subst (λ o. IfFound o (Sound inside)) (sym b.2.1) (full-Sound inside b.2.0
-        (box-proper items (concrete_ty items found) b.1.0 impl_no b.2.0 b.1.1 b.1.2 b.2.1, b.2.2))
+        (box-proper items (concrete_ty items found) b.1.0 impl_no b.2.0 b.1.1 b.1.2 b.1.3 b.2.1, b.2.2))
     full-Sound (Address address) found h = tt
 
     pub fulls-Sound : (parts : Data) (found_at from : ℕ → Option DynamicType) (k : ℕ) →

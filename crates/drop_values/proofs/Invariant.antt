@@ -1,8 +1,6 @@
--- What is known of a raw run within a body at each point of a path: its locals fit what is present after the
--- path; what
--- is older was changed at places alone that the arguments name; and each reference in a local names what is full,
--- if
--- nothing has taken it. So it stays, as places of the body's own are taken and stored into.
+-- What is known of a raw run within a body at each point of a path: its locals fit what is present after the path;
+-- what is older was changed at places alone that the arguments name; and each reference in a local names what is full,
+-- if nothing has taken it. So it stays, as places of the body's own are taken and stored into.
 use Rattle.std.proofs.Common.{◌≡◌, ◌⊎◌, inl, inr, ℕ, zero, suc, ◌==◌, ◌&&◌, Bool, true, false, List, [], ◌∷◌, ◌++◌, length, Option, Some, None, if◌then◌else◌, Contains, refl, ap, sym, ◌∙◌, subst, arith}
 use Rattle.std.proofs.lemmas.Bool.Decides.{Decides-eqb, eqb_tells}
 use Rattle.mir_ty.specs.declared.ty.TyId.{TyId}

@@ -1,6 +1,6 @@
 -- What is known of a local stands as it was, where a whole value of its type came to a place that is known as
--- whole: so
--- it is after a call to which a reference to the place was passed. And a place behind a reference is reached.
+-- whole: so it is after a call to which a reference to the place was passed. And a place behind a reference is
+-- reached.
 use Rattle.std.proofs.Common.{◌≡◌, ◌≢◌, ℕ, zero, suc, ◌==◌, ◌&&◌, ◌||◌, not, Bool, true, false, List, [], ◌∷◌, ◌++◌, Option, Some, None, is_some, if◌then◌else◌, refl, ap, sym, ◌∙◌, subst}
 use Rattle.std.specs.Cmp.{first_so, second_so}
 use Rattle.std.specs.Option.{option_map_or}

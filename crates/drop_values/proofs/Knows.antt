@@ -23,7 +23,7 @@ use Rattle.store_model.specs.Values.Access.{part, part_at, replaced}
 use Rattle.store_model.specs.Values.Datum.{Datum, Data, Gone, Number, Truth, UnitValue, Aggregate, Box, Address, no_part, a_part}
 use Rattle.drop_values.specs.Like.{held, held_by, body_at, body_of}
 use Rattle.drop_values.specs.Typed.{is_enum_found, variant_if, has_variant, Fits}
-use Rattle.drop_values.proofs.PlanFits.{no_and_yes, IsOf, itself, object, content-of}
+use Rattle.drop_values.proofs.FoundAs.{no_and_yes, IsOf, itself, object, content-of}
 use Rattle.drop_values.proofs.Stand.{Changed, Into, into-parts}
 use Rattle.drop_values.proofs.Ways.{Way, ends, to_part, to_field, to_content, fits_at_end, fits_changed}
 
@@ -167,7 +167,8 @@ module _ (setting : Setting) (w : State) (cells : Cells) where
       (id : TyId) (p : Presence) (m : Located) → type_at items id ≡ Some ty → step_ty items (ToPart n) ty ≡ Some next →
       IsOf items dynamic id → Fits items dynamic p d →
       Into items (Part n) (here a dynamic d) m → OneStep (ToPart n) (here a dynamic d) m next
-  part_step-way n ty next a dynamic d id p m is s (object id' impl_no k dyn) fit i = no_dyn_part id k n ty next is dyn s
+  part_step-way n ty next a dynamic d id p m is s (object id' impl_no k dyn has) fit i = no_dyn_part id k n ty next is
+      dyn s
   part_step-way n ty next a _ (Aggregate variant serial parts) id p m is s (itself _) fit i =
       let flat = of_struct (is_enum items ty) (slice_get (parts_of items ty 0) n) next s in
       let zero_is : variant ≡ 0 = struct_variant ty variant flat.0
@@ -194,7 +195,8 @@ module _ (setting : Setting) (w : State) (cells : Cells) where
       (id : TyId) (m : Located) → type_at items id ≡ Some ty → step_ty items (ToField v n) ty ≡ Some next →
       IsOf items dynamic id →
       into_field setting w cells v n d (here a dynamic d) ≡ Reaches m → OneStep (ToField v n) (here a dynamic d) m next
-  field_step-way v n ty next a dynamic d id m is s (object id' impl_no k dyn) e = no_dyn_field id k v n ty next is dyn s
+  field_step-way v n ty next a dynamic d id m is s (object id' impl_no k dyn has) e = no_dyn_field id k v n ty next is
+      dyn s
   field_step-way v n ty next a _ (Aggregate active serial parts) id m is s (itself _) e =
       let r = reaches_if (v == active) (into items (Part n) (here a (OfType id) (Aggregate active serial parts))) m e in
       let i = into-parts items (Part n) (here a (OfType id) (Aggregate active serial parts)) m r.1 in
@@ -225,7 +227,7 @@ module _ (setting : Setting) (w : State) (cells : Cells) where
       is_reference (Some ty) ≡ false →
       IsOf items dynamic id → Fits items dynamic p d → through setting w cells d (here a dynamic d) ≡ Reaches m →
       OneStep ToContent (here a dynamic d) m next
-  content_step-way ty next a dynamic d id p m is s no_ref (object id' impl_no k dyn) fit e =
+  content_step-way ty next a dynamic d id p m is s no_ref (object id' impl_no k dyn has) fit e =
       no_dyn_content id k ty next is dyn s
   content_step-way ty next a _ (Box serial impl_no inside) id p m is s no_ref (itself _) fit e =
       let i = into-parts items Inside (here a (OfType id) (Box serial impl_no inside)) m
@@ -243,7 +245,7 @@ module _ (setting : Setting) (w : State) (cells : Cells) where
         address = ap (λ (x : Located). x.address) i.is;
         of = subst (λ (x : Located). IsOf items x.dynamic next) (sym i.is)
             (subst (λ f. IsOf items f next) (sym f_is) (subst (λ c. IsOf items (content_type fit.1.0 impl_no) c) c_is
-            (content-of items fit.1.0 impl_no fit.1.2)));
+            (content-of items fit.1.0 impl_no fit.1.2 fit.1.3)));
       }
   content_step-way ty next a _ (Address x) id p m is s no_ref (itself _) fit e =
       no_and_yes (is_reference (type_at items id)) fit.1 (ap is_reference is ∙ no_ref)

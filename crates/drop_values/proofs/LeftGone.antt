@@ -1,6 +1,5 @@
 -- A place of the body's own that may be left gone, since no container of it has a `Drop` body: what is known is kept as
--- its
--- value is moved out of it or dropped there.
+-- its value is moved out of it or dropped there.
 use Rattle.std.proofs.Common.{◌≡◌, ◌⊎◌, inl, inr, ℕ, ◌==◌, Bool, true, false, List, [], ◌∷◌, Option, Some, None, refl, ap, sym, ◌∙◌, subst}
 use Rattle.mir_ty.specs.declared.ty.Ty.{Ty}
 use Rattle.mir_ty.specs.declared.ty.TyId.{TyId}
@@ -19,7 +18,7 @@ use Rattle.drop_values.specs.Typed.{Fits, IsTypedAs}
 use Rattle.drop_values.proofs.Invariant.{RefersTo, Invariant, own-Invariant}
 use Rattle.drop_values.proofs.Knows.{PlainSteps, no_steps, to_next, present_by, Own}
 use Rattle.drop_values.proofs.KnowsLaws.{Bodiless}
-use Rattle.drop_values.proofs.PlanFits.{itself}
+use Rattle.drop_values.proofs.FoundAs.{itself}
 use Rattle.drop_values.proofs.Sites.{of-as}
 use Rattle.drop_values.proofs.Stand.{Changed, Into, into-is}
 use Rattle.drop_values.proofs.Staying.{Diverge}

@@ -7,6 +7,9 @@ pub mod Fresh
 pub mod Kept
 pub mod LikeLaws
 pub mod Names
+pub mod FoundAs
+pub mod Told
+pub mod IdlePlans
 pub mod PlanFits
 pub mod Quiet
 pub mod Reach

@@ -12,7 +12,6 @@ use Rattle.mir_ty.specs.Parts.{parts_of}
 use Rattle.store_model.specs.declared.address.At.TheVariants.{Part, Inside}
 use Rattle.store_model.specs.Abstract.Presence.{is_present}
 use Rattle.store_model.specs.Concrete.Drops.{drop_impl}
-use Rattle.store_model.specs.Concrete.Effects.{fits}
 use Rattle.store_model.specs.Concrete.Location.{DynamicType, OfType, OfObject, adt_of_impl, adt_ty, concrete_ty, type_in_box, type_of_field}
 use Rattle.store_model.specs.Places.TypeForms.{int_kind, is_bool, is_unit, is_dyn, box_content}
 use Rattle.store_model.specs.Values.Datum.{Datum, Data, Gone, Number, Truth, UnitValue, Aggregate, Box, Address, no_part, a_part, data_from}
@@ -69,8 +68,8 @@ module _ (items : ItemTable) where
   )
 
   pub number-full : (id : TyId) (kind : IntKind) (number : ℤ) → int_kind (type_at items id) ≡ Some kind →
-      fits kind number ≡ true → IsFull items (OfType id) (Number number)
-  number-full id kind number k f = (a_type id, (refl, (kind, k, f)))
+      IsFull items (OfType id) (Number number)
+  number-full id kind number k = (a_type id, (refl, (kind, k)))
 
   pub truth-full : (id : TyId) (truth : Bool) → is_bool (type_at items id) ≡ true →
       IsFull items (OfType id) (Truth truth)
@@ -80,19 +79,20 @@ module _ (items : ItemTable) where
   pub object-full : (id from content inner : TyId) (n impl_no serial : ℕ) (other : Option ℕ) (inside : Datum) →
       type_at items id ≡ Some (Ty.Boxed content) → is_dyn (type_at items content) ≡ true →
       type_at items from ≡ Some (Ty.Boxed inner) → type_at items inner ≡ Some (Ty.Adt n) →
-      adt_of_impl items impl_no ≡ Some n → IsFull items (OfType from) (Box serial other inside) →
+      adt_of_impl items impl_no ≡ Some n → has_impl items (type_at items content) (Some impl_no) ≡ true →
+      IsFull items (OfType from) (Box serial other inside) →
       IsFull items (OfType id) (Box serial (Some impl_no) inside)
-  object-full id from content inner n impl_no serial other inside t d f i a h = (
+  object-full id from content inner n impl_no serial other inside t d f i a has h = (
     a_type id,
     (
       refl,
-      (content, ap box_content t, sym d, ap is_some a),
+      (content, ap box_content t, sym d, has),
       (OfObject content impl_no, ap (type_in_box (Some impl_no)) t, by other h.1.1 h.1.2),
     ),
   )
     where
       by : (other : Option ℕ) → ((c : TyId) × (box_content (type_at items from) ≡ Some c)
-          × (is_some other ≡ is_dyn (type_at items c)) × (has_impl items other ≡ true)) →
+          × (is_some other ≡ is_dyn (type_at items c)) × (has_impl items (type_at items c) other ≡ true)) →
           ((g : DynamicType) × (type_in_box other (type_at items from) ≡ Some g) × Fits items g is_present inside) →
           Fits items (OfObject content impl_no) is_present inside
       by None c g =

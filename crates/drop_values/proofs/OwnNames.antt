@@ -19,7 +19,7 @@ use Rattle.drop_values.specs.Like.{held, body_at, raw_setting, Extends}
 use Rattle.drop_values.specs.Typed.{Fits}
 use Rattle.drop_values.proofs.Knows.{IsPlainStep, PlainSteps, no_steps, to_next, by_way_of, reaches_some, reaches_if, one_step, followed, Arrived, arrived, Knows, root, reach_from_root}
 use Rattle.drop_values.proofs.Names.{Takes, takes-into, NamesAlong, Names}
-use Rattle.drop_values.proofs.PlanFits.{no_and_yes, IsOf, itself, object}
+use Rattle.drop_values.proofs.FoundAs.{no_and_yes, IsOf, itself, object}
 use Rattle.drop_values.proofs.Stand.{Into, into-parts, rooted, with_value}
 use Rattle.drop_values.proofs.Ways.{Way, ends, fits_at_end}
 
@@ -72,7 +72,7 @@ module _ (setting : Setting) (w : State) (cells : Cells) where
       type_at items id ≡ Some ty → step_ty items ToContent ty ≡ Some next → is_reference (Some ty) ≡ false →
       is_reference (concrete_ty items dynamic) ≡ false
   not-reference _ id ty next (itself _) is s no_ref = ap is_reference is ∙ no_ref
-  not-reference _ id ty next (object _ impl_no n dyn) is s no_ref = absurd (no_dyn id n ty next is dyn s)
+  not-reference _ id ty next (object _ impl_no n dyn has) is s no_ref = absurd (no_dyn id n ty next is dyn s)
 
   taken-step : (step : Step) (ty : Ty) (next : TyId) (a : Addr) (dynamic : DynamicType) (d : Datum)
       (id : TyId) (p : Presence) (m : Located) → type_at items id ≡ Some ty → step_ty items step ty ≡ Some next →

@@ -1,6 +1,5 @@
 -- Where a place of a body leads in a raw run: to a part of one of its own locals, to an element of an array of its own,
--- or
--- behind a reference; and that what stands there is of the place's type.
+-- or behind a reference; and that what stands there is of the place's type.
 use Rattle.std.proofs.Common.{◌≡◌, ◌⊎◌, inl, inr, ℕ, zero, suc, ◌==◌, Bool, true, false, List, [], ◌∷◌, ◌++◌, length, Option, Some, None, refl, ap, sym, ◌∙◌, subst}
 use Rattle.std.proofs.lemmas.Bool.{false≢true}
 use Rattle.std.proofs.lemmas.Option.{none-some}
@@ -23,26 +22,26 @@ use Rattle.drop_values.proofs.BehindInvariant.{Opens, an_older, its_own, opens, 
 use Rattle.drop_values.proofs.Invariant.{RefersTo, Invariant}
 use Rattle.drop_values.proofs.Knows.{PlainSteps, by_way_of, Arrived, arrived, followed, Knows, root, reach_from_root, Own, own_place, own_fits}
 use Rattle.drop_values.proofs.Named.{full-within, reach-stands}
-use Rattle.drop_values.proofs.PlanFits.{IsOf, itself, object}
+use Rattle.drop_values.proofs.FoundAs.{IsOf, itself, object}
 use Rattle.drop_values.proofs.Reach.{IndexOk}
 use Rattle.drop_values.proofs.References.{all-within}
 use Rattle.drop_values.proofs.Stand as stand
 use Rattle.drop_values.proofs.Stand.{standing-address}
 use Rattle.drop_values.proofs.Touched.{AllNameFull}
-use Rattle.drop_values.proofs.TypedSteps.{As, itself_as, object_as, as-of, SolidSteps, Reached-As, AlongAs, typed-along, leads-proper}
+use Rattle.drop_values.proofs.TypedSteps.{As, itself_as, object_as, as-of, RunsAlong, SolidSteps, Reached-As, AlongAs, typed-along, leads-proper}
 use Rattle.drop_values.proofs.Ways.{Way, ends, to_part, to_field, to_content, fits_at_end}
 
 module _ (items : ItemTable) where
   pub of-as : (found : DynamicType) (id : TyId) → IsOf items found id → As items found id
   of-as _ _ (itself id) = itself_as id
-  of-as _ _ (object id impl_no n dyn) = object_as id impl_no n dyn
+  of-as _ _ (object id impl_no n dyn has) = object_as id impl_no n dyn
 
   pub of-proper : (found : DynamicType) (id : TyId) → IsOf items found id → Proper items found
   of-proper _ _ (itself id) = a_type id
-  of-proper _ _ (object id impl_no n dyn) = an_object id impl_no n dyn
+  of-proper _ _ (object id impl_no n dyn has) = an_object id impl_no n dyn has
 
   -- what is known where an address leads is what is known at the end of the way
-  way-leads : {steps : List Step} {path : List At} {found f' f : DynamicType} {d d' e : Datum} {p q : Presence} →
+  pub way-leads : {steps : List Step} {path : List At} {found f' f : DynamicType} {d d' e : Datum} {p q : Presence} →
       Way items steps path found d f' d' → Leads items path found p d f q e → q ≡ presence_along steps p
   way-leads (ends found d) (stops _ p _) = refl
   way-leads {p = p} {q = q} (to_part steps path found variant serial parts n inner f f' d' not_enum
@@ -253,4 +252,87 @@ module _ (items : ItemTable) (local_ty : (body local : ℕ) → Option TyId) (nu
             (sym address_is) (opens-within items local_ty number depth addresses before IsNamed
             given present w m.address
             x.path o));
+      }
+
+  -- ---- along which steps the address runs
+
+  pub record ElementRuns (place : Place) (upper more : List Step) (s : Located) : Type 0 where
+    pub path : List At
+    pub others : List At
+    pub address : s.address ≡ record (root_address depth place.local) { path = path ++ others }
+    pub found : DynamicType
+    pub value : Datum
+    pub root_ty : TyId
+    pub root_value : Datum
+    pub way : Way items upper path (OfType root_ty) root_value found value
+    pub runs : RunsAlong more others
+
+  -- an element of an array of the body's own
+  pub element-runs : (live : ℕ → Type 0) (present : ℕ → Presence) (w : State) (place : Place) (end : TyId) (s : Located)
+      (upper rest : List Step) (index : ℕ) (id array : TyId) → local_ty number place.local ≡ Some id →
+      place.steps ≡ upper ++ ToElement index ∷ rest → PlainSteps items upper id array →
+      SolidSteps items (ToElement index ∷ rest) array end →
+      Invariant items local_ty number depth addresses before IsNamed live present w → reach raw w place ≡ Reaches s →
+      ElementRuns place upper (ToElement index ∷ rest) s
+  element-runs live present w place end s upper rest index id array typed steps_are plain solid i e =
+      let k = i.knows in
+      let r = reach_from_root raw number depth w place id s k.deep k.number_is typed e in
+      let two = in-two raw w r.0 upper (ToElement index ∷ rest) (root raw number depth place.local id w) s
+      (ap (λ steps. along raw w r.0 steps (root raw number depth place.local id w)) (sym steps_are) ∙ r.1) in
+      let fits = k.fits place.local id typed in
+      let a = arrived raw w r.0 upper (root raw number depth place.local id w) two.middle id array
+      (present place.local) plain (itself id) fits two.first in
+      let x = typed-along items local_ty w r.0 (ToElement index ∷ rest) two.middle s array end solid
+      (of-as items two.middle.dynamic array a.of)
+      (presence_along upper (present place.local), fits_at_end items (present place.local) a.way fits) two.second in
+      record {
+        path = a.path;
+        others = x.path;
+        address = (stand.along items x.path two.middle s x.into_is).address
+            ∙ ap (λ (y : Addr). record y { path = y.path ++ x.path }) a.address;
+        found = two.middle.dynamic;
+        value = two.middle.value;
+        root_ty = id;
+        root_value = held depth place.local w;
+        way = a.way;
+        runs = x.runs;
+      }
+
+  pub record BehindRuns (w : State) (place : Place) (rest : List Step) (s : Located) : Type 0 where
+    pub named : Addr
+    pub held_is : held depth place.local w ≡ Address named
+    pub path : List At
+    pub address : s.address ≡ record named { path = named.path ++ path }
+    pub runs : RunsAlong rest path
+
+  -- what lies behind a reference
+  pub behind-runs : (live : ℕ → Type 0) (present : ℕ → Presence) (w : State) (place : Place) (end : TyId) (s : Located)
+      (rest : List Step) (id to : TyId) → local_ty number place.local ≡ Some id → named_by (type_at items id) ≡ Some
+      to →
+      place.steps ≡ ToContent ∷ rest → SolidSteps items rest to end → live place.local →
+      Invariant items local_ty number depth addresses before IsNamed live present w → reach raw w place ≡ Reaches s →
+      BehindRuns w place rest s
+  behind-runs live present w place end s rest id to typed named steps_are solid opened i e =
+      let k = i.knows in
+      let r = reach_from_root raw number depth w place id s k.deep k.number_is typed e in
+      let start = root raw number depth place.local id w in
+      let b = by_way_of (follow_from raw w r.0 ToContent start.value start) (along raw w r.0 rest) s
+      (ap (λ steps. along raw w r.0 steps start) (sym steps_are) ∙ r.1) in
+      let m = behind-it w r.0 id to (present place.local) (held depth place.local w) (root_address depth place.local)
+      b.mid named (k.fits place.local id typed)
+      (followed raw w r.0 ToContent (root_address depth place.local) (OfType id) (held depth place.local w) b.mid
+      b.first) in
+      let o = opens items local_ty number depth addresses before IsNamed given live present w place.local
+      m.address opened (i.refers place.local m.address m.value_is) in
+      let full = opens-full items local_ty number depth addresses before IsNamed given present w m.address k o b.mid
+      m.there in
+      let x = typed-along items local_ty w r.0 rest b.mid s to end solid
+      (as-of items to b.mid.dynamic full.0 m.found_is) (is_present, full.1) b.then_reached in record {
+        named = m.address;
+        held_is = m.value_is;
+        path = x.path;
+        address = (stand.along items x.path b.mid s x.into_is).address
+            ∙ ap (λ (y : Addr). record y { path = y.path ++ x.path })
+            (standing-address raw w m.address b.mid m.there);
+        runs = x.runs;
       }

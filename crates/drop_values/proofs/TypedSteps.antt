@@ -32,7 +32,7 @@ module _ (items : ItemTable) where
   pub fits-concrete : (f g : DynamicType) (p : Presence) (d : Datum) → concrete_ty items f ≡ concrete_ty items g →
       Fits items f p d → Fits items g p d
   fits-concrete f g p Gone e k = k
-  fits-concrete f g p (Number x) e k = (k.0, (k.1.0, sym (ap int_kind e) ∙ k.1.1, k.1.2))
+  fits-concrete f g p (Number x) e k = (k.0, (k.1.0, sym (ap int_kind e) ∙ k.1.1))
   fits-concrete f g p (Truth x) e k = (k.0, sym (ap is_bool e) ∙ k.1)
   fits-concrete f g p UnitValue e k = (k.0, sym (ap is_unit e) ∙ k.1)
   fits-concrete f g p (Address x) e k = (k.0, sym (ap is_reference e) ∙ k.1)
@@ -81,7 +81,7 @@ module _ (items : ItemTable) where
 
   pub as-of : (id : TyId) (found : DynamicType) → Proper items found → is_of_type items id found ≡ true → As found id
   as-of id _ (a_type id') h = subst (λ x. As (OfType x) id) (sym (same_number id id' h)) (itself_as id)
-  as-of id _ (an_object ty impl_no n dyn) h = by (id.0 == ty.0) refl
+  as-of id _ (an_object ty impl_no n dyn has) h = by (id.0 == ty.0) refl
       (option_map_or (λ n. is_adt n (type_at items id)) (adt_of_impl items impl_no) false) refl h
     where
       of_impl : (o : Option ℕ) → adt_of_impl items impl_no ≡ o → option_map_or (λ n. is_adt n (type_at items id))
@@ -130,7 +130,7 @@ module _ (items : ItemTable) where
       leads-proper rest (subst (λ g. Fits items g (presence_at ToContent p) inside) (let same : k.2.0 ≡ f = cc in same)
       k.2.2)
       (subst (Proper items) (sym (boxed-is items (concrete_ty items found) k.1.0 impl_no f k.1.1 is_found))
-      (content-proper items k.1.0 impl_no k.1.2))
+      (content-proper items k.1.0 impl_no k.1.2 k.1.3))
 
   -- ---- one step
 

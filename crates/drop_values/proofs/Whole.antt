@@ -259,7 +259,7 @@ module _ (items : ItemTable) (local_ty local_ty' : (body local : ℕ) → Option
               (let x : Some b.2.0 ≡ Some i.dynamic = sym b.2.1
               ∙ ap (λ d. type_of_part items Inside d s.dynamic) (sym is) ∙ i.found_is in
               let y : b.2.0 ≡ i.dynamic = cc in y ∙ sym (ap (λ (z : Located). z.dynamic) i.is))
-              (box-proper items (concrete_ty items s.dynamic) b.1.0 impl_no b.2.0 b.1.1 b.1.2 b.2.1, b.2.2)
+              (box-proper items (concrete_ty items s.dynamic) b.1.0 impl_no b.2.0 b.1.1 b.1.2 b.1.3 b.2.1, b.2.2)
 
           content : (t : Located) → into items Inside s ≡ Some t → Into items Inside s t → Stands raw w t
               × (t.value ≡ inside) × (t.address ≡ below s.address Inside)

@@ -1,5 +1,5 @@
 -- The plan of a drop, by its path, its type, and what is known of the paths at and below it.
-use Rattle.std.specs.Prelude.{◌≡◌, ℕ, suc, ◌&&◌, not, Bool, true, false, List, [], ◌∷◌, Option, Some, None, if◌then◌else◌, slice_get, unwrap_or, option_and_then}
+use Rattle.std.specs.Prelude.{◌≡◌, ℕ, suc, ◌&&◌, ◌||◌, not, Bool, true, false, List, [], ◌∷◌, Option, Some, None, if◌then◌else◌, slice_get, unwrap_or, option_and_then}
 use Rattle.mir_ty.specs.declared.adt.Variant.{Variant}
 use Rattle.mir_ty.specs.declared.ty.Ty.{Ty}
 use Rattle.mir_ty.specs.declared.ty.TyId.{TyId}
@@ -39,6 +39,14 @@ decided true true true gone flag inner = Entire
 decided true true false true flag inner = inner flag
 decided true true false false flag inner = inner None
 
+-- no path lies at the end of a step
+abbrev pub is_none_tree : Option Tree → Bool
+is_none_tree None = true
+is_none_tree (Some tree) = false
+
+abbrev pub is_bare : Step → Branches → Bool
+is_bare step below = is_none_tree (branch_by step below)
+
 module _ (items : ItemTable) where
   -- a part that is a path has a flag of its own, which is false where its container is gone: it needs no guard
   abbrev pub part_plan : Option ℕ → TyId → Option Plan → Plan
@@ -60,6 +68,30 @@ module _ (items : ItemTable) where
   taken_apart guard true (Ty.Adt n) plans = guarded guard
       (ByVariant (variant_plans (variants_of (slice_get items.adts n)) plans 0))
   taken_apart guard enum ty plans = InParts (part_plans guard (parts_of items ty 0) ToPart plans 0)
+
+  -- some of these parts is no path and needs dropping
+  abbrev pub any_bare : List TyId → (ℕ → Step) → Branches → ℕ → Bool
+  any_bare [] step below n = false
+  any_bare (id ∷ ids) step below n =
+      (is_bare (step n) below && needs_drop items id) || any_bare ids step below (suc n)
+
+  -- What is taken apart reads the flag of its own part for the freeing of a box, for the variants of an enum, and for
+  -- parts that are no paths.
+  abbrev pub apart_reads : Bool → Ty → Branches → Bool
+  apart_reads enum (Ty.Boxed content) below = true
+  apart_reads true (Ty.Adt n) below = true
+  apart_reads enum ty below = any_bare (parts_of items ty 0) ToPart below 0
+
+  abbrev pub unless_reads : Bool → Option Ty → Branches → Bool
+  unless_reads true ty below = true
+  unless_reads false None below = true
+  unless_reads false (Some ty) below = apart_reads (is_enum items ty) ty below
+
+  -- whether the plan of a path, where it may be present and may be gone, reads the flag of its own part
+  abbrev pub reads_flag : Branches → TyId → Bool
+  reads_flag no_branch id = true
+  reads_flag (a_branch step tree rest) id =
+      unless_reads (has_drop_impl items id) (type_at items id) (a_branch step tree rest)
 
   -- the type to which a step leads
   abbrev pub stepped : Step → TyId → TyId

@@ -1,4 +1,5 @@
--- When a value is one of its type, as whatever it is found, and what is gone of it is known as gone.
+-- When a value is one of its type, as whatever it is found, and what is gone of it is known as gone. Nothing is asked
+-- of how large a number is, since a run is given any numbers.
 use Rattle.std.specs.Prelude.{◌≡◌, ℕ, zero, suc, ◌==◌, Bool, true, false, Option, Some, None, is_some, slice_get}
 use Rattle.std.specs.Option.{option_map_or}
 use Rattle.mir_base.specs.declared.int_kind.IntKind.{IntKind}
@@ -10,10 +11,9 @@ use Rattle.mir_ty.specs.Parts.{variants_of}
 use Rattle.store_model.specs.declared.address.At.TheVariants.{Part, Inside}
 use Rattle.store_model.specs.Abstract.Presence.{Presence, is_present, itself_gone, presence_at}
 use Rattle.store_model.specs.Concrete.Drops.{drop_impl}
-use Rattle.store_model.specs.Concrete.Effects.{fits}
-use Rattle.store_model.specs.Concrete.Location.{DynamicType, OfType, OfObject, adt_of_impl, concrete_ty, type_of_part}
+use Rattle.store_model.specs.Concrete.Location.{DynamicType, OfType, OfObject, concrete_ty, type_of_part}
 use Rattle.store_model.specs.Places.Place.{Step, ToPart, ToField, ToContent, is_enum, is_reference}
-use Rattle.store_model.specs.Places.TypeForms.{int_kind, is_bool, is_unit, is_dyn, box_content}
+use Rattle.store_model.specs.Places.TypeForms.{int_kind, is_bool, is_unit, is_dyn, is_dyn_of, box_content}
 use Rattle.store_model.specs.Values.Datum.{Datum, Data, Gone, Number, Truth, UnitValue, Aggregate, Box, Address, no_part, a_part}
 
 module _ (items : ItemTable) where
@@ -41,10 +41,10 @@ module _ (items : ItemTable) where
   has_variant (Some (Ty.Closure n)) variant = variant == 0
   has_variant _ variant = false
 
-  -- the impl of a trait object exists
-  abbrev pub has_impl : Option ℕ → Bool
-  has_impl None = true
-  has_impl (Some impl_no) = is_some (adt_of_impl items impl_no)
+  -- the impl of a trait object exists, and is one of its trait
+  abbrev pub has_impl : Option Ty → Option ℕ → Bool
+  has_impl ty None = true
+  has_impl ty (Some impl_no) = option_map_or (λ impl. is_dyn_of impl.trait_no ty) (slice_get items.impls impl_no) false
 
   abbrev pub step_if : Bool → ℕ → ℕ → Step
   step_if true variant n = ToField variant n
@@ -58,7 +58,7 @@ module _ (items : ItemTable) where
     pub Fits : DynamicType → Presence → Datum → Type 0
     Fits found p Gone = itself_gone p ≡ true
     Fits found p (Number number) = (itself_gone p ≡ false)
-        × ((kind : IntKind) × (int_kind (concrete_ty items found) ≡ Some kind) × (fits kind number ≡ true))
+        × ((kind : IntKind) × (int_kind (concrete_ty items found) ≡ Some kind))
     Fits found p (Truth truth) = (itself_gone p ≡ false) × (is_bool (concrete_ty items found) ≡ true)
     Fits found p UnitValue = (itself_gone p ≡ false) × (is_unit (concrete_ty items found) ≡ true)
     Fits found p (Aggregate variant serial parts) =
@@ -68,7 +68,7 @@ module _ (items : ItemTable) where
         (λ n. presence_at (part_step found variant n) p) parts
     Fits found p (Box serial impl_no inside) =
         (itself_gone p ≡ false) × ((content : TyId) × (box_content (concrete_ty items found) ≡ Some content)
-        × (is_some impl_no ≡ is_dyn (type_at items content)) × (has_impl impl_no ≡ true))
+        × (is_some impl_no ≡ is_dyn (type_at items content)) × (has_impl (type_at items content) impl_no ≡ true))
         × ((f : DynamicType) × (type_of_part items Inside (Box serial impl_no Gone) found ≡ Some f)
         × Fits f (presence_at ToContent p) inside)
     Fits found p (Address address) = (itself_gone p ≡ false) × (is_reference (concrete_ty items found) ≡ true)
@@ -83,7 +83,8 @@ module _ (items : ItemTable) where
   -- found as a type, or as an object of a trait
   pub data Proper : DynamicType → Type 0 where
     a_type : (id : TyId) → Proper (OfType id)
-    an_object : (id : TyId) (impl_no n : ℕ) → type_at items id ≡ Some (Ty.Dyn n) → Proper (OfObject id impl_no)
+    an_object : (id : TyId) (impl_no n : ℕ) → type_at items id ≡ Some (Ty.Dyn n) →
+        has_impl (Some (Ty.Dyn n)) (Some impl_no) ≡ true → Proper (OfObject id impl_no)
 
   -- a value of its type of which nothing is gone
   abbrev pub IsFull : DynamicType → Datum → Type 0
