@@ -11,7 +11,7 @@ use Rattle.store_model.specs.Concrete.Location.{Setting, Located, located_at, st
 use Rattle.store_model.specs.Concrete.State.{State, with_event}
 use Rattle.mir_base.specs.Once.{serial_made, serial_ended, made_in, ended_in, times, EndsWhatWasMade, a_line, IsOnce, IsAtMostOnce}
 use Rattle.soundness.proofs.Counts.{times_append, in_value, held, held_stored}
-use Rattle.soundness.proofs.Ladder.{Room, Kept}
+use Rattle.soundness.proofs.LadderEnds.{Room, Kept}
 
 pub made_after : (k : ℕ) (trace : Trace) (event : Event) → times k (made_in (trace ++ event ∷ [])) ≡ times k
     (made_in trace) + times k (serial_made event)

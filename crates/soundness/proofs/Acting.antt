@@ -12,7 +12,7 @@ use Rattle.mir_base.specs.declared.trace.Event.{Event}
 use Rattle.mir_ty.specs.declared.ty.Ty.{Ty}
 use Rattle.mir_ty.specs.declared.ty.TyId.{TyId}
 use Rattle.mir_ty.specs.ItemTable.{ItemTable, type_at}
-use Rattle.store_model.proofs.Effects.Following.{Relation, FollowsOut, goes_on, unwinds, halts, lapsed, outlived, refused, out_after}
+use Rattle.store_model.proofs.Effects.Following.{Relation}
 use Rattle.store_model.specs.declared.address.Addr.{Addr}
 use Rattle.store_model.specs.Values.Datum.{Datum, Gone, Number, Truth, UnitValue, Aggregate, Box, Address}
 use Rattle.store_model.specs.Effects as effects
@@ -26,6 +26,7 @@ use Rattle.store_model.specs.Concrete.Effects as values
 use Rattle.store_model.specs.Concrete.Effects.{or_stuck, evaluate_operand, evaluate_operands, put, put_if, compared, negated, body_of_youngest}
 use Rattle.store_model.specs.Concrete.Location.{Setting, OfType}
 use Rattle.store_model.specs.Concrete.State.{State, Activation, Bodies, with_event, numbered_next}
+use Rattle.soundness.proofs.Doing.{FollowsOut, goes_on, unwinds, lapsed, refused, out_after}
 use Rattle.soundness.specs.Typed.{number_fits}
 use Rattle.soundness.proofs.Fits.{Fits}
 use Rattle.soundness.proofs.Forms.{truth_of, number_of}

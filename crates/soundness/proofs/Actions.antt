@@ -13,7 +13,7 @@ use Rattle.mir_base.specs.declared.trace.Why.{Why}
 use Rattle.mir_ty.specs.declared.ty.Ty.{Ty}
 use Rattle.mir_ty.specs.declared.ty.TyId.{TyId}
 use Rattle.mir_ty.specs.ItemTable.{ItemTable, type_at}
-use Rattle.store_model.proofs.Effects.Following.{Relation, FollowsOut, goes_on, unwinds, halts, lapsed, outlived, refused, out_after}
+use Rattle.store_model.proofs.Effects.Following.{Relation}
 use Rattle.store_model.specs.declared.address.Addr.{Addr}
 use Rattle.store_model.specs.declared.address.At.TheVariants.{Inside}
 use Rattle.store_model.specs.Values.Datum.{Datum, Gone, Number, Truth, UnitValue, Aggregate, Box, Address}
@@ -28,6 +28,7 @@ use Rattle.store_model.specs.Concrete.Effects as values
 use Rattle.store_model.specs.Concrete.Effects.{put, put_if, compared, act, tell_after}
 use Rattle.store_model.specs.Concrete.Location.{Setting, DynamicType, OfType, concrete_ty, type_of_part}
 use Rattle.store_model.specs.Concrete.State.{State, Activation, Bodies, with_event, numbered_next}
+use Rattle.soundness.proofs.Doing.{FollowsOut, goes_on, unwinds, lapsed, refused, out_after}
 use Rattle.soundness.specs.Typed.{number_fits, is_impl_for}
 use Rattle.soundness.proofs.Fits.{Fits}
 use Rattle.soundness.proofs.Facts.{Facts, without}
@@ -42,7 +43,7 @@ use Rattle.soundness.proofs.Storing.{put_follows}
 use Rattle.soundness.proofs.Acting.{some_same, bool_is, int_is, value_is, value_form, Formed, formed, a_number, a_truth, a_unit, number_value, operand_truth, operand_number, one_stores, two_stores}
 
 -- a test that holds of what is there, if anything is
-some_id : {A : Type 0} (o : Option A) (test : A → Bool) → option_map_or test o false ≡ true →
+pub some_id : {A : Type 0} (o : Option A) (test : A → Bool) → option_map_or test o false ≡ true →
     (a : A) × ((o ≡ Some a) × (test a ≡ true))
 some_id None test h = absurd (false≢true h)
 some_id (Some a) test h = (a, (refl, h))
@@ -82,9 +83,7 @@ module _ (setting : Setting) (number : ℕ) (targets : List Target) (uniques : L
       (runs_alike setting number targets uniques base is_target passed w (with_event event w) c goal k
       (alike_itself w.activations)) d
   follows_told goal event (unwinds n w c l g k d) = unwinds n w c l g k d
-  follows_told goal event (halts n halt w c l g k d) = halts n halt w c l g k d
   follows_told goal event (lapsed n halt w g k) = lapsed n halt w g k
-  follows_told goal event (outlived n halt w later s g k d) = absurd k
   follows_told goal event (refused n o halt c l g k d) = refused n _ halt c l g k d
 
   -- the parts of the test of a store

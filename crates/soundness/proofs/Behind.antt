@@ -16,7 +16,7 @@ use Rattle.soundness.proofs.Fits.{Fits, whole_if_present}
 use Rattle.soundness.proofs.Kept.{behind_reference, behind_shared}
 use Rattle.soundness.proofs.Standings.{Alike}
 use Rattle.soundness.proofs.Known.{Target, Known}
-use Rattle.soundness.proofs.Ladder.{Kept, StandsWhole, DropKeeps, returns, unwinds}
+use Rattle.soundness.proofs.LadderEnds.{Kept, StandsWhole, DropKeeps, returns, unwinds}
 
 abbrev pub names_it : Bool → TyId → Ty
 names_it true to = Ty.Unique to

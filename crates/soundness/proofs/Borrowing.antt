@@ -8,7 +8,7 @@ use Rattle.std.proofs.Math.Path.{fun_ext}
 use Rattle.mir_ty.specs.declared.ty.Ty.{Ty}
 use Rattle.mir_ty.specs.declared.ty.TyId.{TyId}
 use Rattle.mir_ty.specs.ItemTable.{ItemTable, type_at}
-use Rattle.store_model.proofs.Effects.Following.{Relation, FollowsOut, goes_on, out_after}
+use Rattle.store_model.proofs.Effects.Following.{Relation}
 use Rattle.store_model.specs.declared.address.Addr.{Addr}
 use Rattle.store_model.specs.Values.Datum.{Datum, Address}
 use Rattle.store_model.specs.Effects as effects
@@ -22,9 +22,10 @@ use Rattle.store_model.specs.Concrete.Effects as values
 use Rattle.store_model.specs.Concrete.Effects.{put, act, whole_at}
 use Rattle.store_model.specs.Concrete.Location.{Setting, OfType, Located, stored_at, on_reached}
 use Rattle.store_model.specs.Concrete.State.{State, Bodies, cell, with_cell}
+use Rattle.soundness.proofs.Doing.{FollowsOut, goes_on, out_after}
 use Rattle.soundness.proofs.Fits.{Fits}
 use Rattle.soundness.proofs.Standings.{cell_changed, cell_other}
-use Rattle.soundness.proofs.Leading.{path_at}
+use Rattle.soundness.proofs.Along.{path_at}
 use Rattle.soundness.proofs.Facts.{Naming, Facts, takes_index, without, path_kept}
 use Rattle.soundness.proofs.Dropped.{feeding}
 use Rattle.soundness.proofs.Known.{Target, Known}
@@ -64,7 +65,7 @@ module _ (setting : Setting) (number : ℕ) (targets : List Target) (uniques : L
   none_of [] h = refl
   none_of (step ∷ steps) h = absurd (false≢true h)
 
-  reference_is : (unique : Bool) (o : Option Ty) (id : TyId) → option_map_or (λ x. id.0 == x.0)
+  pub reference_is : (unique : Bool) (o : Option Ty) (id : TyId) → option_map_or (λ x. id.0 == x.0)
       (referent unique o) false ≡ true → is_reference o ≡ true
   reference_is false (Some (Ty.Shared t)) id h = refl
   reference_is true (Some (Ty.Unique t)) id h = refl

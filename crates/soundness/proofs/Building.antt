@@ -10,7 +10,7 @@ use Rattle.mir_ty.specs.declared.ty.Ty.{Ty}
 use Rattle.mir_ty.specs.declared.ty.TyId.{TyId}
 use Rattle.mir_ty.specs.ItemTable.{ItemTable, type_at}
 use Rattle.mir_ty.specs.Parts.{parts_of, captures_of}
-use Rattle.store_model.proofs.Effects.Following.{Relation, FollowsOut, goes_on, unwinds, halts, lapsed, refused, out_after}
+use Rattle.store_model.proofs.Effects.Following.{Relation}
 use Rattle.store_model.specs.declared.address.Addr.{Addr}
 use Rattle.store_model.specs.declared.address.At.TheVariants.{Part}
 use Rattle.store_model.specs.Values.Datum.{Datum, Data, Aggregate, no_part, data_from}
@@ -26,6 +26,7 @@ use Rattle.store_model.specs.Concrete.Effects as values
 use Rattle.store_model.specs.Concrete.Effects.{or_stuck, evaluate_operand, evaluate_operands, act}
 use Rattle.store_model.specs.Concrete.Location.{Setting, DynamicType, OfType, type_of_field}
 use Rattle.store_model.specs.Concrete.State.{State, Bodies, numbered_next}
+use Rattle.soundness.proofs.Doing.{FollowsOut, goes_on, unwinds, lapsed, refused, out_after}
 use Rattle.soundness.specs.Typed.{is_aggregate, has_variant}
 use Rattle.soundness.proofs.Fits.{variant_exists, Fits, PartsFit}
 use Rattle.soundness.proofs.Facts.{Facts, without}
@@ -33,11 +34,11 @@ use Rattle.soundness.proofs.Dropped.{feeding}
 use Rattle.soundness.proofs.Known.{Target}
 use Rattle.soundness.proofs.Running.{Passed, Runs}
 use Rattle.soundness.proofs.Changing.{runs_alike}
-use Rattle.soundness.proofs.Checks.{tys_if, part_types, is_of, takes_well, take_well, after_operand, after_operands}
+use Rattle.soundness.proofs.Checks.{ty_of, tys_if, part_types, is_of, may_store, takes_well, take_well, after_operand, after_operands, acts_well}
 use Rattle.soundness.proofs.Standings.{alike_itself}
 use Rattle.soundness.proofs.Taking.{first, second, rel, operand_follows}
-use Rattle.soundness.proofs.Acting.{value_is}
-use Rattle.soundness.proofs.Actions.{Stores, puts, follows_told}
+use Rattle.soundness.proofs.Acting.{concrete_ty_is, value_is}
+use Rattle.soundness.proofs.Actions.{some_id, Stores, stores_well, FormedAt, formed_at, puts, follows_told}
 
 module _ (setting : Setting) (number : ℕ) (targets : List Target) (uniques : List Addr) (base : State)
     (is_target : ℕ → Bool) (passed : Passed setting number targets uniques base is_target) where
@@ -59,7 +60,7 @@ module _ (setting : Setting) (number : ℕ) (targets : List Target) (uniques : L
     a_value : (value : Datum) (id : TyId) (values : List Datum) (ids : List TyId) →
         Fits items (OfType id) is_present value → AllFit values ids → AllFit (value ∷ values) (id ∷ ids)
 
-  one_then_all : (operand : Operand) (operands : List Operand) (w w0 : State)
+  pub one_then_all : (operand : Operand) (operands : List Operand) (w w0 : State)
       (next : List Datum → State → Out State) →
       or_stuck {A = Datum × State} (evaluate_operand setting operand w)
       (λ t. or_stuck {A = List Datum × State} (evaluate_operands setting operands t.1)
@@ -226,3 +227,104 @@ module _ (setting : Setting) (number : ℕ) (targets : List Target) (uniques : L
   made_as (OfClosure c) (Some (Ty.Dyn n)) tys e = absurd (none-some tys e)
   made_as (OfClosure c) (Some (Ty.Shared t)) tys e = absurd (none-some tys e)
   made_as (OfClosure c) (Some (Ty.Unique t)) tys e = absurd (none-some tys e)
+
+  module _ (run : Bodies) (w : State) (cells : List (ℕ × Presence)) (facts : Facts) (runs : R w cells facts)
+      (to : EffectSite) (end : TyId) (is_at : place_ty items local_ty to.place ≡ Some end) where
+    -- the aggregate is stored; a value with a `Drop` impl gets the next number
+    built_follows : (kind : AggregateKind) (ty : Ty) (tys : List TyId) → type_at items end ≡ Some ty →
+        MadeAs kind ty tys → (known : Facts) → Stores setting number targets uniques base is_target passed known
+        cells to.place →
+        (made_of : List Datum) (v : State) (cells' : List (ℕ × Presence)) → AllFit made_of tys → R v cells' known →
+        FollowsOut (rels (without to.place known)) tt (values.built setting to kind made_of v)
+        (λ t. free.store items local_ty to (feeding t cells'))
+    built_follows kind ty tys e (as_tuple k t) known st made_of v cells' all r =
+        subst (λ x. FollowsOut (rels (without to.place known)) tt (values.built setting to x made_of v)
+        (λ t. free.store items local_ty to (feeding t cells'))) (sym k)
+        (puts setting number targets uniques base is_target passed run w cells facts runs known to end is_at st.sure
+        st.changes (Aggregate 0 None (data_from made_of)) v cells'
+        (aggregate_fits end (Ty.Tuple tys) (e ∙ ap (λ (x : Ty). Some x) t) tys made_of all 0 None refl refl
+        (λ n. refl)) r)
+    built_follows kind ty tys e (as_array element count k t is) known st made_of v cells' all r =
+        subst (λ x. FollowsOut (rels (without to.place known)) tt (values.built setting to x made_of v)
+        (λ t. free.store items local_ty to (feeding t cells'))) (sym k)
+        (puts setting number targets uniques base is_target passed run w cells facts runs known to end is_at st.sure
+        st.changes (Aggregate 0 None (data_from made_of)) v cells'
+        (aggregate_fits end (Ty.Array element count) (e ∙ ap (λ (x : Ty). Some x) t) tys made_of all 0 None refl refl
+        (λ n. ap (λ l. option_map_or (λ id. Some (OfType id)) (slice_get l n) None) (sym is))) r)
+    built_follows kind ty tys e (as_closure closure k t is) known st made_of v cells' all r =
+        subst (λ x. FollowsOut (rels (without to.place known)) tt (values.built setting to x made_of v)
+        (λ t. free.store items local_ty to (feeding t cells'))) (sym k)
+        (puts setting number targets uniques base is_target passed run w cells facts runs known to end is_at st.sure
+        st.changes (Aggregate 0 None (data_from made_of)) v cells'
+        (aggregate_fits end (Ty.Closure closure) (e ∙ ap (λ (x : Ty). Some x) t) tys made_of all 0 None refl refl
+        (λ n. ap (λ l. option_map_or (λ id. Some (OfType id)) (slice_get l n) None) (sym is))) r)
+    built_follows kind ty tys e (as_variant adt variant k t has is) known st made_of v cells' all r =
+        subst (λ x. FollowsOut (rels (without to.place known)) tt (values.built setting to x made_of v)
+        (λ t. free.store items local_ty to (feeding t cells'))) (sym k)
+        (by (drop_impl items (Some (Ty.Adt adt))) refl)
+      where
+        swapped : (a b : Bool) → (a && b) ≡ true → (b && a) ≡ true
+        swapped true true h = refl
+        swapped true false h = h
+        swapped false true h = h
+        swapped false false h = h
+
+        fits : (serial : Option ℕ) → is_some serial ≡ is_some (drop_impl items (Some (Ty.Adt adt))) →
+            Fits items (OfType end) is_present (Aggregate variant serial (data_from made_of))
+        fits serial s = aggregate_fits end (Ty.Adt adt) (e ∙ ap (λ (x : Ty). Some x) t) tys made_of all variant serial
+            s (swapped (variant_exists items (Some (Ty.Adt adt)) variant)
+            (is_enum items (Ty.Adt adt) || variant == 0) has)
+            (λ n. ap (λ l. option_map_or (λ id. Some (OfType id)) (slice_get l n) None) (sym is))
+
+        by : (o : Option (ℕ × ℕ)) → drop_impl items (Some (Ty.Adt adt)) ≡ o →
+            FollowsOut (rels (without to.place known)) tt
+            (values.made_event setting adt to (values.made adt variant made_of (Some v.serial) o) o v)
+            (λ t. free.store items local_ty to (feeding t cells'))
+        by None d = puts setting number targets uniques base is_target passed run w cells facts runs known to end
+            is_at st.sure st.changes (Aggregate variant None (data_from made_of)) v cells'
+            (fits None (ap is_some (sym d))) r
+        by (Some of) d = follows_told setting number targets uniques base is_target passed (without to.place known)
+            (Event.Make adt v.serial)
+            (puts setting number targets uniques base is_target passed run w cells facts runs known to end is_at
+            st.sure st.changes (Aggregate variant (Some v.serial) (data_from made_of)) (numbered_next v) cells'
+            (fits (Some v.serial) (ap is_some (sym d)))
+            (runs_alike setting number targets uniques base is_target passed v (numbered_next v) cells' known r
+            (alike_itself v.activations)))
+
+  not_never : (kind : AggregateKind) (ty : Ty) (tys : List TyId) → MadeAs kind ty tys → is_never (Some ty) ≡ false
+  not_never kind ty tys (as_tuple k t) = ap (λ (x : Ty). is_never (Some x)) t
+  not_never kind ty tys (as_array element count k t is) = ap (λ (x : Ty). is_never (Some x)) t
+  not_never kind ty tys (as_variant adt variant k t has is) = ap (λ (x : Ty). is_never (Some x)) t
+  not_never kind ty tys (as_closure closure k t is) = ap (λ (x : Ty). is_never (Some x)) t
+
+  module _ (run : Bodies) (w : State) (cells : List (ℕ × Presence)) (facts : Facts) (runs : R w cells facts) where
+    -- an aggregate is made
+    pub build_acts : (to : EffectSite) (kind : AggregateKind) (parts : List Operand) → acts_well items local_ty
+        is_target facts cells (effects.Build to kind parts) ≡ true →
+        FollowsOut (rels (without to.place (after_operands items local_ty is_target parts facts))) tt
+        (act setting run (effects.Build to kind parts) w)
+        (λ t. free.act items local_ty (effects.Build to kind parts) (feeding t cells))
+    build_acts to kind parts h =
+        let known = after_operands items local_ty is_target parts facts in
+        let st = stores_well setting number targets uniques base is_target passed known cells to.place
+        (first (may_store items local_ty is_target known cells to.place) _ h) in
+        let tys = some_id (part_types items local_ty is_target kind (ty_of items local_ty is_target to.place))
+        (λ tys. take_well items local_ty is_target facts tys parts)
+        (second (may_store items local_ty is_target known cells to.place) _ h) in
+        let made = made_as kind (ty_of items local_ty is_target to.place) tys.0 tys.1.0 in
+        let at = formed_at setting number targets uniques base is_target passed run w cells facts runs to made.0
+        made.1.0 in
+        let some = ap is_never at.is_ty ∙ not_never kind made.0 tys.0 made.1.1 in
+        subst (λ b. FollowsOut (rels (without to.place known)) tt
+        (halting_if b Stuck (values.with_operands setting parts w (values.built setting to kind)))
+        (λ t. free.act items local_ty (effects.Build to kind parts) (feeding t cells)))
+        (sym (ap is_never (concrete_ty_is setting number targets uniques base is_target passed w cells facts runs to ∙
+        ap (option_and_then (type_at items)) at.is_at) ∙ some))
+        (out_after (rels (without to.place known)) [] _
+        (λ rest. ap (λ b. halting_if b Unreachable
+        (operands_used items local_ty parts (free.store items local_ty to) (feeding rest cells)))
+        (ap (λ x. is_never (option_and_then (type_at items) x)) at.is_at ∙ some))
+        (all_follow (without to.place known) parts tys.0 facts w w cells (values.built setting to kind)
+        (free.store items local_ty to) tys.1.1 runs
+        (λ made_of v cells' all r. built_follows run w cells facts runs to at.end at.is_at kind made.0 tys.0 at.is_ty
+        made.1.1 known st made_of v cells' all r)))

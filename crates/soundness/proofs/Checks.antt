@@ -22,7 +22,7 @@ use Rattle.store_model.specs.Places.Place.{Step, ToPart, ToField, ToContent, ToE
 use Rattle.store_model.specs.Places.TypeForms.{same_id, same_kind, is_int, is_bool, is_unit, is_dyn, is_dyn_of, is_adt, is_closure, same_int, are_compared, is_signed, adt_of, tuple_parts, box_content, referent}
 use Rattle.soundness.specs.Typed.{has_variant, number_fits}
 use Rattle.soundness.proofs.Facts.{Naming, Facts, same_place, takes_index, without}
-use Rattle.soundness.proofs.Leading.{are_plain}
+use Rattle.soundness.proofs.Along.{are_plain}
 use Rattle.soundness.proofs.Running.{sure_place}
 use Rattle.soundness.proofs.Ways.{has_index}
 
@@ -46,6 +46,10 @@ meet (ToContent ∷ rest) (ToContent ∷ steps) = meet rest steps
 
 abbrev pub overlap : Place → Place → Bool
 overlap a b = a.local == b.local && meet a.steps b.steps
+
+-- they have none, and neither is an index on the way to the other
+abbrev pub are_apart : Place → Place → Bool
+are_apart a b = not (overlap a b) && (not (takes_index a.local b.steps) && not (takes_index b.local a.steps))
 
 abbrev pub is_none : {A : Type 0} → Option A → Bool
 is_none None = true
@@ -200,22 +204,25 @@ module _ (items : ItemTable) (local_ty : ℕ → Option TyId) (is_target : ℕ �
   names_well_if_any facts cells unique to None = false
   names_well_if_any facts cells unique to (Some n) = names_well facts cells unique to n
 
-  abbrev pub passes_reference : Facts → List (ℕ × Presence) → Bool → TyId → Operand → Bool
-  passes_reference facts cells unique to (effects.Moved site) =
-      no_steps site.place.steps && names_well_if_any facts cells unique to (naming_of site.place.local facts)
-  passes_reference facts cells unique to operand = false
+  -- what a local names is known as it is moved; that it is whole, when all arguments are there
+  abbrev pub passes_reference : (last facts : Facts) → List (ℕ × Presence) → Bool → TyId → Operand → Bool
+  passes_reference last facts cells unique to (effects.Moved site) =
+      (no_steps site.place.steps && (not (is_target site.place.local) && is_some (id_of site.place)))
+      && names_well_if_any last cells unique to (naming_of site.place.local facts)
+  passes_reference last facts cells unique to operand = false
 
   -- an argument for a parameter of a type
-  abbrev pub passes_as : Facts → List (ℕ × Presence) → TyId → Operand → Option Ty → Bool
-  passes_as facts cells id operand (Some (Ty.Shared to)) = passes_reference facts cells false to operand
-  passes_as facts cells id operand (Some (Ty.Unique to)) = passes_reference facts cells true to operand
-  passes_as facts cells id operand ty = takes_well facts operand && is_of operand id
+  abbrev pub passes_as : (last facts : Facts) → List (ℕ × Presence) → TyId → Operand → Option Ty → Bool
+  passes_as last facts cells id operand (Some (Ty.Shared to)) = passes_reference last facts cells false to operand
+  passes_as last facts cells id operand (Some (Ty.Unique to)) = passes_reference last facts cells true to operand
+  passes_as last facts cells id operand ty = takes_well facts operand && is_of operand id
 
-  abbrev pub passes : Facts → List (ℕ × Presence) → List TyId → List Operand → Bool
-  passes facts cells [] [] = true
-  passes facts cells (id ∷ ids) (operand ∷ operands) = passes_as facts cells id operand (type_at items id) && passes
-      (after_operand operand facts) cells ids operands
-  passes facts cells ids operands = false
+  abbrev pub passes : (last facts : Facts) → List (ℕ × Presence) → List TyId → List Operand → Bool
+  passes last facts cells [] [] = true
+  passes last facts cells (id ∷ ids) (operand ∷ operands) =
+      passes_as last facts cells id operand (type_at items id) && passes last (after_operand operand facts) cells ids
+      operands
+  passes last facts cells ids operands = false
 
   -- what the arguments name
   abbrev pub named_by_one : Facts → Operand → List Naming
@@ -224,19 +231,20 @@ module _ (items : ItemTable) (local_ty : ℕ → Option TyId) (is_target : ℕ �
 
   abbrev pub named_by_all : Facts → List Operand → List Naming
   named_by_all facts [] = []
-  named_by_all facts (operand ∷ operands) = named_by_one facts operand ++ named_by_all facts operands
+  named_by_all facts (operand ∷ operands) = named_by_one facts operand ++ named_by_all (after_operand operand facts)
+      operands
 
   abbrev pub apart_from : Naming → List Naming → Bool
   apart_from n [] = true
-  apart_from n (m ∷ rest) = (not (n.unique || m.unique) || not (overlap n.place m.place)) && apart_from n rest
+  apart_from n (m ∷ rest) = (not (n.unique || m.unique) || are_apart n.place m.place) && apart_from n rest
 
   abbrev pub all_apart : List Naming → Bool
   all_apart [] = true
   all_apart (n ∷ rest) = apart_from n rest && all_apart rest
 
-  -- no argument is itself taken out of what another names
+  -- no argument is itself taken out of what another names, or is an index on the way to it
   abbrev pub takes_from : Operand → Naming → Bool
-  takes_from (effects.Moved site) n = site.place.local == n.place.local
+  takes_from (effects.Moved site) n = site.place.local == n.place.local || takes_index site.place.local n.place.steps
   takes_from operand n = false
 
   abbrev pub none_taken : List Operand → List Naming → Bool
@@ -254,7 +262,7 @@ module _ (items : ItemTable) (local_ty : ℕ → Option TyId) (is_target : ℕ �
   calls_well facts cells to params result args =
       (may_store (after_namings (named_by_all facts args) (after_operands args facts)) cells to.place
       && option_map_or (same_id result) (id_of to.place) false)
-      && (passes facts cells params args
+      && (passes (after_operands args facts) facts cells params args
       && (all_apart (named_by_all facts args) && none_taken args (named_by_all facts args)))
 
   -- ---- actions
@@ -262,7 +270,8 @@ module _ (items : ItemTable) (local_ty : ℕ → Option TyId) (is_target : ℕ �
   -- a place that was dropped gets a value that stands in a local
   abbrev pub refills : Facts → Place → Action → Bool
   refills facts hole (effects.Put to (effects.Moved site)) =
-      (same_place to.place hole && not (site.place.local == hole.local))
+      ((same_place to.place hole && not (site.place.local == hole.local))
+      && (not (takes_index site.place.local hole.steps) && not (takes_index hole.local hole.steps)))
       && ((sure_place items local_ty is_target facts to.place && (is_value to.place && may_change to.place))
       && ((no_steps site.place.steps && takes_well facts (effects.Moved site)) && option_map_or
       (is_of (effects.Moved site)) (id_of to.place) false))
@@ -396,4 +405,5 @@ module _ (items : ItemTable) (local_ty : ℕ → Option TyId) (is_target : ℕ �
   abbrev pub may_give : Facts → List (ℕ × Presence) → Place → Bool
   may_give facts cells place =
       is_none facts.refilled
-      && (no_steps place.steps && (not (is_target place.local) && all_present (presence place.local cells)))
+      && (no_steps place.steps && (not (is_target place.local) && (all_present (presence place.local cells)
+      && is_some (id_of place))))

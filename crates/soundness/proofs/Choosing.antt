@@ -11,7 +11,7 @@ use Rattle.mir_base.specs.declared.trace.Why.{Why}
 use Rattle.mir_ty.specs.declared.ty.Ty.{Ty}
 use Rattle.mir_ty.specs.declared.ty.TyId.{TyId}
 use Rattle.mir_ty.specs.ItemTable.{ItemTable, type_at}
-use Rattle.store_model.proofs.Effects.Following.{Relation, FollowsOut, goes_on, unwinds, refused, halts, lapsed, outlived, FollowsChoice, takes, declines, neither, lapsed_choice, refused_choice}
+use Rattle.store_model.proofs.Effects.Following.{Relation}
 use Rattle.store_model.specs.declared.address.Addr.{Addr}
 use Rattle.store_model.specs.Values.Datum.{Datum, Data, Gone, Number, Truth, UnitValue, Aggregate, Box, Address}
 use Rattle.store_model.specs.Values.Access.{value_at}
@@ -24,12 +24,13 @@ use Rattle.store_model.specs.Places.Place.{Place, is_enum}
 use Rattle.store_model.specs.Concrete.Effects as values
 use Rattle.store_model.specs.Concrete.Location.{Setting, DynamicType, concrete_ty, Located, Reaches, reach}
 use Rattle.store_model.specs.Concrete.State.{State, cell}
+use Rattle.soundness.proofs.Doing.{FollowsOut, goes_on, unwinds, refused, lapsed, FollowsChoice, takes, declines, lapsed_choice, refused_choice}
 use Rattle.soundness.proofs.Facts.{Facts, OfVariant}
 use Rattle.soundness.proofs.Dropped.{feeding}
 use Rattle.soundness.proofs.Known.{Target}
 use Rattle.soundness.proofs.Running.{sure_place, Passed, Runs, BoundedHolds, VariantStands, own_variant, behind_variant, Lies, in_local, behind, lies}
 use Rattle.soundness.proofs.Forms.{IsAggregate, aggregate_of, enum_parts}
-use Rattle.soundness.proofs.Leading.{containers_along, IsFound, as_type, as_object}
+use Rattle.soundness.proofs.Along.{containers_along, IsFound, as_type, as_object}
 use Rattle.soundness.proofs.Reaching.{stands, own_watched}
 use Rattle.soundness.proofs.Watching.{test_own}
 use Rattle.soundness.proofs.Ways.{whole_along, has_index, fits_at_end, whole_at_end, present_along, way_value}
@@ -90,9 +91,7 @@ module _ (setting : Setting) (number : ℕ) (targets : List Target) (uniques : L
       FollowsOut (rels goal) tt o g → FollowsChoice (rels goal) tt (decoded o) (λ t. decoded (g t))
   follows_decoded goal (goes_on n w c l g k d) = takes n w c l _ k (λ rest. ap decoded (d rest))
   follows_decoded goal (unwinds n w c l g k d) = declines n w c l _ k (λ rest. ap decoded (d rest))
-  follows_decoded goal (halts n halt w c l g k d) = neither n halt w c l _ k (λ rest. ap decoded (d rest))
   follows_decoded goal (lapsed n halt w g k) = lapsed_choice n halt w _ k
-  follows_decoded goal (outlived n halt w later s g k d) = absurd k
   follows_decoded goal (refused n o halt c l g k d) = refused_choice n _ halt c l _ k (λ rest. ap decoded (d rest))
 
   coded_is : (w : State) (o : Option (Datum × State)) → decoded (values.or_stuck o (λ t. coded w t.0 t.1) w)
@@ -200,7 +199,7 @@ module _ (setting : Setting) (number : ℕ) (targets : List Target) (uniques : L
 
     concrete_enum : (end : TyId) (f : DynamicType) (n : ℕ) → IsFound items end f →
         type_at items end ≡ Some (Ty.Adt n) → concrete_ty items f ≡ Some (Ty.Adt n)
-    concrete_enum end f n (as_type _ e) t = e ∙ t
+    concrete_enum end f n (as_type _ e _) t = e ∙ t
     concrete_enum end f n (as_object impl_no h i) t = absurd (false≢true (sym (ap is_dyn t) ∙ h))
 
     not_true : (b : Bool) → b ≡ false → not b ≡ true

@@ -28,7 +28,8 @@ use Rattle.soundness.proofs.Reached.{reached_stands}
 use Rattle.soundness.proofs.Apart.{located_apart}
 use Rattle.soundness.proofs.Frames.{at_head}
 use Rattle.soundness.proofs.LocalPresence.{presence_changed, presence_other}
-use Rattle.soundness.proofs.Ladder.{Room, Kept, Done, goes, panics, ends, DropsKeep, dropping_done}
+use Rattle.soundness.proofs.LadderEnds.{Room, Kept, Done, goes, panics, ends, DropsKeep}
+use Rattle.soundness.proofs.Ladder.{dropping_done}
 use Rattle.soundness.proofs.Sealed.{Sealed}
 use Rattle.soundness.proofs.Known.{Target, Known, known_alike}
 use Rattle.soundness.specs.Frames.{other_depth}
@@ -174,7 +175,8 @@ module _ (setting : Setting) (size : ℕ → ℕ)
 
           done : Done setting size sized keeping dropping w s.address mode (drop_at setting run fuel Begins s mode w)
           done = (dropping_done setting size sized keeping run keeps fuel).0 dropping w s
-              (presence key cells) mode at_it (r.known.fits key id is_typed) (r.sealed key) still (r.room key) r.good
+              (presence key cells) mode at_it (r.known.fits key id is_typed) (r.sealed key) (still, refl) (r.room key)
+              r.good
 
           freely : (t : List Bool) → free.drop items local_ty mode site (feeding t cells) ≡ free.dropped items
               local_ty

@@ -17,7 +17,7 @@ use Rattle.store_model.specs.Values.Datum.{Datum, Data, Aggregate}
 use Rattle.store_model.specs.Values.Access.{part, part_at, with_part, with_part_at, value_at, replaced}
 use Rattle.store_model.specs.Places.Place.{Step, ToPart, ToField, ToContent, ToElement, Place, same_step}
 use Rattle.store_model.specs.Concrete.State.{Cells, cell}
-use Rattle.soundness.proofs.Leading.{number_in, path_at}
+use Rattle.soundness.proofs.Along.{number_in, path_at}
 
 -- a local that holds a reference, whether it is `&mut`, and the place that it names
 pub record Naming : Type 0 where
@@ -290,3 +290,42 @@ path_same a b (ToElement i ∷ steps) same = ap (λ d. at_number d ∷ path_at a
   where
     at_number : Datum → At
     at_number d = Part (number_in d)
+
+-- ---- changes in either order
+
+filter_swapped : {A : Type 0} (p q : A → Bool) (list : List A) → filter p (filter q list) ≡ filter q (filter p list)
+filter_swapped p q [] = refl
+filter_swapped {A} p q (a ∷ list) = by (p a) refl (q a) refl (filter_swapped p q list)
+  where
+    by : (b : Bool) → p a ≡ b → (c : Bool) → q a ≡ c → filter p (filter q list) ≡ filter q (filter p list) →
+        filter p (if c then a ∷ filter q list else filter q list) ≡ filter q (if b then a ∷ filter p list else filter p
+        list)
+    by true e true k later = ap (λ b. if b then a ∷ filter p (filter q list) else filter p (filter q list)) e
+        ∙ ap (λ l. a ∷ l) later
+        ∙ sym (ap (λ b. if b then a ∷ filter q (filter p list) else filter q (filter p list)) k)
+    by true e false k later = later
+        ∙ sym (ap (λ b. if b then a ∷ filter q (filter p list) else filter q (filter p list)) k)
+    by false e true k later = ap (λ b. if b then a ∷ filter p (filter q list) else filter p (filter q list)) e ∙ later
+    by false e false k later = later
+
+pub without_swapped : (a b : Place) (facts : Facts) → without a (without b facts) ≡ without b (without a facts)
+without_swapped a b facts =
+    ap (λ l. record {
+      bounded = l;
+      variants = (without a (without b facts)).variants;
+      naming = (without a (without b facts)).naming;
+      refilled = facts.refilled;
+    }) (filter_swapped (λ (x : ℕ × ℕ). not (x.0 == a.local)) (λ (x : ℕ × ℕ). not (x.0 == b.local)) facts.bounded)
+    ∙ ap (λ l. record {
+      bounded = (without b (without a facts)).bounded;
+      variants = l;
+      naming = (without a (without b facts)).naming;
+      refilled = facts.refilled;
+    }) (filter_swapped (λ (x : Place × ℕ). stays a x.0) (λ (x : Place × ℕ). stays b x.0) facts.variants)
+    ∙ ap (λ l. record {
+      bounded = (without b (without a facts)).bounded;
+      variants = (without b (without a facts)).variants;
+      naming = l;
+      refilled = facts.refilled;
+    }) (filter_swapped (λ (n : Naming). not (n.local == a.local) && not (takes_index a.local n.place.steps))
+    (λ (n : Naming). not (n.local == b.local) && not (takes_index b.local n.place.steps)) facts.naming)

@@ -16,7 +16,7 @@ use Rattle.store_model.specs.Places.TypeForms.{int_kind, is_bool, is_unit, is_dy
 use Rattle.store_model.specs.Concrete.Location.{DynamicType, OfType, OfObject, adt_of_impl, adt_ty, concrete_ty, is_of_type, type_in_box, type_of_field}
 use Rattle.soundness.specs.Typed.{is_aggregate, is_impl_for, is_found}
 use Rattle.soundness.proofs.Fits.{variant_exists, Fits, PartsFit, step_if}
-use Rattle.soundness.proofs.Leading.{IsFound, as_type, as_object}
+use Rattle.soundness.proofs.Along.{IsFound, as_type, as_object}
 
 module _ (items : ItemTable) where
   pub fits_alike : (d : Datum) (f g : DynamicType) (p : Presence) → concrete_ty items f ≡ concrete_ty items g →
@@ -46,7 +46,7 @@ module _ (items : ItemTable) where
   -- what a reference of a type names
   pub found_as : (to : TyId) (f : DynamicType) → is_of_type items to f ≡ true → is_found items f ≡ true →
       IsFound items to f
-  found_as to (OfType id) h k = as_type (OfType id) (ap (type_at items) (sym (same_id to id h)))
+  found_as to (OfType id) h k = as_type (OfType id) (ap (type_at items) (sym (same_id to id h))) (h, k)
     where
       same_id : (a b : TyId) → (a.0 == b.0) ≡ true → a ≡ b
       same_id a b h = let same : a.0 ≡ b.0 = (Decides-eqb a.0 b.0).0 h in ap (λ n. record { 0 = n }) same
@@ -80,5 +80,19 @@ module _ (items : ItemTable) where
           (as_object impl_no (first_so (is_dyn (type_at items id))
           (is_impl_for items (type_at items id) (Some impl_no))
           k) (second_so (is_dyn (type_at items id)) (is_impl_for items (type_at items id) (Some impl_no)) k))
-      by false e h = as_type (OfObject id impl_no)
-          (of_adt (adt_of_impl items impl_no) refl (type_at items to) refl h)
+      by false e x = as_type (OfObject id impl_no)
+          (of_adt (adt_of_impl items impl_no) refl (type_at items to) refl x) (h, k)
+
+  -- and back
+  pub of_found : (to : TyId) (f : DynamicType) → IsFound items to f →
+      (is_of_type items to f ≡ true) × (is_found items f ≡ true)
+  of_found to f (as_type _ e known) = known
+  of_found to _ (as_object impl_no h i) = (
+    ap (λ b. b || option_map_or (λ n. is_adt n (type_at items to)) (adt_of_impl items impl_no) false)
+        ((Decides-eqb to.0 to.0).1 refl),
+    both (is_dyn (type_at items to)) (is_impl_for items (type_at items to) (Some impl_no)) h i,
+  )
+    where
+      both : (a b : Bool) → a ≡ true → b ≡ true → (a && b) ≡ true
+      both true b h k = k
+      both false b h k = absurd (false≢true h)

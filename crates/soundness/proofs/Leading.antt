@@ -3,7 +3,6 @@
 use Rattle.std.proofs.Common.{◌≡◌, ℕ, pos, ◌<◌, ◌==◌, ◌&&◌, ◌||◌, not, Bool, true, false, List, [], ◌∷◌, ◌++◌, length, Option, Some, None, is_some, refl, ap, sym, ◌∙◌, subst, arith}
 use Rattle.std.specs.Prelude.{slice_get, nat_lt, option_and_then}
 use Rattle.std.specs.Cmp.{first_so, second_so}
-use Rattle.std.specs.Cmp.Derive.{both_true}
 use Rattle.std.specs.Option.{option_map_or}
 use Rattle.std.proofs.lemmas.Bool.{false≢true, ltb-true}
 use Rattle.std.proofs.lemmas.Bool.Decides.{Decides-eqb}
@@ -18,82 +17,19 @@ use Rattle.store_model.specs.declared.address.At.TheVariants.{Part, Inside}
 use Rattle.store_model.specs.Values.Datum.{Datum, Data, Gone, Number, Aggregate, Box, no_part}
 use Rattle.store_model.specs.Values.Access.{part, part_at, value_at, replaced}
 use Rattle.store_model.specs.Concrete.Drops.{drop_impl}
-use Rattle.store_model.specs.Abstract.Presence.{Presence, is_present, itself_gone, presence_at, all_present}
+use Rattle.store_model.specs.Abstract.Presence.{Presence, is_present, itself_gone, presence_at}
 use Rattle.store_model.specs.Places.Place.{Step, ToPart, ToField, ToContent, ToElement, is_enum, unless_enum, part_if, step_ty, ty_along}
 use Rattle.store_model.specs.Places.TypeForms.{box_content, is_dyn}
-use Rattle.store_model.specs.Concrete.Location.{DynamicType, OfType, OfObject, concrete_ty, content_type, type_in_box, type_of_part, type_of_field}
+use Rattle.store_model.specs.Concrete.Location.{DynamicType, OfType, concrete_ty, content_type, type_in_box, type_of_part, type_of_field}
 use Rattle.store_model.specs.Concrete.State.{Cells, cell}
-use Rattle.soundness.specs.Typed.{is_aggregate, is_impl_for}
-use Rattle.soundness.proofs.Fits.{is_enum_found, variant_exists, Fits, part_there, present_below, whole_if_present, present_if_whole}
+use Rattle.soundness.specs.Typed.{is_aggregate, is_impl_for, is_found}
+use Rattle.soundness.proofs.Along.{number_in, at_step, path_at, path_more, containers_along, present_containers, has_one_variant, next_plain, are_plain, IsFound, as_type, as_object, as_itself}
+use Rattle.soundness.proofs.Fits.{is_enum_found, variant_exists, Fits, part_there, whole_if_present, present_if_whole}
 use Rattle.soundness.proofs.Forms.{or_second, has_parts, array_parts, aggregate_of, box_of}
 use Rattle.soundness.proofs.Ways.{Way, ends, to_part, to_field, to_content, to_element, Indexed, part_of_step, content_of_box}
-use Rattle.soundness.proofs.Kept.{itself_present}
 use Rattle.soundness.proofs.Resealed.{taken_part}
 use Rattle.soundness.proofs.Sealed.{Sealed}
 use Rattle.soundness.proofs.Within.{element_of_many}
-
--- the number that a value is, and the path to which steps lead where locals hold the numbers of elements
-abbrev pub number_in : Datum → ℕ
-number_in (Number (pos n)) = n
-number_in d = 0
-
-abbrev pub at_step : Cells → Step → At
-at_step cells (ToPart n) = Part n
-at_step cells (ToField variant n) = Part n
-at_step cells ToContent = Inside
-at_step cells (ToElement i) = Part (number_in (cell i cells))
-
-abbrev pub path_at : Cells → List Step → List At
-path_at cells [] = []
-path_at cells (step ∷ steps) = at_step cells step ∷ path_at cells steps
-
-pub path_more : (cells : Cells) (steps : List Step) (step : Step) →
-    path_at cells (steps ++ step ∷ []) ≡ path_at cells steps ++ at_step cells step ∷ []
-path_more cells [] step = refl
-path_more cells (s ∷ steps) step = ap (λ p. at_step cells s ∷ p) (path_more cells steps step)
-
--- no container on the way is gone, and of an array of which an element is taken nothing is
-abbrev pub containers_along : List Step → Presence → Bool
-containers_along [] p = true
-containers_along (ToElement i ∷ steps) p = all_present p
-containers_along (ToPart n ∷ steps) p = not (itself_gone p) && containers_along steps (presence_at (ToPart n) p)
-containers_along (ToField variant n ∷ steps) p = not (itself_gone p) && containers_along steps
-    (presence_at (ToField variant n) p)
-containers_along (ToContent ∷ steps) p = not (itself_gone p) && containers_along steps (presence_at ToContent p)
-
-pub present_containers : (items : ItemTable) (steps : List Step) (p : Presence) → all_present p ≡ true →
-    containers_along steps p ≡ true
-present_containers items [] p h = refl
-present_containers items (ToElement i ∷ steps) p h = h
-present_containers items (ToPart n ∷ steps) p h = both_true (ap not (itself_present items p h))
-    (present_containers items steps (presence_at (ToPart n) p) (present_below items (ToPart n) p h))
-present_containers items (ToField v n ∷ steps) p h = both_true (ap not (itself_present items p h))
-    (present_containers items steps (presence_at (ToField v n) p) (present_below items (ToField v n) p h))
-present_containers items (ToContent ∷ steps) p h = both_true (ap not (itself_present items p h))
-    (present_containers items steps (presence_at ToContent p) (present_below items ToContent p h))
-
-abbrev pub has_one_variant : ItemTable → Ty → Bool
-has_one_variant items (Ty.Adt n) = length (variants_of (slice_get items.adts n)) == 1
-has_one_variant items ty = false
-
--- no container on the way has a `Drop` impl
-abbrev pub next_plain : Option TyId → (TyId → Bool) → Bool
-next_plain None rest = true
-next_plain (Some next) rest = rest next
-
-abbrev pub are_plain : ItemTable → List Step → TyId → Bool
-are_plain items [] id = true
-are_plain items (step ∷ steps) id =
-    not (is_some (drop_impl items (type_at items id)))
-    && next_plain (option_and_then (step_ty items step) (type_at items id)) (are_plain items steps)
-
-module _ (items : ItemTable) where
-  -- what stands somewhere is found as what goes by a type, or, where that is `dyn`, by an impl of the trait
-  pub data IsFound (id : TyId) : DynamicType → Type 0 where
-    as_type : (f : DynamicType) → concrete_ty items f ≡ type_at items id → IsFound id f
-    as_object : (impl_no : ℕ) → is_dyn (type_at items id) ≡ true → is_impl_for items (type_at items id)
-        (Some impl_no)
-        ≡ true → IsFound id (OfObject id impl_no)
 
 module _ (items : ItemTable) (is_bounded : ℕ → ℕ → Bool) (is_variant : List Step → ℕ → Bool) where
   -- what stands at the steps so far has the part to which the next one leads
@@ -287,7 +223,7 @@ module _ (items : ItemTable) (is_bounded : ℕ → ℕ → Bool) (is_variant : L
             found_in : (impl_no : Option ℕ) → is_some impl_no ≡ is_dyn (type_at items next) →
                 is_impl_for items (type_at items next) impl_no ≡ true →
                 IsFound items next (content_type next impl_no)
-            found_in None h k = as_type (OfType next) refl
+            found_in None h k = as_itself items next
             found_in (Some n) h k = as_object n (sym h) k
 
     -- nothing is below what is found as a trait object
@@ -357,7 +293,7 @@ module _ (items : ItemTable) (is_bounded : ℕ → ℕ → Bool) (is_variant : L
         ))
         (presence_at (ToPart n)) (λ inner is_part is_found. part_of_step items p f a.variant a.serial a.parts n inner
         (OfType next) false not_enum is_part is_found fit)
-        (λ inner at fit. rest next (OfType next) (presence_at (ToPart n) p) inner (as_type (OfType next) refl) at fit
+        (λ inner at fit. rest next (OfType next) (presence_at (ToPart n) p) inner (as_itself items next) at fit
         (second_so (not (itself_gone p)) (containers_along steps (presence_at (ToPart n) p)) c) s)
     by_step so_far (ToField v n) steps id f p d stands k c ty is_ty at_ty sure next is_next s rest =
         let e = in_enum (is_enum items ty) (slice_get (parts_of items ty v) n) next is_next in
@@ -388,7 +324,7 @@ module _ (items : ItemTable) (is_bounded : ℕ → ℕ → Bool) (is_variant : L
         (presence_at (ToField v n))
         (λ inner is_part is_found. subst (λ x. Fits items (OfType next) (presence_at (ToField x n) p) inner) is_v
         (part_of_step items p f a.variant a.serial a.parts n inner (OfType next) true enum is_part is_found fit))
-        (λ inner at fit. rest next (OfType next) (presence_at (ToField v n) p) inner (as_type (OfType next) refl) at
+        (λ inner at fit. rest next (OfType next) (presence_at (ToField v n) p) inner (as_itself items next) at
         fit
         (second_so (not (itself_gone p)) (containers_along steps (presence_at (ToField v n) p)) c) s)
     by_step so_far ToContent steps id f p d stands k c ty is_ty at_ty sure next is_next s rest =
@@ -450,7 +386,7 @@ module _ (items : ItemTable) (is_bounded : ℕ → ℕ → Bool) (is_variant : L
             (λ q. is_present) (λ inner is_part is_found. part_of_step items is_present f a.variant a.serial a.parts
             b.0
             inner (OfType next) false not_enum is_part is_found fit)
-            (λ inner at fit. rest next (OfType next) is_present inner (as_type (OfType next) refl) at fit
+            (λ inner at fit. rest next (OfType next) is_present inner (as_itself items next) at fit
             (present_containers items steps is_present refl) s)
         by_array (Ty.Int x) is_ty at_ty h e = absurd (false≢true h)
         by_array Ty.Bool is_ty at_ty h e = absurd (false≢true h)
@@ -496,7 +432,7 @@ module _ (items : ItemTable) (is_bounded : ℕ → ℕ → Bool) (is_variant : L
           as_end = found;
           takes = λ h z. tt;
         }
-    leads_found so_far (step ∷ steps) id f p d (as_type _ at_ty) stands k c s =
+    leads_found so_far (step ∷ steps) id f p d (as_type _ at_ty _) stands k c s =
         by_ty so_far step steps id f p d stands k c at_ty (type_at items id) refl s
         (λ next g q inner. leads_found (so_far ++ step ∷ []) steps next g q inner)
     leads_found so_far (step ∷ steps) id f p d (as_object impl_no h i) stands k c s =

@@ -1,7 +1,7 @@
 -- What is shown of one run alone, rule by rule; and that a scope which is left leaves nothing behind: what is held
 -- in a body stands in the scopes that are still to leave, or it is the value in flight. Nothing of values is used
 -- here.
-use Rattle.std.proofs.Common.{◌≡◌, ◌⊎◌, inl, inr, ℕ, Bool, true, false, List, [], ◌∷◌, ◌++◌, if◌then◌else◌, refl, subst, append_assoc}
+use Rattle.std.proofs.Common.{◌≡◌, ◌⊎◌, inl, inr, ℕ, Bool, true, false, List, [], ◌∷◌, ◌++◌, if◌then◌else◌, refl, subst}
 use Rattle.mir_ty.specs.Facts.{needs_drop}
 use Rattle.mir_ty.specs.ItemTable.{ItemTable}
 use Rattle.store_model.specs.Effects.{Mode, Normal, Unwinding, Halt, Aborted, Out, Go, Unwind, Halts, Choice, Yes, No, Neither, Effects}
@@ -72,6 +72,15 @@ pub among_right : (a b : List Entry) (k : ℕ) → Among b k → Among (a ++ b) 
 among_right [] b k h = h
 among_right (e ∷ a) b k h = inr (among_right a b k h)
 
+pub among_split : (a b : List Entry) (k : ℕ) → Among (a ++ b) k → Among a k ⊎ Among b k
+among_split [] b k h = inr h
+among_split (e ∷ a) b k (inl h) = inl (inl h)
+among_split (e ∷ a) b k (inr h) = by (among_split a b k h)
+  where
+    by : Among a k ⊎ Among b k → Among (e ∷ a) k ⊎ Among b k
+    by (inl x) = inl (inr x)
+    by (inr x) = inr x
+
 -- What the effects owe: whether the cell of a key holds nothing that would need dropping.
 abbrev pub AllOf : (Entry → Type 0) → List Entry → Type 0
 AllOf typed [] = Unit {0}
@@ -137,58 +146,64 @@ module _ {V : Type 0} (items : ItemTable) (q : Effects V) (over : Halt → V →
       by true n later = dropped (q.drop Unwinding (entry_site e) v) (owed.drops Unwinding e v) later
       by false n later = later v (past nothing e (es ++ rest) v v h (owed.needs_none e v t.0 n) (λ k c. c))
 
-  -- entries are dropped by another exit; the value in flight is pending in the scopes that are still to leave
-  normally_clears : (flying : ℕ → Type 0) (exit : Exit) (es : List Entry) (S : Scopes) (v : V) →
-      ((k : ℕ) (v : V) → flying k → clear v k ⊎ Among (all_entries S) k) → AllOf typed es →
-      Held flying (es ++ all_entries S) v →
+  -- Entries are dropped by another exit. What is held besides stands among others, all of them entries of the scopes
+  -- that are still to leave; and so is the value in flight pending there, where it needs dropping.
+  normally_clears : (flying : ℕ → Type 0) (exit : Exit) (es others : List Entry) (S : Scopes) (v : V) →
+      ((k : ℕ) (v : V) → flying k → clear v k ⊎ Among (all_entries S) k) →
+      ((k : ℕ) → Among others k → Among (all_entries S) k) → AllOf typed es → Held flying (es ++ others) v →
       Shown over (λ exit' S' v'.
-      (S' ≡ S) × (((exit' ≡ exit) × Held flying (all_entries S) v')
+      (S' ≡ S) × (((exit' ≡ exit) × Held flying others v')
       ⊎ ((exit' ≡ Panics) × Held nothing (all_entries S) v')))
       (drop_normally items q exit (needing_drop items es) S v)
-  normally_clears flying exit [] S v lands t h = (refl, inl (refl, h))
-  normally_clears flying exit (e ∷ es) S v lands t h = by (needs_drop items e.ty) refl
-      (λ v' k. normally_clears flying exit es S v' lands t.1 k)
+  normally_clears flying exit [] others S v lands within t h = (refl, inl (refl, h))
+  normally_clears flying exit (e ∷ es) others S v lands within t h = by (needs_drop items e.ty) refl
+      (λ v' k. normally_clears flying exit es others S v' lands within t.1 k)
     where
       left : Exit → Scopes → V → Type 0
       left exit' S' v' = (S' ≡ S)
-          × (((exit' ≡ exit) × Held flying (all_entries S) v')
+          × (((exit' ≡ exit) × Held flying others v')
           ⊎ ((exit' ≡ Panics) × Held nothing (all_entries S) v'))
 
-      landed : (v' : V) → Held flying (es ++ all_entries S) v' → Held nothing (es ++ all_entries S) v'
+      -- after a panic the value in flight is one that is pending
+      landed : (v' : V) → Held flying (es ++ others) v' → Held nothing (es ++ all_entries S) v'
       landed v' k n = by (k n)
         where
           there : clear v' n ⊎ Among (all_entries S) n → clear v' n ⊎ (Among (es ++ all_entries S) n ⊎ ⊥)
           there (inl c) = inl c
           there (inr a) = inr (inl (among_right es (all_entries S) n a))
 
-          by : clear v' n ⊎ (Among (es ++ all_entries S) n ⊎ flying n) →
+          among : Among es n ⊎ Among others n → Among (es ++ all_entries S) n
+          among (inl a) = among_left es (all_entries S) n a
+          among (inr a) = among_right es (all_entries S) n (within n a)
+
+          by : clear v' n ⊎ (Among (es ++ others) n ⊎ flying n) →
               clear v' n ⊎ (Among (es ++ all_entries S) n ⊎ ⊥)
           by (inl c) = inl c
-          by (inr (inl a)) = inr (inl a)
+          by (inr (inl a)) = inr (inl (among (among_split es others n a)))
           by (inr (inr f)) = there (lands n v' f)
 
       dropped : (o : Out V) → ShownOut over (λ v'. clear v' e.key × ((k : ℕ) → clear v k → clear v' k))
           (λ v'. clear v' e.key × ((k : ℕ) → clear v k → clear v' k)) o →
-          ((v' : V) → Held flying (es ++ all_entries S) v' →
+          ((v' : V) → Held flying (es ++ others) v' →
           Shown over left (drop_normally items q exit (needing_drop items es) S v')) →
           Shown over left (dropped_normally items q o (drop_normally items q exit (needing_drop items es) S)
           (drop_unwinding items q (needing_drop items es) S))
-      dropped (Go v') k later = later v' (past flying e (es ++ all_entries S) v v' h k.0 k.1)
+      dropped (Go v') k later = later v' (past flying e (es ++ others) v v' h k.0 k.1)
       dropped (Unwind v') k later =
           shown_more over (λ exit' S' u x. (x.1.0, inr (x.0, x.1.1)))
           (drop_unwinding items q (needing_drop items es) S v')
           (unwinding_clears es (all_entries S) S v' t.1
-          (landed v' (past flying e (es ++ all_entries S) v v' h k.0 k.1)))
+          (landed v' (past flying e (es ++ others) v v' h k.0 k.1)))
       dropped (Halts halt v') k later = k
 
       by : (b : Bool) → needs_drop items e.ty ≡ b →
-          ((v' : V) → Held flying (es ++ all_entries S) v' →
+          ((v' : V) → Held flying (es ++ others) v' →
           Shown over left (drop_normally items q exit (needing_drop items es) S v')) →
           Shown over left (drop_normally items q exit
           (if b then e ∷ needing_drop items es else needing_drop items es) S
           v)
       by true n later = dropped (q.drop Normal (entry_site e) v) (owed.drops Normal e v) later
-      by false n later = later v (past flying e (es ++ all_entries S) v v h (owed.needs_none e v t.0 n) (λ k c. c))
+      by false n later = later v (past flying e (es ++ others) v v h (owed.needs_none e v t.0 n) (λ k c. c))
 
   -- a scope is left after a panic
   pub leaving_panicked : (s : Scope) (S : Scopes) (v : V) → AllOf typed s.pending → AllOf typed s.entries →
@@ -198,57 +213,25 @@ module _ {V : Type 0} (items : ItemTable) (q : Effects V) (over : Halt → V →
   leaving_panicked s S v t u h = unwinding_clears (s.pending ++ s.entries) (all_entries S) S v
       (all_append typed s.pending s.entries t u) h
 
-  -- A scope is left by another exit: what is in flight is pending in the scopes around it, and nothing that is
-  -- pending in this one is held. Then what is held stands in the scopes around it, or is in flight; after a panic
-  -- nothing is.
-  abbrev LeftBy : (ℕ → Type 0) → Exit → Scopes → Exit → Scopes → V → Type 0
-  LeftBy flying exit S exit' S' v' =
-      (S' ≡ S) × (((exit' ≡ exit) × Held flying (all_entries S) v')
+  -- A scope is left by another exit: what is held stands among its entries or others, all of them entries of the
+  -- scopes around it, or is in flight. Then it stands among the others, or is in flight; after a panic it stands in the
+  -- scopes around it.
+  abbrev pub LeftBy : (ℕ → Type 0) → Exit → List Entry → Scopes → Exit → Scopes → V → Type 0
+  LeftBy flying exit others S exit' S' v' =
+      (S' ≡ S) × (((exit' ≡ exit) × Held flying others v')
       ⊎ ((exit' ≡ Panics) × Held nothing (all_entries S) v'))
 
-  -- what was pending here is no more
-  none_pending : (flying : ℕ → Type 0) (s : Scope) (S : Scopes) (v : V) →
-      ((k : ℕ) → Among s.pending k → clear v k ⊎ flying k) → Held flying (all_entries (s ∷ S)) v →
-      Held flying (s.entries ++ all_entries S) v
-  none_pending flying s S v pend h k = by (h k)
-    where
-      split : (a b : List Entry) → Among (a ++ b) k → Among a k ⊎ Among b k
-      split [] b x = inr x
-      split (e ∷ a) b (inl x) = inl (inl x)
-      split (e ∷ a) b (inr x) = onto (split a b x)
-        where
-          onto : Among a k ⊎ Among b k → Among (e ∷ a) k ⊎ Among b k
-          onto (inl y) = inl (inr y)
-          onto (inr y) = inr y
-
-      pending_or : Among s.pending k ⊎ Among (s.entries ++ all_entries S) k →
-          clear v k ⊎ (Among (s.entries ++ all_entries S) k ⊎ flying k)
-      pending_or (inr x) = inr (inl x)
-      pending_or (inl x) = clear_or (pend k x)
-        where
-          clear_or : clear v k ⊎ flying k → clear v k ⊎ (Among (s.entries ++ all_entries S) k ⊎ flying k)
-          clear_or (inl c) = inl c
-          clear_or (inr f) = inr (inr f)
-
-      by : clear v k ⊎ (Among (all_entries (s ∷ S)) k ⊎ flying k) →
-          clear v k ⊎ (Among (s.entries ++ all_entries S) k ⊎ flying k)
-      by (inl c) = inl c
-      by (inr (inr f)) = inr (inr f)
-      by (inr (inl x)) = pending_or
-          (split s.pending (s.entries ++ all_entries S)
-          (subst (λ l. Among l k) (append_assoc s.pending s.entries (all_entries S)) x))
-
-  pub leaving_otherwise : (flying : ℕ → Type 0) (exit : Exit) (s : Scope) (S : Scopes) (v : V) →
+  pub leaving_otherwise : (flying : ℕ → Type 0) (exit : Exit) (s : Scope) (others : List Entry) (S : Scopes) (v : V) →
       (exit ≡ Panics → ⊥) →
       ((k : ℕ) (v : V) → flying k → clear v k ⊎ Among (all_entries S) k) →
-      ((k : ℕ) → Among s.pending k → clear v k ⊎ flying k) → AllOf typed s.entries →
-      Held flying (all_entries (s ∷ S)) v → Shown over (LeftBy flying exit S) (leave items q (At exit (s ∷ S) v))
-  leaving_otherwise flying Value s S v n lands pend t h = normally_clears flying Value s.entries S v lands t
-      (none_pending flying s S v pend h)
-  leaving_otherwise flying (Breaks loop) s S v n lands pend t h =
-      normally_clears flying (Breaks loop) s.entries S v lands t (none_pending flying s S v pend h)
-  leaving_otherwise flying (Continues loop) s S v n lands pend t h =
-      normally_clears flying (Continues loop) s.entries S v lands t (none_pending flying s S v pend h)
-  leaving_otherwise flying Returns s S v n lands pend t h = normally_clears flying Returns s.entries S v lands t
-      (none_pending flying s S v pend h)
-  leaving_otherwise flying Panics s S v n lands pend t h = absurd (n refl)
+      ((k : ℕ) → Among others k → Among (all_entries S) k) → AllOf typed s.entries →
+      Held flying (s.entries ++ others) v → Shown over (LeftBy flying exit others S) (leave items q (At exit (s ∷ S) v))
+  leaving_otherwise flying Value s others S v n lands within t h =
+      normally_clears flying Value s.entries others S v lands within t h
+  leaving_otherwise flying (Breaks loop) s others S v n lands within t h =
+      normally_clears flying (Breaks loop) s.entries others S v lands within t h
+  leaving_otherwise flying (Continues loop) s others S v n lands within t h =
+      normally_clears flying (Continues loop) s.entries others S v lands within t h
+  leaving_otherwise flying Returns s others S v n lands within t h =
+      normally_clears flying Returns s.entries others S v lands within t h
+  leaving_otherwise flying Panics s others S v n lands within t h = absurd (n refl)

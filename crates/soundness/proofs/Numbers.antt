@@ -12,7 +12,7 @@ use Rattle.mir_base.specs.declared.trace.Why.{Why}
 use Rattle.mir_ty.specs.declared.ty.Ty.{Ty}
 use Rattle.mir_ty.specs.declared.ty.TyId.{TyId}
 use Rattle.mir_ty.specs.ItemTable.{ItemTable, type_at}
-use Rattle.store_model.proofs.Effects.Following.{Relation, FollowsOut, goes_on, unwinds, out_after}
+use Rattle.store_model.proofs.Effects.Following.{Relation}
 use Rattle.store_model.specs.declared.address.Addr.{Addr}
 use Rattle.store_model.specs.Values.Datum.{Datum, Number}
 use Rattle.store_model.specs.Effects as effects
@@ -26,6 +26,7 @@ use Rattle.store_model.specs.Concrete.Effects as values
 use Rattle.store_model.specs.Concrete.Effects.{Computed, Gives, PanicsBy, computed, if_within, act}
 use Rattle.store_model.specs.Concrete.Location.{Setting, OfType}
 use Rattle.store_model.specs.Concrete.State.{State, Bodies, with_event}
+use Rattle.soundness.proofs.Doing.{FollowsOut, goes_on, unwinds, out_after}
 use Rattle.soundness.specs.Typed.{number_fits}
 use Rattle.soundness.proofs.Fits.{Fits}
 use Rattle.soundness.proofs.Facts.{Facts, without}
@@ -89,7 +90,7 @@ module _ (setting : Setting) (number : ℕ) (targets : List Target) (uniques : L
       kinds x = cc
 
   module _ (run : Bodies) (w : State) (cells : List (ℕ × Presence)) (facts : Facts) (runs : R w cells facts) where
-    operand_ty_is : (operand : Operand) → values.ty_of_operand setting w operand ≡ form operand
+    pub operand_ty_is : (operand : Operand) → values.ty_of_operand setting w operand ≡ form operand
     operand_ty_is (effects.Copied site) = concrete_ty_is setting number targets uniques base is_target passed w cells
         facts runs site
     operand_ty_is (effects.Moved site) = concrete_ty_is setting number targets uniques base is_target passed w cells

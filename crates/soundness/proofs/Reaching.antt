@@ -14,7 +14,7 @@ use Rattle.store_model.specs.Concrete.Location.{Setting, OfType, Located, Reache
 use Rattle.store_model.specs.Concrete.State.{State, Activation, cell}
 use Rattle.soundness.proofs.Fits.{Fits, whole_if_present}
 use Rattle.soundness.proofs.Ways.{reached_by_way, whole_along, whole_at_end, present_along}
-use Rattle.soundness.proofs.Leading.{containers_along, IsFound}
+use Rattle.soundness.proofs.Along.{containers_along, IsFound}
 use Rattle.soundness.proofs.Watching.{watched_own, use_own, store_own, watched_sure}
 use Rattle.soundness.proofs.Facts.{Facts, bounded_by, variant_at}
 use Rattle.soundness.proofs.Known.{Target}

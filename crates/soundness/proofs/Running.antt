@@ -20,7 +20,8 @@ use Rattle.store_model.specs.Concrete.Location.{Setting, OfType, Located, locate
 use Rattle.store_model.specs.Concrete.State.{State, Cells, cell}
 use Rattle.soundness.specs.Frames.{Apart}
 use Rattle.soundness.proofs.Sealed.{Sealed}
-use Rattle.soundness.proofs.Leading.{path_at, containers_along, present_containers, are_sure, Leads, leads_found, as_type}
+use Rattle.soundness.proofs.Along.{path_at, containers_along, present_containers, as_itself}
+use Rattle.soundness.proofs.Leading.{are_sure, Leads, leads_found}
 use Rattle.soundness.proofs.FoundAlike.{found_as}
 use Rattle.soundness.proofs.Facts.{Naming, Facts, Each, found_among, OfVariant, same_place, bounded_by, variant_at}
 use Rattle.soundness.proofs.Frames.{AllApart}
@@ -302,7 +303,7 @@ module _ (setting : Setting) (number : ℕ) (targets : List Target) (uniques : L
               (cell place.local runs.known.held)
               (own_said facts w (length runs.known.older) runs.known.held runs.holding place.local own)
               [] place.steps id (OfType id) (presence place.local cells) (cell place.local runs.known.held)
-              (as_type (OfType id) refl) refl (runs.known.fits place.local id e) (c own) sure)
+              (as_itself items id) refl (runs.known.fits place.local id e) (c own) sure)
           by_named id e (Some to) d h =
               let p = passed.all place.local (and_first (is_target place.local) _ h) in
               let ty = passed.typed p.0 p.1.0 p.1.1.0 in

@@ -137,6 +137,7 @@ module _ (setting : Setting) where
       -- `&mut` parameters name; and what its reference parameters name is whole
       pub record Finished (base w : State) : Type 0 where
         pub values : List Datum
+        pub many : length values ≡ length uniques
         pub frame : Alike w.activations (written uniques values base).activations
         pub stands : (n : ℕ) (t : Target) → slice_get targets n ≡ Some t → StandsFor setting number t w
 
@@ -144,6 +145,7 @@ module _ (setting : Setting) where
           Known setting number targets uniques base v cells → Finished base (with_event event (without_activation v))
       known_at_end event base v cells k = record {
         values = k.values;
+        many = k.many;
         frame = subst (λ l. Alike l (written uniques k.values base).activations) (sym older_is) k.frame;
         stands = λ n t e. let s = k.stands n t e in record {
           standing = s.standing;

@@ -9,7 +9,7 @@ use Rattle.std.proofs.lemmas.Option.{none-some}
 use Rattle.mir_ty.specs.declared.ty.Ty.{Ty}
 use Rattle.mir_ty.specs.declared.ty.TyId.{TyId}
 use Rattle.mir_ty.specs.ItemTable.{ItemTable, type_at}
-use Rattle.store_model.proofs.Effects.Following.{Relation, FollowsOut, goes_on, refused}
+use Rattle.store_model.proofs.Effects.Following.{Relation}
 use Rattle.store_model.specs.declared.address.Addr.{Addr}
 use Rattle.store_model.specs.Values.Datum.{Datum, Gone}
 use Rattle.store_model.specs.Values.Access.{replaced}
@@ -24,13 +24,15 @@ use Rattle.store_model.specs.Places.TypeForms.{is_dyn, referent}
 use Rattle.store_model.specs.Concrete.Effects.{put}
 use Rattle.store_model.specs.Concrete.Location.{Setting, DynamicType, OfType, concrete_ty, Located, stored_at, on_reached}
 use Rattle.store_model.specs.Concrete.State.{State, cell}
+use Rattle.soundness.proofs.Doing.{FollowsOut, goes_on, refused}
 use Rattle.soundness.proofs.Fits.{Fits, whole_if_present}
 use Rattle.soundness.proofs.Sealed.{Sealed}
 use Rattle.soundness.proofs.Resealed.{sealed_stored}
 use Rattle.soundness.proofs.LocalPresence.{presence_changed, presence_other}
 use Rattle.soundness.proofs.Ways.{has_index, fits_changed, whole_along}
 use Rattle.soundness.proofs.Kept.{fits_kept}
-use Rattle.soundness.proofs.Leading.{path_at, Leads, IsFound, as_type, as_object}
+use Rattle.soundness.proofs.Along.{path_at, IsFound, as_type, as_object}
+use Rattle.soundness.proofs.Leading.{Leads}
 use Rattle.soundness.proofs.Watching.{watched_own, store_own, acted_whole, acted_element}
 use Rattle.soundness.proofs.FoundAlike.{fits_alike}
 use Rattle.soundness.proofs.Facts.{Facts, without}
@@ -39,7 +41,8 @@ use Rattle.soundness.proofs.Dropped.{feeding}
 use Rattle.soundness.proofs.Known.{Target, Known}
 use Rattle.soundness.proofs.Running.{sure_place, Passed, Runs, Lies, in_local, behind}
 use Rattle.soundness.proofs.Reaching.{Stands, stands, stored, own_watched, watched_so}
-use Rattle.soundness.proofs.Changing.{own_changed, behind_changed}
+use Rattle.soundness.proofs.Changing.{own_changed}
+use Rattle.soundness.proofs.ChangingBehind.{behind_changed}
 use Rattle.soundness.proofs.Checks.{id_of, ty_of, is_value, may_change, is_unique, is_empty}
 use Rattle.soundness.proofs.Checks as checks
 use Rattle.soundness.proofs.Taking.{first, second, not_so, rel}
@@ -82,7 +85,7 @@ module _ (setting : Setting) (number : ℕ) (targets : List Target) (uniques : L
     sealed = r.sealed;
   }
 
-  same_presence : (local : ℕ) (change : Presence → Presence) (cells : List (ℕ × Presence)) →
+  pub same_presence : (local : ℕ) (change : Presence → Presence) (cells : List (ℕ × Presence)) →
       change (presence local cells) ≡ presence local cells → (key : ℕ) →
       presence key (with_presence local change cells) ≡ presence key cells
   same_presence local change cells e key = by (key == local) refl
@@ -94,7 +97,7 @@ module _ (setting : Setting) (number : ℕ) (targets : List Target) (uniques : L
           (presence_changed local change cells ∙ e)
       by false k = presence_other local key change cells k
 
-  names_unique : (t : Target) (id : TyId) → type_at items id ≡ Some (names_it t.unique t.to) →
+  pub names_unique : (t : Target) (id : TyId) → type_at items id ≡ Some (names_it t.unique t.to) →
       is_unique items local_ty is_target (Some id) ≡ true → t.unique ≡ true
   names_unique t id e h = by t.unique e
     where
@@ -192,7 +195,7 @@ module _ (setting : Setting) (number : ℕ) (targets : List Target) (uniques : L
   -- a value of no `dyn` type is found as what stands there is
   pub as_found : (end : TyId) (f : DynamicType) (d : Datum) → IsFound items end f →
       is_dyn (type_at items end) ≡ false → Fits items (OfType end) is_present d → Fits items f is_present d
-  as_found end f d (as_type _ e) plain k = fits_alike items d (OfType end) f is_present (sym e) k
+  as_found end f d (as_type _ e _) plain k = fits_alike items d (OfType end) f is_present (sym e) k
   as_found end f d (as_object impl_no h i) plain k = absurd (false≢true (sym plain ∙ h))
 
   module _ (w : State) (cells : List (ℕ × Presence)) (facts : Facts) (runs : R w cells facts) where

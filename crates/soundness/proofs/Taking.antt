@@ -9,7 +9,7 @@ use Rattle.mir_base.specs.declared.int_kind.IntKind.{IntKind}
 use Rattle.mir_ty.specs.declared.ty.Ty.{Ty}
 use Rattle.mir_ty.specs.declared.ty.TyId.{TyId}
 use Rattle.mir_ty.specs.ItemTable.{ItemTable, type_at}
-use Rattle.store_model.proofs.Effects.Following.{Relation, FollowsOut, goes_on, refused, out_after}
+use Rattle.store_model.proofs.Effects.Following.{Relation}
 use Rattle.store_model.specs.declared.address.Addr.{Addr}
 use Rattle.store_model.specs.Values.Datum.{Datum, Gone, Number, Truth, UnitValue, Aggregate, Box, Address}
 use Rattle.store_model.specs.Values.Access.{replaced}
@@ -23,12 +23,14 @@ use Rattle.store_model.specs.Places.TypeForms.{is_never, is_dyn}
 use Rattle.store_model.specs.Concrete.Effects.{or_stuck, whole_at, evaluate_operand}
 use Rattle.store_model.specs.Concrete.Location.{Setting, DynamicType, OfType, concrete_ty, Located, stored_at}
 use Rattle.store_model.specs.Concrete.State.{State, cell}
+use Rattle.soundness.proofs.Doing.{FollowsOut, goes_on, refused, out_after}
 use Rattle.soundness.specs.Typed.{is_aggregate, number_fits}
 use Rattle.soundness.proofs.Feeding.{fed}
 use Rattle.soundness.proofs.Fits.{Fits, whole_if_present}
 use Rattle.soundness.proofs.Sealed.{Sealed}
 use Rattle.soundness.proofs.Ways.{has_index, fits_changed}
-use Rattle.soundness.proofs.Leading.{path_at, are_plain, containers_along, Leads, IsFound, as_type, as_object}
+use Rattle.soundness.proofs.Along.{path_at, are_plain, containers_along, IsFound, as_type, as_object}
+use Rattle.soundness.proofs.Leading.{Leads}
 use Rattle.soundness.proofs.Watching.{watched_own, use_own, acted_whole}
 use Rattle.soundness.proofs.FoundAlike.{fits_alike}
 use Rattle.soundness.proofs.Facts.{Facts, without}
@@ -107,7 +109,7 @@ module _ (setting : Setting) (number : ℕ) (targets : List Target) (uniques : L
     where
       by : (f : DynamicType) → IsFound items end f → Fits items f is_present s.value →
           Fits items (OfType end) is_present s.value
-      by f (as_type _ e) k = fits_alike items s.value f (OfType end) is_present e k
+      by f (as_type _ e _) k = fits_alike items s.value f (OfType end) is_present e k
       by _ (as_object impl_no h i) k = absurd (false≢true (sym plain ∙ h))
 
   -- ---- what is known of the value of an operand
@@ -160,14 +162,14 @@ module _ (setting : Setting) (number : ℕ) (targets : List Target) (uniques : L
       (first a b (second (S facts place) (a && b) h), second a b (second (S facts place) (a && b) h)),
     )
 
-    sized : (place : Place) (end : TyId) → place_ty items local_ty place ≡ Some end →
+    pub sized : (place : Place) (end : TyId) → place_ty items local_ty place ≡ Some end →
         is_value items local_ty is_target place ≡ true → is_dyn (type_at items end) ≡ false
     sized place end e v = sym (ap (λ o. is_dyn (option_and_then (type_at items) o)) e)
         ∙ not_so (is_dyn (ty_of items local_ty is_target place))
         (second (not (is_reference (ty_of items local_ty is_target place)))
         (not (is_dyn (ty_of items local_ty is_target place))) v)
 
-    never_false : (site : EffectSite) (end : TyId) (d : Datum) → place_ty items local_ty site.place ≡ Some end →
+    pub never_false : (site : EffectSite) (end : TyId) (d : Datum) → place_ty items local_ty site.place ≡ Some end →
         Fits items (OfType end) is_present d → free.never_at items local_ty site ≡ false
     never_false site end d e k = ap (λ o. is_never (option_and_then (type_at items) o)) e ∙ never_fits end d k
 

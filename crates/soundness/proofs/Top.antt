@@ -12,7 +12,7 @@ use Rattle.src_meaning.specs.Programs.{source, setting_of, code_of}
 use Rattle.mir_base.specs.Once.{IsAtMostOnce, no_line}
 use Rattle.soundness.specs.Laws.{EndsSo}
 use Rattle.soundness.proofs.Counts.{held}
-use Rattle.soundness.proofs.Ladder.{MayEnd}
+use Rattle.soundness.proofs.LadderEnds.{MayEnd}
 use Rattle.soundness.proofs.Accounts.{Accounted, ends_accounted}
 
 -- what is to be found of a call of `main` from the beginning: no activation is left, and the account holds

@@ -11,7 +11,8 @@ use Rattle.mir_ty.specs.ItemTable.{ItemTable, type_at}
 use Rattle.store_model.specs.Abstract.Effects.{may_use, may_test, may_store, acted}
 use Rattle.store_model.specs.Abstract.Presence.{Presence, itself_gone, presence_at, presence_along, after_action, all_present, containers_present, is_whole_at, is_there_at}
 use Rattle.store_model.specs.Places.Place.{Step, ToPart, ToField, ToContent, ToElement, step_ty, is_reference, Watched, Whole, ByElement, watched, watched_step, watched_content, content_of, before_element}
-use Rattle.soundness.proofs.Leading.{containers_along, sure_step, then_sure, is_sure, are_sure}
+use Rattle.soundness.proofs.Along.{containers_along}
+use Rattle.soundness.proofs.Leading.{sure_step, then_sure, is_sure, are_sure}
 use Rattle.soundness.proofs.Ways.{whole_along, has_index}
 
 -- how far a place of a local is watched: to its end, or to the array of which it takes an element
