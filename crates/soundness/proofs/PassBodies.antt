@@ -230,10 +230,10 @@ module _ {V : Type 0} (items : ItemTable) (needs : ℕ → Bool) (q : Effects V)
       cell d = param_cell param.pattern g.1.0
           (ap (needs_drop items) (typed_pattern param.pattern g.0.0 param.ty g.0.1) ∙ d)
 
-      T1 : Scopes
-      T1 = with_entry e s ∷ T
+      with_param : Scopes
+      with_param = with_entry e s ∷ T
 
-      i1 : Inside true S T1
+      i1 : Inside true S with_param
       i1 = inside (with_entry e s) T f ((rules.entered items needs q clear keeps e s cell).typed t) gr
 
       bounds : List BoundName
@@ -267,10 +267,10 @@ module _ {V : Type 0} (items : ItemTable) (needs : ℕ → Bool) (q : Effects V)
           all key (inl (inr n)) = x.1.1.1 key (inl n)
           all key (inr a) = x.1.1.1 key (inr (older key a))
 
-      whole : Rest → (shape items param.pattern).is_binding ≡ true → Shown any Post (params_entered items q fuel params T1 v)
+      whole : Rest → (shape items param.pattern).is_binding ≡ true → Shown any Post (params_entered items q fuel params with_param v)
       whole rest k = shown_more any
-          (further T1 (λ key n. inl (one_name param.pattern k key n)) (λ key a. inr a))
-          (params_entered items q fuel params T1 v) (rest T1 v i1 (λ key. entered key (h key)))
+          (further with_param (λ key n. inl (one_name param.pattern k key n)) (λ key a. inr a))
+          (params_entered items q fuel params with_param v) (rest with_param v i1 (λ key. entered key (h key)))
 
       pattern : names.PatternOk items needs q (Waiting Later) (waiting_keeps Later) fuel (nodes_of param.pattern)
           (whole_local (param_key param)) bounds
@@ -291,28 +291,28 @@ module _ {V : Type 0} (items : ItemTable) (needs : ℕ → Bool) (q : Effects V)
       arrived U u key (inr (inr n)) = absurd n
 
       Known : ℕ → Type 0
-      Known key = Among (entries_of T1) key ⊎ patterns.BoundIn items needs q (Waiting Later) (waiting_keeps Later) bounds key
+      Known key = Among (entries_of with_param) key ⊎ patterns.BoundIn items needs q (Waiting Later) (waiting_keeps Later) bounds key
 
       Mid : Exit → Scopes → V → Type 0
       Mid exit U u = patterns.Bound items needs q (Waiting Later) (waiting_keeps Later) c around (Inside true S) entries_of
           Known exit U u × (exit ≡ Value)
 
       parts : Rest → Shown any Post
-          (on_value (forms.bind items q innermost bounds T1 v) (params_entered items q fuel params))
-      parts rest = seq Mid Post (forms.bind items q innermost bounds T1 v) (params_entered items q fuel params)
+          (on_value (forms.bind items q innermost bounds with_param v) (params_entered items q fuel params))
+      parts rest = seq Mid Post (forms.bind items q innermost bounds with_param v) (params_entered items q fuel params)
           (both_shown (patterns.Bound items needs q (Waiting Later) (waiting_keeps Later) c around (Inside true S) entries_of Known)
-          (λ exit U u. exit ≡ Value) (forms.bind items q innermost bounds T1 v)
+          (λ exit U u. exit ≡ Value) (forms.bind items q innermost bounds with_param v)
           (patterns.bind_so items needs q (Waiting Later) (waiting_keeps Later) c around (Inside true S) entries_of innermost
           (branches.enters_inside items needs q (Waiting Later) (waiting_keeps Later) true S) bounds
-          (λ key. Among (entries_of T1) key) T1 v pattern.bound i1 (λ key a. a)
-          (λ key. wait key (entered key (h key)))) (bind_goes bounds T1 v))
+          (λ key. Among (entries_of with_param) key) with_param v pattern.bound i1 (λ key a. a)
+          (λ key. wait key (entered key (h key)))) (bind_goes bounds with_param v))
           (λ U u x. shown_more any
           (further U (λ key n. x.0.1 key (inr (pattern.covers key n))) (λ key a. x.0.1 key (inl (inr a))))
           (params_entered items q fuel params U u) (rest U u x.0.0.0 (λ key. arrived U u key (x.0.0.1 key))))
           (λ exit U u o x. absurd (subst Other x.1 o))
 
       by_kind : (b : Bool) → (shape items param.pattern).is_binding ≡ b → Rest →
-          Shown any Post (on_value (programs.names_of_param items q fuel b bounds T1 v) (params_entered items q fuel params))
+          Shown any Post (on_value (programs.names_of_param items q fuel b bounds with_param v) (params_entered items q fuel params))
       by_kind true k rest = whole rest k
       by_kind false k rest = parts rest
 
