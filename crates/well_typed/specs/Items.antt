@@ -109,7 +109,7 @@ module _ (items : ItemTable) where
   is_drop_head name n sig =
       fact (bytes_eq sig.name (name ++ codes "::drop")) & fact (is_one_self n sig.params && is_unit items sig.result)
 
-  abbrev has_drop_head : List ℕ → ℕ → Option ℕ → Claim
+  abbrev pub has_drop_head : List ℕ → ℕ → Option ℕ → Claim
   has_drop_head name n None = nothing
   has_drop_head name n (Some body) = some (slice_get items.bodies body) (is_drop_head name n)
 
@@ -148,7 +148,7 @@ module _ (items : ItemTable) where
   begins_with_self n (ty ∷ tys) = is_reference_to (trait_of items) n ty
 
   -- a method of a trait takes `&self` or `&mut self`, and is not called `drop`
-  abbrev is_method : ℕ → Sig → Claim
+  abbrev pub is_method : ℕ → Sig → Claim
   is_method n sig =
       fact (is_head sig) & fact (begins_with_self n sig.params) & fact (not (bytes_eq sig.name (codes "drop")))
 
@@ -159,12 +159,12 @@ module _ (items : ItemTable) where
   abbrev is_same_truth : Bool → Bool → Bool
   is_same_truth a b = if a then b else not b
 
-  abbrev are_same_params : ℕ → List TyId → List TyId → Bool
+  abbrev pub are_same_params : ℕ → List TyId → List TyId → Bool
   are_same_params adt (self ∷ tys) (own ∷ others) =
       is_reference_to (adt_of items) adt own && (is_same_truth (is_unique self) (is_unique own) && are_same tys others)
   are_same_params adt _ _ = false
 
-  abbrev implements_head : ℕ → List ℕ → Sig → Sig → Claim
+  abbrev pub implements_head : ℕ → List ℕ → Sig → Sig → Claim
   implements_head adt name method sig =
       fact (bytes_eq sig.name (name ++ codes "::" ++ method.name)) &
       fact (are_same_params adt method.params sig.params && is_same method.result sig.result)
@@ -200,7 +200,7 @@ module _ (items : ItemTable) where
       fact (list_all stands_alone def.captures) &
       some (slice_get items.bodies def.body) (λ sig. fact (begins_with_closure n sig.params))
 
-  abbrev is_main : Sig → Bool
+  abbrev pub is_main : Sig → Bool
   is_main sig = bytes_eq sig.name (codes "main") && (length sig.params == 0 && is_unit items sig.result)
 
   abbrev item_names : List (List ℕ)

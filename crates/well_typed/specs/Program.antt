@@ -30,13 +30,13 @@ is_block (Block statements tail) = true
 is_block _ = false
 
 -- a parameter, of the type that the head of its body gives; a reference has a name or `_` for its pattern
-abbrev is_param : ItemTable → TyId → ParamTree → Claim
+abbrev pub is_param : ItemTable → TyId → ParamTree → Claim
 is_param items ty param =
     fact (is_same param.ty ty) &
     pattern items (record { takes_all = true; may_move = true }) param.ty param.pattern &
     fact (is_name_or_wildcard (form_of param.pattern) || not (is_reference items param.ty))
 
-abbrev are_params : ItemTable → List TyId → List ParamTree → Claim
+abbrev pub are_params : ItemTable → List TyId → List ParamTree → Claim
 are_params items [] [] = nothing
 are_params items (ty ∷ tys) (param ∷ params) = is_param items ty param & are_params items tys params
 are_params items tys params = fact false
