@@ -4,7 +4,7 @@ use Rattle.mir_base.specs.declared.place_in_text.Pos.{Pos}
 use Rattle.src_tree.specs.declared.node.SyntaxNode.{SyntaxNode}
 use Rattle.src_ast.specs.Seen.{syn_of}
 use Rattle.src_ast.specs.Sorts.{item_part}
-use Rattle.src_ast.specs.Syntax.{Word, Named, FieldsKind, Syns, Syn, syn, Shape, at_of, shape_of, Ident, LabelOf, Literal, TruthLiteral, Path, Minus, Bang, Star, Ampersand, Calculate, Compare, Both, Either, Store, CallOf, MethodOf, FieldOf, PartOf, ElementOf, StructOf, FieldInit, Parens, TupleOf, ArrayOf, Braces, IfElse, IfLetElse, MatchOn, ArmOf, LoopOf, WhileOf, WhileLetOf, BreakOf, ContinueOf, ReturnOf, MoveOf, PanicOf, LetOf, Empty, Semi, AnyPattern, BindPattern, LiteralPattern, TruthPattern, PathPattern, PartsPattern, FieldsPattern, FieldPattern, ParensPattern, TuplePattern, ArrayPattern, Alternatives, NamedType, GenericType, DynType, SelfType, ParensType, TupleType, ArrayType, NeverType, RefType, StructItem, EnumItem, FieldDecl, VariantDecl, TraitItem, ImplItem, FnItem, ParamOf, SelfParam, Odd}
+use Rattle.src_ast.specs.Syntax.{Word, Named, FieldsKind, Syn, syn, at_of, shape_of, AnItem, Item, StructItem, EnumItem, TraitItem, Syns}
 use Rattle.src_ast.proofs.Named.{seen_as}
 use Rattle.typing_rules.specs.Check.{TypingState, Broken}
 use Rattle.typing_rules.specs.Collected as walk
@@ -26,85 +26,13 @@ abbrev asked : walk.Known → Syn → TypingState → Asked
 asked k x s =
     (adt_name x, (trait_name x, (impl_owner x, (own_name x, (path_in x, (adt_item x, (item_head k x s, impl_of k x s)))))))
 
-abbrev asked_by : walk.Known → Pos → Option Shape → TypingState → Asked
+abbrev asked_by : walk.Known → Pos → Option Item → TypingState → Asked
 asked_by k at o s =
     (adt_name_by o, (trait_name_by o, (owner_by o, (own_name_by o, (path_by o, (adt_item_by at o, (head_by k o s, impl_by k o s)))))))
 
-asked_form : (k : walk.Known) (at : Pos) (form : Shape) (s : TypingState) → asked k (syn at form) s ≡ asked_by k at (item_part form) s
-asked_form k at (Ident a) s = refl
-asked_form k at (LabelOf a) s = refl
-asked_form k at (Literal a b) s = refl
-asked_form k at (TruthLiteral a) s = refl
-asked_form k at (Path a b) s = refl
-asked_form k at (Minus a) s = refl
-asked_form k at (Bang a) s = refl
-asked_form k at (Star a) s = refl
-asked_form k at (Ampersand a b) s = refl
-asked_form k at (Calculate a b c) s = refl
-asked_form k at (Compare a b c) s = refl
-asked_form k at (Both a b) s = refl
-asked_form k at (Either a b) s = refl
-asked_form k at (Store a b) s = refl
-asked_form k at (CallOf a b) s = refl
-asked_form k at (MethodOf a b c) s = refl
-asked_form k at (FieldOf a b) s = refl
-asked_form k at (PartOf a b) s = refl
-asked_form k at (ElementOf a b) s = refl
-asked_form k at (StructOf a b c) s = refl
-asked_form k at (FieldInit a b) s = refl
-asked_form k at (Parens a) s = refl
-asked_form k at (TupleOf a) s = refl
-asked_form k at (ArrayOf a) s = refl
-asked_form k at (Braces a b) s = refl
-asked_form k at (IfElse a b c) s = refl
-asked_form k at (IfLetElse a b c d) s = refl
-asked_form k at (MatchOn a b) s = refl
-asked_form k at (ArmOf a b c) s = refl
-asked_form k at (LoopOf a b) s = refl
-asked_form k at (WhileOf a b c) s = refl
-asked_form k at (WhileLetOf a b c d) s = refl
-asked_form k at (BreakOf a b) s = refl
-asked_form k at (ContinueOf a) s = refl
-asked_form k at (ReturnOf a) s = refl
-asked_form k at (MoveOf a b c d) s = refl
-asked_form k at PanicOf s = refl
-asked_form k at (LetOf a b c) s = refl
-asked_form k at Empty s = refl
-asked_form k at (Semi a) s = refl
-asked_form k at AnyPattern s = refl
-asked_form k at (BindPattern a) s = refl
-asked_form k at (LiteralPattern a b c) s = refl
-asked_form k at (TruthPattern a) s = refl
-asked_form k at (PathPattern a b) s = refl
-asked_form k at (PartsPattern a b c d) s = refl
-asked_form k at (FieldsPattern a b c d) s = refl
-asked_form k at (FieldPattern a b) s = refl
-asked_form k at (ParensPattern a) s = refl
-asked_form k at (TuplePattern a b) s = refl
-asked_form k at (ArrayPattern a b) s = refl
-asked_form k at (Alternatives a) s = refl
-asked_form k at (NamedType a) s = refl
-asked_form k at (GenericType a b) s = refl
-asked_form k at (DynType a b) s = refl
-asked_form k at SelfType s = refl
-asked_form k at (ParensType a) s = refl
-asked_form k at (TupleType a) s = refl
-asked_form k at (ArrayType a b c) s = refl
-asked_form k at NeverType s = refl
-asked_form k at (RefType a b) s = refl
-asked_form k at (StructItem a b c d) s = refl
-asked_form k at (EnumItem a b c) s = refl
-asked_form k at (FieldDecl a b) s = refl
-asked_form k at (VariantDecl a b c) s = refl
-asked_form k at (TraitItem a b) s = refl
-asked_form k at (ImplItem a b c) s = refl
-asked_form k at (FnItem a b c d) s = refl
-asked_form k at (ParamOf a b) s = refl
-asked_form k at (SelfParam a) s = refl
-asked_form k at Odd s = refl
-
 asked_as : (k : walk.Known) (x : Syn) (s : TypingState) → asked k x s ≡ asked_by k (at_of x) (item_part (shape_of x)) s
-asked_as k (syn at form) s = asked_form k at form s
+asked_as k (syn at (AnItem (StructItem a b c d))) s = refl
+asked_as k (syn at _) s = refl
 
 asked_seen : (k : walk.Known) (n : SyntaxNode) (s : TypingState) → asked k (syn_of n) s ≡ asked_by k n.at (item_part (shape_of (syn_of n))) s
 asked_seen k n s =
@@ -144,7 +72,7 @@ module _ (n : SyntaxNode) where
 -- ---- structs and enums, whose names are read from their nodes
 
 module _ (k : walk.Known) (n : SyntaxNode) (s : TypingState) (word : Word) (at : Pos) (name : Named) (same : (at, word) ≡ name) (r : Result (Unit {0}) RuleError) (after : ItemTable) where
-  by_form : (o : Option Shape) → o ≡ item_part (shape_of (syn_of n)) → Answers (head_by k o s) r after → Answers (item_head k (syn_of n) s) r after
+  by_form : (o : Option Item) → o ≡ item_part (shape_of (syn_of n)) → Answers (head_by k o s) r after → Answers (item_head k (syn_of n) s) r after
   by_form o is h = subst (λ z. Answers z r after) (sym (head_seen k n s ∙ ap (λ z. head_by k z s) (sym is))) h
 
   pub struct_answers : (ds : List Named) (kind : FieldsKind) (fields : Syns) → Some (StructItem ds name kind fields) ≡ item_part (shape_of (syn_of n)) →

@@ -12,7 +12,7 @@ use Rattle.src_tree.specs.View.{parts_from, piece_of, Single, a_token, a_node}
 use Rattle.src_tree.proofs.Pieces.{node_seen, token_seen}
 use Rattle.src_ast.specs.Seen.{syn_of}
 use Rattle.src_ast.specs.Sorts.{item_part}
-use Rattle.src_ast.specs.Syntax.{Word, Named, Syn, syn, Shape, shape_of, Ident, LabelOf, Literal, TruthLiteral, Path, Minus, Bang, Star, Ampersand, Calculate, Compare, Both, Either, Store, CallOf, MethodOf, FieldOf, PartOf, ElementOf, StructOf, FieldInit, Parens, TupleOf, ArrayOf, Braces, IfElse, IfLetElse, MatchOn, ArmOf, LoopOf, WhileOf, WhileLetOf, BreakOf, ContinueOf, ReturnOf, MoveOf, PanicOf, LetOf, Empty, Semi, AnyPattern, BindPattern, LiteralPattern, TruthPattern, PathPattern, PartsPattern, FieldsPattern, FieldPattern, ParensPattern, TuplePattern, ArrayPattern, Alternatives, NamedType, GenericType, DynType, SelfType, ParensType, TupleType, ArrayType, NeverType, RefType, StructItem, EnumItem, FieldDecl, VariantDecl, TraitItem, ImplItem, FnItem, ParamOf, SelfParam, Odd}
+use Rattle.src_ast.specs.Syntax.{Word, Named, Syn, syn, shape_of, AnItem, StructItem}
 use Rattle.src_ast.specs.View.{view}
 use Rattle.typing_rules.specs.Check.{TypingState, Broken, and_then, obeys, pure}
 use Rattle.typing_rules.specs.Collected.{item_name, names_differ}
@@ -27,81 +27,9 @@ use Rattle.std.specs.List.{position as position_of}
 use Rattle.std.specs.Prelude.{is_some}
 use Rattle.std.specs.Str.{bytes_eq}
 
-item_name_form : (at : Pos) (form : Shape) → item_name (syn at form) ≡ item_name_by (item_part form)
-item_name_form at (Ident a) = refl
-item_name_form at (LabelOf a) = refl
-item_name_form at (Literal a b) = refl
-item_name_form at (TruthLiteral a) = refl
-item_name_form at (Path a b) = refl
-item_name_form at (Minus a) = refl
-item_name_form at (Bang a) = refl
-item_name_form at (Star a) = refl
-item_name_form at (Ampersand a b) = refl
-item_name_form at (Calculate a b c) = refl
-item_name_form at (Compare a b c) = refl
-item_name_form at (Both a b) = refl
-item_name_form at (Either a b) = refl
-item_name_form at (Store a b) = refl
-item_name_form at (CallOf a b) = refl
-item_name_form at (MethodOf a b c) = refl
-item_name_form at (FieldOf a b) = refl
-item_name_form at (PartOf a b) = refl
-item_name_form at (ElementOf a b) = refl
-item_name_form at (StructOf a b c) = refl
-item_name_form at (FieldInit a b) = refl
-item_name_form at (Parens a) = refl
-item_name_form at (TupleOf a) = refl
-item_name_form at (ArrayOf a) = refl
-item_name_form at (Braces a b) = refl
-item_name_form at (IfElse a b c) = refl
-item_name_form at (IfLetElse a b c d) = refl
-item_name_form at (MatchOn a b) = refl
-item_name_form at (ArmOf a b c) = refl
-item_name_form at (LoopOf a b) = refl
-item_name_form at (WhileOf a b c) = refl
-item_name_form at (WhileLetOf a b c d) = refl
-item_name_form at (BreakOf a b) = refl
-item_name_form at (ContinueOf a) = refl
-item_name_form at (ReturnOf a) = refl
-item_name_form at (MoveOf a b c d) = refl
-item_name_form at PanicOf = refl
-item_name_form at (LetOf a b c) = refl
-item_name_form at Empty = refl
-item_name_form at (Semi a) = refl
-item_name_form at AnyPattern = refl
-item_name_form at (BindPattern a) = refl
-item_name_form at (LiteralPattern a b c) = refl
-item_name_form at (TruthPattern a) = refl
-item_name_form at (PathPattern a b) = refl
-item_name_form at (PartsPattern a b c d) = refl
-item_name_form at (FieldsPattern a b c d) = refl
-item_name_form at (FieldPattern a b) = refl
-item_name_form at (ParensPattern a) = refl
-item_name_form at (TuplePattern a b) = refl
-item_name_form at (ArrayPattern a b) = refl
-item_name_form at (Alternatives a) = refl
-item_name_form at (NamedType a) = refl
-item_name_form at (GenericType a b) = refl
-item_name_form at (DynType a b) = refl
-item_name_form at SelfType = refl
-item_name_form at (ParensType a) = refl
-item_name_form at (TupleType a) = refl
-item_name_form at (ArrayType a b c) = refl
-item_name_form at NeverType = refl
-item_name_form at (RefType a b) = refl
-item_name_form at (StructItem a b c d) = refl
-item_name_form at (EnumItem a b c) = refl
-item_name_form at (FieldDecl a b) = refl
-item_name_form at (VariantDecl a b c) = refl
-item_name_form at (TraitItem a b) = refl
-item_name_form at (ImplItem a b c) = refl
-item_name_form at (FnItem a b c d) = refl
-item_name_form at (ParamOf a b) = refl
-item_name_form at (SelfParam a) = refl
-item_name_form at Odd = refl
-
 item_name_as : (x : Syn) → item_name x ≡ item_name_by (item_part (shape_of x))
-item_name_as (syn at form) = item_name_form at form
+item_name_as (syn at (AnItem (StructItem a b c d))) = refl
+item_name_as (syn at _) = refl
 
 pub item_name_seen : (n : SyntaxNode) → item_name (syn_of n) ≡ item_name_by (item_part (shape_of (syn_of n)))
 item_name_seen n = item_name_as (syn_of n)

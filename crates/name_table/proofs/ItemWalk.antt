@@ -9,7 +9,7 @@ use Rattle.src_tree.specs.declared.node.NodePiece.{NodePiece}
 use Rattle.src_tree.specs.View.{parts_in, parts_from, piece_of, layout_of, Single, a_token, a_node}
 use Rattle.src_tree.proofs.Pieces.{node_seen, token_seen, node_laid}
 use Rattle.src_ast.specs.Seen.{syn_of}
-use Rattle.src_ast.specs.Syntax.{Syn, Word}
+use Rattle.src_ast.specs.Syntax.{Word, Syn}
 use Rattle.src_tree.specs.Layout.{node}
 use Rattle.src_ast.specs.View.{view}
 use Rattle.typing_rules.specs.Check.{TypingState, Broken, and_then}

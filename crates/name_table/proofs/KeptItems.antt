@@ -8,7 +8,7 @@ use Rattle.mir_ty.specs.declared.adt.Adt.{Adt}
 use Rattle.mir_ty.specs.declared.def.Sig.{Sig}
 use Rattle.mir_ty.specs.declared.ty.Ty.{Ty}
 use Rattle.mir_ty.specs.declared.ty.TyId.{TyId}
-use Rattle.src_ast.specs.Syntax.{Word, Named, Syn, syn, Syns, list_of, MaybeSyn, MoveOf, StructItem, EnumItem, VariantDecl, TraitItem, ImplItem, FnItem, ParamOf}
+use Rattle.src_ast.specs.Syntax.{Word, Named, Syn, syn, AnExpression, AnItem, AParam, AVariant, MoveOf, StructItem, EnumItem, TraitItem, ImplItem, FnItem, ParamOf, Syns, list_of, MaybeSyn}
 use Rattle.typing_rules.specs.Check.{Check, TypingState, Broken, and_then, pure, interned, known, obeys, each_checked, ◌>>=◌, ◌>>◌}
 use Rattle.typing_rules.specs.Collected as walk
 use Rattle.typing_rules.specs.Collected.{item_head, derives_known, is_derivable, variant_of, declared_variant, adt_of, added, names_alone, field_type, own_ty, sig_of, body_added, closure_param, closure_params, closure_head, body_sig, body_sigs, answer_ty, impl_head, is_drop, trait_head}
@@ -36,7 +36,7 @@ kept_variant w name fields =
     kept_bind (each_checked (λ f. written w (field_type f)) (list_of fields)) _ (kept_each (λ f. written w (field_type f)) (λ f. kept_written w (field_type f)) (list_of fields)) (λ tys. kept_pure _)
 
 kept_declared : (w : WrittenScope) (x : Syn) → Kept (declared_variant w x)
-kept_declared w (syn at (VariantDecl name kind fields)) = kept_variant w name fields
+kept_declared w (syn at (AVariant name kind fields)) = kept_variant w name fields
 kept_declared w (syn at _) = kept_breaks Rule.T20 at
 
 kept_impl_head : (k : walk.Known) (trait_ : Option Named) (name : Named) → Kept (impl_head k trait_ name)
@@ -57,7 +57,7 @@ kept_or_unit p kept = λ s t a h. by s t a (p s) refl h
     by s t a (Err e) is h = subst (λ z. Keeps s z) (ap (state_in s) h) (keeps_self s)
 
 kept_closure_param : (w : WrittenScope) (x : Syn) → Kept (closure_param w x)
-kept_closure_param w (syn at (ParamOf p ty)) = kept_or_unit (written w ty) (kept_written w ty)
+kept_closure_param w (syn at (AParam (ParamOf p ty))) = kept_or_unit (written w ty) (kept_written w ty)
 kept_closure_param w (syn at _) = kept_pure unit
 
 kept_closure_params : (w : WrittenScope) (closures : ℕ) (params : Syns) → Kept (closure_params w closures params)
@@ -73,11 +73,11 @@ module _ (k : walk.Known) (owner : Option Word) where
   around_adt = names_alone k (option_and_then (number_of k.adts) owner)
 
   kept_body : (c : walk.Count) (x : Syn) → Kept (body_sig k owner c x)
-  kept_body c (syn at (FnItem name params answer block)) =
+  kept_body c (syn at (AnItem (FnItem name params answer block))) =
       kept_bind (sig_of around_adt (own_ty at (option_and_then (number_of k.adts) owner)) (full_name owner name.1) params answer) _
       (kept_sig around_adt (own_ty at (option_and_then (number_of k.adts) owner)) (kept_own_ty at (option_and_then (number_of k.adts) owner)) (full_name owner name.1) params answer)
       (λ sig. kept_bind (body_added sig) _ (kept_body_added sig) (λ _. kept_pure (record c { outer = full_name owner name.1; in_outer = 0 })))
-  kept_body c (syn at (MoveOf captures params answer body)) =
+  kept_body c (syn at (AnExpression (MoveOf captures params answer body))) =
       kept_bind (closure_head around_adt c.closures (closure_name c.outer (c.in_outer + 1)) params answer) _
       (kept_closure_head around_adt c.closures (closure_name c.outer (c.in_outer + 1)) params answer) (λ _. kept_pure (record c { in_outer = c.in_outer + 1; closures = c.closures + 1 }))
   kept_body c (syn at _) = kept_breaks Rule.T20 at
@@ -106,14 +106,14 @@ module _ (k : walk.Known) where
       ap length (sym last_) ∙ length-append v.items.traits (record { name = name.1; methods = sigs } ∷ []) ∙ ap (λ z. length z + 1) (rest_ ∙ first_)
 
   counted : (x : Syn) → Counts x
-  counted (syn at (StructItem ds name kind fields)) =
-      as_many (item_head k (syn at (StructItem ds name kind fields)))
+  counted (syn at (AnItem (StructItem ds name kind fields))) =
+      as_many (item_head k (syn at (AnItem (StructItem ds name kind fields))))
       (kept_bind (derives_known ds) _ (kept_derives ds) (λ _. kept_bind (variant_of (names_alone k (number_of k.adts name.1)) name.1 fields) _ (kept_variant (names_alone k (number_of k.adts name.1)) name.1 fields) (λ v. kept_adt _)))
-  counted (syn at (EnumItem ds name variants)) =
-      as_many (item_head k (syn at (EnumItem ds name variants)))
+  counted (syn at (AnItem (EnumItem ds name variants))) =
+      as_many (item_head k (syn at (AnItem (EnumItem ds name variants))))
       (kept_bind (derives_known ds) _ (kept_derives ds) (λ _. kept_bind (each_checked (declared_variant (names_alone k (number_of k.adts name.1))) (list_of variants)) _ (kept_each (declared_variant (names_alone k (number_of k.adts name.1))) (kept_declared (names_alone k (number_of k.adts name.1))) (list_of variants)) (λ vs. kept_adt _)))
-  counted (syn at (TraitItem name heads)) = trait_more name heads
-  counted (syn at (ImplItem trait_ name methods)) = as_many (impl_head k trait_ name) (kept_impl_head k trait_ name)
+  counted (syn at (AnItem (TraitItem name heads))) = trait_more name heads
+  counted (syn at (AnItem (ImplItem trait_ name methods))) = as_many (impl_head k trait_ name) (kept_impl_head k trait_ name)
   counted (syn at _) = as_many (pure tt) (kept_pure tt)
 
   pub traits_after : (c d : walk.Count) (i : ItemSyn) (s t : TypingState) → item_added k c i s ≡ Ok (d, t) →

@@ -11,7 +11,7 @@ use Rattle.mir_ty.specs.declared.ty.Ty.{Ty}
 use Rattle.mir_ty.specs.declared.ty.TyId.{TyId}
 use Rattle.mir_ty.proofs.ListLemmas.{slice_get-last}
 use Rattle.well_typed.specs.Items.{is_equal}
-use Rattle.src_ast.specs.Syntax.{Word, Syn, syn, Syns, no_syn, a_syn, list_of, MaybeSyn, nothing, just, FnItem, SelfParam, ByShared, ByUnique}
+use Rattle.src_ast.specs.Syntax.{Word, ByShared, ByUnique, Syn, syn, AnItem, AParam, FnItem, SelfParam, Syns, no_syn, a_syn, list_of, MaybeSyn, nothing, just}
 use Rattle.typing_rules.specs.Check.{Check, TypingState, Broken, and_then, pure, interned, interned_at, each_checked, ◌>>=◌}
 use Rattle.typing_rules.specs.Collected.{param_ty, answer_ty, sig_of, trait_head, has_receiver, is_by_reference, behind_self, with_receiver, starting_with}
 use Rattle.typing_rules.specs.Places.{unit}
@@ -64,7 +64,7 @@ module _ (w : WrittenScope) (own : TyId) where
       kept_bind (interned (Ty.Shared own)) _ (kept_interned (Ty.Shared own)) (λ self. kept_bind (sig_of w (pure own) name (behind_self params) answer) _ (kept_own name (behind_self params) answer) (λ sig. kept_pure (with_receiver self sig)))
 
   pub kept_trait_head : (x : Syn) → Kept (trait_head w own x)
-  kept_trait_head (syn at (FnItem name params answer block)) = by (has_receiver params)
+  kept_trait_head (syn at (AnItem (FnItem name params answer block))) = by (has_receiver params)
     where
       by : (b : Bool) → Kept (if b then sig_of w (pure own) name.1 params answer else (interned (Ty.Shared own) >>= (λ self. sig_of w (pure own) name.1 (behind_self params) answer >>= (λ sig. pure (with_receiver self sig)))))
       by true = kept_own name.1 params answer
@@ -105,8 +105,8 @@ module _ (w : WrittenScope) (own : TyId) (n : ℕ) where
 
   first_self : (first : Syn) (s t : TypingState) (id : TyId) → HasOwn s → is_by_reference first ≡ true →
       param_ty w (pure own) first s ≡ Ok (id, t) → IsSelfTy t.items.types n (slice_get t.items.types id.0)
-  first_self (syn at (SelfParam ByShared)) s t id has is h = shared_there s t id has h
-  first_self (syn at (SelfParam ByUnique)) s t id has is h = unique_there s t id has h
+  first_self (syn at (AParam (SelfParam ByShared))) s t id has is h = shared_there s t id has h
+  first_self (syn at (AParam (SelfParam ByUnique))) s t id has is h = unique_there s t id has h
   first_self (syn at _) s t id has is h = absurd (cc)
 
   own_begins : (name : Word) (params : Syns) (answer : MaybeSyn) (s t : TypingState) (sig : Sig) → HasOwn s → has_receiver params ≡ true →
@@ -141,7 +141,7 @@ module _ (w : WrittenScope) (own : TyId) (n : ℕ) where
       (still_self u t n id kept_all (shared_there s u id has one))
 
   head_begins : (x : Syn) (s t : TypingState) (sig : Sig) → HasOwn s → trait_head w own x s ≡ Ok (sig, t) → BeginsWithSelf t.items.types n sig
-  head_begins (syn at (FnItem name params answer block)) s t sig has h = by (has_receiver params) refl h
+  head_begins (syn at (AnItem (FnItem name params answer block))) s t sig has h = by (has_receiver params) refl h
     where
       by : (b : Bool) → has_receiver params ≡ b →
           (if b then sig_of w (pure own) name.1 params answer else (interned (Ty.Shared own) >>= (λ self. sig_of w (pure own) name.1 (behind_self params) answer >>= (λ sig. pure (with_receiver self sig))))) s ≡ Ok (sig, t) →

@@ -8,7 +8,7 @@ use Rattle.mir_ty.specs.declared.adt.Adt.{Adt}
 use Rattle.std.specs.List.{list_all}
 use Rattle.mir_ty.specs.declared.ty.Ty.{Ty}
 use Rattle.typeck_heads.specs.Forms.{struct_by, enum_by}
-use Rattle.src_ast.specs.Syntax.{StructItem, EnumItem, TraitItem, ImplItem, FnItem, Word, Named, Shape, Syn, Syns, list_of}
+use Rattle.src_ast.specs.Syntax.{Word, Named, Syn, Item, StructItem, EnumItem, TraitItem, ImplItem, FnItem, Syns, list_of}
 use Rattle.src_ast.specs.View.{view, named}
 use Rattle.std.specs.Borrow.{Bor}
 use Rattle.name_table.specs.declared.known_names.NameSort.{NameSort}
@@ -26,7 +26,7 @@ use Rattle.well_typed.specs.Names.{is_among, built_in}
 
 -- ---- names of items
 
-abbrev pub item_name_by : Option Shape → Option Named
+abbrev pub item_name_by : Option Item → Option Named
 item_name_by None = None
 item_name_by (Some (StructItem derives name kind fields)) = Some name
 item_name_by (Some (EnumItem derives name variants)) = Some name
@@ -46,20 +46,20 @@ with_name_by (Some n) seen = do
 
 -- ---- one item
 
-abbrev pub adt_name_by : Option Shape → Option Word
+abbrev pub adt_name_by : Option Item → Option Word
 adt_name_by (Some (StructItem derives name kind fields)) = Some name.1
 adt_name_by (Some (EnumItem derives name variants)) = Some name.1
 adt_name_by _ = None
 
-abbrev pub trait_name_by : Option Shape → Option Word
+abbrev pub trait_name_by : Option Item → Option Word
 trait_name_by (Some (TraitItem name heads)) = Some name.1
 trait_name_by _ = None
 
-abbrev pub owner_by : Option Shape → Option Word
+abbrev pub owner_by : Option Item → Option Word
 owner_by (Some (ImplItem trait_ name methods)) = Some name.1
 owner_by _ = None
 
-abbrev pub adt_item_by : Pos → Option Shape → Option (Pos × List Named)
+abbrev pub adt_item_by : Pos → Option Item → Option (Pos × List Named)
 adt_item_by at (Some (StructItem ds name kind fields)) = Some (at, ds)
 adt_item_by at (Some (EnumItem ds name variants)) = Some (at, ds)
 adt_item_by at _ = None
@@ -74,14 +74,14 @@ trait_at k number name heads = do
 abbrev pub trait_by : walk.Known → Word → Syns → Check (Unit {0})
 trait_by k name heads = λ s. trait_at k (length s.items.traits) name heads s
 
-abbrev pub head_by : walk.Known → Option Shape → Check (Unit {0})
+abbrev pub head_by : walk.Known → Option Item → Check (Unit {0})
 head_by k (Some (StructItem ds name kind fields)) = struct_by k ds name.1 fields
 head_by k (Some (EnumItem ds name variants)) = enum_by k ds name.1 variants
 head_by k (Some (TraitItem name heads)) = trait_by k name.1 heads
 head_by k (Some (ImplItem trait_ name methods)) = impl_head k trait_ name
 head_by k _ = pure tt
 
-abbrev pub impl_by : walk.Known → Option Shape → Check (Unit {0})
+abbrev pub impl_by : walk.Known → Option Item → Check (Unit {0})
 impl_by k (Some (ImplItem (Some trait_) name methods)) =
     if is_drop trait_.1 then pure tt else (do
       n ← known Rule.T01 trait_.0 (number_of k.traits trait_.1)
@@ -126,7 +126,7 @@ paths_in_piece (a_token t) = []
 paths_in_piece (a_node g) = map (body_path (view g)) (bodies_in g)
 
 -- the path of a name in an item
-abbrev pub path_by : Option Shape → Word → Word
+abbrev pub path_by : Option Item → Word → Word
 path_by (Some (ImplItem (Some trait_) owner methods)) name = method_path owner.1 trait_.1 name
 path_by (Some (ImplItem None owner methods)) name = codes "<" ++ owner.1 ++ codes ">::" ++ name
 path_by _ name = name
@@ -151,7 +151,7 @@ path_if names (Some name) = path_within names name
 abbrev pub path_of_body : ImplNames → Syn → Word
 path_of_body names body = path_if names (own_name body)
 
-abbrev pub own_name_by : Option Shape → Option Word
+abbrev pub own_name_by : Option Item → Option Word
 own_name_by (Some (FnItem name params answer block)) = Some name.1
 own_name_by _ = None
 

@@ -2,7 +2,7 @@
 use Rattle.std.proofs.Common.{◌≡◌, Bool, true, false, List, [], ◌∷◌, Some, None, refl, ap, sym, ◌∙◌}
 use Rattle.std.proofs.lemmas.Bool.{and_parts}
 use Rattle.src_ast.specs.Seen.{are_idents, is_none}
-use Rattle.src_ast.specs.Syntax.{Named, Syn, Odd, ImplItem, Syns, no_syn, a_syn}
+use Rattle.src_ast.specs.Syntax.{Named, Syn, AnItem, Odd, ImplItem, Syns, no_syn, a_syn}
 use Rattle.src_ast.specs.View.{is_ident, named, idents, impl_row}
 
 not_both : {A : Type 0} → true ≡ false → A
@@ -23,7 +23,7 @@ pub no_names : (b : Bool) (ss ms : Syns) → are_idents ss ≡ true → no_syn �
 no_names true ss ms all is = sym (row_by true ss no_syn ms all is)
 no_names false ss ms all is = sym (row_by false ss no_syn ms all is)
 
-pub one_name : (ss r ms : Syns) (a : Syn) → are_idents ss ≡ true → a_syn a r ≡ ss → is_none r ≡ true → ImplItem None (named a) ms ≡ impl_row false (idents ss) ms
+pub one_name : (ss r ms : Syns) (a : Syn) → are_idents ss ≡ true → a_syn a r ≡ ss → is_none r ≡ true → AnItem (ImplItem None (named a) ms) ≡ impl_row false (idents ss) ms
 one_name ss no_syn ms a all is none = sym (row_by false ss (a_syn a no_syn) ms all is)
 one_name ss (a_syn b r) ms a all is none = not_both (sym none)
 
@@ -32,7 +32,7 @@ more_names ss no_syn ms a all is none = not_both none
 more_names ss (a_syn b r) ms a all is none = sym (row_by false ss (a_syn a (a_syn b r)) ms all is)
 
 pub two_names : (ss r t ms : Syns) (a b : Syn) → are_idents ss ≡ true → a_syn a r ≡ ss → a_syn b t ≡ r → is_none t ≡ true
-    → ImplItem (Some (named a)) (named b) ms ≡ impl_row true (idents ss) ms
+    → AnItem (ImplItem (Some (named a)) (named b) ms) ≡ impl_row true (idents ss) ms
 two_names ss r no_syn ms a b all is then none = sym (row_by true ss (a_syn a (a_syn b no_syn)) ms all (ap (λ z. a_syn a z) then ∙ is))
 two_names ss r (a_syn c t) ms a b all is then none = not_both (sym none)
 

@@ -6,10 +6,10 @@ use Rattle.src_ast.specs.declared.expression.InitForm.{InitForm}
 use Rattle.src_ast.specs.declared.statement.StatementForm.{StatementForm}
 use Rattle.src_ast.specs.Seen.{syn_of, nodes_of, maybe_of, word_of}
 use Rattle.src_ast.specs.Syntax as form
-use Rattle.src_ast.specs.Syntax.{Shape}
+use Rattle.src_ast.specs.Syntax.{Shape, Expression, Statement}
 use Rattle.src_ast.specs.View.{idents, self_name, syns_of}
 
-abbrev pub statement_of : StatementForm → Option Shape
+abbrev pub statement_of : StatementForm → Option Statement
 statement_of (StatementForm.Let pattern ty value) =
     Some (form.LetOf (syn_of pattern.now) (maybe_of ty) (maybe_of value))
 statement_of StatementForm.Empty = Some form.Empty
@@ -17,12 +17,12 @@ statement_of (StatementForm.Semi expression) = Some (form.Semi (syn_of expressio
 statement_of StatementForm.Other = None
 
 abbrev pub init_of : InitForm → Shape
-init_of i = form.FieldInit i.name.now (maybe_of i.value)
+init_of i = form.AnInit i.name.now (maybe_of i.value)
 
 abbrev pub arm_of : ArmForm → Shape
-arm_of a = form.ArmOf (syn_of a.pattern.now) (maybe_of a.guard) (syn_of a.body.now)
+arm_of a = form.AnArm (syn_of a.pattern.now) (maybe_of a.guard) (syn_of a.body.now)
 
-abbrev pub expression_of : ExpressionForm → Option Shape
+abbrev pub expression_of : ExpressionForm → Option Expression
 expression_of (ExpressionForm.Number value suffix) = Some (form.Literal value suffix)
 expression_of (ExpressionForm.Truth value) = Some (form.TruthLiteral value)
 expression_of (ExpressionForm.Path path) = Some (form.Path (word_of path.first) (word_of path.second))

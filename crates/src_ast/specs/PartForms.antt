@@ -6,20 +6,20 @@ use Rattle.src_ast.specs.declared.part.Receiver.{Receiver as Borrowed}
 use Rattle.src_ast.specs.declared.part.VariantForm.{VariantForm}
 use Rattle.src_ast.specs.ItemForms.{kind_seen}
 use Rattle.src_ast.specs.Seen.{syn_of, nodes_of}
-use Rattle.src_ast.specs.Syntax.{Receiver, ByValue, ByShared, ByUnique, Shape, FieldDecl, VariantDecl, ParamOf, SelfParam}
+use Rattle.src_ast.specs.Syntax.{Receiver, ByValue, ByShared, ByUnique, Shape, AField, AVariant, Param, ParamOf, SelfParam}
 
 abbrev pub receiver_seen : Borrowed → Receiver
 receiver_seen Borrowed.Value = ByValue
 receiver_seen Borrowed.Shared = ByShared
 receiver_seen Borrowed.Unique = ByUnique
 
-abbrev pub param_of : ParamForm → Option Shape
+abbrev pub param_of : ParamForm → Option Param
 param_of (ParamForm.Pattern pattern ty) = Some (ParamOf (syn_of pattern.now) (syn_of ty.now))
 param_of (ParamForm.SelfValue receiver) = Some (SelfParam (receiver_seen receiver))
 param_of ParamForm.Other = None
 
 abbrev pub field_of : FieldForm → Shape
-field_of f = FieldDecl f.name.now (syn_of f.ty.now)
+field_of f = AField f.name.now (syn_of f.ty.now)
 
 abbrev pub variant_of : VariantForm → Shape
-variant_of v = VariantDecl v.name.now (kind_seen v.kind) (nodes_of v.fields)
+variant_of v = AVariant v.name.now (kind_seen v.kind) (nodes_of v.fields)

@@ -3,9 +3,9 @@ use Rattle.std.specs.Prelude.{Option, Some, None}
 use Rattle.src_ast.specs.declared.pattern.FieldPatternForm.{FieldPatternForm}
 use Rattle.src_ast.specs.declared.pattern.PatternForm.{PatternForm}
 use Rattle.src_ast.specs.Seen.{syn_of, nodes_of, maybe_of, word_of}
-use Rattle.src_ast.specs.Syntax.{Shape, AnyPattern, BindPattern, LiteralPattern, TruthPattern, PathPattern, PartsPattern, FieldsPattern, FieldPattern, ParensPattern, TuplePattern, ArrayPattern, Alternatives}
+use Rattle.src_ast.specs.Syntax.{Shape, AFieldPattern, Pattern, AnyPattern, BindPattern, LiteralPattern, TruthPattern, PathPattern, PartsPattern, FieldsPattern, ParensPattern, TuplePattern, ArrayPattern, Alternatives}
 
-abbrev pub pattern_of : PatternForm → Option Shape
+abbrev pub pattern_of : PatternForm → Option Pattern
 pattern_of PatternForm.Wild = Some AnyPattern
 pattern_of (PatternForm.Bind name) = Some (BindPattern name.now)
 pattern_of (PatternForm.Literal is_negative value suffix) = Some (LiteralPattern is_negative value suffix)
@@ -22,4 +22,4 @@ pattern_of (PatternForm.Or patterns) = Some (Alternatives (nodes_of patterns))
 pattern_of PatternForm.Other = None
 
 abbrev pub field_pattern_of : FieldPatternForm → Shape
-field_pattern_of f = FieldPattern f.name.now (maybe_of f.pattern)
+field_pattern_of f = AFieldPattern f.name.now (maybe_of f.pattern)

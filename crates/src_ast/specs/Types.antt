@@ -2,9 +2,9 @@
 use Rattle.std.specs.Prelude.{Option, Some, None}
 use Rattle.src_ast.specs.declared.ty.TypeForm.{TypeForm}
 use Rattle.src_ast.specs.Seen.{syn_of, nodes_of}
-use Rattle.src_ast.specs.Syntax.{Shape, NamedType, GenericType, DynType, SelfType, ParensType, TupleType, ArrayType, NeverType, RefType}
+use Rattle.src_ast.specs.Syntax.{WrittenType, NamedType, GenericType, DynType, SelfType, ParensType, TupleType, ArrayType, NeverType, RefType}
 
-abbrev pub type_of : TypeForm → Option Shape
+abbrev pub type_of : TypeForm → Option WrittenType
 type_of (TypeForm.Name name) = Some (NamedType name.now)
 type_of (TypeForm.Generic name content) = Some (GenericType name.now (syn_of content.now))
 type_of (TypeForm.Dyn name trait_at trait_name) = Some (DynType name.now (trait_at, trait_name.now))

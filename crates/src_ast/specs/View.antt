@@ -1,7 +1,6 @@
 -- From the rows of the grammar to the forms: one line a row. A row is its tokens and its nodes, each in their order;
--- the
--- tokens tell which of its parts are there.
-use Rattle.std.specs.Prelude.{ℕ, ◌==◌, Bool, true, false, ◌||◌, List, [], ◌∷◌, Option, Some, None, if◌then◌else◌, codes}
+-- the tokens tell which of its parts are there.
+use Rattle.std.specs.Prelude.{ℕ, Bool, true, false, ◌||◌, List, [], ◌∷◌, Option, Some, None, if◌then◌else◌, codes}
 use Rattle.std.specs.List.{list_any}
 use Rattle.std.specs.Option.{is_some}
 use Rattle.mir_base.specs.declared.int_kind.IntKind.{IntKind}
@@ -16,8 +15,8 @@ use Rattle.src_tree.specs.declared.row.GrammarRow.{GrammarRow}
 use Rattle.src_tree.specs.Grammar.{is}
 use Rattle.src_tree.specs.Layout as layout
 use Rattle.src_tree.specs.Layout.{node, Parts, end, tok, sub}
-use Rattle.src_ast.specs.Sorts.{sort_of}
-use Rattle.src_ast.specs.Syntax.{Word, Named, FieldsKind, Unit_, Tuple_, Fields_, ByValue, ByShared, ByUnique, Syn, syn, Shape, Ident, LabelOf, Literal, TruthLiteral, Path, Minus, Bang, Star, Ampersand, Calculate, Compare, Both, Either, Store, CallOf, MethodOf, FieldOf, PartOf, ElementOf, StructOf, FieldInit, Parens, TupleOf, ArrayOf, Braces, IfElse, IfLetElse, MatchOn, ArmOf, LoopOf, WhileOf, WhileLetOf, BreakOf, ContinueOf, ReturnOf, MoveOf, PanicOf, LetOf, Empty, Semi, AnyPattern, BindPattern, LiteralPattern, TruthPattern, PathPattern, PartsPattern, FieldsPattern, FieldPattern, ParensPattern, TuplePattern, ArrayPattern, Alternatives, NamedType, GenericType, DynType, SelfType, ParensType, TupleType, ArrayType, NeverType, RefType, StructItem, EnumItem, FieldDecl, VariantDecl, TraitItem, ImplItem, FnItem, ParamOf, SelfParam, Odd, Syns, no_syn, a_syn, MaybeSyn, nothing, just}
+use Rattle.src_ast.specs.Sorts.{statement_part}
+use Rattle.src_ast.specs.Syntax.{Word, Named, FieldsKind, Unit_, Tuple_, Fields_, ByValue, ByShared, ByUnique, Syn, syn, Shape, AName, ALabel, AnExpression, AStatement, APattern, AType, AnItem, AParam, AField, AVariant, AnInit, AFieldPattern, AnArm, Odd, Expression, Literal, TruthLiteral, Path, Minus, Bang, Star, Ampersand, Calculate, Compare, Both, Either, Store, CallOf, MethodOf, FieldOf, PartOf, ElementOf, StructOf, Parens, TupleOf, ArrayOf, Braces, IfElse, IfLetElse, MatchOn, LoopOf, WhileOf, WhileLetOf, BreakOf, ContinueOf, ReturnOf, MoveOf, PanicOf, LetOf, Empty, Semi, AnyPattern, BindPattern, LiteralPattern, TruthPattern, PathPattern, PartsPattern, FieldsPattern, ParensPattern, TuplePattern, ArrayPattern, Alternatives, NamedType, GenericType, DynType, SelfType, ParensType, TupleType, ArrayType, NeverType, RefType, StructItem, EnumItem, TraitItem, ImplItem, FnItem, Param, ParamOf, SelfParam, Syns, no_syn, a_syn, MaybeSyn, nothing, just}
 
 -- ---- tokens
 
@@ -137,7 +136,7 @@ from_just f (just s) = f s
 
 -- names that stand first in a list, and what is behind them
 abbrev pub ident_in : Shape → Option Word
-ident_in (Ident name) = Some name
+ident_in (AName name) = Some name
 ident_in _ = None
 
 abbrev pub is_ident : Syn → Bool
@@ -187,17 +186,17 @@ abbrev pub self_name : Word
 self_name = codes "self"
 
 abbrev pub is_statement : Syn → Bool
-is_statement (syn at form) = sort_of form == 2
+is_statement (syn at form) = is_some (statement_part form)
 
 -- an expression that stands last in a block is its tail
-abbrev pub block_by : Syns → MaybeSyn → Shape
+abbrev pub block_by : Syns → MaybeSyn → Expression
 block_by ss nothing = Braces ss nothing
 block_by ss (just last) = if is_statement last then Braces ss nothing else Braces (but_last ss) (just last)
 
 -- ---- rows
 
 -- one part without a comma is the part in parentheses
-abbrev pub round : (Syn → Shape) → (Syns → Shape) → List Token → Syns → Shape
+abbrev pub round : {A : Type 0} → (Syn → A) → (Syns → A) → List Token → Syns → A
 round one many ts (a_syn first no_syn) =
     if has_mark Mark.Comma ts || has_mark Mark.DotDot ts then many (a_syn first no_syn) else one first
 round one many ts ss = many ss
@@ -205,25 +204,26 @@ round one many ts ss = many ss
 abbrev pub prefix : List Token → Syn → Shape
 prefix [] operand = Odd
 prefix (t ∷ ts) operand =
-    if is (TokenKind.Mark Mark.Minus) t then Minus operand
-    else (if is (TokenKind.Mark Mark.Not) t then Bang operand
-    else (if is (TokenKind.Mark Mark.Star) t then Star operand else Ampersand (has_word Keyword.Mut ts) operand))
+    if is (TokenKind.Mark Mark.Minus) t then AnExpression (Minus operand)
+    else (if is (TokenKind.Mark Mark.Not) t then AnExpression (Bang operand)
+    else (if is (TokenKind.Mark Mark.Star) t then AnExpression (Star operand)
+    else AnExpression (Ampersand (has_word Keyword.Mut ts) operand)))
 
 abbrev pub if_row : Bool → Syns → Shape
-if_row true ss = with_three (λ p s b rest. IfLetElse p s b (first_of rest)) ss
-if_row false ss = with_two (λ c b rest. IfElse c b (first_of rest)) ss
+if_row true ss = with_three (λ p s b rest. AnExpression (IfLetElse p s b (first_of rest))) ss
+if_row false ss = with_two (λ c b rest. AnExpression (IfElse c b (first_of rest))) ss
 
 abbrev pub while_row : Bool → Option Word → Syns → Shape
-while_row true label ss = with_three (λ p s b rest. WhileLetOf label p s b) ss
-while_row false label ss = with_two (λ c b rest. WhileOf label c b) ss
+while_row true label ss = with_three (λ p s b rest. AnExpression (WhileLetOf label p s b)) ss
+while_row false label ss = with_two (λ c b rest. AnExpression (WhileOf label c b)) ss
 
 abbrev pub arm_row : Bool → Syns → Shape
-arm_row true ss = with_three (λ p g b rest. ArmOf p (just g) b) ss
-arm_row false ss = with_two (λ p b rest. ArmOf p nothing b) ss
+arm_row true ss = with_three (λ p g b rest. AnArm p (just g) b) ss
+arm_row false ss = with_two (λ p b rest. AnArm p nothing b) ss
 
 -- a label before it stands as a node, where it is gone to
 abbrev pub label_name : Shape → Option Word
-label_name (LabelOf name) = Some name
+label_name (ALabel name) = Some name
 label_name _ = None
 
 abbrev pub is_label : Syn → Bool
@@ -238,8 +238,8 @@ behind_label no_syn = no_syn
 behind_label (a_syn first rest) = if is_label first then rest else a_syn first rest
 
 abbrev pub let_row : Bool → Bool → Syn → Syns → Shape
-let_row true has_value p ss = with_first (λ ty rest. LetOf p (just ty) (first_of rest)) ss
-let_row false has_value p ss = LetOf p nothing (first_of ss)
+let_row true has_value p ss = with_first (λ ty rest. AStatement (LetOf p (just ty) (first_of rest))) ss
+let_row false has_value p ss = AStatement (LetOf p nothing (first_of ss))
 
 -- what stands behind the parameters: a type where there is an arrow, and a block
 abbrev pub behind_params : Bool → (Syns → MaybeSyn → Syn → Shape) → Syns → Shape
@@ -249,20 +249,20 @@ behind_params has_answer f ss =
 
 abbrev pub fn_row : Bool → Bool → Syns → Shape
 fn_row has_answer true ss =
-    with_first (λ name rest. behind_params has_answer (λ params answer block. FnItem (named name) params answer (just
-    block)) rest) ss
-fn_row true false ss = with_first (λ name rest. FnItem (named name) (but_last rest) (last_of rest) nothing) ss
-fn_row false false ss = with_first (λ name rest. FnItem (named name) rest nothing nothing) ss
+    with_first (λ name rest. behind_params has_answer (λ params answer block. AnItem (FnItem (named name) params answer
+    (just block))) rest) ss
+fn_row true false ss = with_first (λ name rest. AnItem (FnItem (named name) (but_last rest) (last_of rest) nothing)) ss
+fn_row false false ss = with_first (λ name rest. AnItem (FnItem (named name) rest nothing nothing)) ss
 
 -- captures stand first
 abbrev pub syns_of : List Named → Syns
 syns_of [] = no_syn
-syns_of (n ∷ ns) = a_syn (syn n.0 (Ident n.1)) (syns_of ns)
+syns_of (n ∷ ns) = a_syn (syn n.0 (AName n.1)) (syns_of ns)
 
 abbrev pub closure_row : Bool → Syns → Shape
 closure_row has_answer ss =
-    behind_params has_answer (λ params answer block. MoveOf (syns_of (idents ss)) params answer block) (behind_idents
-    ss)
+    behind_params has_answer (λ params answer block. AnExpression (MoveOf (syns_of (idents ss)) params answer block))
+    (behind_idents ss)
 
 abbrev pub kind_by : Bool → Bool → FieldsKind
 kind_by true parens = Fields_
@@ -273,11 +273,11 @@ abbrev pub kind_of : List Token → FieldsKind
 kind_of ts = kind_by (has_mark Mark.OpenBrace ts) (has_mark Mark.OpenParenthesis ts)
 
 abbrev pub impl_row : Bool → List Named → Syns → Shape
-impl_row true (trait_ ∷ name ∷ []) methods = ImplItem (Some trait_) name methods
-impl_row false (name ∷ []) methods = ImplItem None name methods
+impl_row true (trait_ ∷ name ∷ []) methods = AnItem (ImplItem (Some trait_) name methods)
+impl_row false (name ∷ []) methods = AnItem (ImplItem None name methods)
 impl_row _ _ methods = Odd
 
-abbrev pub self_row : List Token → Shape
+abbrev pub self_row : List Token → Param
 self_row ts =
     if has_mark Mark.And ts then SelfParam (if has_word Keyword.Mut ts then ByUnique else ByShared) else SelfParam
     ByValue
@@ -287,76 +287,81 @@ number_row f ts = f (a_number ts)
 
 abbrev pub made : GrammarRow → List Token → Syns → Shape
 made GrammarRow.Struct ts ss =
-    with_last_name (λ derives name. StructItem derives name (kind_of (behind_word Keyword.Struct ts)) (behind_idents
-    ss)) (idents ss)
-made GrammarRow.Enum ts ss = with_last_name (λ derives name. EnumItem derives name (behind_idents ss)) (idents ss)
-made GrammarRow.Trait ts ss = with_first (λ name heads. TraitItem (named name) heads) ss
+    with_last_name (λ derives name. AnItem (StructItem derives name (kind_of (behind_word Keyword.Struct ts))
+    (behind_idents ss))) (idents ss)
+made GrammarRow.Enum ts ss =
+    with_last_name (λ derives name. AnItem (EnumItem derives name (behind_idents ss))) (idents ss)
+made GrammarRow.Trait ts ss = with_first (λ name heads. AnItem (TraitItem (named name) heads)) ss
 made GrammarRow.Impl ts ss = impl_row (has_word Keyword.For ts) (idents ss) (behind_idents ss)
 made GrammarRow.Fn ts ss = fn_row (has_mark Mark.RArrow ts) true ss
 made GrammarRow.Method ts ss = fn_row (has_mark Mark.RArrow ts) true ss
 made GrammarRow.Head ts ss = fn_row (has_mark Mark.RArrow ts) false ss
-made GrammarRow.Field ts ss = with_first (λ ty rest. FieldDecl (a_name ts) ty) ss
-made GrammarRow.Variant ts ss = VariantDecl (a_name ts) (kind_of ts) ss
-made GrammarRow.Ident ts ss = Ident (a_name ts)
-made GrammarRow.NamedType ts ss = NamedType (a_name ts)
-made GrammarRow.GenericType ts ss = with_first (λ ty rest. GenericType (a_name ts) ty) ss
-made GrammarRow.DynType ts ss = with_first (λ name rest. DynType (a_name ts) (named name)) ss
-made GrammarRow.SelfType ts ss = SelfType
-made GrammarRow.TupleType ts ss = round ParensType TupleType ts ss
-made GrammarRow.ArrayType ts ss = with_first (λ ty rest. number_row (λ n. ArrayType ty n.0 n.1) ts) ss
-made GrammarRow.NeverType ts ss = NeverType
-made GrammarRow.RefType ts ss = with_first (λ ty rest. RefType (has_word Keyword.Mut ts) ty) ss
-made GrammarRow.WildPattern ts ss = AnyPattern
-made GrammarRow.BindPattern ts ss = BindPattern (a_name ts)
-made GrammarRow.NumberPattern ts ss = number_row (λ n. LiteralPattern (has_mark Mark.Minus ts) n.0 n.1) ts
-made GrammarRow.BoolPattern ts ss = TruthPattern (has_true ts)
-made GrammarRow.PathPattern ts ss = PathPattern (path_head ts) (path_tail ts ss)
-made GrammarRow.CallPattern ts ss = PartsPattern (path_head ts) (path_tail ts ss) (behind_path ts ss)
-    (has_mark Mark.DotDot ts)
+made GrammarRow.Field ts ss = with_first (λ ty rest. AField (a_name ts) ty) ss
+made GrammarRow.Variant ts ss = AVariant (a_name ts) (kind_of ts) ss
+made GrammarRow.Ident ts ss = AName (a_name ts)
+made GrammarRow.NamedType ts ss = AType (NamedType (a_name ts))
+made GrammarRow.GenericType ts ss = with_first (λ ty rest. AType (GenericType (a_name ts) ty)) ss
+made GrammarRow.DynType ts ss = with_first (λ name rest. AType (DynType (a_name ts) (named name))) ss
+made GrammarRow.SelfType ts ss = AType SelfType
+made GrammarRow.TupleType ts ss = AType (round ParensType TupleType ts ss)
+made GrammarRow.ArrayType ts ss = with_first (λ ty rest. number_row (λ n. AType (ArrayType ty n.0 n.1)) ts) ss
+made GrammarRow.NeverType ts ss = AType NeverType
+made GrammarRow.RefType ts ss = with_first (λ ty rest. AType (RefType (has_word Keyword.Mut ts) ty)) ss
+made GrammarRow.WildPattern ts ss = APattern AnyPattern
+made GrammarRow.BindPattern ts ss = APattern (BindPattern (a_name ts))
+made GrammarRow.NumberPattern ts ss = number_row (λ n. APattern (LiteralPattern (has_mark Mark.Minus ts) n.0 n.1)) ts
+made GrammarRow.BoolPattern ts ss = APattern (TruthPattern (has_true ts))
+made GrammarRow.PathPattern ts ss = APattern (PathPattern (path_head ts) (path_tail ts ss))
+made GrammarRow.CallPattern ts ss =
+    APattern (PartsPattern (path_head ts) (path_tail ts ss) (behind_path ts ss) (has_mark Mark.DotDot ts))
 made GrammarRow.StructPattern ts ss =
-    FieldsPattern (path_head ts) (path_tail ts ss) (behind_path ts ss) (has_mark Mark.DotDot ts)
-made GrammarRow.FieldPattern ts ss = FieldPattern (a_name ts) (first_of ss)
-made GrammarRow.TuplePattern ts ss = round ParensPattern (λ ps. TuplePattern ps (has_mark Mark.DotDot ts)) ts ss
-made GrammarRow.ArrayPattern ts ss = ArrayPattern ss (has_mark Mark.DotDot ts)
-made GrammarRow.OrPattern ts ss = Alternatives ss
-made GrammarRow.Param ts ss = with_two (λ p ty rest. ParamOf p ty) ss
-made GrammarRow.SelfParam ts ss = self_row ts
+    APattern (FieldsPattern (path_head ts) (path_tail ts ss) (behind_path ts ss) (has_mark Mark.DotDot ts))
+made GrammarRow.FieldPattern ts ss = AFieldPattern (a_name ts) (first_of ss)
+made GrammarRow.TuplePattern ts ss =
+    APattern (round ParensPattern (λ ps. TuplePattern ps (has_mark Mark.DotDot ts)) ts ss)
+made GrammarRow.ArrayPattern ts ss = APattern (ArrayPattern ss (has_mark Mark.DotDot ts))
+made GrammarRow.OrPattern ts ss = APattern (Alternatives ss)
+made GrammarRow.Param ts ss = with_two (λ p ty rest. AParam (ParamOf p ty)) ss
+made GrammarRow.SelfParam ts ss = AParam (self_row ts)
 made GrammarRow.Let ts ss = with_first (let_row (has_mark Mark.Colon ts) (has_mark Mark.Eq ts)) ss
-made GrammarRow.Empty ts ss = Empty
-made GrammarRow.Semi ts ss = with_first (λ e rest. Semi e) ss
-made GrammarRow.Block ts ss = block_by ss (last_of ss)
+made GrammarRow.Empty ts ss = AStatement Empty
+made GrammarRow.Semi ts ss = with_first (λ e rest. AStatement (Semi e)) ss
+made GrammarRow.Block ts ss = AnExpression (block_by ss (last_of ss))
 made GrammarRow.If ts ss = if_row (has_word Keyword.Let ts) ss
-made GrammarRow.Match ts ss = with_first (λ s arms. MatchOn s arms) ss
+made GrammarRow.Match ts ss = with_first (λ s arms. AnExpression (MatchOn s arms)) ss
 made GrammarRow.Arm ts ss = arm_row (has_word Keyword.If ts) ss
 made GrammarRow.LastArm ts ss = arm_row (has_word Keyword.If ts) ss
-made GrammarRow.Loop ts ss = with_first (λ b rest. LoopOf (a_label ts) b) ss
+made GrammarRow.Loop ts ss = with_first (λ b rest. AnExpression (LoopOf (a_label ts) b)) ss
 made GrammarRow.While ts ss = while_row (has_word Keyword.Let ts) (a_label ts) ss
-made GrammarRow.Return ts ss = ReturnOf (first_of ss)
-made GrammarRow.Break ts ss = BreakOf (label_of (first_of ss)) (first_of (behind_label ss))
-made GrammarRow.Continue ts ss = ContinueOf (label_of (first_of ss))
-made GrammarRow.LabelName ts ss = LabelOf (or_empty (a_label ts))
+made GrammarRow.Return ts ss = AnExpression (ReturnOf (first_of ss))
+made GrammarRow.Break ts ss = AnExpression (BreakOf (label_of (first_of ss)) (first_of (behind_label ss)))
+made GrammarRow.Continue ts ss = AnExpression (ContinueOf (label_of (first_of ss)))
+made GrammarRow.LabelName ts ss = ALabel (or_empty (a_label ts))
 made GrammarRow.Closure ts ss = closure_row (has_mark Mark.RArrow ts) ss
-made GrammarRow.Panic ts ss = PanicOf
-made GrammarRow.Assign ts ss = with_two (λ a b rest. Store a b) ss
-made GrammarRow.Or ts ss = with_two (λ a b rest. Either a b) ss
-made GrammarRow.And ts ss = with_two (λ a b rest. Both a b) ss
-made GrammarRow.Compare ts ss = made_by (λ op. with_two (λ a b rest. Compare op a b) ss) (first_that cmp_in ts)
-made GrammarRow.Sum ts ss = made_by (λ op. with_two (λ a b rest. Calculate op a b) ss) (first_that math_in ts)
-made GrammarRow.Product ts ss = made_by (λ op. with_two (λ a b rest. Calculate op a b) ss) (first_that math_in ts)
+made GrammarRow.Panic ts ss = AnExpression PanicOf
+made GrammarRow.Assign ts ss = with_two (λ a b rest. AnExpression (Store a b)) ss
+made GrammarRow.Or ts ss = with_two (λ a b rest. AnExpression (Either a b)) ss
+made GrammarRow.And ts ss = with_two (λ a b rest. AnExpression (Both a b)) ss
+made GrammarRow.Compare ts ss =
+    made_by (λ op. with_two (λ a b rest. AnExpression (Compare op a b)) ss) (first_that cmp_in ts)
+made GrammarRow.Sum ts ss =
+    made_by (λ op. with_two (λ a b rest. AnExpression (Calculate op a b)) ss) (first_that math_in ts)
+made GrammarRow.Product ts ss =
+    made_by (λ op. with_two (λ a b rest. AnExpression (Calculate op a b)) ss) (first_that math_in ts)
 made GrammarRow.Prefix ts ss = with_first (λ e rest. prefix ts e) ss
-made GrammarRow.FieldAccess ts ss = with_first (λ e rest. FieldOf e (a_name ts)) ss
-made GrammarRow.MethodCall ts ss = with_first (λ e args. MethodOf e (a_name ts) args) ss
-made GrammarRow.TupleField ts ss = with_first (λ e rest. number_row (λ n. PartOf e n.0) ts) ss
-made GrammarRow.Call ts ss = with_first (λ e args. CallOf e args) ss
-made GrammarRow.Index ts ss = with_two (λ a b rest. ElementOf a b) ss
-made GrammarRow.Number ts ss = number_row (λ n. Literal n.0 n.1) ts
-made GrammarRow.Truth ts ss = TruthLiteral (has_true ts)
-made GrammarRow.SelfValue ts ss = Path (Some self_name) None
-made GrammarRow.Path ts ss = Path (path_head ts) (path_tail ts ss)
-made GrammarRow.StructExpr ts ss = StructOf (path_head ts) (path_tail ts ss) (behind_path ts ss)
-made GrammarRow.FieldInit ts ss = FieldInit (a_name ts) (first_of ss)
-made GrammarRow.Round ts ss = round Parens TupleOf ts ss
-made GrammarRow.Square ts ss = ArrayOf ss
+made GrammarRow.FieldAccess ts ss = with_first (λ e rest. AnExpression (FieldOf e (a_name ts))) ss
+made GrammarRow.MethodCall ts ss = with_first (λ e args. AnExpression (MethodOf e (a_name ts) args)) ss
+made GrammarRow.TupleField ts ss = with_first (λ e rest. number_row (λ n. AnExpression (PartOf e n.0)) ts) ss
+made GrammarRow.Call ts ss = with_first (λ e args. AnExpression (CallOf e args)) ss
+made GrammarRow.Index ts ss = with_two (λ a b rest. AnExpression (ElementOf a b)) ss
+made GrammarRow.Number ts ss = number_row (λ n. AnExpression (Literal n.0 n.1)) ts
+made GrammarRow.Truth ts ss = AnExpression (TruthLiteral (has_true ts))
+made GrammarRow.SelfValue ts ss = AnExpression (Path (Some self_name) None)
+made GrammarRow.Path ts ss = AnExpression (Path (path_head ts) (path_tail ts ss))
+made GrammarRow.StructExpr ts ss = AnExpression (StructOf (path_head ts) (path_tail ts ss) (behind_path ts ss))
+made GrammarRow.FieldInit ts ss = AnInit (a_name ts) (first_of ss)
+made GrammarRow.Round ts ss = AnExpression (round Parens TupleOf ts ss)
+made GrammarRow.Square ts ss = AnExpression (ArrayOf ss)
 made GrammarRow.File ts ss = Odd
 
 -- the form of a node

@@ -12,7 +12,7 @@ use Rattle.typing_rules.specs.Items.{adt_names, all_kinds, trait_names}
 use Rattle.typing_rules.specs.Places.{unit}
 use Rattle.typing_rules.specs.Program.{outermost}
 use Rattle.typing_rules.specs.Scope.{LabelledLoop, NamedEntry, Env}
-use Rattle.src_ast.specs.Syntax.{FieldsKind, Syn, Word}
+use Rattle.src_ast.specs.Syntax.{Word, FieldsKind, Syn}
 use Rattle.type_check.specs.Start.{HasItemTables, HasImplTables}
 use Rattle.type_check.specs.declared.start.TextTables.{TextTables}
 use Rattle.type_check.specs.declared.start.ItemTables.{ItemTables}

@@ -2,7 +2,7 @@
 use Rattle.std.specs.Prelude.{Option, Some, None}
 use Rattle.mir_base.specs.declared.place_in_text.Pos.{Pos}
 use Rattle.mir_base.specs.declared.rule.Rule.{Rule}
-use Rattle.src_ast.specs.Syntax.{ImplItem, FnItem, MaybeSyn, Shape, Syn, Syns, list_of}
+use Rattle.src_ast.specs.Syntax.{Syn, Item, ImplItem, FnItem, MaybeSyn, Syns, list_of}
 use Rattle.src_ast.specs.View.{view}
 use Rattle.src_tree.specs.View.{Single, a_token, a_node}
 use Rattle.typing_rules.specs.Bodies.{fn_body}
@@ -17,13 +17,13 @@ fn_check env at params answer block = do
   _ ← fn_body env at params answer (block_of block at)
   pure tt
 
-abbrev pub fn_by : Env → Pos → Option Shape → Check (Unit {0})
+abbrev pub fn_by : Env → Pos → Option Item → Check (Unit {0})
 fn_by env at (Some (FnItem name params answer block)) = fn_check env at params answer block
 fn_by env at _ = breaks Rule.T20 at
 
 -- ---- items
 
-abbrev pub bodies_by : Env → Pos → Option Shape → Check (Unit {0})
+abbrev pub bodies_by : Env → Pos → Option Item → Check (Unit {0})
 bodies_by env at (Some (ImplItem trait_ name methods)) = do
   items ← the_items
   all_fn_rules (in_impl env (adt_named items name.1)) (list_of methods)

@@ -3,7 +3,7 @@ use Rattle.std.proofs.Common.{◌≡◌, ℕ, suc, ◌+◌, List, ◌∷◌, Res
 use Rattle.mir_base.specs.declared.rule.RuleError.{RuleError}
 use Rattle.typeck_checker.specs.Lists.{below_all, nodes_on}
 use Rattle.typeck_heads.specs.Answers.{Refuses}
-use Rattle.src_ast.specs.Syntax.{Named, Ident, syn}
+use Rattle.src_ast.specs.Syntax.{Named, syn, AName}
 use Rattle.src_ast.specs.View.{syns_of}
 use Rattle.typeck_checker.specs.Stand.{below, top}
 use Rattle.typed_tree.specs.Tree.{Node, Nodes, a_node}
@@ -33,7 +33,7 @@ under_one k m ns more origin h under next = ap (λ (n : ℕ). below_all n more) 
 
 pub capture_step : (w : Env) (whole : Listed) (k m : ℕ) (ns more : List Node) (all rest : List Named) (name : Named) (xs ys : List NamedEntry) (s t : TypingState) →
     whole ≡ behind k ns (captured w k (syns_of all) xs s) → name ∷ rest ≡ all →
-    capture w k (syn name.0 (Ident name.1)) xs s ≡ Ok ((top more, ys), t) → below more ≡ ns → m ≡ k + 1 →
+    capture w k (syn name.0 (AName name.1)) xs s ≡ Ok ((top more, ys), t) → below more ≡ ns → m ≡ k + 1 →
     whole ≡ behind m more (captured w m (syns_of rest) ys t)
 capture_step w whole k m ns more all rest name xs ys s t h split here under next =
     h ∙ ap (λ (z : List Named). behind k ns (captured w k (syns_of z) xs s)) (sym split)
@@ -48,8 +48,8 @@ stopped_behind k ns o f RuleError.Memory h = tt
 
 pub capture_stop : (w : Env) (whole : Listed) (k : ℕ) (ns : List Node) (all rest : List Named) (name : Named) (xs : List NamedEntry) (s : TypingState) (err : RuleError) →
     whole ≡ behind k ns (captured w k (syns_of all) xs s) → name ∷ rest ≡ all →
-    Refuses (capture w k (syn name.0 (Ident name.1)) xs s) err → Refuses whole err
+    Refuses (capture w k (syn name.0 (AName name.1)) xs s) err → Refuses whole err
 capture_stop w whole k ns all rest name xs s (RuleError.Broken rule at) h split here =
     h ∙ ap (λ (z : List Named). behind k ns (captured w k (syns_of z) xs s)) (sym split)
-    ∙ stopped_behind k ns (capture w k (syn name.0 (Ident name.1)) xs s) (λ c. λ u. and_then (captured w (suc k) (syns_of rest) c.1 u) (λ cs. pure (a_node c.0 cs.0, cs.1))) (RuleError.Broken rule at) here
+    ∙ stopped_behind k ns (capture w k (syn name.0 (AName name.1)) xs s) (λ c. λ u. and_then (captured w (suc k) (syns_of rest) c.1 u) (λ cs. pure (a_node c.0 cs.0, cs.1))) (RuleError.Broken rule at) here
 capture_stop w whole k ns all rest name xs s RuleError.Memory h split here = tt

@@ -2,17 +2,17 @@
 use Rattle.std.specs.Prelude.{Bool, false, List, Option, Some, None}
 use Rattle.mir_base.specs.declared.place_in_text.Pos.{Pos}
 use Rattle.mir_base.specs.declared.rule.Rule.{Rule}
-use Rattle.src_ast.specs.Syntax.{Shape, syn}
+use Rattle.src_ast.specs.Syntax.{syn, AParam, Pattern, Param}
 use Rattle.typed_tree.specs.Tree.{ParamTree}
 use Rattle.typing_rules.specs.Bodies.{is_name_or_wildcard_form, param}
 use Rattle.typing_rules.specs.Check.{Check, breaks}
 use Rattle.typing_rules.specs.Scope.{Env, NamedEntry}
 use Rattle.typeck_bodies.specs.ParamRests.{type_by}
 
-abbrev pub plain_as : Option Shape → Bool
+abbrev pub plain_as : Option Pattern → Bool
 plain_as None = false
-plain_as (Some form) = is_name_or_wildcard_form form
+plain_as (Some p) = is_name_or_wildcard_form p
 
-abbrev pub param_as : Env → Bool → Pos → Option Shape → List NamedEntry → Check (ParamTree × List NamedEntry)
+abbrev pub param_as : Env → Bool → Pos → Option Param → List NamedEntry → Check (ParamTree × List NamedEntry)
 param_as env may_refer at None earlier = breaks Rule.T20 at
-param_as env may_refer at (Some form) earlier = param env (type_by env may_refer) (syn at form) earlier
+param_as env may_refer at (Some p) earlier = param env (type_by env may_refer) (syn at (AParam p)) earlier

@@ -2,7 +2,7 @@
 ghost use Rattle.std.specs.Prelude.{◌≡◌, ◌∷◌, ◌+◌, is_some, not, reverse, IfErr, IfOk, OnOk};
 ghost use Rattle.mir_base.specs.declared.rule.RuleError.{RuleError};
 ghost use Rattle.src_ast.specs.Seen.{nodes_of};
-ghost use Rattle.src_ast.specs.Syntax.{syn, Ident};
+ghost use Rattle.src_ast.specs.Syntax.{syn, AName};
 ghost use Rattle.src_ast.specs.View.{idents, syns_of};
 ghost use Rattle.typeck_checker.specs.Variables.{found_as};
 ghost use Rattle.typeck_bodies.specs.CaptureAnswers.{GivesCaptures, KeepsBelow};
@@ -107,7 +107,7 @@ fn capture(
     at: Pos,
     name: &str,
 ) -> Result<(), RuleError>
-    ensures gives { GivesBound (bodies.capture (env checker.old) part (syn at (Ident name.now)) (reverse bound.old) (state checker.old)) result bound.new checker.new }
+    ensures gives { GivesBound (bodies.capture (env checker.old) part (syn at (AName name.now)) (reverse bound.old) (state checker.old)) result bound.new checker.new }
     ensures kept { KeepsStack (stack checker.old) checker.old result checker.new }
 {
     match variable(checker, name) {

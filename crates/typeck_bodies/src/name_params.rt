@@ -9,7 +9,7 @@ ghost use Rattle.typing_rules.specs.Bodies as bodies;
 ghost use Rattle.typing_rules.specs.Places.{a_node_of, used};
 ghost use Rattle.typing_rules.specs.Rows as rows;
 ghost use Rattle.typeck_bodies.specs.ParamAnswers.{GivesNamed, GivesParam};
-ghost use Rattle.typeck_bodies.specs.ParamRests.{receiver_rest, self_param_of, self_rest};
+ghost use Rattle.typing_rules.specs.Bodies.{receiver_end, self_param, self_param_end};
 
 use mir_base::{Key, Name, NoMemory, NodeId, Pos, Rule, RuleError};
 use mir_ty::{Ty, TyId};
@@ -87,7 +87,7 @@ fn self_named(
     at: Pos,
     ty: TyId,
 ) -> Result<TyId, RuleError>
-    ensures gives { GivesParam (self_rest at ty (reverse bound.old) (state checker.old)) result bound.new checker.new }
+    ensures gives { GivesParam (self_param_end at ty (reverse bound.old) (state checker.old)) result bound.new checker.new }
     ensures kept { KeepsStack (stack checker.old) checker.old result checker.new }
 {
     let id = name_param(checker, at, "self", ty)?;
@@ -107,7 +107,7 @@ fn self_ty(checker: &mut Checker, receiver: Receiver, own: TyId) -> Result<TyId,
 }
 
 fn receiver_of(checker: &mut Checker, receiver: Receiver, adt: u32) -> Result<TyId, RuleError>
-    ensures gives { GivesValue (λ ty. ty) (receiver_rest (receiver_seen receiver) adt (state checker.old)) result checker.new }
+    ensures gives { GivesValue (λ ty. ty) (receiver_end (receiver_seen receiver) adt (state checker.old)) result checker.new }
     ensures same { ChangesNothing checker.old checker.new }
 {
     let own = checker.intern(Ty::Adt(adt))?;
@@ -135,7 +135,7 @@ pub fn self_param(
     at: Pos,
     receiver: Receiver,
 ) -> Result<TyId, RuleError>
-    ensures gives { GivesParam (self_param_of (env checker.old) at (receiver_seen receiver) (reverse bound.old) (state checker.old)) result bound.new checker.new }
+    ensures gives { GivesParam (self_param (env checker.old) at (receiver_seen receiver) (reverse bound.old) (state checker.old)) result bound.new checker.new }
     ensures kept { KeepsStack (stack checker.old) checker.old result checker.new }
 {
     let ty = receiver_ty(checker, at, receiver)?;

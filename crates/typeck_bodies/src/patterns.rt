@@ -5,7 +5,8 @@ ghost use Rattle.typeck_checker.specs.Stand.{GivesValue, KeepsStack, ChangesNoth
 ghost use Rattle.typing_rules.specs.Bodies as bodies;
 ghost use Rattle.well_typed.specs.Types as types;
 ghost use Rattle.typeck_bodies.specs.ParamAnswers.{GivesParam};
-ghost use Rattle.typeck_bodies.specs.ParamRests.{part_rest, pattern_rest, type_by, typed_param_of};
+ghost use Rattle.typeck_bodies.specs.ParamRests.{type_by, typed_param_of};
+ghost use Rattle.typing_rules.specs.Bodies.{part_param_end, pattern_param_end};
 
 use mir_base::{Pos, Rule, RuleError};
 use mir_ty::{Items, TyId};
@@ -42,7 +43,7 @@ fn part_param(
     ty: TyId,
     pattern: &SyntaxNode,
 ) -> Result<TyId, RuleError>
-    ensures gives { GivesParam (part_rest (env checker.old) ty (syn_of pattern.now) (reverse bound.old) (state checker.old)) result bound.new checker.new }
+    ensures gives { GivesParam (part_param_end (env checker.old) ty (syn_of pattern.now) (reverse bound.old) (state checker.old)) result bound.new checker.new }
     ensures kept { KeepsStack (stack checker.old) checker.old result checker.new }
 {
     let e = PatternContext {
@@ -60,7 +61,7 @@ fn pattern_param(
     ty: TyId,
     pattern: &SyntaxNode,
 ) -> Result<TyId, RuleError>
-    ensures gives { GivesParam (pattern_rest (env checker.old) at ty (syn_of pattern.now) (reverse bound.old) (state checker.old)) result bound.new checker.new }
+    ensures gives { GivesParam (pattern_param_end (env checker.old) at ty (syn_of pattern.now) (reverse bound.old) (state checker.old)) result bound.new checker.new }
     ensures kept { KeepsStack (stack checker.old) checker.old result checker.new }
 {
     let may = may_have(&checker.walk.items, ty, pattern);

@@ -8,11 +8,11 @@ use Rattle.mir_ty.specs.declared.ty.TyId.{TyId}
 use Rattle.typeck_calls.specs.Calls.{Arguments}
 use Rattle.typed_tree.specs.Tree.{Node}
 use Rattle.typing_rules.specs.Check.{TypingState, ◌>>=◌}
-use Rattle.typing_rules.specs.Rows.{with_closure}
+use Rattle.typing_rules.specs.Rows.{closure_end, with_closure}
 use Rattle.well_typed.specs.Places.{ty_of}
 use Rattle.well_typed.specs.Types.{closure_of}
 use Rattle.typeck_calls.specs.Closures.{body_seen, closure_seen}
-use Rattle.typeck_calls.specs.CalleeRests.{callee_rest, closure_rest}
+use Rattle.typeck_calls.specs.CalleeRests.{callee_rest}
 use Rattle.typeck_calls.specs.declared.closures.ClosureCallee.{ClosureCallee}
 
 module _ (id : ℕ) (at : Pos) (expected : Option TyId) (c : Node) (count : ℕ) (args : Arguments) (s : TypingState) where
@@ -38,13 +38,13 @@ module _ (id : ℕ) (at : Pos) (expected : Option TyId) (c : Node) (count : ℕ)
   behind callee first is = sym (ap (λ (x : ClosureCallee). (args x.params >>= callee_rest id at expected x c count) s) is)
 
   pub closure_given : (body : ℕ) (callee : ClosureCallee) → Some body ≡ body_seen s.items (ty_of c) → callee ≡ closure_seen body (slice_get s.items.bodies body) →
-      closure_rest id at expected c count args s ≡ (args callee.params >>= callee_rest id at expected callee c count) s
+      closure_end id at expected c count args s ≡ (args callee.params >>= callee_rest id at expected callee c count) s
   closure_given body callee is same =
       some_def body (option_and_then (slice_get s.items.closures) (closure_of s.items (ty_of c))) is
       ∙ by_head body (slice_get s.items.bodies body) ∙ behind callee (closure_seen body (slice_get s.items.bodies body)) same
 
   pub closure_none : (callee : ClosureCallee) → None ≡ body_seen s.items (ty_of c) → callee ≡ closure_seen 0 None →
-      closure_rest id at expected c count args s ≡ (args callee.params >>= callee_rest id at expected callee c count) s
+      closure_end id at expected c count args s ≡ (args callee.params >>= callee_rest id at expected callee c count) s
   closure_none callee is same =
       no_def (option_and_then (slice_get s.items.closures) (closure_of s.items (ty_of c))) is
       ∙ by_head 0 None ∙ behind callee (closure_seen 0 None) same

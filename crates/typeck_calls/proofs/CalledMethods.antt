@@ -12,14 +12,14 @@ use Rattle.typeck_checker.specs.declared.checker.Checker.{Checker}
 use Rattle.typed_tree.specs.Tree.{Node, Nodes}
 use Rattle.typing_rules.specs.Check.{Broken, Check, TypingState, and_then, ◌>>=◌, ◌>>◌, pure, breaks, obeys, the_items}
 use Rattle.typing_rules.specs.Places.{Coerced, Differs, Fit, Fits, Member, a_node_of, fit, is_behind_shared, through}
-use Rattle.typing_rules.specs.Rows.{Method, fitted, fitted_by, head_of, is_drop_method, is_unique_borrow, method_form, received, takes_self, with_method, with_self}
+use Rattle.typing_rules.specs.Rows.{fitted, fitted_by, head_of, is_drop_method, is_unique_borrow, Method, method_end, method_form, received, takes_self, with_method, with_self}
 use Rattle.typing_rules.specs.Scope.{Env}
 use Rattle.well_typed.specs.Places.{form_of, ty_of}
 use Rattle.well_typed.specs.Types.{is_same, reference_of}
 use Rattle.typeck_calls.proofs.Steps.{items_in}
 use Rattle.typeck_calls.specs.Calls.{Arguments, GivesCall}
 use Rattle.typeck_calls.specs.Methods.{borrows_shared, self_of}
-use Rattle.typeck_calls.specs.Rests.{called_rest, method_rest, receiver_by, refused_rest}
+use Rattle.typeck_calls.specs.Rests.{called_rest, receiver_by, refused_rest}
 use Rattle.typeck_calls.specs.declared.receivers.Called.{Called}
 
 -- ---- the type of `self`
@@ -148,7 +148,7 @@ some_of (Some x) h = (x, refl)
 
 pub receiver_as : (env env_after : Env) (id : ℕ) (at : Pos) (named : Member Method) (expected : Option TyId) (base n : Node) (found : Option Method) (f : Method) (s t : TypingState) →
     through named at base s ≡ Ok ((n, found), t) → found ≡ Some f → env_after ≡ env → (count : ℕ) (args : Arguments) →
-    method_rest env id at named expected base count args s ≡ with_method env_after at id n (Some f) count args expected t
+    method_end env id at named expected base count args s ≡ with_method env_after at id n (Some f) count args expected t
 receiver_as env env_after id at named expected base n found f s t e is same count args =
     ap (λ r. and_then r (λ x. with_method env at id x.0 x.1 count args expected)) e
     ∙ ap (λ (m : Option Method). with_method env at id n m count args expected t) is

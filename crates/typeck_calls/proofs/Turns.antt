@@ -6,7 +6,7 @@ use Rattle.mir_base.specs.declared.rule.RuleError.{RuleError}
 use Rattle.mir_ty.specs.declared.adt.Variant.{Variant}
 use Rattle.typeck_heads.specs.Answers.{Refuses}
 use Rattle.typeck_checker.specs.Lists.{below_all, last_nodes, nodes_on}
-use Rattle.src_ast.specs.Syntax.{Syn, syn, Syns, no_syn, a_syn, Shape, Ident, LabelOf, Literal, TruthLiteral, Path, Minus, Bang, Star, Ampersand, Calculate, Compare, Both, Either, Store, CallOf, MethodOf, FieldOf, PartOf, ElementOf, StructOf, FieldInit, Parens, TupleOf, ArrayOf, Braces, IfElse, IfLetElse, MatchOn, ArmOf, LoopOf, WhileOf, WhileLetOf, BreakOf, ContinueOf, ReturnOf, MoveOf, PanicOf, LetOf, Empty, Semi, AnyPattern, BindPattern, LiteralPattern, TruthPattern, PathPattern, PartsPattern, FieldsPattern, FieldPattern, ParensPattern, TuplePattern, ArrayPattern, Alternatives, NamedType, GenericType, DynType, SelfType, ParensType, TupleType, ArrayType, NeverType, RefType, StructItem, EnumItem, FieldDecl, VariantDecl, TraitItem, ImplItem, FnItem, ParamOf, SelfParam, Odd}
+use Rattle.src_ast.specs.Syntax.{Syn, syn, Shape, AnInit, Syns, no_syn, a_syn}
 use Rattle.typeck_calls.specs.StructFields.{numbered_by}
 use Rattle.typeck_checker.specs.Stand.{below, top}
 use Rattle.typed_tree.specs.Tree.{Node, Nodes, no_node, a_node, Fields, no_field, a_field}
@@ -87,78 +87,9 @@ named_first k f (Err e) = refl
 
 with_form : (env : Env) (v : Variant) (at : Pos) (form : Shape) (rest : Syns) (s : TypingState) →
     typed_inits env v (a_syn (syn at form) rest) s ≡ and_then (one_init env v (syn at form) s) (with_rest env v rest)
-with_form env v at (Ident a) rest s = refl
-with_form env v at (LabelOf a) rest s = refl
-with_form env v at (Literal a b) rest s = refl
-with_form env v at (TruthLiteral a) rest s = refl
-with_form env v at (Path a b) rest s = refl
-with_form env v at (Minus a) rest s = refl
-with_form env v at (Bang a) rest s = refl
-with_form env v at (Star a) rest s = refl
-with_form env v at (Ampersand a b) rest s = refl
-with_form env v at (Calculate a b c) rest s = refl
-with_form env v at (Compare a b c) rest s = refl
-with_form env v at (Both a b) rest s = refl
-with_form env v at (Either a b) rest s = refl
-with_form env v at (Store a b) rest s = refl
-with_form env v at (CallOf a b) rest s = refl
-with_form env v at (MethodOf a b c) rest s = refl
-with_form env v at (FieldOf a b) rest s = refl
-with_form env v at (PartOf a b) rest s = refl
-with_form env v at (ElementOf a b) rest s = refl
-with_form env v at (StructOf a b c) rest s = refl
-with_form env v at (FieldInit a b) rest s =
+with_form env v at (AnInit a b) rest s =
     named_first (field_named v a) (with_rest env v rest) (init_value env at a b (field_want v (field_named v a)) s)
-with_form env v at (Parens a) rest s = refl
-with_form env v at (TupleOf a) rest s = refl
-with_form env v at (ArrayOf a) rest s = refl
-with_form env v at (Braces a b) rest s = refl
-with_form env v at (IfElse a b c) rest s = refl
-with_form env v at (IfLetElse a b c d) rest s = refl
-with_form env v at (MatchOn a b) rest s = refl
-with_form env v at (ArmOf a b c) rest s = refl
-with_form env v at (LoopOf a b) rest s = refl
-with_form env v at (WhileOf a b c) rest s = refl
-with_form env v at (WhileLetOf a b c d) rest s = refl
-with_form env v at (BreakOf a b) rest s = refl
-with_form env v at (ContinueOf a) rest s = refl
-with_form env v at (ReturnOf a) rest s = refl
-with_form env v at (MoveOf a b c d) rest s = refl
-with_form env v at PanicOf rest s = refl
-with_form env v at (LetOf a b c) rest s = refl
-with_form env v at Empty rest s = refl
-with_form env v at (Semi a) rest s = refl
-with_form env v at AnyPattern rest s = refl
-with_form env v at (BindPattern a) rest s = refl
-with_form env v at (LiteralPattern a b c) rest s = refl
-with_form env v at (TruthPattern a) rest s = refl
-with_form env v at (PathPattern a b) rest s = refl
-with_form env v at (PartsPattern a b c d) rest s = refl
-with_form env v at (FieldsPattern a b c d) rest s = refl
-with_form env v at (FieldPattern a b) rest s = refl
-with_form env v at (ParensPattern a) rest s = refl
-with_form env v at (TuplePattern a b) rest s = refl
-with_form env v at (ArrayPattern a b) rest s = refl
-with_form env v at (Alternatives a) rest s = refl
-with_form env v at (NamedType a) rest s = refl
-with_form env v at (GenericType a b) rest s = refl
-with_form env v at (DynType a b) rest s = refl
-with_form env v at SelfType rest s = refl
-with_form env v at (ParensType a) rest s = refl
-with_form env v at (TupleType a) rest s = refl
-with_form env v at (ArrayType a b c) rest s = refl
-with_form env v at NeverType rest s = refl
-with_form env v at (RefType a b) rest s = refl
-with_form env v at (StructItem a b c d) rest s = refl
-with_form env v at (EnumItem a b c) rest s = refl
-with_form env v at (FieldDecl a b) rest s = refl
-with_form env v at (VariantDecl a b c) rest s = refl
-with_form env v at (TraitItem a b) rest s = refl
-with_form env v at (ImplItem a b c) rest s = refl
-with_form env v at (FnItem a b c d) rest s = refl
-with_form env v at (ParamOf a b) rest s = refl
-with_form env v at (SelfParam a) rest s = refl
-with_form env v at Odd rest s = refl
+with_form env v at _ rest s = refl
 
 with_init : (env : Env) (v : Variant) (x : Syn) (rest : Syns) (s : TypingState) →
     typed_inits env v (a_syn x rest) s ≡ and_then (one_init env v x s) (with_rest env v rest)

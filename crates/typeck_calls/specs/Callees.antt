@@ -2,7 +2,7 @@
 use Rattle.std.specs.Prelude.{ℕ, suc, [], Option, Some, None, slice_get}
 use Rattle.std.specs.Option.{option_map_or}
 use Rattle.mir_ty.specs.ItemTable.{ItemTable}
-use Rattle.src_ast.specs.Syntax.{Parens, Shape, Syn, syn}
+use Rattle.src_ast.specs.Syntax.{Syn, syn, AnExpression, Expression, Parens}
 use Rattle.typing_rules.specs.Named as named
 use Rattle.typing_rules.specs.Named.{callee_of, callee_by, function_by}
 use Rattle.typing_rules.specs.Scope.{Env}
@@ -29,19 +29,20 @@ callee_seen items (Callee.Unnamed rule) = named.Unnamed rule
 callee_seen items Callee.NoCallee = named.NoCallee
 
 -- a callee by its form, where it has the form of an expression
-abbrev pub callee_seen_by : ItemTable → Env → Option Shape → named.Callee
+abbrev pub callee_seen_by : ItemTable → Env → Option Expression → named.Callee
 callee_seen_by items env None = named.AValue
-callee_seen_by items env (Some form) = callee_by items env form
+callee_seen_by items env (Some e) = callee_by items env e
 
 -- how many parentheses stand around an expression
 abbrev mutual
   pub parens : Syn → ℕ
-  parens (syn at form) = parens_form form
+  parens (syn at (AnExpression e)) = parens_form e
+  parens _ = 0
 
-  pub parens_form : Shape → ℕ
+  pub parens_form : Expression → ℕ
   parens_form (Parens inside) = suc (parens inside)
   parens_form _ = 0
 
-abbrev pub parens_seen : Option Shape → ℕ
+abbrev pub parens_seen : Option Expression → ℕ
 parens_seen None = 0
-parens_seen (Some form) = parens_form form
+parens_seen (Some e) = parens_form e

@@ -8,7 +8,7 @@ use Rattle.mir_ty.specs.declared.adt.Variant.{Variant}
 use Rattle.mir_ty.specs.declared.ty.TyId.{TyId}
 use Rattle.typeck_heads.specs.Answers.{Refuses}
 use Rattle.typeck_checker.specs.Lists.{below_all, last_nodes}
-use Rattle.src_ast.specs.Syntax.{FieldInit, Shape, Syn, syn, Word}
+use Rattle.src_ast.specs.Syntax.{Word, Syn, syn, Shape, AnInit}
 use Rattle.typeck_calls.specs.StructFields.{numbered_by}
 use Rattle.typeck_env.specs.declared.members.AdtNames.{AdtNames}
 use Rattle.typeck_checker.specs.Stand.{Stays, stack, state, top}
@@ -35,14 +35,14 @@ variant_by name tables adt variant types =
 
 -- the number of the field that is named, if there is one, and the node of its value
 abbrev pub one_init : Env → Variant → Syn → Check (Option ℕ × Node)
-one_init env v (syn at (FieldInit name init)) = do
+one_init env v (syn at (AnInit name init)) = do
   n ← init_value env at name init (field_want v (field_named v name))
   pure (field_named v name, n)
 one_init env v (syn at form) = breaks Rule.T20 at
 
 -- the same by the form of the initialiser, where it has one
 abbrev pub init_by : Env → Variant → Pos → Option Shape → Check (Option ℕ × Node)
-init_by env v at (Some (FieldInit name init)) = do
+init_by env v at (Some (AnInit name init)) = do
   n ← init_value env at name init (field_want v (field_named v name))
   pure (field_named v name, n)
 init_by env v at _ = breaks Rule.T20 at

@@ -6,10 +6,9 @@ use Rattle.mir_ty.specs.declared.ty.TyId.{TyId}
 use Rattle.typed_tree.specs.Tree as tree
 use Rattle.typed_tree.specs.Tree.{Node, Nodes}
 use Rattle.typeck_checker.specs.Lists.{behind_form}
-use Rattle.typeck_exprs.specs.CallRests.{counted_rest}
 use Rattle.typing_rules.specs.Check.{Check, ◌>>=◌, ◌>>◌, pure, breaks, obeys, known, the_items}
 use Rattle.typing_rules.specs.Places.{Member, a_node_of, through}
-use Rattle.typing_rules.specs.Rows.{Method, fitted, with_method}
+use Rattle.typing_rules.specs.Rows.{counted_call_end, fitted, Method, with_method}
 use Rattle.typing_rules.specs.Scope.{Env}
 use Rattle.typeck_calls.specs.Calls.{Arguments}
 use Rattle.typeck_calls.specs.Methods.{borrows_shared}
@@ -18,19 +17,7 @@ use Rattle.typeck_calls.specs.declared.receivers.MethodReceiver.{MethodReceiver}
 
 -- ---- fields
 
-abbrev pub field_rest : Member (ℕ × TyId) → ℕ → Pos → Node → Check Node
-field_rest member id at base = do
-  found ← through member at base
-  f ← known Rule.T12 at found.1
-  pure (a_node_of id at f.1 (tree.Field found.0 f.0))
-
 -- ---- methods
-
--- a method of a value that was checked, with what checks its arguments
-abbrev pub method_rest : Env → ℕ → Pos → Member Method → Option TyId → Node → ℕ → Arguments → Check Node
-method_rest env id at named expected base count args = do
-  found ← through named at base
-  with_method env at id found.0 found.1 count args expected
 
 -- the same behind its receiver and its arguments, of which there should be so many
 abbrev pub called_rest : ℕ → Pos → Called → Bool → Option TyId → Node → Nodes → Check Node
@@ -45,7 +32,7 @@ called_rest id at called is_count expected receiver given = do
 -- the same, where it is known whether what is behind `&` is borrowed by `&mut`
 abbrev pub refused_rest : ℕ → Pos → Called → Bool → Bool → Option TyId → Node → Nodes → Check Node
 refused_rest id at called is_count is_refused expected receiver given = do
-  n ← counted_rest id at called.answer (behind_form called.behind receiver given) Rule.T04 is_count expected
+  n ← counted_call_end id at called.answer (behind_form called.behind receiver given) Rule.T04 is_count expected
   obeys Rule.T08 at (not is_refused)
   obeys Rule.T13 at (not called.is_drop)
   pure n

@@ -4,7 +4,6 @@ ghost use Rattle.mir_base.specs.declared.int_kind.IntKind.{IntKind};
 ghost use Rattle.mir_base.specs.declared.rule.Rule.{Rule};
 ghost use Rattle.mir_base.specs.declared.rule.RuleError.{RuleError};
 ghost use Rattle.typeck_checker.specs.Lists.{below_all, last_nodes};
-ghost use Rattle.typeck_exprs.specs.CallRests.{call_rest, counted_rest};
 ghost use Rattle.typeck_calls.specs.Numbers.{numbers_from};
 ghost use Rattle.typeck_calls.specs.CalleeRests.{begun_rest, ending_rest};
 ghost use Rattle.typeck_checker.specs.Forms.{one_form};
@@ -12,6 +11,7 @@ ghost use Rattle.typeck_checker.specs.Stand.{Gives, KeepsStack, Stays, stack, st
 ghost use Rattle.typed_tree.specs.Tree as tree;
 ghost use Rattle.typing_rules.specs.Places as places;
 ghost use Rattle.typing_rules.specs.Rows as rows;
+ghost use Rattle.typing_rules.specs.Rows.{call_end, counted_call_end};
 
 use crate::resolve::{CallEnding, ResolvedCall};
 use crate::wrap_make;
@@ -88,7 +88,7 @@ fn make_end(
     is_count: bool,
     expected: Option<TyId>,
 ) -> Result<(), RuleError>
-    ensures gives { Gives (call_rest id.0 at ty (rows.make adt variant (last_nodes count (stack checker.old))) is_count true expected (state checker.old)) result checker.new }
+    ensures gives { Gives (call_end id.0 at ty (rows.make adt variant (last_nodes count (stack checker.old))) is_count true expected (state checker.old)) result checker.new }
     ensures kept { KeepsStack (below_all count (stack checker.old)) checker.old result checker.new }
 {
     coerce_make(checker, id, at, ty, adt, variant, count, expected)?;
@@ -135,7 +135,7 @@ fn one_end(
     count: usize,
     expected: Option<TyId>,
 ) -> Result<(), RuleError>
-    ensures gives { Gives (counted_rest id.0 at places.unit (rows.with_one (last_nodes count (stack checker.old)) (one_form one)) Rule.T04 (count == 1) expected (state checker.old)) result checker.new }
+    ensures gives { Gives (counted_call_end id.0 at places.unit (rows.with_one (last_nodes count (stack checker.old)) (one_form one)) Rule.T04 (count == 1) expected (state checker.old)) result checker.new }
     ensures kept { KeepsStack (below_all count (stack checker.old)) checker.old result checker.new }
 {
     coerce_given(checker, id, at, one, count, expected)?;
@@ -150,7 +150,7 @@ fn ask_end(
     count: usize,
     expected: Option<TyId>,
 ) -> Result<(), RuleError>
-    ensures gives { Gives (counted_rest id.0 at (places.int IntKind.I32) tree.Ask Rule.T04 (count == 0) expected (state checker.old)) result checker.new }
+    ensures gives { Gives (counted_call_end id.0 at (places.int IntKind.I32) tree.Ask Rule.T04 (count == 0) expected (state checker.old)) result checker.new }
     ensures kept { KeepsStack (below_all count (stack checker.old)) checker.old result checker.new }
 {
     let_go(checker, count)?;

@@ -4,12 +4,12 @@ ghost use Rattle.std.specs.Prelude.{◌≡◌, IfErr, IfOk, option_and_then, opt
 ghost use Rattle.mir_base.specs.declared.rule.RuleError.{RuleError};
 ghost use Rattle.typeck_calls.specs.Fields.{number_in, numbered, part_seen, wanted_by};
 ghost use Rattle.typeck_calls.specs.Going.{GivesFound};
-ghost use Rattle.typeck_calls.specs.Rests.{field_rest};
 ghost use Rattle.src_ast.specs.Syntax.{number_word};
 ghost use Rattle.typeck_checker.specs.Stand.{Gives, KeepsStack, below, stack, state, top};
 ghost use Rattle.typing_rules.specs.Places as places;
 ghost use Rattle.typing_rules.specs.Scope as scope;
 ghost use Rattle.well_typed.specs.Types as types;
+ghost use Rattle.typing_rules.specs.Rows.{field_end};
 
 use crate::autoderef::{go_inside, most_steps};
 use mir_base::{Name, NodeId, Pos, Rule, RuleError};
@@ -165,7 +165,7 @@ fn wanted_end(
     at: Pos,
     wanted: WantedMember,
 ) -> Result<(), RuleError>
-    ensures gives { Gives (field_rest (wanted_by wanted.entry) id.0 at (top (stack checker.old)) (state checker.old)) result checker.new }
+    ensures gives { Gives (field_end (wanted_by wanted.entry) id.0 at (top (stack checker.old)) (state checker.old)) result checker.new }
     ensures kept { KeepsStack (below (stack checker.old)) checker.old result checker.new }
 {
     match through(checker, at, wanted)? {
@@ -176,7 +176,7 @@ fn wanted_end(
 
 /// `e.f`, where `e` is the last node.
 pub fn field_end(checker: &mut Checker, id: NodeId, at: Pos, name: &str) -> Result<(), RuleError>
-    ensures gives { Gives (field_rest (places.struct_field name.now) id.0 at (top (stack checker.old)) (state checker.old)) result checker.new }
+    ensures gives { Gives (field_end (places.struct_field name.now) id.0 at (top (stack checker.old)) (state checker.old)) result checker.new }
     ensures kept { KeepsStack (below (stack checker.old)) checker.old result checker.new }
 {
     wanted_end(checker, id, at, WantedMember::Named(name))
@@ -194,7 +194,7 @@ fn digits(alloc: Global, number: u64) -> Result<Name, AllocError>
 
 /// `e.0`, where `e` is the last node.
 pub fn part_end(checker: &mut Checker, id: NodeId, at: Pos, number: u64) -> Result<(), RuleError>
-    ensures gives { Gives (field_rest (places.numbered_part number) id.0 at (top (stack checker.old)) (state checker.old)) result checker.new }
+    ensures gives { Gives (field_end (places.numbered_part number) id.0 at (top (stack checker.old)) (state checker.old)) result checker.new }
     ensures kept { KeepsStack (below (stack checker.old)) checker.old result checker.new }
 {
     match digits(checker.alloc, number) {

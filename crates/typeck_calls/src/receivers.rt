@@ -9,7 +9,7 @@ ghost use Rattle.mir_ty.specs.declared.ty.TyId.{TyId};
 ghost use Rattle.typeck_checker.specs.Lists.{behind_form, below_all, last_nodes};
 ghost use Rattle.typeck_calls.specs.Calls.{GivesCall};
 ghost use Rattle.typeck_calls.specs.Methods.{GivesReceiver, borrows_shared, form_shared, method_seen, self_of};
-ghost use Rattle.typeck_calls.specs.Rests.{called_rest, method_rest, receiver_rest, refused_rest};
+ghost use Rattle.typeck_calls.specs.Rests.{called_rest, receiver_rest, refused_rest};
 ghost use Rattle.typeck_checker.specs.Stand.{Gives, KeepsStack, below, env, node_if_any, stack, state, top};
 ghost use Rattle.typed_tree.specs.Tree as tree;
 ghost use Rattle.typed_tree.specs.View.{form_of};
@@ -17,6 +17,7 @@ ghost use Rattle.typing_rules.specs.Named as named;
 ghost use Rattle.typing_rules.specs.Rows as rows;
 ghost use Rattle.well_typed.specs.Places.{ty_of};
 ghost use Rattle.well_typed.specs.Types as types;
+ghost use Rattle.typing_rules.specs.Rows.{method_end};
 
 use crate::methods::{Method, head, is_drop, through};
 use mir_base::{List, NodeId, Pos, Rule, RuleError};
@@ -220,7 +221,7 @@ pub fn method_receiver(
     at: Pos,
     name: &str,
 ) -> Result<MethodReceiver, RuleError>
-    ensures gives { (id : ℕ) (expected : Option TyId) → GivesCall (method_rest (env checker.old) id at (named.method_named name.now) expected (top (stack checker.old))) (state checker.old) (λ r. r.params) (receiver_rest id at expected) result checker.new }
+    ensures gives { (id : ℕ) (expected : Option TyId) → GivesCall (method_end (env checker.old) id at (named.method_named name.now) expected (top (stack checker.old))) (state checker.old) (λ r. r.params) (receiver_rest id at expected) result checker.new }
     ensures kept { KeepsStack (below (stack checker.old)) checker.old result checker.new }
 {
     match through(checker, at, name)? {

@@ -6,12 +6,13 @@ ghost use Rattle.typeck_checker.specs.Lists.{below_all, last_nodes};
 ghost use Rattle.typeck_calls.specs.Fields.{number_in};
 ghost use Rattle.src_ast.specs.Syntax.{Word};
 ghost use Rattle.typeck_calls.specs.StructFields.{numbered_by, variant_of};
-ghost use Rattle.typeck_calls.specs.StructRests.{GivesFields, made_rest, struct_rest};
+ghost use Rattle.typeck_calls.specs.StructRests.{GivesFields};
 ghost use Rattle.typed_tree.specs.Tree as tree;
 ghost use Rattle.typing_rules.specs.Places.{a_node_of};
 ghost use Rattle.typing_rules.specs.Rows as rows;
 ghost use Rattle.typing_rules.specs.Scope as scope;
 ghost use Rattle.typeck_checker.specs.Stand.{Gives, KeepsStack, ChangesNothing, stack, state};
+ghost use Rattle.typing_rules.specs.Rows.{made_end, struct_end};
 
 use crate::given_fields::{are_known, is_whole};
 use crate::operand_fields::wrap_make;
@@ -35,7 +36,7 @@ pub struct StructBegun {
 #[tactic(auto, using(crate::proofs::BegunCalls::names_at))]
 pub fn struct_begin(checker: &mut Checker, adt: u32, variant: u32) -> Result<StructBegun, RuleError>
     ensures gives { (at : Pos) (expected : Option TyId) → GivesFields (λ fields. rows.struct_row at adt variant (variant_of checker.old.walk.items adt variant).fields fields expected) (state checker.old)
-        (λ b. struct_rest b.id.0 at adt variant b.ty (length b.types) expected) result checker.new }
+        (λ b. struct_end b.id.0 at adt variant b.ty (length b.types) expected) result checker.new }
     ensures types { IfOk result (λ b. b.types ≡ (variant_of checker.old.walk.items adt variant).fields) }
     ensures names { (name : Word) → number_in checker.old.tables adt variant name ≡ scope.field_named (variant_of checker.old.walk.items adt variant) name }
     ensures same { ChangesNothing checker.old checker.new }
@@ -74,7 +75,7 @@ fn made_end(
     is_whole: bool,
     expected: Option<TyId>,
 ) -> Result<(), RuleError>
-    ensures gives { Gives (made_rest id.0 at adt variant ty is_whole expected (numbered_by given.now (last_nodes (length given.now) (stack checker.old)), given.now) (state checker.old)) result checker.new }
+    ensures gives { Gives (made_end id.0 at adt variant ty is_whole expected (numbered_by given.now (last_nodes (length given.now) (stack checker.old)), given.now) (state checker.old)) result checker.new }
     ensures kept { KeepsStack (below_all (length given.now) (stack checker.old)) checker.old result checker.new }
 {
     coerce_make(checker, id, at, ty, adt, variant, given, expected)?;
@@ -94,7 +95,7 @@ pub fn struct_end(
     given: &[Option<u32>],
     expected: Option<TyId>,
 ) -> Result<(), RuleError>
-    ensures gives { Gives (struct_rest begun.now.id.0 at adt variant begun.now.ty (length begun.now.types) expected
+    ensures gives { Gives (struct_end begun.now.id.0 at adt variant begun.now.ty (length begun.now.types) expected
         (numbered_by given.now (last_nodes (length given.now) (stack checker.old)), given.now) (state checker.old)) result checker.new }
     ensures kept { KeepsStack (below_all (length given.now) (stack checker.old)) checker.old result checker.new }
 {

@@ -8,8 +8,9 @@ use Rattle.typeck_heads.specs.Answers.{Refuses}
 use Rattle.mir_ty.specs.ItemTable.{ItemTable}
 use Rattle.mir_ty.specs.declared.ty.Ty.{Ty}
 use Rattle.mir_ty.specs.declared.ty.TyId.{TyId}
-use Rattle.src_ast.specs.Syntax.{Syn, syn, Shape, Ident, LabelOf, Literal, TruthLiteral, Path, Minus, Bang, Star, Ampersand, Calculate, Compare, Both, Either, Store, CallOf, MethodOf, FieldOf, PartOf, ElementOf, StructOf, FieldInit, Parens, TupleOf, ArrayOf, Braces, IfElse, IfLetElse, MatchOn, ArmOf, LoopOf, WhileOf, WhileLetOf, BreakOf, ContinueOf, ReturnOf, MoveOf, PanicOf, LetOf, Empty, Semi, AnyPattern, BindPattern, LiteralPattern, TruthPattern, PathPattern, PartsPattern, FieldsPattern, FieldPattern, ParensPattern, TuplePattern, ArrayPattern, Alternatives, NamedType, GenericType, DynType, SelfType, ParensType, TupleType, ArrayType, NeverType, RefType, StructItem, EnumItem, FieldDecl, VariantDecl, TraitItem, ImplItem, FnItem, ParamOf, SelfParam, Odd, Syns, no_syn, a_syn}
+use Rattle.src_ast.specs.Syntax.{Syn, syn, AType, WrittenType, NamedType, GenericType, DynType, SelfType, ParensType, TupleType, ArrayType, NeverType, RefType, Syns, no_syn, a_syn}
 use Rattle.typeck_env.specs.Walked.{HasOnlyTypes}
+use Rattle.typeck_heads.specs.Forms.{written_by}
 use Rattle.typing_rules.specs.Check.{Check, TypingState, Broken, and_then, ◌>>=◌, pure, breaks, obeys, known, interned, interned_at}
 use Rattle.typing_rules.specs.Collected.{starting_with}
 use Rattle.typing_rules.specs.Places.{never, unit}
@@ -97,61 +98,10 @@ boxed_local ty = interned_local (Ty.Boxed ty)
 
 mutual
   pub written_local : (w : WrittenScope) (x : Syn) → IsLocal (written w x)
-  written_local w (syn at form) = form_local w at form
+  written_local w (syn at (AType t)) = form_local w at t
+  written_local w (syn at _) = breaks_local Rule.T20 at
 
-  form_local : (w : WrittenScope) (at : Pos) (form : Shape) → IsLocal (written_form w at form)
-  form_local w at (Ident a) = breaks_local Rule.T20 at
-  form_local w at (LabelOf a) = breaks_local Rule.T20 at
-  form_local w at (Literal a b) = breaks_local Rule.T20 at
-  form_local w at (TruthLiteral a) = breaks_local Rule.T20 at
-  form_local w at (Path a b) = breaks_local Rule.T20 at
-  form_local w at (Minus a) = breaks_local Rule.T20 at
-  form_local w at (Bang a) = breaks_local Rule.T20 at
-  form_local w at (Star a) = breaks_local Rule.T20 at
-  form_local w at (Ampersand a b) = breaks_local Rule.T20 at
-  form_local w at (Calculate a b c) = breaks_local Rule.T20 at
-  form_local w at (Compare a b c) = breaks_local Rule.T20 at
-  form_local w at (Both a b) = breaks_local Rule.T20 at
-  form_local w at (Either a b) = breaks_local Rule.T20 at
-  form_local w at (Store a b) = breaks_local Rule.T20 at
-  form_local w at (CallOf a b) = breaks_local Rule.T20 at
-  form_local w at (MethodOf a b c) = breaks_local Rule.T20 at
-  form_local w at (FieldOf a b) = breaks_local Rule.T20 at
-  form_local w at (PartOf a b) = breaks_local Rule.T20 at
-  form_local w at (ElementOf a b) = breaks_local Rule.T20 at
-  form_local w at (StructOf a b c) = breaks_local Rule.T20 at
-  form_local w at (FieldInit a b) = breaks_local Rule.T20 at
-  form_local w at (Parens a) = breaks_local Rule.T20 at
-  form_local w at (TupleOf a) = breaks_local Rule.T20 at
-  form_local w at (ArrayOf a) = breaks_local Rule.T20 at
-  form_local w at (Braces a b) = breaks_local Rule.T20 at
-  form_local w at (IfElse a b c) = breaks_local Rule.T20 at
-  form_local w at (IfLetElse a b c d) = breaks_local Rule.T20 at
-  form_local w at (MatchOn a b) = breaks_local Rule.T20 at
-  form_local w at (ArmOf a b c) = breaks_local Rule.T20 at
-  form_local w at (LoopOf a b) = breaks_local Rule.T20 at
-  form_local w at (WhileOf a b c) = breaks_local Rule.T20 at
-  form_local w at (WhileLetOf a b c d) = breaks_local Rule.T20 at
-  form_local w at (BreakOf a b) = breaks_local Rule.T20 at
-  form_local w at (ContinueOf a) = breaks_local Rule.T20 at
-  form_local w at (ReturnOf a) = breaks_local Rule.T20 at
-  form_local w at (MoveOf a b c d) = breaks_local Rule.T20 at
-  form_local w at PanicOf = breaks_local Rule.T20 at
-  form_local w at (LetOf a b c) = breaks_local Rule.T20 at
-  form_local w at Empty = breaks_local Rule.T20 at
-  form_local w at (Semi a) = breaks_local Rule.T20 at
-  form_local w at AnyPattern = breaks_local Rule.T20 at
-  form_local w at (BindPattern a) = breaks_local Rule.T20 at
-  form_local w at (LiteralPattern a b c) = breaks_local Rule.T20 at
-  form_local w at (TruthPattern a) = breaks_local Rule.T20 at
-  form_local w at (PathPattern a b) = breaks_local Rule.T20 at
-  form_local w at (PartsPattern a b c d) = breaks_local Rule.T20 at
-  form_local w at (FieldsPattern a b c d) = breaks_local Rule.T20 at
-  form_local w at (FieldPattern a b) = breaks_local Rule.T20 at
-  form_local w at (ParensPattern a) = breaks_local Rule.T20 at
-  form_local w at (TuplePattern a b) = breaks_local Rule.T20 at
-  form_local w at (ArrayPattern a b) = breaks_local Rule.T20 at
-  form_local w at (Alternatives a) = breaks_local Rule.T20 at
+  form_local : (w : WrittenScope) (at : Pos) (form : WrittenType) → IsLocal (written_form w at form)
   form_local w at (NamedType a) = named_local at (number_of w.adts a) (scalar_named a)
   form_local w at (GenericType a b) = bind_local (obeys Rule.T01 at (is_box a)) (λ _. written w b >>= (λ ty. interned (Ty.Boxed ty))) (obeys_local Rule.T01 at (is_box a))
       (λ _. bind_local (written w b) (λ ty. interned (Ty.Boxed ty)) (written_local w b) boxed_local)
@@ -169,16 +119,6 @@ mutual
   form_local w at NeverType = pure_local never
   form_local w at (RefType a b) = bind_local (written w b) (λ ty. obeys Rule.T08 at (not w.has_limits) >>= (λ _. interned (reference_to a ty))) (written_local w b)
       (λ ty. bind_local (obeys Rule.T08 at (not w.has_limits)) (λ _. interned (reference_to a ty)) (obeys_local Rule.T08 at (not w.has_limits)) (λ _. interned_local (reference_to a ty)))
-  form_local w at (StructItem a b c d) = breaks_local Rule.T20 at
-  form_local w at (EnumItem a b c) = breaks_local Rule.T20 at
-  form_local w at (FieldDecl a b) = breaks_local Rule.T20 at
-  form_local w at (VariantDecl a b c) = breaks_local Rule.T20 at
-  form_local w at (TraitItem a b) = breaks_local Rule.T20 at
-  form_local w at (ImplItem a b c) = breaks_local Rule.T20 at
-  form_local w at (FnItem a b c d) = breaks_local Rule.T20 at
-  form_local w at (ParamOf a b) = breaks_local Rule.T20 at
-  form_local w at (SelfParam a) = breaks_local Rule.T20 at
-  form_local w at Odd = breaks_local Rule.T20 at
 
   all_local : (w : WrittenScope) (xs : Syns) → IsLocal (all_written w xs)
   all_local w no_syn = pure_local []
@@ -188,77 +128,15 @@ mutual
 
 mutual
   pub param_local : (w : WrittenScope) (x : Syn) → IsLocal (written_param w x)
-  param_local w (syn at form) = param_form_local w at form
+  param_local w (syn at (AType t)) = param_form_local w at t
+  param_local w (syn at _) = breaks_local Rule.T20 at
 
-  param_form_local : (w : WrittenScope) (at : Pos) (form : Shape) → IsLocal (written_param_form w at form)
-  param_form_local w at (Ident a) = form_local w at (Ident a)
-  param_form_local w at (LabelOf a) = form_local w at (LabelOf a)
-  param_form_local w at (Literal a b) = form_local w at (Literal a b)
-  param_form_local w at (TruthLiteral a) = form_local w at (TruthLiteral a)
-  param_form_local w at (Path a b) = form_local w at (Path a b)
-  param_form_local w at (Minus a) = form_local w at (Minus a)
-  param_form_local w at (Bang a) = form_local w at (Bang a)
-  param_form_local w at (Star a) = form_local w at (Star a)
-  param_form_local w at (Ampersand a b) = form_local w at (Ampersand a b)
-  param_form_local w at (Calculate a b c) = form_local w at (Calculate a b c)
-  param_form_local w at (Compare a b c) = form_local w at (Compare a b c)
-  param_form_local w at (Both a b) = form_local w at (Both a b)
-  param_form_local w at (Either a b) = form_local w at (Either a b)
-  param_form_local w at (Store a b) = form_local w at (Store a b)
-  param_form_local w at (CallOf a b) = form_local w at (CallOf a b)
-  param_form_local w at (MethodOf a b c) = form_local w at (MethodOf a b c)
-  param_form_local w at (FieldOf a b) = form_local w at (FieldOf a b)
-  param_form_local w at (PartOf a b) = form_local w at (PartOf a b)
-  param_form_local w at (ElementOf a b) = form_local w at (ElementOf a b)
-  param_form_local w at (StructOf a b c) = form_local w at (StructOf a b c)
-  param_form_local w at (FieldInit a b) = form_local w at (FieldInit a b)
-  param_form_local w at (Parens a) = form_local w at (Parens a)
-  param_form_local w at (TupleOf a) = form_local w at (TupleOf a)
-  param_form_local w at (ArrayOf a) = form_local w at (ArrayOf a)
-  param_form_local w at (Braces a b) = form_local w at (Braces a b)
-  param_form_local w at (IfElse a b c) = form_local w at (IfElse a b c)
-  param_form_local w at (IfLetElse a b c d) = form_local w at (IfLetElse a b c d)
-  param_form_local w at (MatchOn a b) = form_local w at (MatchOn a b)
-  param_form_local w at (ArmOf a b c) = form_local w at (ArmOf a b c)
-  param_form_local w at (LoopOf a b) = form_local w at (LoopOf a b)
-  param_form_local w at (WhileOf a b c) = form_local w at (WhileOf a b c)
-  param_form_local w at (WhileLetOf a b c d) = form_local w at (WhileLetOf a b c d)
-  param_form_local w at (BreakOf a b) = form_local w at (BreakOf a b)
-  param_form_local w at (ContinueOf a) = form_local w at (ContinueOf a)
-  param_form_local w at (ReturnOf a) = form_local w at (ReturnOf a)
-  param_form_local w at (MoveOf a b c d) = form_local w at (MoveOf a b c d)
-  param_form_local w at PanicOf = form_local w at PanicOf
-  param_form_local w at (LetOf a b c) = form_local w at (LetOf a b c)
-  param_form_local w at Empty = form_local w at Empty
-  param_form_local w at (Semi a) = form_local w at (Semi a)
-  param_form_local w at AnyPattern = form_local w at AnyPattern
-  param_form_local w at (BindPattern a) = form_local w at (BindPattern a)
-  param_form_local w at (LiteralPattern a b c) = form_local w at (LiteralPattern a b c)
-  param_form_local w at (TruthPattern a) = form_local w at (TruthPattern a)
-  param_form_local w at (PathPattern a b) = form_local w at (PathPattern a b)
-  param_form_local w at (PartsPattern a b c d) = form_local w at (PartsPattern a b c d)
-  param_form_local w at (FieldsPattern a b c d) = form_local w at (FieldsPattern a b c d)
-  param_form_local w at (FieldPattern a b) = form_local w at (FieldPattern a b)
-  param_form_local w at (ParensPattern a) = form_local w at (ParensPattern a)
-  param_form_local w at (TuplePattern a b) = form_local w at (TuplePattern a b)
-  param_form_local w at (ArrayPattern a b) = form_local w at (ArrayPattern a b)
-  param_form_local w at (Alternatives a) = form_local w at (Alternatives a)
-  param_form_local w at (NamedType a) = form_local w at (NamedType a)
-  param_form_local w at (GenericType a b) = form_local w at (GenericType a b)
-  param_form_local w at (DynType a b) = form_local w at (DynType a b)
-  param_form_local w at SelfType = form_local w at SelfType
+  param_form_local : (w : WrittenScope) (at : Pos) (form : WrittenType) → IsLocal (written_param_form w at form)
   param_form_local w at (ParensType a) = param_local w a
-  param_form_local w at (TupleType a) = form_local w at (TupleType a)
-  param_form_local w at (ArrayType a b c) = form_local w at (ArrayType a b c)
-  param_form_local w at NeverType = form_local w at NeverType
   param_form_local w at (RefType a b) = bind_local (written w b) (λ ty. interned (reference_to a ty)) (written_local w b) (λ ty. interned_local (reference_to a ty))
-  param_form_local w at (StructItem a b c d) = form_local w at (StructItem a b c d)
-  param_form_local w at (EnumItem a b c) = form_local w at (EnumItem a b c)
-  param_form_local w at (FieldDecl a b) = form_local w at (FieldDecl a b)
-  param_form_local w at (VariantDecl a b c) = form_local w at (VariantDecl a b c)
-  param_form_local w at (TraitItem a b) = form_local w at (TraitItem a b)
-  param_form_local w at (ImplItem a b c) = form_local w at (ImplItem a b c)
-  param_form_local w at (FnItem a b c d) = form_local w at (FnItem a b c d)
-  param_form_local w at (ParamOf a b) = form_local w at (ParamOf a b)
-  param_form_local w at (SelfParam a) = form_local w at (SelfParam a)
-  param_form_local w at Odd = form_local w at Odd
+  param_form_local w at t = form_local w at t
+
+-- a type as it is written, or that of a parameter
+pub local_as : (is_param : Bool) (w : WrittenScope) (x : Syn) → IsLocal (written_by is_param w x)
+local_as true w x = param_local w x
+local_as false w x = written_local w x

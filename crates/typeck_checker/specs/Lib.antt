@@ -2,7 +2,6 @@ pub mod Tables
 pub mod BodyScope
 pub mod Stand
 pub mod Forms
-pub mod Rests
 pub mod Lists
 pub mod Variables
 pub mod Scopes

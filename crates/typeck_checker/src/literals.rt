@@ -4,7 +4,7 @@ ghost use Rattle.typing_rules.specs.Places as places;
 ghost use Rattle.typing_rules.specs.Rows as rows;
 ghost use Rattle.well_typed.specs.Types as types;
 ghost use Rattle.typeck_checker.specs.Forms.{leaf_form};
-ghost use Rattle.typeck_checker.specs.Rests.{literal_of};
+ghost use Rattle.typing_rules.specs.Rows.{literal_end};
 ghost use Rattle.typeck_checker.specs.Stand.{Gives, KeepsStack, stack, state};
 
 use crate::checker::Checker;
@@ -97,7 +97,7 @@ impl Checker {
         value: u64,
         expected: Option<TyId>,
     ) -> Result<(), RuleError>
-        ensures gives { Gives (literal_of id.0 at kind is_negative value expected (state self.old)) result self.new }
+        ensures gives { Gives (literal_end id.0 at kind is_negative value expected (state self.old)) result self.new }
         ensures kept { KeepsStack (stack self.old) self.old result self.new }
     {
         obeys(Rule::T03, at, !is_negative || is_signed(kind))?;

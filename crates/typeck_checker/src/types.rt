@@ -4,6 +4,7 @@ ghost use Rattle.mir_ty.specs.ItemTable.{no_items};
 ghost use Rattle.src_ast.specs.Seen.{maybe_of, syn_of};
 ghost use Rattle.typeck_checker.specs.Stand.{GivesValue, ChangesNothing, env, state};
 ghost use Rattle.typeck_checker.specs.Tables.{AreTablesOf};
+ghost use Rattle.typeck_heads.specs.Forms.{written_by};
 ghost use Rattle.typing_rules.specs.Bodies as bodies;
 ghost use Rattle.typing_rules.specs.Bodies.{all_rules};
 ghost use Rattle.typing_rules.specs.Typed as typed;
@@ -16,7 +17,7 @@ use src_tree::SyntaxNode;
 use std::alloc::Global;
 use std::collections::HashSet;
 use std::mem;
-use typeck_heads::{NameTable, WrittenScope};
+use typeck_heads::{NameTable, WrittenScope, resolve_written};
 
 /// Tables of no names.
 fn no_tables(alloc: Global) -> Tables
@@ -52,9 +53,9 @@ fn has_scalars(items: &Items) -> bool
     items.ty(USIZE).is_some()
 }
 
-/// A type as it is written. Behind an error the checker knows no items any more.
-pub fn resolve_type(checker: &mut Checker, node: &SyntaxNode) -> Result<TyId, RuleError>
-    ensures gives { GivesValue (λ id. id) (types.written (all_rules (env checker.old)) (syn_of node.now) (state checker.old)) result checker.new }
+/// A type as it is written, or that of a parameter. Behind an error the checker knows no items any more.
+fn resolve_by(checker: &mut Checker, node: &SyntaxNode, is_param: bool) -> Result<TyId, RuleError>
+    ensures gives { GivesValue (λ id. id) (written_by is_param (all_rules (env checker.old)) (syn_of node.now) (state checker.old)) result checker.new }
     ensures same { OnOk result (ChangesNothing checker.old checker.new) }
 {
     if !has_scalars(&checker.walk.items) {
@@ -67,7 +68,7 @@ pub fn resolve_type(checker: &mut Checker, node: &SyntaxNode) -> Result<TyId, Ru
         adts: &checker.tables.adts,
         traits: &checker.tables.traits,
     };
-    match typeck_heads::resolve_type(&mut checker.walk.items, &scope, node) {
+    match resolve_written(&mut checker.walk.items, &scope, node, is_param) {
         Ok(id) => Ok(id),
         Err(e) => {
             clear(checker.alloc, &mut checker.walk.items, &mut checker.tables);
@@ -76,29 +77,21 @@ pub fn resolve_type(checker: &mut Checker, node: &SyntaxNode) -> Result<TyId, Ru
     }
 }
 
+/// A type as it is written. Behind an error the checker knows no items any more.
+pub fn resolve_type(checker: &mut Checker, node: &SyntaxNode) -> Result<TyId, RuleError>
+    ensures gives { GivesValue (λ id. id) (types.written (all_rules (env checker.old)) (syn_of node.now) (state checker.old)) result checker.new }
+    ensures same { OnOk result (ChangesNothing checker.old checker.new) }
+{
+    resolve_by(checker, node, false)
+}
+
 /// The type of a parameter as it is written, which may be a reference. Behind an error the checker knows no items any
 /// more.
 pub fn resolve_param_type(checker: &mut Checker, node: &SyntaxNode) -> Result<TyId, RuleError>
     ensures gives { GivesValue (λ id. id) (types.written_param (all_rules (env checker.old)) (syn_of node.now) (state checker.old)) result checker.new }
     ensures same { OnOk result (ChangesNothing checker.old checker.new) }
 {
-    if !has_scalars(&checker.walk.items) {
-        return Err(RuleError::cannot_be());
-    }
-    let scope = WrittenScope {
-        alloc: checker.alloc,
-        has_limits: true,
-        self_adt: checker.around.self_adt,
-        adts: &checker.tables.adts,
-        traits: &checker.tables.traits,
-    };
-    match typeck_heads::written_param(&mut checker.walk.items, &scope, node) {
-        Ok(id) => Ok(id),
-        Err(e) => {
-            clear(checker.alloc, &mut checker.walk.items, &mut checker.tables);
-            Err(e)
-        }
-    }
+    resolve_by(checker, node, true)
 }
 
 /// The type that a `let` declares, if it does.

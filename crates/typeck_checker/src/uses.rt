@@ -4,7 +4,7 @@ ghost use Rattle.std.specs.List.{list_any};
 ghost use Rattle.mir_base.specs.declared.rule.RuleError.{RuleError};
 ghost use Rattle.typed_tree.specs.View.{form_of, tree_of};
 ghost use Rattle.well_typed.specs.Places as forms;
-ghost use Rattle.typeck_checker.specs.Rests.{may_be_stored, may_be_taken};
+ghost use Rattle.typing_rules.specs.Rows.{may_be_stored, may_be_taken};
 ghost use Rattle.typing_rules.specs.Places as places;
 ghost use Rattle.typing_rules.specs.Rows as rows;
 ghost use Rattle.typeck_checker.specs.Stand.{Gives, KeepsStack, Stays, below, env, stack, state, top};

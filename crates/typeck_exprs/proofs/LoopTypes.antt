@@ -3,7 +3,7 @@ use Rattle.std.proofs.Common.{◌≡◌, ℕ, List, [], ◌∷◌, if◌then◌e
 use Rattle.std.specs.Prelude.{◌==◌}
 use Rattle.mir_ty.specs.declared.ty.TyId.{TyId}
 use Rattle.typing_rules.specs.Check.{TypingState, Broken, types_of_breaks}
-use Rattle.typeck_exprs.specs.BranchRests.{carried_by}
+use Rattle.typeck_exprs.specs.Breaks.{carried_by}
 
 abbrev types_in : Result (List TyId × TypingState) Broken → List TyId
 types_in (Ok a) = a.0

@@ -9,7 +9,7 @@ use Rattle.src_ast.specs.declared.path.PathForm.{PathForm}
 use Rattle.src_ast.specs.Expressions.{expression_of}
 use Rattle.src_ast.specs.Seen.{syn_of}
 use Rattle.src_ast.specs.Sorts.{expression_part}
-use Rattle.src_ast.specs.Syntax.{Word, Shape, Path, shape_of}
+use Rattle.src_ast.specs.Syntax.{Word, shape_of, Expression, Path}
 use Rattle.typing_rules.specs.Scope.{Env}
 use Rattle.typing_rules.specs.Typed.{value, variable_base, variable_of}
 use Rattle.typeck_exprs.specs.Forms.{IsPlaceAs, IsPlaceOf, base_as, entry_named, is_place_as}
@@ -33,41 +33,14 @@ pub no_place : (e : Env) (f : ExpressionForm) →
     → ((a : Bor SyntaxNode) → f ≡ ExpressionForm.Deref a → ⊥)
     → ((a : Bor SyntaxNode) → f ≡ ExpressionForm.Parens a → ⊥) →
     is_place_as e (expression_of f) ≡ false
-no_place e (ExpressionForm.Number a b) hPath hSelfValue hField hPart hIndex hDeref hParens = refl
-no_place e (ExpressionForm.Truth a) hPath hSelfValue hField hPart hIndex hDeref hParens = refl
 no_place e (ExpressionForm.Path a) hPath hSelfValue hField hPart hIndex hDeref hParens = absurd (hPath a refl)
 no_place e ExpressionForm.SelfValue hPath hSelfValue hField hPart hIndex hDeref hParens = absurd (hSelfValue refl)
-no_place e (ExpressionForm.Negate a) hPath hSelfValue hField hPart hIndex hDeref hParens = refl
-no_place e (ExpressionForm.Not a) hPath hSelfValue hField hPart hIndex hDeref hParens = refl
 no_place e (ExpressionForm.Deref a) hPath hSelfValue hField hPart hIndex hDeref hParens = absurd (hDeref a refl)
-no_place e (ExpressionForm.Borrow a b) hPath hSelfValue hField hPart hIndex hDeref hParens = refl
-no_place e (ExpressionForm.Math a b c) hPath hSelfValue hField hPart hIndex hDeref hParens = refl
-no_place e (ExpressionForm.Compare a b c) hPath hSelfValue hField hPart hIndex hDeref hParens = refl
-no_place e (ExpressionForm.And a b) hPath hSelfValue hField hPart hIndex hDeref hParens = refl
-no_place e (ExpressionForm.Or a b) hPath hSelfValue hField hPart hIndex hDeref hParens = refl
-no_place e (ExpressionForm.Assign a b) hPath hSelfValue hField hPart hIndex hDeref hParens = refl
-no_place e (ExpressionForm.Call a b) hPath hSelfValue hField hPart hIndex hDeref hParens = refl
-no_place e (ExpressionForm.MethodCall a b c) hPath hSelfValue hField hPart hIndex hDeref hParens = refl
 no_place e (ExpressionForm.Field a b) hPath hSelfValue hField hPart hIndex hDeref hParens = absurd (hField a b refl)
 no_place e (ExpressionForm.Part a b) hPath hSelfValue hField hPart hIndex hDeref hParens = absurd (hPart a b refl)
 no_place e (ExpressionForm.Index a b) hPath hSelfValue hField hPart hIndex hDeref hParens = absurd (hIndex a b refl)
-no_place e (ExpressionForm.Struct a b) hPath hSelfValue hField hPart hIndex hDeref hParens = refl
 no_place e (ExpressionForm.Parens a) hPath hSelfValue hField hPart hIndex hDeref hParens = absurd (hParens a refl)
-no_place e (ExpressionForm.Tuple a) hPath hSelfValue hField hPart hIndex hDeref hParens = refl
-no_place e (ExpressionForm.Array a) hPath hSelfValue hField hPart hIndex hDeref hParens = refl
-no_place e (ExpressionForm.Block a b) hPath hSelfValue hField hPart hIndex hDeref hParens = refl
-no_place e (ExpressionForm.If a b c) hPath hSelfValue hField hPart hIndex hDeref hParens = refl
-no_place e (ExpressionForm.IfLet a b c d) hPath hSelfValue hField hPart hIndex hDeref hParens = refl
-no_place e (ExpressionForm.Match a b) hPath hSelfValue hField hPart hIndex hDeref hParens = refl
-no_place e (ExpressionForm.Loop a b) hPath hSelfValue hField hPart hIndex hDeref hParens = refl
-no_place e (ExpressionForm.While a b c) hPath hSelfValue hField hPart hIndex hDeref hParens = refl
-no_place e (ExpressionForm.WhileLet a b c d) hPath hSelfValue hField hPart hIndex hDeref hParens = refl
-no_place e (ExpressionForm.Break a b) hPath hSelfValue hField hPart hIndex hDeref hParens = refl
-no_place e (ExpressionForm.Continue a) hPath hSelfValue hField hPart hIndex hDeref hParens = refl
-no_place e (ExpressionForm.Return a) hPath hSelfValue hField hPart hIndex hDeref hParens = refl
-no_place e (ExpressionForm.Closure a b c d) hPath hSelfValue hField hPart hIndex hDeref hParens = refl
-no_place e ExpressionForm.Panic hPath hSelfValue hField hPart hIndex hDeref hParens = refl
-no_place e ExpressionForm.Other hPath hSelfValue hField hPart hIndex hDeref hParens = refl
+no_place e _ hPath hSelfValue hField hPart hIndex hDeref hParens = refl
 
 pub by_index : (e : Env) (at : Pos) (form : ExpressionForm) (base index : Bor SyntaxNode) → form ≡ ExpressionForm.Index base index →
     IsPlaceAs e at (expression_of form) (Some (PlaceForm.Element at base index))
@@ -75,7 +48,7 @@ by_index e at form base index h =
     subst (λ (f : ExpressionForm). IsPlaceAs e at (expression_of f) (Some (PlaceForm.Element at base index))) (sym h) (refl, refl, omega arith)
 
 -- the form of a node is that of its expression
-pub of_node : (e : Env) (n : SyntaxNode) (o : Option Shape) (r : Option PlaceForm) → o ≡ expression_part (shape_of (syn_of n)) → IsPlaceAs e n.at o r →
+pub of_node : (e : Env) (n : SyntaxNode) (o : Option Expression) (r : Option PlaceForm) → o ≡ expression_part (shape_of (syn_of n)) → IsPlaceAs e n.at o r →
     IsPlaceOf e (syn_of n) r
 of_node e n o None h is = place_seen e n ∙ ap (is_place_as e) (sym h) ∙ is
 of_node e n o (Some p) h (is, same, small) = (

@@ -10,7 +10,7 @@ use Rattle.src_ast.specs.declared.path.PathForm.{PathForm}
 use Rattle.src_ast.specs.Expressions.{expression_of}
 use Rattle.src_ast.specs.Seen.{syn_of}
 use Rattle.src_ast.specs.Sorts.{expression_part}
-use Rattle.src_ast.specs.Syntax.{Word, Syn, syn, Shape, shape_of, Ident, LabelOf, Literal, TruthLiteral, Path, Minus, Bang, Star, Ampersand, Calculate, Compare, Both, Either, Store, CallOf, MethodOf, FieldOf, PartOf, ElementOf, StructOf, FieldInit, Parens, TupleOf, ArrayOf, Braces, IfElse, IfLetElse, MatchOn, ArmOf, LoopOf, WhileOf, WhileLetOf, BreakOf, ContinueOf, ReturnOf, MoveOf, PanicOf, LetOf, Empty, Semi, AnyPattern, BindPattern, LiteralPattern, TruthPattern, PathPattern, PartsPattern, FieldsPattern, FieldPattern, ParensPattern, TuplePattern, ArrayPattern, Alternatives, NamedType, GenericType, DynType, SelfType, ParensType, TupleType, ArrayType, NeverType, RefType, StructItem, EnumItem, FieldDecl, VariantDecl, TraitItem, ImplItem, FnItem, ParamOf, SelfParam, Odd}
+use Rattle.src_ast.specs.Syntax.{Word, Syn, syn, shape_of, AnExpression, Path, Ampersand, Parens}
 use Rattle.typed_tree.specs.Tree as tree
 use Rattle.well_typed.specs.Types.{is_reference}
 use Rattle.typing_rules.specs.Check.{Check, TypingState, ◌>>=◌}
@@ -25,7 +25,7 @@ use Rattle.typeck_exprs.specs.declared.place_forms.NamedVariable.{NamedVariable}
 
 -- ---- paths
 
-path_typed : (e : Env) (at : Pos) (f s : Option Word) (expected : Option TyId) → path e at f s expected ≡ typed e (syn at (Path f s)) expected
+path_typed : (e : Env) (at : Pos) (f s : Option Word) (expected : Option TyId) → path e at f s expected ≡ typed e (syn at (AnExpression (Path f s))) expected
 path_typed e at f s expected = by (variable_of e f s)
   where
     by : (o : Option NamedEntry) →
@@ -37,7 +37,7 @@ abbrev argument_of : Pos → Bor SyntaxNode → Option NamedVariable → Argumen
 argument_of at node None = ArgumentForm.Value node
 argument_of at node (Some v) = ArgumentForm.Passed at v
 
-module _ (e : Env) (at : Pos) (f s : Option Word) (node : Bor SyntaxNode) (is : syn_of node.now ≡ syn at (Path f s)) (st : TypingState) where
+module _ (e : Env) (at : Pos) (f s : Option Word) (node : Bor SyntaxNode) (is : syn_of node.now ≡ syn at (AnExpression (Path f s))) (st : TypingState) where
   as_value : (expected : TyId) → path e at f s (Some expected) st ≡ typed e (syn_of node.now) (Some expected) st
   as_value expected = ap (λ (c : Check tree.Node). c st) (path_typed e at f s (Some expected)) ∙ ap (λ (x : Syn). typed e x (Some expected) st) (sym is)
 
@@ -67,130 +67,28 @@ module _ (e : Env) (at : Pos) (f s : Option Word) (node : Bor SyntaxNode) (is : 
 
 -- ---- values
 
-may_refer_form : (form : Shape) → may_refer form ≡ may_refer_as (expression_part form)
-may_refer_form (Ident a) = refl
-may_refer_form (LabelOf a) = refl
-may_refer_form (Literal a b) = refl
-may_refer_form (TruthLiteral a) = refl
-may_refer_form (Path a b) = refl
-may_refer_form (Minus a) = refl
-may_refer_form (Bang a) = refl
-may_refer_form (Star a) = refl
-may_refer_form (Ampersand a b) = refl
-may_refer_form (Calculate a b c) = refl
-may_refer_form (Compare a b c) = refl
-may_refer_form (Both a b) = refl
-may_refer_form (Either a b) = refl
-may_refer_form (Store a b) = refl
-may_refer_form (CallOf a b) = refl
-may_refer_form (MethodOf a b c) = refl
-may_refer_form (FieldOf a b) = refl
-may_refer_form (PartOf a b) = refl
-may_refer_form (ElementOf a b) = refl
-may_refer_form (StructOf a b c) = refl
-may_refer_form (FieldInit a b) = refl
-may_refer_form (Parens a) = refl
-may_refer_form (TupleOf a) = refl
-may_refer_form (ArrayOf a) = refl
-may_refer_form (Braces a b) = refl
-may_refer_form (IfElse a b c) = refl
-may_refer_form (IfLetElse a b c d) = refl
-may_refer_form (MatchOn a b) = refl
-may_refer_form (ArmOf a b c) = refl
-may_refer_form (LoopOf a b) = refl
-may_refer_form (WhileOf a b c) = refl
-may_refer_form (WhileLetOf a b c d) = refl
-may_refer_form (BreakOf a b) = refl
-may_refer_form (ContinueOf a) = refl
-may_refer_form (ReturnOf a) = refl
-may_refer_form (MoveOf a b c d) = refl
-may_refer_form PanicOf = refl
-may_refer_form (LetOf a b c) = refl
-may_refer_form Empty = refl
-may_refer_form (Semi a) = refl
-may_refer_form AnyPattern = refl
-may_refer_form (BindPattern a) = refl
-may_refer_form (LiteralPattern a b c) = refl
-may_refer_form (TruthPattern a) = refl
-may_refer_form (PathPattern a b) = refl
-may_refer_form (PartsPattern a b c d) = refl
-may_refer_form (FieldsPattern a b c d) = refl
-may_refer_form (FieldPattern a b) = refl
-may_refer_form (ParensPattern a) = refl
-may_refer_form (TuplePattern a b) = refl
-may_refer_form (ArrayPattern a b) = refl
-may_refer_form (Alternatives a) = refl
-may_refer_form (NamedType a) = refl
-may_refer_form (GenericType a b) = refl
-may_refer_form (DynType a b) = refl
-may_refer_form SelfType = refl
-may_refer_form (ParensType a) = refl
-may_refer_form (TupleType a) = refl
-may_refer_form (ArrayType a b c) = refl
-may_refer_form NeverType = refl
-may_refer_form (RefType a b) = refl
-may_refer_form (StructItem a b c d) = refl
-may_refer_form (EnumItem a b c) = refl
-may_refer_form (FieldDecl a b) = refl
-may_refer_form (VariantDecl a b c) = refl
-may_refer_form (TraitItem a b) = refl
-may_refer_form (ImplItem a b c) = refl
-may_refer_form (FnItem a b c d) = refl
-may_refer_form (ParamOf a b) = refl
-may_refer_form (SelfParam a) = refl
-may_refer_form Odd = refl
-
 pub refers_to_none : (f : ExpressionForm) →
     ((a : Bool) (b : Bor SyntaxNode) → f ≡ ExpressionForm.Borrow a b → ⊥)
     → ((a : PathForm) → f ≡ ExpressionForm.Path a → ⊥)
     → (f ≡ ExpressionForm.SelfValue → ⊥)
     → ((a : Bor SyntaxNode) → f ≡ ExpressionForm.Parens a → ⊥) →
     may_refer_as (expression_of f) ≡ false
-refers_to_none (ExpressionForm.Number a b) hBorrow hPath hSelfValue hParens = refl
-refers_to_none (ExpressionForm.Truth a) hBorrow hPath hSelfValue hParens = refl
 refers_to_none (ExpressionForm.Path a) hBorrow hPath hSelfValue hParens = absurd (hPath a refl)
 refers_to_none ExpressionForm.SelfValue hBorrow hPath hSelfValue hParens = absurd (hSelfValue refl)
-refers_to_none (ExpressionForm.Negate a) hBorrow hPath hSelfValue hParens = refl
-refers_to_none (ExpressionForm.Not a) hBorrow hPath hSelfValue hParens = refl
-refers_to_none (ExpressionForm.Deref a) hBorrow hPath hSelfValue hParens = refl
 refers_to_none (ExpressionForm.Borrow a b) hBorrow hPath hSelfValue hParens = absurd (hBorrow a b refl)
-refers_to_none (ExpressionForm.Math a b c) hBorrow hPath hSelfValue hParens = refl
-refers_to_none (ExpressionForm.Compare a b c) hBorrow hPath hSelfValue hParens = refl
-refers_to_none (ExpressionForm.And a b) hBorrow hPath hSelfValue hParens = refl
-refers_to_none (ExpressionForm.Or a b) hBorrow hPath hSelfValue hParens = refl
-refers_to_none (ExpressionForm.Assign a b) hBorrow hPath hSelfValue hParens = refl
-refers_to_none (ExpressionForm.Call a b) hBorrow hPath hSelfValue hParens = refl
-refers_to_none (ExpressionForm.MethodCall a b c) hBorrow hPath hSelfValue hParens = refl
-refers_to_none (ExpressionForm.Field a b) hBorrow hPath hSelfValue hParens = refl
-refers_to_none (ExpressionForm.Part a b) hBorrow hPath hSelfValue hParens = refl
-refers_to_none (ExpressionForm.Index a b) hBorrow hPath hSelfValue hParens = refl
-refers_to_none (ExpressionForm.Struct a b) hBorrow hPath hSelfValue hParens = refl
 refers_to_none (ExpressionForm.Parens a) hBorrow hPath hSelfValue hParens = absurd (hParens a refl)
-refers_to_none (ExpressionForm.Tuple a) hBorrow hPath hSelfValue hParens = refl
-refers_to_none (ExpressionForm.Array a) hBorrow hPath hSelfValue hParens = refl
-refers_to_none (ExpressionForm.Block a b) hBorrow hPath hSelfValue hParens = refl
-refers_to_none (ExpressionForm.If a b c) hBorrow hPath hSelfValue hParens = refl
-refers_to_none (ExpressionForm.IfLet a b c d) hBorrow hPath hSelfValue hParens = refl
-refers_to_none (ExpressionForm.Match a b) hBorrow hPath hSelfValue hParens = refl
-refers_to_none (ExpressionForm.Loop a b) hBorrow hPath hSelfValue hParens = refl
-refers_to_none (ExpressionForm.While a b c) hBorrow hPath hSelfValue hParens = refl
-refers_to_none (ExpressionForm.WhileLet a b c d) hBorrow hPath hSelfValue hParens = refl
-refers_to_none (ExpressionForm.Break a b) hBorrow hPath hSelfValue hParens = refl
-refers_to_none (ExpressionForm.Continue a) hBorrow hPath hSelfValue hParens = refl
-refers_to_none (ExpressionForm.Return a) hBorrow hPath hSelfValue hParens = refl
-refers_to_none (ExpressionForm.Closure a b c d) hBorrow hPath hSelfValue hParens = refl
-refers_to_none ExpressionForm.Panic hBorrow hPath hSelfValue hParens = refl
-refers_to_none ExpressionForm.Other hBorrow hPath hSelfValue hParens = refl
+refers_to_none _ hBorrow hPath hSelfValue hParens = refl
 
 -- what may not refer is a value
 pub by_value : (e : Env) (x : Syn) (expected : TyId) (unique : Bool) (to : TyId) → may_refer_as (expression_part (shape_of x)) ≡ false →
     by_reference e x expected unique to ≡ typed e x (Some expected)
-by_value e (syn at form) expected unique to h = by (may_refer form) (may_refer_form form ∙ h)
+by_value e (syn at (AnExpression form)) expected unique to h = by (may_refer form) h
   where
     by : (b : Bool) → b ≡ false →
-        (if b then reference_form e at form expected unique to else typed e (syn at form) (Some expected)) ≡ typed e (syn at form) (Some expected)
+        (if b then reference_form e at form expected unique to else typed e (syn at (AnExpression form)) (Some expected)) ≡ typed e (syn at (AnExpression form)) (Some expected)
     by true k = cc
     by false k = refl
+by_value e _ expected unique to h = refl
 
 -- ---- a node by its form
 

@@ -7,7 +7,7 @@ use Rattle.mir_ty.specs.declared.ty.TyId.{TyId}
 use Rattle.mir_ty.specs.ItemTable.{ItemTable}
 use Rattle.typeck_checker.specs.Variables.{found_as}
 use Rattle.src_ast.specs.Seen.{syn_of}
-use Rattle.src_ast.specs.Syntax.{Syn, Shape, Literal, FieldOf, PartOf, ElementOf, Star}
+use Rattle.src_ast.specs.Syntax.{Syn, Expression, Literal, Star, FieldOf, PartOf, ElementOf}
 use Rattle.typed_tree.specs.Tree.{Node}
 use Rattle.typing_rules.specs.Check.{Check, TypingState, breaks}
 use Rattle.typing_rules.specs.Places.{variable_place}
@@ -22,25 +22,25 @@ use Rattle.typeck_exprs.specs.declared.literals.Digits.{Digits}
 use Rattle.typeck_exprs.specs.declared.place_forms.NamedVariable.{NamedVariable}
 use Rattle.typeck_exprs.specs.declared.place_forms.PlaceForm.{PlaceForm}
 
-abbrev pub is_place_as : Env → Option Shape → Bool
+abbrev pub is_place_as : Env → Option Expression → Bool
 is_place_as env None = false
-is_place_as env (Some form) = is_place env form
+is_place_as env (Some e) = is_place env e
 
-abbrev pub value_as : Env → Pos → Option Shape → Typer
+abbrev pub value_as : Env → Pos → Option Expression → Typer
 value_as env at None expected = breaks Rule.T20 at
-value_as env at (Some form) expected = value env at form expected
+value_as env at (Some e) expected = value env at e expected
 
-abbrev pub base_as : Env → Pos → Option Shape → Check Node
+abbrev pub base_as : Env → Pos → Option Expression → Check Node
 base_as env at None = breaks Rule.T20 at
-base_as env at (Some form) = if is_place env form then place env at form else value env at form None
+base_as env at (Some e) = if is_place env e then place env at e else value env at e None
 
 -- ---- numbers
 
-abbrev pub is_plain_as : Option Shape → Bool
+abbrev pub is_plain_as : Option Expression → Bool
 is_plain_as None = false
-is_plain_as (Some form) = is_plain_form form
+is_plain_as (Some e) = is_plain_form e
 
-abbrev pub literal_as : Option Shape → Option (ℕ × Option IntKind)
+abbrev pub literal_as : Option Expression → Option (ℕ × Option IntKind)
 literal_as None = None
 literal_as (Some (Literal value suffix)) = Some (value, suffix)
 literal_as (Some _) = None
@@ -79,16 +79,16 @@ IsPlaceOf env x None = is_place_syn env x ≡ false
 IsPlaceOf env x (Some p) =
     (is_place_syn env x ≡ true) × (base_of env x ≡ place_by env p) × (place_size p < size x)
 
-abbrev pub IsPlaceAs : Env → Pos → Option Shape → Option PlaceForm → Type 0
+abbrev pub IsPlaceAs : Env → Pos → Option Expression → Option PlaceForm → Type 0
 IsPlaceAs env at form None = is_place_as env form ≡ false
 IsPlaceAs env at form (Some p) =
     (is_place_as env form ≡ true) × (base_as env at form ≡ place_by env p) × (place_size p ≤ seen_size form)
 
 -- ---- arguments for references
 
-abbrev pub may_refer_as : Option Shape → Bool
+abbrev pub may_refer_as : Option Expression → Bool
 may_refer_as None = false
-may_refer_as (Some form) = may_refer form
+may_refer_as (Some e) = may_refer e
 
 -- a variable, where it is a reference
 abbrev pub reference_among : ItemTable → Option NamedVariable → Option NamedVariable

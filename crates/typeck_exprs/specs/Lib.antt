@@ -1,9 +1,6 @@
-pub mod Rests
 pub mod Jumps
-pub mod BranchRests
+pub mod Breaks
 pub mod Pairs
 pub mod Lists
-pub mod ListRests
 pub mod Sizes
 pub mod Forms
-pub mod CallRests

@@ -2,8 +2,8 @@
 ghost use Rattle.std.specs.Prelude.{◌≡◌};
 ghost use Rattle.typing_rules.specs.Rows as rows;
 ghost use Rattle.typeck_checker.specs.Lists.{below_all, last_nodes};
-ghost use Rattle.typeck_exprs.specs.CallRests.{array_rest, box_of_rest, box_rest, tuple_rest};
 ghost use Rattle.typeck_checker.specs.Stand.{Gives, KeepsStack, below, stack, state, top};
+ghost use Rattle.typing_rules.specs.Rows.{array_end, box_end, box_of_end, tuple_end};
 
 use mir_base::limits::{MAX_ARRAY_LENGTH, MAX_TUPLE_PARTS};
 use mir_base::{List, NodeId, Pos, Rule, RuleError};
@@ -20,7 +20,7 @@ pub fn tuple_end(
     count: usize,
     expected: Option<TyId>,
 ) -> Result<(), RuleError>
-    ensures gives { Gives (tuple_rest id.0 at count types (last_nodes count (stack checker.old)) expected (state checker.old)) result checker.new }
+    ensures gives { Gives (tuple_end id.0 at count types (last_nodes count (stack checker.old)) expected (state checker.old)) result checker.new }
     ensures kept { KeepsStack (below_all count (stack checker.old)) checker.old result checker.new }
 {
     let ty = checker.intern(Ty::Tuple(types))?;
@@ -37,7 +37,7 @@ pub fn array_end(
     count: u32,
     expected: Option<TyId>,
 ) -> Result<(), RuleError>
-    ensures gives { Gives (array_rest id.0 at count element (last_nodes count (stack checker.old)) expected (state checker.old)) result checker.new }
+    ensures gives { Gives (array_end id.0 at count element (last_nodes count (stack checker.old)) expected (state checker.old)) result checker.new }
     ensures kept { KeepsStack (below_all count (stack checker.old)) checker.old result checker.new }
 {
     let ty = checker.intern(Ty::Array(element, count))?;
@@ -63,7 +63,7 @@ fn box_of(
     inside: TyId,
     expected: Option<TyId>,
 ) -> Result<(), RuleError>
-    ensures gives { Gives (box_of_rest id.0 at count expected inside (top (stack checker.old)) (state checker.old)) result checker.new }
+    ensures gives { Gives (box_of_end id.0 at count expected inside (top (stack checker.old)) (state checker.old)) result checker.new }
     ensures kept { KeepsStack (below (stack checker.old)) checker.old result checker.new }
 {
     let ty = checker.intern(Ty::Boxed(inside))?;
@@ -80,7 +80,7 @@ pub fn box_end(
     content: Option<TyId>,
     expected: Option<TyId>,
 ) -> Result<(), RuleError>
-    ensures gives { Gives (box_rest id.0 at count expected content (top (stack checker.old)) (state checker.old)) result checker.new }
+    ensures gives { Gives (box_end id.0 at count expected content (top (stack checker.old)) (state checker.old)) result checker.new }
     ensures kept { KeepsStack (below (stack checker.old)) checker.old result checker.new }
 {
     let inside = part_ty(checker, content);

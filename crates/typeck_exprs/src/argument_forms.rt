@@ -1,7 +1,7 @@
 //! What may be passed as a reference (The Rust Reference, "Borrow operators").
 ghost use Rattle.std.specs.Prelude.{◌≡◌};
 ghost use Rattle.src_ast.specs.Seen.{syn_of, word_of};
-ghost use Rattle.src_ast.specs.Syntax.{Path, syn};
+ghost use Rattle.src_ast.specs.Syntax.{AnExpression, Path, syn};
 ghost use Rattle.typeck_exprs.specs.Forms.{IsArgumentOf, reference_among};
 ghost use Rattle.typeck_checker.specs.Stand.{env, state};
 
@@ -56,7 +56,7 @@ fn path_argument<'a>(
     node: &'a SyntaxNode,
     path: PathForm<'a>,
 ) -> ArgumentForm<'a>
-    requires { syn_of node.now ≡ syn node.now.at (Path (word_of path.first) (word_of path.second)) }
+    requires { syn_of node.now ≡ syn node.now.at (AnExpression (Path (word_of path.first) (word_of path.second))) }
     ensures { IsArgumentOf (env checker.now) (syn_of node.entry.now) (state checker.now) result }
 {
     match reference_in(checker, variable_of(checker, path)) {

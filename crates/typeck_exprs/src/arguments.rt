@@ -2,8 +2,8 @@
 ghost use Rattle.std.specs.Prelude.{◌≡◌};
 ghost use Rattle.typeck_checker.specs.Variables.{found_as};
 ghost use Rattle.typing_rules.specs.Rows as rows;
-ghost use Rattle.typeck_exprs.specs.ListRests.{passed_rest};
 ghost use Rattle.typeck_checker.specs.Stand.{Gives, KeepsStack, stack, state};
+ghost use Rattle.typing_rules.specs.Rows.{passed_on_end};
 
 use crate::borrow_of;
 use mir_base::{Pos, Rule, RuleError};
@@ -30,7 +30,7 @@ fn pass_variable(
     is_unique: bool,
     to: TyId,
 ) -> Result<(), RuleError>
-    ensures gives { Gives (passed_rest at (found_as name.now found) is_unique to (state checker.old)) result checker.new }
+    ensures gives { Gives (passed_on_end at (found_as name.now found) is_unique to (state checker.old)) result checker.new }
     ensures kept { KeepsStack (stack checker.old) checker.old result checker.new }
 {
     let id = checker.number()?;

@@ -1,10 +1,9 @@
 //! How an array ends, once its elements are checked (The Rust Reference, "Array expressions").
 ghost use Rattle.std.specs.Prelude.{◌≡◌, ◌==◌, ◌||◌, not};
 ghost use Rattle.typeck_checker.specs.Lists.{below_all, last_nodes, last_types};
-ghost use Rattle.typeck_exprs.specs.CallRests.{array_rest};
 ghost use Rattle.typing_rules.specs.Rows as rows;
-ghost use Rattle.typeck_exprs.specs.ListRests.{counted_array_rest, elements_rest};
 ghost use Rattle.typeck_checker.specs.Stand.{Gives, KeepsStack, stack, state};
+ghost use Rattle.typing_rules.specs.Rows.{array_end, counted_array_end, elements_end};
 
 use crate::array_end;
 use crate::counts::as_length;
@@ -31,7 +30,7 @@ fn sized_array(
     count: usize,
     expected: Option<TyId>,
 ) -> Result<(), RuleError>
-    ensures gives { Gives (array_rest id.0 at count element (last_nodes count (stack checker.old)) expected (state checker.old)) result checker.new }
+    ensures gives { Gives (array_end id.0 at count element (last_nodes count (stack checker.old)) expected (state checker.old)) result checker.new }
     ensures kept { KeepsStack (below_all count (stack checker.old)) checker.old result checker.new }
 {
     let length = as_length(count)?;
@@ -54,7 +53,7 @@ fn counted_array(
     count: usize,
     expected: Option<TyId>,
 ) -> Result<(), RuleError>
-    ensures gives { Gives (counted_array_rest id.0 at count has_type element (last_nodes count (stack checker.old)) expected (state checker.old)) result checker.new }
+    ensures gives { Gives (counted_array_end id.0 at count has_type element (last_nodes count (stack checker.old)) expected (state checker.old)) result checker.new }
     ensures kept { KeepsStack (below_all count (stack checker.old)) checker.old result checker.new }
 {
     obeys(Rule::T16, at, is_known(has_type, count))?;
@@ -70,7 +69,7 @@ pub fn elements_end(
     count: usize,
     expected: Option<TyId>,
 ) -> Result<(), RuleError>
-    ensures gives { Gives (elements_rest id.0 at count wanted (last_nodes count (stack checker.old)) (last_types count (stack checker.old)) expected (state checker.old)) result checker.new }
+    ensures gives { Gives (elements_end id.0 at count wanted (last_nodes count (stack checker.old)) (last_types count (stack checker.old)) expected (state checker.old)) result checker.new }
     ensures kept { KeepsStack (below_all count (stack checker.old)) checker.old result checker.new }
 {
     match element_ty(checker, wanted, count) {

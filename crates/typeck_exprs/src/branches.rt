@@ -1,6 +1,6 @@
 //! Branches (The Rust Reference, "if and if let expressions").
-ghost use Rattle.typeck_exprs.specs.BranchRests.{if_else_rest, if_let_else_rest};
 ghost use Rattle.typeck_checker.specs.Stand.{Gives, KeepsStack, below, stack, state, top};
+ghost use Rattle.typing_rules.specs.Rows.{if_else_end, if_let_else_end};
 
 use mir_base::{NodeId, Pos, Rule, RuleError};
 use mir_ty::TyId;
@@ -15,7 +15,7 @@ pub fn if_else_end(
     at: Pos,
     expected: Option<TyId>,
 ) -> Result<(), RuleError>
-    ensures gives { Gives (if_else_rest id.0 at expected (top (below (below (stack checker.old)))) (top (below (stack checker.old))) (top (stack checker.old)) (state checker.old)) result checker.new }
+    ensures gives { Gives (if_else_end id.0 at expected (top (below (below (stack checker.old)))) (top (below (stack checker.old))) (top (stack checker.old)) (state checker.old)) result checker.new }
     ensures kept { KeepsStack (below (below (below (stack checker.old)))) checker.old result checker.new }
 {
     match one_of_two(&checker.walk.items, checker.second_ty(), checker.last_ty()) {
@@ -31,7 +31,7 @@ pub fn if_let_else_end(
     at: Pos,
     expected: Option<TyId>,
 ) -> Result<(), RuleError>
-    ensures gives { Gives (if_let_else_rest id.0 at expected (top (below (below (below (stack checker.old))))) (top (below (below (stack checker.old)))) (top (below (stack checker.old))) (top (stack checker.old)) (state checker.old)) result checker.new }
+    ensures gives { Gives (if_let_else_end id.0 at expected (top (below (below (below (stack checker.old))))) (top (below (below (stack checker.old)))) (top (below (stack checker.old))) (top (stack checker.old)) (state checker.old)) result checker.new }
     ensures kept { KeepsStack (below (below (below (below (stack checker.old))))) checker.old result checker.new }
 {
     match one_of_two(&checker.walk.items, checker.second_ty(), checker.last_ty()) {

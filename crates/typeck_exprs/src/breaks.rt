@@ -1,9 +1,10 @@
 //! Loops with a value (The Rust Reference, "break expressions and loop values").
 ghost use Rattle.std.specs.Prelude.{◌≡◌, map, option_and_then};
 ghost use Rattle.typing_rules.specs.Rows as rows;
-ghost use Rattle.typeck_exprs.specs.BranchRests.{carried_by, loop_rest};
+ghost use Rattle.typeck_exprs.specs.Breaks.{carried_by};
 ghost use Rattle.typeck_env.specs.Walked.{break_of};
 ghost use Rattle.typeck_checker.specs.Stand.{Gives, KeepsStack, below, stack, state, top};
+ghost use Rattle.typing_rules.specs.Rows.{loop_end};
 
 use mir_base::{NodeId, Pos, Rule, RuleError};
 use mir_ty::{Items, NEVER, TyId};
@@ -43,7 +44,7 @@ pub fn loop_end(
     at: Pos,
     expected: Option<TyId>,
 ) -> Result<(), RuleError>
-    ensures gives { Gives (loop_rest id.0 at expected (top (stack checker.old)) (state checker.old)) result checker.new }
+    ensures gives { Gives (loop_end id.0 at expected (top (stack checker.old)) (state checker.old)) result checker.new }
     ensures kept { KeepsStack (below (stack checker.old)) checker.old result checker.new }
 {
     match breaks_ty(&checker.walk.items, checker.walk.breaks.as_slice(), id) {

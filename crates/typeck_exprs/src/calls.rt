@@ -5,8 +5,8 @@ ghost use Rattle.typed_tree.specs.Tree as tree;
 ghost use Rattle.typing_rules.specs.Places.{a_node_of};
 ghost use Rattle.typing_rules.specs.Rows as rows;
 ghost use Rattle.typeck_checker.specs.Lists.{behind_form, below_all, last_nodes, last_types, many_form};
-ghost use Rattle.typeck_exprs.specs.CallRests.{call_rest, counted_rest, match_rest};
 ghost use Rattle.typeck_checker.specs.Stand.{Gives, KeepsStack, below, stack, state, top};
+ghost use Rattle.typing_rules.specs.Rows.{call_end, counted_call_end, match_end};
 
 use mir_base::{NodeId, Pos, Rule, RuleError};
 use mir_ty::TyId;
@@ -43,7 +43,7 @@ pub fn call_end(
     may_be_called: bool,
     expected: Option<TyId>,
 ) -> Result<(), RuleError>
-    ensures gives { Gives (call_rest id.0 at answer (many_form many (last_nodes count (stack checker.old))) is_count may_be_called expected (state checker.old)) result checker.new }
+    ensures gives { Gives (call_end id.0 at answer (many_form many (last_nodes count (stack checker.old))) is_count may_be_called expected (state checker.old)) result checker.new }
     ensures kept { KeepsStack (below_all count (stack checker.old)) checker.old result checker.new }
 {
     coerce_many(checker, id, at, answer, many, count, expected)?;
@@ -64,7 +64,7 @@ pub fn counted_end(
     is_count: bool,
     expected: Option<TyId>,
 ) -> Result<(), RuleError>
-    ensures gives { Gives (counted_rest id.0 at answer (behind_form behind (top (below_all count (stack checker.old))) (last_nodes count (stack checker.old))) Rule.T04 is_count expected (state checker.old)) result checker.new }
+    ensures gives { Gives (counted_call_end id.0 at answer (behind_form behind (top (below_all count (stack checker.old))) (last_nodes count (stack checker.old))) Rule.T04 is_count expected (state checker.old)) result checker.new }
     ensures kept { KeepsStack (below (below_all count (stack checker.old))) checker.old result checker.new }
 {
     coerce_behind(checker, id, at, answer, behind, count, expected)?;
@@ -95,7 +95,7 @@ pub fn match_end(
     count: usize,
     expected: Option<TyId>,
 ) -> Result<(), RuleError>
-    ensures gives { Gives (match_rest id.0 at expected (top (below_all count (stack checker.old))) (last_nodes count (stack checker.old)) (last_types count (stack checker.old)) (state checker.old)) result checker.new }
+    ensures gives { Gives (match_end id.0 at expected (top (below_all count (stack checker.old))) (last_nodes count (stack checker.old)) (last_types count (stack checker.old)) (state checker.old)) result checker.new }
     ensures kept { KeepsStack (below (below_all count (stack checker.old))) checker.old result checker.new }
 {
     match one_type_of(checker, count) {

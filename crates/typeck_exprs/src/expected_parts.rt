@@ -4,8 +4,8 @@ ghost use Rattle.mir_base.specs.declared.rule.RuleError.{RuleError};
 ghost use Rattle.typing_rules.specs.Places as places;
 ghost use Rattle.typing_rules.specs.Rows as rows;
 ghost use Rattle.typing_rules.specs.Typed as rules;
-ghost use Rattle.typeck_exprs.specs.ListRests.{if_as_many};
 ghost use Rattle.typeck_checker.specs.Stand.{stack, top};
+ghost use Rattle.typing_rules.specs.Rows.{if_as_many};
 
 use mir_base::{List, RuleError};
 use mir_ty::{Items, Ty, TyId};

@@ -5,9 +5,9 @@ ghost use Rattle.typed_tree.specs.Tree.{absent, present};
 ghost use Rattle.typing_rules.specs.Rows as rows;
 ghost use Rattle.typing_rules.specs.Scope.{jumps_to};
 ghost use Rattle.typeck_exprs.specs.Jumps.{target_of, unlabelled};
-ghost use Rattle.typeck_exprs.specs.BranchRests.{break_out_rest, break_rest, continue_rest, return_alone_rest};
 ghost use Rattle.typeck_env.specs.Scope.{word_in};
 ghost use Rattle.typeck_checker.specs.Stand.{Gives, KeepsStack, below, env, stack, state, top};
+ghost use Rattle.typing_rules.specs.Rows.{break_end, break_out_end, continue_end, return_end};
 
 use mir_base::{NodeId, Pos, Rule, RuleError};
 use mir_ty::{NEVER, TyId, UNIT};
@@ -58,7 +58,7 @@ pub fn continue_end(
     target: Option<JumpTarget>,
     expected: Option<TyId>,
 ) -> Result<(), RuleError>
-    ensures gives { Gives (continue_rest id.0 at expected (option_map target_of target) (state checker.old)) result checker.new }
+    ensures gives { Gives (continue_end id.0 at expected (option_map target_of target) (state checker.old)) result checker.new }
     ensures kept { KeepsStack (stack checker.old) checker.old result checker.new }
 {
     match target {
@@ -75,7 +75,7 @@ pub fn break_alone_end(
     target: Option<JumpTarget>,
     expected: Option<TyId>,
 ) -> Result<(), RuleError>
-    ensures gives { Gives (break_rest id.0 at expected (option_map target_of target) absent (state checker.old)) result checker.new }
+    ensures gives { Gives (break_end id.0 at expected (option_map target_of target) absent (state checker.old)) result checker.new }
     ensures kept { KeepsStack (stack checker.old) checker.old result checker.new }
 {
     match target {
@@ -91,7 +91,7 @@ fn break_out_alone(
     from: NodeId,
     expected: Option<TyId>,
 ) -> Result<(), RuleError>
-    ensures gives { Gives (break_out_rest id.0 at expected from.0 absent (state checker.old)) result checker.new }
+    ensures gives { Gives (break_out_end id.0 at expected from.0 absent (state checker.old)) result checker.new }
     ensures kept { KeepsStack (stack checker.old) checker.old result checker.new }
 {
     checker.breaks_out(from, UNIT)?;
@@ -106,7 +106,7 @@ pub fn break_end(
     target: Option<JumpTarget>,
     expected: Option<TyId>,
 ) -> Result<(), RuleError>
-    ensures gives { Gives (break_rest id.0 at expected (option_map target_of target) (present (top (stack checker.old))) (state checker.old)) result checker.new }
+    ensures gives { Gives (break_end id.0 at expected (option_map target_of target) (present (top (stack checker.old))) (state checker.old)) result checker.new }
     ensures kept { KeepsStack (below (stack checker.old)) checker.old result checker.new }
 {
     match target {
@@ -125,7 +125,7 @@ fn break_out(
     from: NodeId,
     expected: Option<TyId>,
 ) -> Result<(), RuleError>
-    ensures gives { Gives (break_out_rest id.0 at expected from.0 (present (top (stack checker.old))) (state checker.old)) result checker.new }
+    ensures gives { Gives (break_out_end id.0 at expected from.0 (present (top (stack checker.old))) (state checker.old)) result checker.new }
     ensures kept { KeepsStack (below (stack checker.old)) checker.old result checker.new }
 {
     checker.breaks_out(from, checker.last_ty())?;
@@ -140,7 +140,7 @@ pub fn return_alone_end(
     at: Pos,
     expected: Option<TyId>,
 ) -> Result<(), RuleError>
-    ensures gives { Gives (return_alone_rest id.0 at (env checker.old).answer expected (state checker.old)) result checker.new }
+    ensures gives { Gives (return_end id.0 at (env checker.old).answer expected absent (state checker.old)) result checker.new }
     ensures kept { KeepsStack (stack checker.old) checker.old result checker.new }
 {
     let is_nothing = is_unit(&checker.walk.items, checker.around.answer);

@@ -1,9 +1,9 @@
 //! Two operands, of which either was checked first (The Rust Reference, "Operator expressions").
 ghost use Rattle.std.specs.Prelude.{◌≡◌};
-ghost use Rattle.typeck_exprs.specs.Rests.{arithmetic_rest, comparison_rest};
 ghost use Rattle.typing_rules.specs.Rows as rows;
 ghost use Rattle.typeck_exprs.specs.Pairs.{left_of, right_of};
 ghost use Rattle.typeck_checker.specs.Stand.{Gives, KeepsStack, below, stack, state};
+ghost use Rattle.typing_rules.specs.Rows.{arithmetic_end, comparison_end};
 
 use crate::{arithmetic_end, arithmetic_last_end, comparison_end, comparison_last_end};
 use mir_base::{Cmp, Math, NodeId, Pos, RuleError};
@@ -27,7 +27,7 @@ pub fn arithmetic_of(
     swapped: bool,
     expected: Option<TyId>,
 ) -> Result<(), RuleError>
-    ensures gives { Gives (arithmetic_rest id.0 at operator expected (left_of swapped (stack checker.old)) (right_of swapped (stack checker.old)) (state checker.old)) result checker.new }
+    ensures gives { Gives (arithmetic_end id.0 at operator expected (left_of swapped (stack checker.old)) (right_of swapped (stack checker.old)) (state checker.old)) result checker.new }
     ensures kept { KeepsStack (below (below (stack checker.old))) checker.old result checker.new }
 {
     if swapped {
@@ -46,7 +46,7 @@ pub fn comparison_of(
     swapped: bool,
     expected: Option<TyId>,
 ) -> Result<(), RuleError>
-    ensures gives { Gives (comparison_rest id.0 at operator expected (left_of swapped (stack checker.old)) (right_of swapped (stack checker.old)) (state checker.old)) result checker.new }
+    ensures gives { Gives (comparison_end id.0 at operator expected (left_of swapped (stack checker.old)) (right_of swapped (stack checker.old)) (state checker.old)) result checker.new }
     ensures kept { KeepsStack (below (below (stack checker.old))) checker.old result checker.new }
 {
     if swapped {

@@ -2,9 +2,9 @@
 ghost use Rattle.std.specs.Prelude.{◌≡◌, option_and_then};
 ghost use Rattle.typing_rules.specs.Places as places;
 ghost use Rattle.typing_rules.specs.Rows as rows;
-ghost use Rattle.typeck_exprs.specs.Rests.{arithmetic_rest, comparison_rest, logic_rest, negate_rest, not_rest};
 ghost use Rattle.typeck_checker.specs.Forms.{two_form};
 ghost use Rattle.typeck_checker.specs.Stand.{Gives, KeepsStack, below, stack, state, top};
+ghost use Rattle.typing_rules.specs.Rows.{arithmetic_end, comparison_end, logic_end, negate_end, not_end};
 
 use mir_base::{Cmp, Math, NodeId, Pos, Rule, RuleError};
 use mir_ty::{BOOL, Items, TyId};
@@ -66,7 +66,7 @@ pub fn not_end(
     at: Pos,
     expected: Option<TyId>,
 ) -> Result<(), RuleError>
-    ensures gives { Gives (not_rest id.0 at expected (top (stack checker.old)) (state checker.old)) result checker.new }
+    ensures gives { Gives (not_end id.0 at expected (top (stack checker.old)) (state checker.old)) result checker.new }
     ensures kept { KeepsStack (below (stack checker.old)) checker.old result checker.new }
 {
     let holds = fits(&checker.walk.items, BOOL, checker.last_ty());
@@ -81,7 +81,7 @@ pub fn negate_end(
     at: Pos,
     expected: Option<TyId>,
 ) -> Result<(), RuleError>
-    ensures gives { Gives (negate_rest id.0 at expected (top (stack checker.old)) (state checker.old)) result checker.new }
+    ensures gives { Gives (negate_end id.0 at expected (top (stack checker.old)) (state checker.old)) result checker.new }
     ensures kept { KeepsStack (below (stack checker.old)) checker.old result checker.new }
 {
     let ty = checker.last_ty();
@@ -97,7 +97,7 @@ pub fn arithmetic_end(
     operator: Math,
     expected: Option<TyId>,
 ) -> Result<(), RuleError>
-    ensures gives { Gives (arithmetic_rest id.0 at operator expected (top (below (stack checker.old))) (top (stack checker.old)) (state checker.old)) result checker.new }
+    ensures gives { Gives (arithmetic_end id.0 at operator expected (top (below (stack checker.old))) (top (stack checker.old)) (state checker.old)) result checker.new }
     ensures kept { KeepsStack (below (below (stack checker.old))) checker.old result checker.new }
 {
     match common_int(&checker.walk.items, checker.second_ty(), checker.last_ty()) {
@@ -114,7 +114,7 @@ pub fn arithmetic_last_end(
     operator: Math,
     expected: Option<TyId>,
 ) -> Result<(), RuleError>
-    ensures gives { Gives (arithmetic_rest id.0 at operator expected (top (stack checker.old)) (top (below (stack checker.old))) (state checker.old)) result checker.new }
+    ensures gives { Gives (arithmetic_end id.0 at operator expected (top (stack checker.old)) (top (below (stack checker.old))) (state checker.old)) result checker.new }
     ensures kept { KeepsStack (below (below (stack checker.old))) checker.old result checker.new }
 {
     match common_int(&checker.walk.items, checker.last_ty(), checker.second_ty()) {
@@ -131,7 +131,7 @@ pub fn comparison_end(
     operator: Cmp,
     expected: Option<TyId>,
 ) -> Result<(), RuleError>
-    ensures gives { Gives (comparison_rest id.0 at operator expected (top (below (stack checker.old))) (top (stack checker.old)) (state checker.old)) result checker.new }
+    ensures gives { Gives (comparison_end id.0 at operator expected (top (below (stack checker.old))) (top (stack checker.old)) (state checker.old)) result checker.new }
     ensures kept { KeepsStack (below (below (stack checker.old))) checker.old result checker.new }
 {
     match common(&checker.walk.items, checker.second_ty(), checker.last_ty()) {
@@ -148,7 +148,7 @@ pub fn comparison_last_end(
     operator: Cmp,
     expected: Option<TyId>,
 ) -> Result<(), RuleError>
-    ensures gives { Gives (comparison_rest id.0 at operator expected (top (stack checker.old)) (top (below (stack checker.old))) (state checker.old)) result checker.new }
+    ensures gives { Gives (comparison_end id.0 at operator expected (top (stack checker.old)) (top (below (stack checker.old))) (state checker.old)) result checker.new }
     ensures kept { KeepsStack (below (below (stack checker.old))) checker.old result checker.new }
 {
     match common(&checker.walk.items, checker.last_ty(), checker.second_ty()) {
@@ -165,7 +165,7 @@ pub fn logic_end(
     two: TwoParts,
     expected: Option<TyId>,
 ) -> Result<(), RuleError>
-    ensures gives { Gives (logic_rest id.0 at (two_form two) expected (top (below (stack checker.old))) (top (stack checker.old)) (state checker.old)) result checker.new }
+    ensures gives { Gives (logic_end id.0 at (two_form two) expected (top (below (stack checker.old))) (top (stack checker.old)) (state checker.old)) result checker.new }
     ensures kept { KeepsStack (below (below (stack checker.old))) checker.old result checker.new }
 {
     let left = fits(&checker.walk.items, BOOL, checker.second_ty());

@@ -1,7 +1,7 @@
 //! Places that are gone through (The Rust Reference, "Place Expressions and Value Expressions").
 ghost use Rattle.std.specs.Prelude.{◌≡◌};
-ghost use Rattle.typeck_exprs.specs.Rests.{deref_rest, element_rest};
 ghost use Rattle.typeck_checker.specs.Stand.{Gives, KeepsStack, below, stack, state, top};
+ghost use Rattle.typing_rules.specs.Rows.{deref_end, element_end};
 
 use mir_base::{NodeId, Pos, Rule, RuleError};
 use typeck_checker::{Checker, One, TwoParts};
@@ -10,7 +10,7 @@ use typeck_heads::broken_rule;
 
 /// `*e`.
 pub fn deref_end(checker: &mut Checker, id: NodeId, at: Pos) -> Result<(), RuleError>
-    ensures gives { Gives (deref_rest id.0 at (top (stack checker.old)) (state checker.old)) result checker.new }
+    ensures gives { Gives (deref_end id.0 at (top (stack checker.old)) (state checker.old)) result checker.new }
     ensures kept { KeepsStack (below (stack checker.old)) checker.old result checker.new }
 {
     match inside_of(&checker.walk.items, checker.last_ty()) {
@@ -21,7 +21,7 @@ pub fn deref_end(checker: &mut Checker, id: NodeId, at: Pos) -> Result<(), RuleE
 
 /// `a[i]`.
 pub fn element_end(checker: &mut Checker, id: NodeId, at: Pos) -> Result<(), RuleError>
-    ensures gives { Gives (element_rest id.0 at (top (below (stack checker.old))) (top (stack checker.old)) (state checker.old)) result checker.new }
+    ensures gives { Gives (element_end id.0 at (top (below (stack checker.old))) (top (stack checker.old)) (state checker.old)) result checker.new }
     ensures kept { KeepsStack (below (below (stack checker.old))) checker.old result checker.new }
 {
     match array_of(&checker.walk.items, checker.second_ty()) {

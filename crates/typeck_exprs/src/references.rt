@@ -3,8 +3,8 @@ ghost use Rattle.std.specs.Prelude.{◌≡◌, ◌&&◌, not};
 ghost use Rattle.typing_rules.specs.Places as places;
 ghost use Rattle.typing_rules.specs.Rows as rows;
 ghost use Rattle.well_typed.specs.Types.{is_same};
-ghost use Rattle.typeck_exprs.specs.Rests.{borrow_allowed_rest, borrow_rest};
 ghost use Rattle.typeck_checker.specs.Stand.{Gives, KeepsStack, below, stack, state, top};
+ghost use Rattle.typing_rules.specs.Rows.{borrow_allowed_end, borrow_end};
 
 use mir_base::{NodeId, Pos, Rule, RuleError};
 use mir_ty::{Ty, TyId};
@@ -54,7 +54,7 @@ fn may_borrow(checker: &Checker, unique: bool) -> bool
 
 /// A borrow of the last node, where it may be borrowed so.
 fn borrow_allowed(checker: &mut Checker, id: NodeId, at: Pos, unique: bool) -> Result<(), RuleError>
-    ensures gives { Gives (borrow_allowed_rest id.0 at unique (top (stack checker.old)) (state checker.old)) result checker.new }
+    ensures gives { Gives (borrow_allowed_end id.0 at unique (top (stack checker.old)) (state checker.old)) result checker.new }
     ensures kept { KeepsStack (below (stack checker.old)) checker.old result checker.new }
 {
     let is_allowed = may_borrow(checker, unique);
@@ -71,7 +71,7 @@ pub fn borrow_end(
     is_unique: bool,
     to: TyId,
 ) -> Result<(), RuleError>
-    ensures gives { Gives (borrow_rest id.0 at unique is_unique to (top (stack checker.old)) (state checker.old)) result checker.new }
+    ensures gives { Gives (borrow_end id.0 at unique is_unique to (top (stack checker.old)) (state checker.old)) result checker.new }
     ensures kept { KeepsStack (below (stack checker.old)) checker.old result checker.new }
 {
     let is_same = is_for(checker.last_ty(), to, unique, is_unique);

@@ -1,7 +1,7 @@
 //! Statements (The Rust Reference, "Statements").
 ghost use Rattle.std.specs.Prelude.{◌≡◌};
-ghost use Rattle.typeck_exprs.specs.BranchRests.{evaluate_rest};
 ghost use Rattle.typeck_checker.specs.Stand.{GivesValue, KeepsStack, below, env, stack, state, top};
+ghost use Rattle.typing_rules.specs.Rows.{evaluate_end};
 
 use mir_base::{NodeId, Pos, Rule, RuleError};
 use mir_ty::UNIT;
@@ -17,7 +17,7 @@ pub fn evaluate_end(
     has_semicolon: bool,
 ) -> Result<bool, RuleError>
     ensures gives { GivesValue (λ ends. (top (stack checker.new), ends, env checker.old))
-        (evaluate_rest (env checker.old) id.0 at has_semicolon (top (stack checker.old)) (state checker.old)) result checker.new }
+        (evaluate_end (env checker.old) id.0 at has_semicolon (top (stack checker.old)) (state checker.old)) result checker.new }
     ensures kept { KeepsStack (below (stack checker.old)) checker.old result checker.new }
 {
     let ty = checker.last_ty();

@@ -3,8 +3,8 @@ ghost use Rattle.std.specs.Prelude.{◌≡◌, ◌&&◌, not};
 ghost use Rattle.typing_rules.specs.Places as places;
 ghost use Rattle.typing_rules.specs.Rows as rows;
 ghost use Rattle.well_typed.specs.Places.{form_of, is_place};
-ghost use Rattle.typeck_exprs.specs.Rests.{store_rest};
 ghost use Rattle.typeck_checker.specs.Stand.{Gives, KeepsStack, below, env, stack, state, top};
+ghost use Rattle.typing_rules.specs.Rows.{store_end};
 
 use mir_base::{NodeId, Pos, Rule, RuleError};
 use mir_ty::{TyId, UNIT};
@@ -19,7 +19,7 @@ pub fn store_end(
     at: Pos,
     expected: Option<TyId>,
 ) -> Result<(), RuleError>
-    ensures gives { Gives (store_rest (env checker.old) id.0 at expected (top (below (stack checker.old))) (top (stack checker.old)) (state checker.old)) result checker.new }
+    ensures gives { Gives (store_end (env checker.old) id.0 at expected (top (below (stack checker.old))) (top (stack checker.old)) (state checker.old)) result checker.new }
     ensures kept { KeepsStack (below (below (stack checker.old))) checker.old result checker.new }
 {
     let is_whole = !is_dyn(&checker.walk.items, checker.second_ty());

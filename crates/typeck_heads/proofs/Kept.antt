@@ -7,7 +7,7 @@ use Rattle.mir_ty.specs.declared.ty.Ty.{Ty}
 use Rattle.mir_ty.specs.declared.ty.TyId.{TyId}
 use Rattle.mir_ty.proofs.ListLemmas.{slice_get-append_left}
 use Rattle.well_typed.specs.Items.{is_equal}
-use Rattle.src_ast.specs.Syntax.{Syn, syn, Shape, NamedType, GenericType, DynType, SelfType, ParensType, TupleType, ArrayType, NeverType, RefType, Syns, no_syn, a_syn, Receiver, ByValue, ByShared, ByUnique, ParamOf, SelfParam}
+use Rattle.src_ast.specs.Syntax.{Receiver, ByValue, ByShared, ByUnique, Syn, syn, AType, AParam, WrittenType, NamedType, GenericType, DynType, SelfType, ParensType, TupleType, ArrayType, NeverType, RefType, ParamOf, SelfParam, Syns, no_syn, a_syn}
 use Rattle.typing_rules.specs.Check.{Check, TypingState, Broken, and_then, ◌>>=◌, pure, breaks, obeys, known, interned, interned_at, each_checked}
 use Rattle.typing_rules.specs.Collected.{receiver_ty, param_ty}
 use Rattle.typing_rules.specs.Places.{unit, never}
@@ -82,9 +82,10 @@ kept_tuple (ty ∷ tys) = kept_interned (Ty.Tuple (ty ∷ tys))
 module _ (w : WrittenScope) where
   mutual
     pub kept_written : (x : Syn) → Kept (written w x)
-    kept_written (syn at form) = kept_form at form
+    kept_written (syn at (AType t)) = kept_form at t
+    kept_written (syn at _) = kept_breaks Rule.T20 at
 
-    kept_form : (at : Pos) (form : Shape) → Kept (written_form w at form)
+    kept_form : (at : Pos) (form : WrittenType) → Kept (written_form w at form)
     kept_form at (NamedType name) = kept_named at (number_of w.adts name) (scalar_named name)
     kept_form at (GenericType name content) =
         kept_bind (obeys Rule.T01 at (is_box name)) _ (kept_obeys Rule.T01 at (is_box name)) (λ _. kept_bind (written w content) _ (kept_written
@@ -101,7 +102,6 @@ module _ (w : WrittenScope) where
     kept_form at NeverType = kept_pure never
     kept_form at (RefType unique to) =
         kept_bind (written w to) _ (kept_written to) (λ ty. kept_bind (obeys Rule.T08 at (not w.has_limits)) _ (kept_obeys Rule.T08 at (not w.has_limits)) (λ _. kept_interned (reference_to unique ty)))
-    kept_form at _ = kept_breaks Rule.T20 at
 
     kept_all : (parts : Syns) → Kept (all_written w parts)
     kept_all no_syn = kept_pure []
@@ -110,9 +110,10 @@ module _ (w : WrittenScope) where
 
   mutual
     pub kept_param : (x : Syn) → Kept (written_param w x)
-    kept_param (syn at form) = kept_param_form at form
+    kept_param (syn at (AType t)) = kept_param_form at t
+    kept_param (syn at _) = kept_breaks Rule.T20 at
 
-    kept_param_form : (at : Pos) (form : Shape) → Kept (written_param_form w at form)
+    kept_param_form : (at : Pos) (form : WrittenType) → Kept (written_param_form w at form)
     kept_param_form at (ParensType inside) = kept_param inside
     kept_param_form at (RefType unique to) = kept_bind (written w to) _ (kept_written to) (λ ty. kept_interned (reference_to unique ty))
     kept_param_form at form = kept_form at form
@@ -126,6 +127,6 @@ kept_receiver own ByUnique = kept_interned (Ty.Unique own)
 
 module _ (w : WrittenScope) (self : Check TyId) (kept_self : Kept self) where
   pub kept_head_param : (x : Syn) → Kept (param_ty w self x)
-  kept_head_param (syn at (ParamOf p ty)) = kept_param w ty
-  kept_head_param (syn at (SelfParam receiver)) = kept_bind self _ kept_self (λ own. kept_receiver own receiver)
+  kept_head_param (syn at (AParam (ParamOf p ty))) = kept_param w ty
+  kept_head_param (syn at (AParam (SelfParam receiver))) = kept_bind self _ kept_self (λ own. kept_receiver own receiver)
   kept_head_param (syn at _) = kept_breaks Rule.T20 at

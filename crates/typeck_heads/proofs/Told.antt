@@ -12,87 +12,15 @@ use Rattle.src_ast.specs.Seen.{syn_of}
 use Rattle.src_ast.specs.Sorts.{type_part}
 use Rattle.src_ast.specs.Types.{type_of}
 use Rattle.src_ast.specs.declared.ty.TypeForm.{TypeForm}
-use Rattle.src_ast.specs.Syntax.{Syn, syn, Syns, no_syn, a_syn, Shape, shape_of, Ident, LabelOf, Literal, TruthLiteral, Path, Minus, Bang, Star, Ampersand, Calculate, Compare, Both, Either, Store, CallOf, MethodOf, FieldOf, PartOf, ElementOf, StructOf, FieldInit, Parens, TupleOf, ArrayOf, Braces, IfElse, IfLetElse, MatchOn, ArmOf, LoopOf, WhileOf, WhileLetOf, BreakOf, ContinueOf, ReturnOf, MoveOf, PanicOf, LetOf, Empty, Semi, AnyPattern, BindPattern, LiteralPattern, TruthPattern, PathPattern, PartsPattern, FieldsPattern, FieldPattern, ParensPattern, TuplePattern, ArrayPattern, Alternatives, NamedType, GenericType, DynType, SelfType, ParensType, TupleType, ArrayType, NeverType, RefType, StructItem, EnumItem, FieldDecl, VariantDecl, TraitItem, ImplItem, FnItem, ParamOf, SelfParam, Odd}
+use Rattle.src_ast.specs.Syntax.{Syn, syn, shape_of, AType, WrittenType, NamedType, GenericType, DynType, SelfType, ParensType, TupleType, ArrayType, NeverType, RefType, Syns, no_syn, a_syn}
 use Rattle.typing_rules.specs.Check.{Check, TypingState, Broken, and_then, obeys, known, interned, interned_at}
 use Rattle.typing_rules.specs.Places.{unit}
 use Rattle.typing_rules.specs.Written.{WrittenScope, written, written_form, all_written, named_by, number_of, scalar_named, tuple_by, is_box, is_usize, length_shown, reference_to, or_unit_in, or_unit}
 use Rattle.typeck_heads.specs.Standing.{stands, form_stands, all_stand, stands_as}
 
-form_stands_as : (w : WrittenScope) (form : Shape) → form_stands w form ≡ stands_as w (type_part form)
-form_stands_as w (Ident a) = refl
-form_stands_as w (LabelOf a) = refl
-form_stands_as w (Literal a b) = refl
-form_stands_as w (TruthLiteral a) = refl
-form_stands_as w (Path a b) = refl
-form_stands_as w (Minus a) = refl
-form_stands_as w (Bang a) = refl
-form_stands_as w (Star a) = refl
-form_stands_as w (Ampersand a b) = refl
-form_stands_as w (Calculate a b c) = refl
-form_stands_as w (Compare a b c) = refl
-form_stands_as w (Both a b) = refl
-form_stands_as w (Either a b) = refl
-form_stands_as w (Store a b) = refl
-form_stands_as w (CallOf a b) = refl
-form_stands_as w (MethodOf a b c) = refl
-form_stands_as w (FieldOf a b) = refl
-form_stands_as w (PartOf a b) = refl
-form_stands_as w (ElementOf a b) = refl
-form_stands_as w (StructOf a b c) = refl
-form_stands_as w (FieldInit a b) = refl
-form_stands_as w (Parens a) = refl
-form_stands_as w (TupleOf a) = refl
-form_stands_as w (ArrayOf a) = refl
-form_stands_as w (Braces a b) = refl
-form_stands_as w (IfElse a b c) = refl
-form_stands_as w (IfLetElse a b c d) = refl
-form_stands_as w (MatchOn a b) = refl
-form_stands_as w (ArmOf a b c) = refl
-form_stands_as w (LoopOf a b) = refl
-form_stands_as w (WhileOf a b c) = refl
-form_stands_as w (WhileLetOf a b c d) = refl
-form_stands_as w (BreakOf a b) = refl
-form_stands_as w (ContinueOf a) = refl
-form_stands_as w (ReturnOf a) = refl
-form_stands_as w (MoveOf a b c d) = refl
-form_stands_as w PanicOf = refl
-form_stands_as w (LetOf a b c) = refl
-form_stands_as w Empty = refl
-form_stands_as w (Semi a) = refl
-form_stands_as w AnyPattern = refl
-form_stands_as w (BindPattern a) = refl
-form_stands_as w (LiteralPattern a b c) = refl
-form_stands_as w (TruthPattern a) = refl
-form_stands_as w (PathPattern a b) = refl
-form_stands_as w (PartsPattern a b c d) = refl
-form_stands_as w (FieldsPattern a b c d) = refl
-form_stands_as w (FieldPattern a b) = refl
-form_stands_as w (ParensPattern a) = refl
-form_stands_as w (TuplePattern a b) = refl
-form_stands_as w (ArrayPattern a b) = refl
-form_stands_as w (Alternatives a) = refl
-form_stands_as w (NamedType a) = refl
-form_stands_as w (GenericType a b) = refl
-form_stands_as w (DynType a b) = refl
-form_stands_as w SelfType = refl
-form_stands_as w (ParensType a) = refl
-form_stands_as w (TupleType a) = refl
-form_stands_as w (ArrayType a b c) = refl
-form_stands_as w NeverType = refl
-form_stands_as w (RefType a b) = refl
-form_stands_as w (StructItem a b c d) = refl
-form_stands_as w (EnumItem a b c) = refl
-form_stands_as w (FieldDecl a b) = refl
-form_stands_as w (VariantDecl a b c) = refl
-form_stands_as w (TraitItem a b) = refl
-form_stands_as w (ImplItem a b c) = refl
-form_stands_as w (FnItem a b c d) = refl
-form_stands_as w (ParamOf a b) = refl
-form_stands_as w (SelfParam a) = refl
-form_stands_as w Odd = refl
-
 stands_seen_as : (w : WrittenScope) (x : Syn) → stands w x ≡ stands_as w (type_part (shape_of x))
-stands_seen_as w (syn at form) = form_stands_as w form
+stands_seen_as w (syn at (AType (NamedType a))) = refl
+stands_seen_as w (syn at _) = refl
 
 pub stands_seen : (w : WrittenScope) (n : SyntaxNode) → stands w (syn_of n) ≡ stands_as w (type_part (shape_of (syn_of n)))
 stands_seen w n = stands_seen_as w (syn_of n)
@@ -151,9 +79,10 @@ module _ (w : WrittenScope) (free : w.has_limits ≡ false) where
 
   mutual
     told : (x : Syn) (s : TypingState) → Tells (stands w x) (written w x s)
-    told (syn at form) s = told_form at form s
+    told (syn at (AType t)) s = told_form at t s
+    told _ s = refl
 
-    told_form : (at : Pos) (form : Shape) (s : TypingState) → Tells (form_stands w form) (written_form w at form s)
+    told_form : (at : Pos) (form : WrittenType) (s : TypingState) → Tells (form_stands w form) (written_form w at form s)
     told_form at (NamedType name) s = told_named at (number_of w.adts name) (scalar_named name) s
     told_form at (GenericType name content) s =
         both (is_box name) (stands w content) (obeys Rule.T01 at (is_box name) s) _ (told_obeys Rule.T01 at (is_box name) s) (λ _ t.
@@ -178,7 +107,6 @@ module _ (w : WrittenScope) (free : w.has_limits ≡ false) where
     told_form at (RefType unique to) s =
         only (stands w to) (written w to s) _ (told to s) (λ ty t.
         only true (obeys Rule.T08 at (not w.has_limits) t) _ (told_no_limits Rule.T08 at t) (λ _ u. told_interned (reference_to unique ty) u))
-    told_form at _ s = refl
 
     told_all : (parts : Syns) (s : TypingState) → Tells (all_stand w parts) (all_written w parts s)
     told_all no_syn s = refl

@@ -7,7 +7,7 @@ use Rattle.mir_ty.specs.ItemTable.{ItemTable}
 use Rattle.mir_ty.specs.declared.ty.Ty.{Ty}
 use Rattle.mir_ty.specs.declared.ty.TyId.{TyId}
 use Rattle.mir_ty.specs.AreItems.{AreTypes}
-use Rattle.src_ast.specs.Syntax.{Syn, Syns, a_syn, Shape, shape_of}
+use Rattle.src_ast.specs.Syntax.{Syn, shape_of, WrittenType, Syns, a_syn}
 use Rattle.std.specs.Borrow.{Bor}
 use Rattle.src_ast.specs.declared.ty.TypeForm.{TypeForm}
 use Rattle.src_ast.specs.Types.{type_of}
@@ -75,7 +75,7 @@ param_answers w n s r after seen form is is_seen h =
     ap (λ f. param_as w n.at (type_of f) s) (sym is) ∙ ap (λ f. param_as w n.at f s) is_seen ∙ sym (param_seen w n s) in
     subst (λ o. Answers o r after) equal h
 
-pub plain_answers : (w : WrittenScope) (n : SyntaxNode) (s : TypingState) (r : Result TyId RuleError) (after : ItemTable) (form : Option Shape) →
+pub plain_answers : (w : WrittenScope) (n : SyntaxNode) (s : TypingState) (r : Result TyId RuleError) (after : ItemTable) (form : Option WrittenType) →
     form ≡ type_part (shape_of (syn_of n)) → param_as w n.at form s ≡ written_as w n.at form s →
     Answers (written w (syn_of n) s) r after → Answers (written_param w (syn_of n) s) r after
 plain_answers w n s r after form is same h =

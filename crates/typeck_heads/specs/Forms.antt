@@ -19,10 +19,15 @@ use Rattle.typing_rules.specs.Items.{full_name, closure_name, is_body_row, bodie
 use Rattle.src_tree.specs.View.{Single, a_token, a_node}
 use Rattle.src_tree.specs.declared.row.GrammarRow.{GrammarRow}
 use Rattle.mir_base.specs.declared.rule.RuleError.{RuleError}
-use Rattle.src_ast.specs.Syntax.{StructItem, EnumItem, TraitItem, FnItem, ParamOf, MaybeSyn, SelfParam, ByShared, ByUnique, Word, Named, Syns, list_of, number_word, Receiver, Syn, syn, FieldDecl, Shape}
+use Rattle.src_ast.specs.Syntax.{Word, Named, number_word, Receiver, ByShared, ByUnique, Syn, syn, Shape, AnExpression, AnItem, AParam, AField, Expression, WrittenType, Item, Param, ParamOf, SelfParam, MaybeSyn, Syns, list_of}
 use Rattle.typing_rules.specs.Check.{Check, each_checked, pure, breaks, obeys, interned, ◌>>=◌, ◌>>◌}
 use Rattle.typing_rules.specs.Places.{unit}
-use Rattle.typing_rules.specs.Written.{WrittenScope, or_unit, written, written_form, written_param_form, is_usize, length_shown, number_of}
+use Rattle.typing_rules.specs.Written.{WrittenScope, or_unit, written, written_form, written_param, written_param_form, is_usize, length_shown, number_of}
+
+-- a type as it is written, or that of a parameter
+abbrev pub written_by : (is_param : Bool) → WrittenScope → Syn → Check TyId
+written_by true = written_param
+written_by false = written
 
 abbrev pub around_of : in_rust.WrittenScope → WrittenScope
 around_of scope =
@@ -33,13 +38,13 @@ around_of scope =
       traits = scope.traits.now;
     }
 
-abbrev pub written_as : WrittenScope → Pos → Option Shape → Check TyId
+abbrev pub written_as : WrittenScope → Pos → Option WrittenType → Check TyId
 written_as around at None = breaks Rule.T20 at
-written_as around at (Some form) = written_form around at form
+written_as around at (Some t) = written_form around at t
 
-abbrev pub param_as : WrittenScope → Pos → Option Shape → Check TyId
+abbrev pub param_as : WrittenScope → Pos → Option WrittenType → Check TyId
 param_as around at None = breaks Rule.T20 at
-param_as around at (Some form) = written_param_form around at form
+param_as around at (Some t) = written_param_form around at t
 
 -- an array, once its elements have a type
 abbrev pub array_short : WrittenScope → Pos → ℕ → TyId → Check TyId
@@ -69,18 +74,18 @@ IsOwn types (Own.Given ty) = ty.0 < length types
 abbrev pub own_receiver : WrittenScope → Own → Receiver → Check TyId
 own_receiver around own receiver = own_by around own >>= (λ ty. receiver_ty ty receiver)
 
-abbrev pub head_param : WrittenScope → Check TyId → Pos → Option Shape → Check TyId
+abbrev pub head_param : WrittenScope → Check TyId → Pos → Option Param → Check TyId
 head_param around self at None = breaks Rule.T20 at
-head_param around self at (Some form) = param_ty around self (syn at form)
+head_param around self at (Some p) = param_ty around self (syn at (AParam p))
 
 -- ---- fields
 
 abbrev pub field_type_by : Syn → Option Shape → Syn
-field_type_by x (Some (FieldDecl name ty)) = ty
+field_type_by x (Some (AField name ty)) = ty
 field_type_by x _ = x
 
 abbrev pub field_name_by : ℕ → Option Shape → Word
-field_name_by k (Some (FieldDecl name ty)) = name
+field_name_by k (Some (AField name ty)) = name
 field_name_by k _ = number_word k
 
 -- ---- structs and enums
@@ -111,11 +116,11 @@ enum_by k ds name variants = do
 
 -- ---- traits
 
-abbrev pub is_self_by : Option Shape → Bool
+abbrev pub is_self_by : Option Param → Bool
 is_self_by (Some (SelfParam receiver)) = true
 is_self_by _ = false
 
-abbrev pub reference_by : Option Shape → Bool
+abbrev pub reference_by : Option Param → Bool
 reference_by (Some (SelfParam ByShared)) = true
 reference_by (Some (SelfParam ByUnique)) = true
 reference_by _ = false
@@ -131,13 +136,13 @@ own_method around own name params answer =
     if has_receiver params then sig_of around (pure own) name params answer
     else other_method around own name params answer
 
-abbrev pub trait_head_by : WrittenScope → TyId → Pos → Option Shape → Check Sig
+abbrev pub trait_head_by : WrittenScope → TyId → Pos → Option Item → Check Sig
 trait_head_by around own at None = breaks Rule.T20 at
-trait_head_by around own at (Some form) = trait_head around own (syn at form)
+trait_head_by around own at (Some head) = trait_head around own (syn at (AnItem head))
 
 -- ---- closures
 
-abbrev pub closure_param_by : WrittenScope → Option Shape → Check TyId
+abbrev pub closure_param_by : WrittenScope → Option Param → Check TyId
 closure_param_by around (Some (ParamOf p ty)) = or_unit (written around ty)
 closure_param_by around _ = pure unit
 
@@ -155,9 +160,9 @@ function_by k owner closures at name params answer = do
   body_added sig
   pure (record { outer = full_name owner name; in_outer = 0; closures = closures })
 
-abbrev pub body_by : walk.Known → Option Word → walk.Count → Pos → Option Shape → Option Shape → Check walk.Count
-body_by k owner c at (Some form) expression = body_sig k owner c (syn at form)
-body_by k owner c at None (Some form) = body_sig k owner c (syn at form)
+abbrev pub body_by : walk.Known → Option Word → walk.Count → Pos → Option Item → Option Expression → Check walk.Count
+body_by k owner c at (Some item) expression = body_sig k owner c (syn at (AnItem item))
+body_by k owner c at None (Some e) = body_sig k owner c (syn at (AnExpression e))
 body_by k owner c at None None = breaks Rule.T20 at
 
 abbrev pub closure_by : walk.Known → Option Word → walk.Count → Syns → MaybeSyn → Check walk.Count

@@ -1,6 +1,6 @@
 -- Whether all names in a type are known, where no limit is asked of it.
 use Rattle.std.specs.Prelude.{Bool, true, false, ◌&&◌, ◌||◌, Option, Some, None, is_some}
-use Rattle.src_ast.specs.Syntax.{Word, Syn, syn, Shape, NamedType, GenericType, DynType, SelfType, ParensType, TupleType, ArrayType, NeverType, RefType, Syns, no_syn, a_syn}
+use Rattle.src_ast.specs.Syntax.{Word, Syn, syn, AType, WrittenType, NamedType, GenericType, DynType, SelfType, ParensType, TupleType, ArrayType, NeverType, RefType, Syns, no_syn, a_syn}
 use Rattle.typing_rules.specs.Written.{WrittenScope, number_of, scalar_named, is_box}
 
 module _ (around : WrittenScope) where
@@ -12,9 +12,10 @@ module _ (around : WrittenScope) where
 
   abbrev mutual
     pub stands : Syn → Bool
-    stands (syn at form) = form_stands form
+    stands (syn at (AType t)) = form_stands t
+    stands _ = false
 
-    pub form_stands : Shape → Bool
+    pub form_stands : WrittenType → Bool
     form_stands (NamedType name) = name_stands name
     form_stands (GenericType name content) = is_box name && stands content
     form_stands (DynType name trait_) = object_stands name trait_.1
@@ -24,7 +25,6 @@ module _ (around : WrittenScope) where
     form_stands (ArrayType element count suffix) = stands element
     form_stands NeverType = true
     form_stands (RefType unique to) = stands to
-    form_stands _ = false
 
     pub all_stand : Syns → Bool
     all_stand no_syn = true
@@ -33,6 +33,6 @@ module _ (around : WrittenScope) where
   abbrev pub generic_stands : Word → Syn → Bool
   generic_stands name content = is_box name && stands content
 
-  abbrev pub stands_as : Option Shape → Bool
+  abbrev pub stands_as : Option WrittenType → Bool
   stands_as None = false
-  stands_as (Some form) = form_stands form
+  stands_as (Some t) = form_stands t

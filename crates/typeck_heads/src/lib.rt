@@ -24,4 +24,4 @@ pub use known_types::{Known, path_of_method};
 pub use names::NameTable;
 pub use steps::{broken_rule, intern, obeys, push_to};
 pub use traits::trait_heads;
-pub use written_types::{WrittenScope, resolve_type, scalar, written_param};
+pub use written_types::{WrittenScope, resolve_type, resolve_written, scalar, written_param};

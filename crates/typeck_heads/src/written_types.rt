@@ -2,7 +2,7 @@
 ghost use Rattle.std.specs.Prelude.{◌≡◌, ◌<◌, ◌≤◌, ◌||◌, not, nat_le, length, min, IfOk, IfSome, None};
 ghost use Rattle.mir_ty.specs.AreItems.{AreTypes};
 ghost use Rattle.typeck_heads.specs.Answers.{Answers};
-ghost use Rattle.typeck_heads.specs.Forms.{around_of, array_by, array_short};
+ghost use Rattle.typeck_heads.specs.Forms.{around_of, array_by, array_short, written_by};
 ghost use Rattle.src_ast.specs.Seen.{nodes_of, syn_of};
 ghost use Rattle.src_ast.specs.Syntax.{NamedType, GenericType, DynType, SelfType, TupleType, ArrayType, RefType};
 ghost use Rattle.typing_rules.specs.Check.{interned as interned_by};
@@ -354,5 +354,24 @@ pub fn written_param(
             reference_of(items, unique, id)
         }
         _ => resolve_type(items, scope, node),
+    }
+}
+
+/// A type as it is written; or that of a parameter, which may be a reference.
+pub fn resolve_written(
+    items: &mut Items,
+    scope: &WrittenScope,
+    node: &SyntaxNode,
+    is_param: bool,
+) -> Result<TyId, RuleError>
+    requires { 8 ≤ length items.old.types }
+    ensures answers { Answers (written_by is_param (around_of scope.now) (syn_of node.now) (starting_with items.old)) result items.new }
+    ensures grows { length items.old.types ≤ length items.new.types }
+    ensures known { IfOk result (λ id. id.0 < length items.new.types) }
+{
+    if is_param {
+        written_param(items, scope, node)
+    } else {
+        resolve_type(items, scope, node)
     }
 }

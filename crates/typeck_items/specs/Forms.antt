@@ -7,7 +7,7 @@ use Rattle.mir_base.specs.declared.place_in_text.Pos.{Pos}
 use Rattle.mir_base.specs.declared.rule.Rule.{Rule}
 use Rattle.mir_ty.specs.declared.ty.TyId.{TyId}
 use Rattle.mir_ty.specs.ItemTable.{ItemTable}
-use Rattle.src_ast.specs.Syntax.{Word, Named, ByShared, ByUnique, Syn, Shape, StructItem, EnumItem, FieldDecl, VariantDecl, TraitItem, ImplItem, FnItem, SelfParam, Syns, MaybeSyn, list_of}
+use Rattle.src_ast.specs.Syntax.{Word, Named, ByShared, ByUnique, Syn, Shape, AField, AVariant, Item, StructItem, EnumItem, TraitItem, ImplItem, FnItem, Param, SelfParam, Syns, MaybeSyn, list_of}
 use Rattle.typing_rules.specs.Bodies.{all_rules}
 use Rattle.typing_rules.specs.Check.{Check, TypingState, ◌>>=◌, ◌>>◌, pure, breaks, obeys, the_items}
 use Rattle.typing_rules.specs.Program.{Before, Seen, asked_for, behind_self, body_head, count_of, fields, has_all, has_head, head_rules, in_impl, is_called_drop, is_drop, is_drop_sig, is_repeated, is_same_head, is_seen, main_rule, method_heads, method_names, takes_reference, takes_unique, trait_heads, trait_method, variants, with_impl}
@@ -48,7 +48,7 @@ plain_field env ty earlier = do
   pure earlier
 
 abbrev pub field_by : Env → List Word → Pos → Syn → Option Shape → Check (List Word)
-field_by env earlier at x (Some (FieldDecl name ty)) = named_field env at name ty earlier
+field_by env earlier at x (Some (AField name ty)) = named_field env at name ty earlier
 field_by env earlier at x _ = plain_field env x earlier
 
 -- ---- variants
@@ -69,7 +69,7 @@ one_variant env at name fs earlier = do
   closed_variant at name fs earlier
 
 abbrev pub variant_by : Env → List Word → Pos → Option Shape → Check (List Word)
-variant_by env earlier at (Some (VariantDecl name kind fs)) = one_variant env at name fs earlier
+variant_by env earlier at (Some (AVariant name kind fs)) = one_variant env at name fs earlier
 variant_by env earlier at _ = breaks Rule.T20 at
 
 -- ---- structs and enums
@@ -88,16 +88,16 @@ enum_rules env at name vs = do
 
 -- ---- parameters
 
-abbrev pub reference_by : Option Shape → Bool
+abbrev pub reference_by : Option Param → Bool
 reference_by (Some (SelfParam ByShared)) = true
 reference_by (Some (SelfParam ByUnique)) = true
 reference_by _ = false
 
-abbrev pub is_unique_by : Option Shape → Bool
+abbrev pub is_unique_by : Option Param → Bool
 is_unique_by (Some (SelfParam ByUnique)) = true
 is_unique_by _ = false
 
-abbrev pub is_self_by : Option Shape → Bool
+abbrev pub is_self_by : Option Param → Bool
 is_self_by (Some (SelfParam receiver)) = true
 is_self_by _ = false
 
@@ -118,7 +118,7 @@ trait_fn env at name params answer earlier = do
   head_rules env (behind_self params) answer
   closed_head at name params earlier
 
-abbrev pub trait_head_by : Env → List Word → Pos → Option Shape → Check (List Word)
+abbrev pub trait_head_by : Env → List Word → Pos → Option Item → Check (List Word)
 trait_head_by env earlier at (Some (FnItem name params answer block)) = trait_fn env at name params answer earlier
 trait_head_by env earlier at _ = breaks Rule.T20 at
 
@@ -149,12 +149,12 @@ method_fn env trait_ owner at name params answer seen = do
   head_rules env params answer
   closed_method trait_ owner at name params seen
 
-abbrev pub method_by : Env → Option Named → Word → Seen → Pos → Option Shape → Check Seen
+abbrev pub method_by : Env → Option Named → Word → Seen → Pos → Option Item → Check Seen
 method_by env trait_ owner seen at (Some (FnItem name params answer block)) =
     method_fn env trait_ owner at name params answer seen
 method_by env trait_ owner seen at _ = breaks Rule.T20 at
 
-abbrev pub method_name_by : Option Shape → Option Word
+abbrev pub method_name_by : Option Item → Option Word
 method_name_by (Some (FnItem name params answer block)) = Some name.1
 method_name_by _ = None
 
@@ -185,7 +185,7 @@ fn_rules env at name params answer = do
 
 -- ---- items
 
-abbrev pub item_by : Env → Before → Pos → Option Shape → Check Before
+abbrev pub item_by : Env → Before → Pos → Option Item → Check Before
 item_by env before at (Some (StructItem ds name kind fs)) = struct_rules env at name.1 fs >> pure before
 item_by env before at (Some (EnumItem ds name vs)) = enum_rules env at name.1 vs >> pure before
 item_by env before at (Some (TraitItem name heads)) = trait_heads env [] (list_of heads) >> pure before

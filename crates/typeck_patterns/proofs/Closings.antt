@@ -10,18 +10,18 @@ use Rattle.mir_ty.specs.declared.adt.Variant.{Variant}
 use Rattle.mir_ty.specs.declared.ty.TyId.{TyId}
 use Rattle.typeck_patterns.specs.PatternContext.{GivesBeside}
 use Rattle.typeck_patterns.specs.Fields.{below_given, below_on, fields_on, last_fields}
-use Rattle.typeck_patterns.specs.Rests.{begin_of, target_rest, target_tail}
+use Rattle.typeck_patterns.specs.Rests.{begin_of, target_rest}
 use Rattle.typeck_patterns.specs.Parts.{AreFirst, AreFirstIf}
 use Rattle.typeck_patterns.specs.declared.parts.PartTypes.{PartTypes}
 use Rattle.typeck_patterns.proofs.Alone.{numbered}
 use Rattle.typeck_patterns.proofs.Units.{begins, beside, ends_beside, target_bound}
-use Rattle.src_ast.specs.Syntax.{Syns, no_syn, a_syn, Alternatives, ArrayPattern, TuplePattern}
+use Rattle.src_ast.specs.Syntax.{TuplePattern, ArrayPattern, Alternatives, Syns, no_syn, a_syn}
 use Rattle.typeck_checker.specs.Stand.{Gives, below, top}
 use Rattle.typeck_checker.specs.declared.checker.Checker.{Checker}
 use Rattle.typed_tree.specs.Tree as tree
 use Rattle.typed_tree.specs.Tree.{Node, Nodes, a_node, Fields, no_field, a_field, Form}
 use Rattle.typing_rules.specs.Check.{Check, TypingState, Broken, and_then, ◌>>=◌, ◌>>◌, known, number, pure, obeys, the_items}
-use Rattle.typing_rules.specs.Patterns.{BoundPattern, PatternTarget, are_given_once, count_of, field_patterns, fields_from, fields_of, inside_of, is_count, of_target, part_patterns, pattern, pattern_form, tuple_types}
+use Rattle.typing_rules.specs.Patterns.{are_given_once, BoundPattern, count_of, field_patterns, fields_from, fields_of, inside_of, is_count, of_target, part_patterns, pattern, pattern_form, PatternTarget, target_end, tuple_types}
 use Rattle.typing_rules.specs.Places.{a_node_of}
 use Rattle.typing_rules.specs.Rows.{PatternContext, Given, all_given, are_known}
 use Rattle.typing_rules.specs.Scope.{Env, NamedEntry}
@@ -46,7 +46,7 @@ module _ (w : Env) (id : ℕ) (at : Pos) (e : PatternContext) (ty : TyId) (t : P
       part_patterns w (inside_of s.items ty e) (fields_of s.items t) parts xs s ≡ Ok ((last_nodes k ns, ys), u) →
       b ≡ is_tuple_count w t (count_of parts) (length (fields_of s.items t)) dots →
       Gives (target_rest id at e.takes_all ty t (fields_from 0 (last_nodes k ns)) b true u) r c →
-      GivesBeside (target_tail id at e ty t (parts_in_order w t parts dots xs) s) r ys c
+      GivesBeside (target_end id at e ty t (parts_in_order w t parts dots xs) s) r ys c
   parts_close parts dots xs ys s u k ns b r c here is gives =
       subst (λ o. GivesBeside o r ys c)
       (sym (ap (in_order parts dots (fields_of s.items t)) here
@@ -56,7 +56,7 @@ module _ (w : Env) (id : ℕ) (at : Pos) (e : PatternContext) (ty : TyId) (t : P
 
   pub parts_stop : (parts : Syns) (dots : Bool) (xs : List NamedEntry) (s : TypingState) (err : RuleError) →
       Refuses (part_patterns w (inside_of s.items ty e) (fields_of s.items t) parts xs s) err →
-      Refuses (target_tail id at e ty t (parts_in_order w t parts dots xs) s) err
+      Refuses (target_end id at e ty t (parts_in_order w t parts dots xs) s) err
   parts_stop parts dots xs s (RuleError.Broken rule p) h = ap (in_order parts dots (fields_of s.items t)) h
   parts_stop parts dots xs s RuleError.Memory h = tt
 
@@ -68,7 +68,7 @@ module _ (w : Env) (id : ℕ) (at : Pos) (e : PatternContext) (ty : TyId) (t : P
       field_patterns w (inside_of s.items ty e) v fields xs s ≡ Ok ((last_fields given ns, ys, given), u) →
       n ≡ length (fields_of s.items t) →
       Gives (target_rest id at e.takes_all ty t (last_fields given ns) (are_given_once given && (dots || all_given n given)) (are_known given) u) r c →
-      GivesBeside (target_tail id at e ty t (parts_by_name w v fields dots xs) s) r ys c
+      GivesBeside (target_end id at e ty t (parts_by_name w v fields dots xs) s) r ys c
   fields_close v fields dots xs ys s u given ns n r c here is gives =
       subst (λ o. GivesBeside o r ys c)
       (sym (ap (by_name dots (fields_of s.items t)) here
@@ -78,14 +78,14 @@ module _ (w : Env) (id : ℕ) (at : Pos) (e : PatternContext) (ty : TyId) (t : P
 
   pub fields_stop : (v : Variant) (fields : Syns) (dots : Bool) (xs : List NamedEntry) (s : TypingState) (err : RuleError) →
       Refuses (field_patterns w (inside_of s.items ty e) v fields xs s) err →
-      Refuses (target_tail id at e ty t (parts_by_name w v fields dots xs) s) err
+      Refuses (target_end id at e ty t (parts_by_name w v fields dots xs) s) err
   fields_stop v fields dots xs s (RuleError.Broken rule p) h = ap (by_name dots (fields_of s.items t)) h
   fields_stop v fields dots xs s RuleError.Memory h = tt
 
   -- once the type is known to be that of the place
   pub target_begun : (parts : PatternContext → List TyId → Check Parts) (s u : TypingState) → begin_of at ty t s ≡ Ok (id, u) →
-      of_target at e ty t parts s ≡ target_tail id at e ty t parts u
-  target_begun parts s u h = begins at e ty t parts s ∙ ap (λ o. and_then o (λ id. target_tail id at e ty t parts)) h
+      of_target at e ty t parts s ≡ target_end id at e ty t parts u
+  target_begun parts s u h = begins at e ty t parts s ∙ ap (λ o. and_then o (λ id. target_end id at e ty t parts)) h
 
 -- ---- types of as many parts as there are patterns are enough
 

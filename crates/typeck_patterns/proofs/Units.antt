@@ -7,7 +7,7 @@ use Rattle.mir_ty.specs.declared.ty.Ty.{Ty}
 use Rattle.mir_ty.specs.declared.ty.TyId.{TyId}
 use Rattle.typed_tree.specs.Tree.{Node, Fields, no_field}
 use Rattle.typing_rules.specs.Check.{Check, TypingState, Broken, and_then, ◌>>=◌, ◌>>◌, pure, obeys, interned, the_items}
-use Rattle.typing_rules.specs.Patterns.{BoundPattern, PatternTarget, is_test, no_parts, of_target, parts_form, tested_if}
+use Rattle.typing_rules.specs.Patterns.{BoundPattern, is_test, no_parts, of_target, parts_form, PatternTarget, target_end, tested_if}
 use Rattle.typing_rules.specs.Places.{a_node_of}
 use Rattle.typing_rules.specs.Rows.{PatternContext}
 use Rattle.typing_rules.specs.Scope.{NamedEntry}
@@ -16,7 +16,7 @@ use Rattle.typeck_heads.proofs.Sequences.{stopped}
 use Rattle.typeck_checker.specs.Stand.{Gives}
 use Rattle.typeck_checker.specs.declared.checker.Checker.{Checker}
 use Rattle.typeck_patterns.specs.PatternContext.{GivesAnyhow, GivesBeside}
-use Rattle.typeck_patterns.specs.Rests.{begin_of, target_rest, target_tail, unit_rest}
+use Rattle.typeck_patterns.specs.Rests.{begin_of, target_rest, unit_rest}
 
 -- a node that a check gives, beside some bindings
 pub beside : (o : Result (Node × TypingState) Broken) (r : Result (Unit {0}) RuleError) (bound : List NamedEntry) (c : Checker) → Gives o r c →
@@ -59,14 +59,14 @@ begun at ty id tail (Ok p) = same_begun at id (is_same ty p.0) tail p.1
 begun at ty id tail (Err e) = refl
 
 pub begins : (at : Pos) (e : PatternContext) (ty : TyId) (t : PatternTarget) (parts : PatternContext → List TyId → Check (Fields × List NamedEntry × Bool × Bool)) (s : TypingState) →
-    of_target at e ty t parts s ≡ and_then (begin_of at ty t s) (λ id. target_tail id at e ty t parts)
+    of_target at e ty t parts s ≡ and_then (begin_of at ty t s) (λ id. target_end id at e ty t parts)
 begins at e ty t parts s =
-    begun at ty s.next_node (λ id. target_tail id at e ty t parts) (interned (Ty.Adt t.adt) (record s { next_node = suc s.next_node }))
+    begun at ty s.next_node (λ id. target_end id at e ty t parts) (interned (Ty.Adt t.adt) (record s { next_node = suc s.next_node }))
 
 -- ---- a pattern without parts
 
 unit_by : (at : Pos) (e : PatternContext) (ty : TyId) (t : PatternTarget) (is_whole : Bool) (bound : List NamedEntry) (o : Result (ℕ × TypingState) Broken) →
-    and_then o (λ id. target_tail id at e ty t (no_parts bound is_whole))
+    and_then o (λ id. target_end id at e ty t (no_parts bound is_whole))
     ≡ and_then (and_then o (λ id. target_rest id at e.takes_all ty t no_field is_whole true)) (λ n. pure (n, bound))
 unit_by at e ty t is_whole bound (Ok p) = ends_beside p.0 at e.takes_all ty t no_field is_whole true bound p.1
 unit_by at e ty t is_whole bound (Err b) = refl

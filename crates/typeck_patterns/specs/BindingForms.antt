@@ -1,9 +1,9 @@
 -- The definitions over forms that are borrowed from a tree: `None` is a node that is none of the sort.
 use Rattle.std.specs.Prelude.{Bool, false, Option, Some, None}
 use Rattle.mir_ty.specs.ItemTable.{ItemTable}
-use Rattle.src_ast.specs.Syntax.{Shape}
+use Rattle.src_ast.specs.Syntax.{Pattern}
 use Rattle.typing_rules.specs.Typed.{is_one_name_form}
 
-abbrev pub one_name_as : ItemTable → Option Shape → Bool
+abbrev pub one_name_as : ItemTable → Option Pattern → Bool
 one_name_as items None = false
-one_name_as items (Some form) = is_one_name_form items form
+one_name_as items (Some p) = is_one_name_form items p

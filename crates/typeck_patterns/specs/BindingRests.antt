@@ -21,10 +21,6 @@ use Rattle.well_typed.specs.Places.{ty_of}
 abbrev pub scrutinised_rest : Node → Check Node
 scrutinised_rest n = (used_if_place Use.Borrow) <$> no_reference n
 
--- an arm of its pattern, guard and body
-abbrev pub arm_rest : ℕ → Node → MaybeNode → Node → Check Node
-arm_rest id p g b = pure (a_node_of id (place_in_text p) (ty_of b) (tree.Arm p g b))
-
 -- ---- `let`
 
 -- once its place has a type

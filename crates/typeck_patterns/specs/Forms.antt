@@ -4,16 +4,16 @@ use Rattle.mir_base.specs.declared.place_in_text.Pos.{Pos}
 use Rattle.mir_base.specs.declared.rule.Rule.{Rule}
 use Rattle.mir_ty.specs.declared.adt.Variant.{Variant}
 use Rattle.mir_ty.specs.declared.ty.TyId.{TyId}
-use Rattle.src_ast.specs.Syntax.{Word, syn, Shape, MaybeSyn, nothing, just}
+use Rattle.src_ast.specs.Syntax.{Word, syn, Shape, Pattern, MaybeSyn, nothing, just}
 use Rattle.typed_tree.specs.Tree.{Node}
 use Rattle.typing_rules.specs.Check.{Check, breaks}
 use Rattle.typing_rules.specs.Patterns.{BoundPattern, bind, field_pattern, pattern, pattern_form}
 use Rattle.typing_rules.specs.Rows.{PatternContext}
 use Rattle.typing_rules.specs.Scope.{Env, NamedEntry}
 
-abbrev pub pattern_as : Env → PatternContext → TyId → Pos → Option Shape → List NamedEntry → Check BoundPattern
+abbrev pub pattern_as : Env → PatternContext → TyId → Pos → Option Pattern → List NamedEntry → Check BoundPattern
 pattern_as env e ty at None earlier = breaks Rule.T20 at
-pattern_as env e ty at (Some form) earlier = pattern_form env e ty at form earlier
+pattern_as env e ty at (Some p) earlier = pattern_form env e ty at p earlier
 
 abbrev pub field_as : Env → PatternContext → Variant → Pos → Option Shape → List NamedEntry →
     Check (Option (ℕ × Node) × List NamedEntry ×

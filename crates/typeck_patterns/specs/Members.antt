@@ -5,7 +5,7 @@ use Rattle.mir_ty.specs.ItemTable.{ItemTable}
 use Rattle.mir_ty.specs.declared.adt.Variant.{Variant}
 use Rattle.mir_ty.specs.declared.ty.TyId.{TyId}
 use Rattle.src_ast.specs.Sorts.{field_pattern_part}
-use Rattle.src_ast.specs.Syntax.{Word, Shape, FieldPattern, Syns, no_syn, a_syn, shape_of}
+use Rattle.src_ast.specs.Syntax.{Word, shape_of, Shape, AFieldPattern, Syns, no_syn, a_syn}
 use Rattle.typeck_env.specs.declared.members.AdtNames.{AdtNames}
 use Rattle.typing_rules.specs.Patterns.{field_ty, no_variant}
 use Rattle.typing_rules.specs.Scope.{field_named}
@@ -36,7 +36,7 @@ part_by v name = field_ty v.fields (field_named v name)
 
 -- the field that the pattern of a field names
 abbrev pub part_named : Variant → Option Shape → Option (ℕ × TyId)
-part_named v (Some (FieldPattern name inside)) = part_by v name
+part_named v (Some (AFieldPattern name inside)) = part_by v name
 part_named v _ = None
 
 abbrev pub parts_named : Variant → Syns → List (Option (ℕ × TyId))

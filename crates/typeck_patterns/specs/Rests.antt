@@ -22,37 +22,6 @@ wildcard_rest at ty = do
   id ← number
   pure (a_node_of id at ty tree.Wildcard)
 
-abbrev pub tested_rest : ℕ → Pos → Bool → TyId → tree.Form → Check Node
-tested_rest id at takes_all ty form = do
-  obeys Rule.T18 at (not takes_all)
-  pure (used Use.Test (a_node_of id at ty form))
-
-abbrev pub number_rest : ℕ → Pos → Bool → TyId → Bool → ℕ → Check Node
-number_rest id at takes_all ty is_negative value =
-    tested_rest id at takes_all ty (tree.NumberPattern (literal_value is_negative value))
-
-abbrev pub sized_rest : ℕ → Pos → Bool → TyId → IntKind → Bool → ℕ → Check Node
-sized_rest id at takes_all ty kind is_negative value = do
-  obeys Rule.T17 at (nat_le value (most kind is_negative))
-  number_rest id at takes_all ty is_negative value
-
-abbrev pub kind_rest : ℕ → Pos → Bool → TyId → IntKind → Bool → ℕ → Option IntKind → Check Node
-kind_rest id at takes_all ty kind is_negative value suffix = do
-  obeys Rule.T03 at (agrees_kind suffix ty && (not is_negative || is_signed_kind kind))
-  sized_rest id at takes_all ty kind is_negative value
-
-abbrev pub literal_rest : ℕ → Pos → Bool → TyId → Bool → ℕ → Option IntKind → Check Node
-literal_rest id at takes_all ty is_negative value suffix = do
-  items ← the_items
-  kind ← known Rule.T03 at (kind_of items ty)
-  kind_rest id at takes_all ty kind is_negative value suffix
-
-abbrev pub truth_rest : ℕ → Pos → Bool → TyId → Bool → Check Node
-truth_rest id at takes_all ty value = do
-  items ← the_items
-  obeys Rule.T03 at (is_bool items ty)
-  tested_rest id at takes_all ty (tree.TruthPattern value)
-
 abbrev pub bind_rest : ℕ → Pos → Bool → TyId → Word → List NamedEntry → Check BoundPattern
 bind_rest id at is_fixed ty name earlier = do
   items ← the_items
@@ -85,19 +54,6 @@ abbrev pub target_rest : ℕ → Pos → Bool → TyId → PatternTarget → Fie
 target_rest id at takes_all ty t fields is_count is_known = do
   obeys Rule.T04 at is_count
   known_rest id at takes_all ty t fields is_known
-
--- once the place is known to be of the type that the path names
-abbrev pub target_tail : ℕ → Pos → PatternContext → TyId → PatternTarget →
-    (PatternContext → List TyId → Check (Fields × List NamedEntry × Bool ×
-    Bool)) → Check BoundPattern
-target_tail id at e ty t parts = do
-  before ← the_items
-  ps ← parts (inside_of before ty e) (fields_of before t)
-  items ← the_items
-  obeys Rule.T04 at ps.2
-  obeys Rule.T12 at ps.3
-  obeys Rule.T18 at (not (e.takes_all && is_test items t))
-  pure (tested_if (is_test items t) (a_node_of id at ty (parts_form items t ps.0)), ps.1)
 
 -- a pattern without parts
 abbrev pub unit_rest : Pos → Bool → TyId → PatternTarget → Bool → Check Node

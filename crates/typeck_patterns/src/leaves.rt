@@ -9,9 +9,10 @@ ghost use Rattle.typing_rules.specs.Rows as rows;
 ghost use Rattle.typing_rules.specs.Scope.{Local, variable};
 ghost use Rattle.well_typed.specs.Types as types;
 ghost use Rattle.typeck_patterns.specs.PatternContext.{GivesBound, pattern_context_of};
-ghost use Rattle.typeck_patterns.specs.Rests.{bind_rest, kind_rest, literal_rest, number_rest, sized_rest, tested_rest, truth_rest, wildcard_rest};
+ghost use Rattle.typeck_patterns.specs.Rests.{bind_rest, wildcard_rest};
 ghost use Rattle.typeck_checker.specs.Forms.{leaf_form};
 ghost use Rattle.typeck_checker.specs.Stand.{Gives, KeepsStack, Stays, stack, state};
+ghost use Rattle.typing_rules.specs.Patterns.{kind_end, literal_pattern_end, number_end, sized_end, tested_end, truth_pattern_end};
 
 use crate::pattern_context::PatternContext;
 use mir_base::{IntKind, Key, Name, NoMemory, NodeId, Pos, Rule, RuleError};
@@ -38,7 +39,7 @@ fn check_test(
     ty: TyId,
     leaf: Leaf,
 ) -> Result<(), RuleError>
-    ensures gives { Gives (tested_rest id.0 at takes_all ty (leaf_form leaf) (state checker.old)) result checker.new }
+    ensures gives { Gives (tested_end id.0 at takes_all ty (leaf_form leaf) (state checker.old)) result checker.new }
     ensures kept { KeepsStack (stack checker.old) checker.old result checker.new }
 {
     obeys(Rule::T18, at, !takes_all)?;
@@ -55,7 +56,7 @@ fn tested_number(
     is_negative: bool,
     value: u64,
 ) -> Result<(), RuleError>
-    ensures gives { Gives (number_rest id.0 at takes_all ty is_negative value (state checker.old)) result checker.new }
+    ensures gives { Gives (number_end id.0 at takes_all ty is_negative value (state checker.old)) result checker.new }
     ensures kept { KeepsStack (stack checker.old) checker.old result checker.new }
 {
     obeys(Rule::T18, at, !takes_all)?;
@@ -74,7 +75,7 @@ fn check_number(
     is_negative: bool,
     value: u64,
 ) -> Result<(), RuleError>
-    ensures gives { Gives (sized_rest id.0 at takes_all ty kind is_negative value (state checker.old)) result checker.new }
+    ensures gives { Gives (sized_end id.0 at takes_all ty kind is_negative value (state checker.old)) result checker.new }
     ensures kept { KeepsStack (stack checker.old) checker.old result checker.new }
 {
     obeys(Rule::T17, at, value <= most(kind, is_negative))?;
@@ -107,7 +108,7 @@ fn of_kind(
     value: u64,
     suffix: Option<IntKind>,
 ) -> Result<(), RuleError>
-    ensures gives { Gives (kind_rest id.0 at takes_all ty kind is_negative value suffix (state checker.old)) result checker.new }
+    ensures gives { Gives (kind_end id.0 at takes_all ty kind is_negative value suffix (state checker.old)) result checker.new }
     ensures kept { KeepsStack (stack checker.old) checker.old result checker.new }
 {
     obeys(Rule::T03, at, is_of_kind(suffix, ty, is_negative, kind))?;
@@ -124,7 +125,7 @@ fn literal_at(
     value: u64,
     suffix: Option<IntKind>,
 ) -> Result<(), RuleError>
-    ensures gives { Gives (literal_rest id.0 at takes_all ty is_negative value suffix (state checker.old)) result checker.new }
+    ensures gives { Gives (literal_pattern_end id.0 at takes_all ty is_negative value suffix (state checker.old)) result checker.new }
     ensures kept { KeepsStack (stack checker.old) checker.old result checker.new }
 {
     match kind_of(&checker.walk.items, ty) {
@@ -168,7 +169,7 @@ fn of_bool(
     ty: TyId,
     value: bool,
 ) -> Result<(), RuleError>
-    ensures gives { Gives (truth_rest id.0 at takes_all ty value (state checker.old)) result checker.new }
+    ensures gives { Gives (truth_pattern_end id.0 at takes_all ty value (state checker.old)) result checker.new }
     ensures kept { KeepsStack (stack checker.old) checker.old result checker.new }
 {
     let holds = is_bool(&checker.walk.items, ty);

@@ -7,7 +7,6 @@ ghost use Rattle.mir_ty.specs.declared.ty.TyId.{TyId};
 ghost use Rattle.typeck_patterns.specs.PatternContext.{GivesBound, pattern_context_of};
 ghost use Rattle.typeck_patterns.specs.Members.{part_named, part_of, parts_named, variant_of};
 ghost use Rattle.typeck_patterns.specs.Parts.{AreFirst};
-ghost use Rattle.typeck_patterns.specs.Rests.{target_tail};
 ghost use Rattle.typeck_patterns.specs.Targets.{target_of as target_in};
 ghost use Rattle.src_ast.specs.Seen.{maybe_of, nodes_of, syn_of, word_of};
 ghost use Rattle.src_ast.specs.Sorts.{field_pattern_part};
@@ -18,6 +17,7 @@ ghost use Rattle.typing_rules.specs.Patterns as rules;
 ghost use Rattle.typeck_patterns.specs.Answers.{GivesField, GivesFields, GivesNodes, KeepsBelow, KeepsGiven, KeepsIf};
 ghost use Rattle.typeck_patterns.specs.Forms.{inside_as};
 ghost use Rattle.typeck_patterns.specs.EndRests.{alternatives_rest, order_rest, parts_by_name, parts_in_order};
+ghost use Rattle.typing_rules.specs.Patterns.{target_end};
 
 use crate::counts::{are_several, count_of, is_count, one_more};
 use crate::ends::{counted_end, is_tuple_count, named_end, ordered_end};
@@ -358,7 +358,7 @@ fn ordered_parts(
 ) -> Result<(), RuleError>
     requires given { given ≡ rules.count_of (nodes_of parts) }
     requires types { AreFirst given (rules.fields_of checker.old.walk.items (target_in target)) types.now }
-    ensures gives { GivesBound (target_tail id.0 at (pattern_context_of e) ty (target_in target) (parts_in_order (env checker.old) (target_in target) (nodes_of parts.entry) dots (reverse bound.old)) (state checker.old)) result bound.new checker.new }
+    ensures gives { GivesBound (target_end id.0 at (pattern_context_of e) ty (target_in target) (parts_in_order (env checker.old) (target_in target) (nodes_of parts.entry) dots (reverse bound.old)) (state checker.old)) result bound.new checker.new }
     ensures kept { KeepsStack (stack checker.old) checker.old result checker.new }
 {
     let inside = inside_of(&checker.walk.items, ty, e);
@@ -379,7 +379,7 @@ fn parts_behind(
     parts: Nodes,
     dots: bool,
 ) -> Result<(), RuleError>
-    ensures gives { GivesBound (target_tail id.0 at (pattern_context_of e) ty (target_in target) (parts_in_order (env checker.old) (target_in target) (nodes_of parts.entry) dots (reverse bound.old)) (state checker.old)) result bound.new checker.new }
+    ensures gives { GivesBound (target_end id.0 at (pattern_context_of e) ty (target_in target) (parts_in_order (env checker.old) (target_in target) (nodes_of parts.entry) dots (reverse bound.old)) (state checker.old)) result bound.new checker.new }
     ensures kept { KeepsStack (stack checker.old) checker.old result checker.new }
 {
     let given = count_of(parts)?;
@@ -442,7 +442,7 @@ fn named_parts(
     dots: bool,
 ) -> Result<(), RuleError>
     ensures gives { (v : Variant) → map (option_map part_of) parts.now ≡ parts_named v (nodes_of fields.entry) →
-        GivesBound (target_tail id.0 at (pattern_context_of e) ty (target_in target) (parts_by_name (env checker.old) v (nodes_of fields.entry) dots (reverse bound.old)) (state checker.old)) result bound.new checker.new }
+        GivesBound (target_end id.0 at (pattern_context_of e) ty (target_in target) (parts_by_name (env checker.old) v (nodes_of fields.entry) dots (reverse bound.old)) (state checker.old)) result bound.new checker.new }
     ensures kept { KeepsStack (stack checker.old) checker.old result checker.new }
 {
     let inside = inside_of(&checker.walk.items, ty, e);

@@ -6,7 +6,7 @@ use Rattle.mir_ty.specs.declared.ty.TyId.{TyId}
 use Rattle.src_tree.specs.declared.node.SyntaxNode.{SyntaxNode}
 use Rattle.src_ast.specs.Seen.{is_none, syn_of, word_of}
 use Rattle.src_ast.specs.Sorts.{arm_part}
-use Rattle.src_ast.specs.Syntax.{Syn, syn, Shape, Syns, no_syn, a_syn, MaybeSyn, nothing, just, at_of, shape_of, Ident, LabelOf, Literal, TruthLiteral, Path, Minus, Bang, Star, Ampersand, Calculate, Compare, Both, Either, Store, CallOf, MethodOf, FieldOf, PartOf, ElementOf, StructOf, FieldInit, Parens, TupleOf, ArrayOf, Braces, IfElse, IfLetElse, MatchOn, ArmOf, LoopOf, WhileOf, WhileLetOf, BreakOf, ContinueOf, ReturnOf, MoveOf, PanicOf, LetOf, Empty, Semi, AnyPattern, BindPattern, LiteralPattern, TruthPattern, PathPattern, PartsPattern, FieldsPattern, FieldPattern, ParensPattern, TuplePattern, ArrayPattern, Alternatives, NamedType, GenericType, DynType, SelfType, ParensType, TupleType, ArrayType, NeverType, RefType, StructItem, EnumItem, FieldDecl, VariantDecl, TraitItem, ImplItem, FnItem, ParamOf, SelfParam, Odd}
+use Rattle.src_ast.specs.Syntax.{Syn, syn, at_of, shape_of, AnArm, IfLetElse, MatchOn, WhileLetOf, Syns, no_syn, a_syn, MaybeSyn, nothing, just}
 use Rattle.src_ast.proofs.Named.{seen_as}
 use Rattle.typed_tree.specs.Tree as tree
 use Rattle.typed_tree.specs.Tree.{Nodes, a_node}
@@ -28,167 +28,20 @@ use Rattle.std.specs.Borrow.{Bor}
 use Rattle.typeck_env.specs.Scope.{word_in}
 use Rattle.typed_tree.specs.declared.node.Use.{Use}
 
-arm_form : (e : Env) (w : PatternContext) (ty : TyId) (expected : Option TyId) (at : Pos) (form : Shape) →
-    arm_of_syn e w ty expected (syn at form) ≡ arm_check e w ty expected at (arm_part form)
-arm_form e w ty expected at (Ident a) = refl
-arm_form e w ty expected at (LabelOf a) = refl
-arm_form e w ty expected at (Literal a b) = refl
-arm_form e w ty expected at (TruthLiteral a) = refl
-arm_form e w ty expected at (Path a b) = refl
-arm_form e w ty expected at (Minus a) = refl
-arm_form e w ty expected at (Bang a) = refl
-arm_form e w ty expected at (Star a) = refl
-arm_form e w ty expected at (Ampersand a b) = refl
-arm_form e w ty expected at (Calculate a b c) = refl
-arm_form e w ty expected at (Compare a b c) = refl
-arm_form e w ty expected at (Both a b) = refl
-arm_form e w ty expected at (Either a b) = refl
-arm_form e w ty expected at (Store a b) = refl
-arm_form e w ty expected at (CallOf a b) = refl
-arm_form e w ty expected at (MethodOf a b c) = refl
-arm_form e w ty expected at (FieldOf a b) = refl
-arm_form e w ty expected at (PartOf a b) = refl
-arm_form e w ty expected at (ElementOf a b) = refl
-arm_form e w ty expected at (StructOf a b c) = refl
-arm_form e w ty expected at (FieldInit a b) = refl
-arm_form e w ty expected at (Parens a) = refl
-arm_form e w ty expected at (TupleOf a) = refl
-arm_form e w ty expected at (ArrayOf a) = refl
-arm_form e w ty expected at (Braces a b) = refl
-arm_form e w ty expected at (IfElse a b c) = refl
-arm_form e w ty expected at (IfLetElse a b c d) = refl
-arm_form e w ty expected at (MatchOn a b) = refl
-arm_form e w ty expected at (ArmOf a b c) = refl
-arm_form e w ty expected at (LoopOf a b) = refl
-arm_form e w ty expected at (WhileOf a b c) = refl
-arm_form e w ty expected at (WhileLetOf a b c d) = refl
-arm_form e w ty expected at (BreakOf a b) = refl
-arm_form e w ty expected at (ContinueOf a) = refl
-arm_form e w ty expected at (ReturnOf a) = refl
-arm_form e w ty expected at (MoveOf a b c d) = refl
-arm_form e w ty expected at PanicOf = refl
-arm_form e w ty expected at (LetOf a b c) = refl
-arm_form e w ty expected at Empty = refl
-arm_form e w ty expected at (Semi a) = refl
-arm_form e w ty expected at AnyPattern = refl
-arm_form e w ty expected at (BindPattern a) = refl
-arm_form e w ty expected at (LiteralPattern a b c) = refl
-arm_form e w ty expected at (TruthPattern a) = refl
-arm_form e w ty expected at (PathPattern a b) = refl
-arm_form e w ty expected at (PartsPattern a b c d) = refl
-arm_form e w ty expected at (FieldsPattern a b c d) = refl
-arm_form e w ty expected at (FieldPattern a b) = refl
-arm_form e w ty expected at (ParensPattern a) = refl
-arm_form e w ty expected at (TuplePattern a b) = refl
-arm_form e w ty expected at (ArrayPattern a b) = refl
-arm_form e w ty expected at (Alternatives a) = refl
-arm_form e w ty expected at (NamedType a) = refl
-arm_form e w ty expected at (GenericType a b) = refl
-arm_form e w ty expected at (DynType a b) = refl
-arm_form e w ty expected at SelfType = refl
-arm_form e w ty expected at (ParensType a) = refl
-arm_form e w ty expected at (TupleType a) = refl
-arm_form e w ty expected at (ArrayType a b c) = refl
-arm_form e w ty expected at NeverType = refl
-arm_form e w ty expected at (RefType a b) = refl
-arm_form e w ty expected at (StructItem a b c d) = refl
-arm_form e w ty expected at (EnumItem a b c) = refl
-arm_form e w ty expected at (FieldDecl a b) = refl
-arm_form e w ty expected at (VariantDecl a b c) = refl
-arm_form e w ty expected at (TraitItem a b) = refl
-arm_form e w ty expected at (ImplItem a b c) = refl
-arm_form e w ty expected at (FnItem a b c d) = refl
-arm_form e w ty expected at (ParamOf a b) = refl
-arm_form e w ty expected at (SelfParam a) = refl
-arm_form e w ty expected at Odd = refl
-
 pub arm_seen : (e : Env) (w : PatternContext) (ty : TyId) (expected : Option TyId) (n : SyntaxNode) →
     arm_of_syn e w ty expected (syn_of n) ≡ arm_check e w ty expected n.at (arm_part (shape_of (syn_of n)))
 arm_seen e w ty expected n =
     of_syn (syn_of n) ∙ ap (λ (x : Syn). arm_check e w ty expected (at_of x) (arm_part (shape_of (syn_of n)))) (seen_as n)
   where
     of_syn : (x : Syn) → arm_of_syn e w ty expected x ≡ arm_check e w ty expected (at_of x) (arm_part (shape_of x))
-    of_syn (syn at form) = arm_form e w ty expected at form
-
-arms_form : (e : Env) (w : PatternContext) (ty : TyId) (expected : Option TyId) (at : Pos) (form : Shape) (xs : Syns) (s : TypingState) →
-    typed_arms e w ty expected (a_syn (syn at form) xs) s
-    ≡ and_then (arm_of_syn e w ty expected (syn at form) s) (λ n. λ t. and_then (typed_arms e w ty expected xs t) (λ ns. pure (a_node n ns.0, ty_of n ∷ ns.1)))
-arms_form e w ty expected at (Ident a) xs s = refl
-arms_form e w ty expected at (LabelOf a) xs s = refl
-arms_form e w ty expected at (Literal a b) xs s = refl
-arms_form e w ty expected at (TruthLiteral a) xs s = refl
-arms_form e w ty expected at (Path a b) xs s = refl
-arms_form e w ty expected at (Minus a) xs s = refl
-arms_form e w ty expected at (Bang a) xs s = refl
-arms_form e w ty expected at (Star a) xs s = refl
-arms_form e w ty expected at (Ampersand a b) xs s = refl
-arms_form e w ty expected at (Calculate a b c) xs s = refl
-arms_form e w ty expected at (Compare a b c) xs s = refl
-arms_form e w ty expected at (Both a b) xs s = refl
-arms_form e w ty expected at (Either a b) xs s = refl
-arms_form e w ty expected at (Store a b) xs s = refl
-arms_form e w ty expected at (CallOf a b) xs s = refl
-arms_form e w ty expected at (MethodOf a b c) xs s = refl
-arms_form e w ty expected at (FieldOf a b) xs s = refl
-arms_form e w ty expected at (PartOf a b) xs s = refl
-arms_form e w ty expected at (ElementOf a b) xs s = refl
-arms_form e w ty expected at (StructOf a b c) xs s = refl
-arms_form e w ty expected at (FieldInit a b) xs s = refl
-arms_form e w ty expected at (Parens a) xs s = refl
-arms_form e w ty expected at (TupleOf a) xs s = refl
-arms_form e w ty expected at (ArrayOf a) xs s = refl
-arms_form e w ty expected at (Braces a b) xs s = refl
-arms_form e w ty expected at (IfElse a b c) xs s = refl
-arms_form e w ty expected at (IfLetElse a b c d) xs s = refl
-arms_form e w ty expected at (MatchOn a b) xs s = refl
-arms_form e w ty expected at (ArmOf a b c) xs s = refl
-arms_form e w ty expected at (LoopOf a b) xs s = refl
-arms_form e w ty expected at (WhileOf a b c) xs s = refl
-arms_form e w ty expected at (WhileLetOf a b c d) xs s = refl
-arms_form e w ty expected at (BreakOf a b) xs s = refl
-arms_form e w ty expected at (ContinueOf a) xs s = refl
-arms_form e w ty expected at (ReturnOf a) xs s = refl
-arms_form e w ty expected at (MoveOf a b c d) xs s = refl
-arms_form e w ty expected at PanicOf xs s = refl
-arms_form e w ty expected at (LetOf a b c) xs s = refl
-arms_form e w ty expected at Empty xs s = refl
-arms_form e w ty expected at (Semi a) xs s = refl
-arms_form e w ty expected at AnyPattern xs s = refl
-arms_form e w ty expected at (BindPattern a) xs s = refl
-arms_form e w ty expected at (LiteralPattern a b c) xs s = refl
-arms_form e w ty expected at (TruthPattern a) xs s = refl
-arms_form e w ty expected at (PathPattern a b) xs s = refl
-arms_form e w ty expected at (PartsPattern a b c d) xs s = refl
-arms_form e w ty expected at (FieldsPattern a b c d) xs s = refl
-arms_form e w ty expected at (FieldPattern a b) xs s = refl
-arms_form e w ty expected at (ParensPattern a) xs s = refl
-arms_form e w ty expected at (TuplePattern a b) xs s = refl
-arms_form e w ty expected at (ArrayPattern a b) xs s = refl
-arms_form e w ty expected at (Alternatives a) xs s = refl
-arms_form e w ty expected at (NamedType a) xs s = refl
-arms_form e w ty expected at (GenericType a b) xs s = refl
-arms_form e w ty expected at (DynType a b) xs s = refl
-arms_form e w ty expected at SelfType xs s = refl
-arms_form e w ty expected at (ParensType a) xs s = refl
-arms_form e w ty expected at (TupleType a) xs s = refl
-arms_form e w ty expected at (ArrayType a b c) xs s = refl
-arms_form e w ty expected at NeverType xs s = refl
-arms_form e w ty expected at (RefType a b) xs s = refl
-arms_form e w ty expected at (StructItem a b c d) xs s = refl
-arms_form e w ty expected at (EnumItem a b c) xs s = refl
-arms_form e w ty expected at (FieldDecl a b) xs s = refl
-arms_form e w ty expected at (VariantDecl a b c) xs s = refl
-arms_form e w ty expected at (TraitItem a b) xs s = refl
-arms_form e w ty expected at (ImplItem a b c) xs s = refl
-arms_form e w ty expected at (FnItem a b c d) xs s = refl
-arms_form e w ty expected at (ParamOf a b) xs s = refl
-arms_form e w ty expected at (SelfParam a) xs s = refl
-arms_form e w ty expected at Odd xs s = refl
+    of_syn (syn at (AnArm a b c)) = refl
+    of_syn (syn at _) = refl
 
 with_arm : (e : Env) (w : PatternContext) (ty : TyId) (expected : Option TyId) (x : Syn) (xs : Syns) (s : TypingState) →
     typed_arms e w ty expected (a_syn x xs) s
     ≡ and_then (arm_of_syn e w ty expected x s) (λ n. λ t. and_then (typed_arms e w ty expected xs t) (λ ns. pure (a_node n ns.0, ty_of n ∷ ns.1)))
-with_arm e w ty expected (syn at form) xs s = arms_form e w ty expected at form xs s
+with_arm e w ty expected (syn at (AnArm a b c)) xs s = refl
+with_arm e w ty expected (syn at _) xs s = refl
 
 one_typed : (k : ℕ) (ns ms : List tree.Node) (o : Result ((Nodes × List TyId) × TypingState) Broken) → below ms ≡ ns →
     behind_typed k ns (and_then o (λ more. pure (a_node (top ms) more.0, ty_of (top ms) ∷ more.1))) ≡ behind_typed (suc k) ms o

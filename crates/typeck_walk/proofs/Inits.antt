@@ -9,7 +9,7 @@ use Rattle.mir_base.specs.declared.rule.RuleError.{RuleError}
 use Rattle.mir_ty.specs.ItemTable.{ItemTable}
 use Rattle.mir_ty.specs.declared.adt.Variant.{Variant}
 use Rattle.mir_ty.specs.declared.ty.TyId.{TyId}
-use Rattle.src_ast.specs.Syntax.{MaybeSyn, Syns, Word}
+use Rattle.src_ast.specs.Syntax.{Word, MaybeSyn, Syns}
 use Rattle.typeck_calls.specs.StructFields.{variant_of}
 use Rattle.typeck_checker.specs.Tables.{AreTablesOf}
 use Rattle.typeck_checker.specs.declared.tables.Tables.{Tables}

@@ -10,7 +10,7 @@ use Rattle.mir_ty.specs.declared.ty.TyId.{TyId}
 use Rattle.src_tree.specs.declared.node.SyntaxNode.{SyntaxNode}
 use Rattle.src_ast.specs.Seen.{syn_of}
 use Rattle.src_ast.specs.Sorts.{expression_part}
-use Rattle.src_ast.specs.Syntax.{Syn, syn, LetOf, MaybeSyn, shape_of}
+use Rattle.src_ast.specs.Syntax.{Syn, syn, shape_of, AnExpression, LetOf, MaybeSyn}
 use Rattle.typed_tree.specs.Tree as tree
 use Rattle.typed_tree.specs.Tree.{MaybeNode}
 use Rattle.typeck_patterns.specs.BindingRests.{let_rest, let_typed}
@@ -26,20 +26,22 @@ use Rattle.typeck_exprs.proofs.Shapes.{typed_value}
 -- ---- the initialiser of a pattern with parts
 
 pub parts_of_place : (e : Env) (x : Syn) (expected : Option TyId) → is_place_syn e x ≡ true → for_parts e expected x ≡ (base_of e x >>= place_for_parts e expected)
-parts_of_place e (syn at form) expected is = by (is_place e form) is
+parts_of_place e (syn at (AnExpression form)) expected is = by (is_place e form) is
   where
     by : (b : Bool) → b ≡ true →
         (if b then place e at form >>= place_for_parts e expected else value e at form expected) ≡ ((if b then place e at form else value e at form None) >>= place_for_parts e expected)
     by true h = refl
     by false h = absurd (false≢true h)
+parts_of_place e _ expected is = absurd (false≢true is)
 
 as_typed : (e : Env) (x : Syn) (expected : Option TyId) → is_place_syn e x ≡ false → for_parts e expected x ≡ typed e x expected
-as_typed e (syn at form) expected is = by (is_place e form) is
+as_typed e (syn at (AnExpression form)) expected is = by (is_place e form) is
   where
     by : (b : Bool) → b ≡ false →
         (if b then place e at form >>= place_for_parts e expected else value e at form expected) ≡ (if b then place e at form >>= taken e expected else value e at form expected)
     by true h = absurd (false≢true (sym h))
     by false h = refl
+as_typed e _ expected is = refl
 
 pub parts_of_value : (e : Env) (n : SyntaxNode) (expected : Option TyId) → is_place_syn e (syn_of n) ≡ false →
     for_parts e expected (syn_of n) ≡ value_as e n.at (expression_part (shape_of (syn_of n))) expected

@@ -1,11 +1,12 @@
 -- Statements by the forms that are borrowed from them, and one after another.
 use Rattle.std.proofs.Common.{◌≡◌, ◌≤◌, ℕ, suc, Bool, true, false, ◌||◌, List, [], ◌∷◌, ◌++◌, length, Result, Ok, Err, refl, ap, sym, ◌∙◌, arith, add-one}
 use Rattle.src_tree.specs.declared.node.SyntaxNode.{SyntaxNode}
+use Rattle.src_ast.specs.Expressions.{statement_of}
 use Rattle.src_ast.specs.Seen.{syn_of}
+use Rattle.src_ast.specs.declared.statement.StatementForm.{StatementForm}
 use Rattle.src_ast.specs.Sorts.{statement_part}
-use Rattle.src_ast.specs.Syntax.{Syn, syn, Shape, Syns, a_syn, at_of, shape_of, Ident, LabelOf, Literal, TruthLiteral, Path, Minus, Bang, Star, Ampersand, Calculate, Compare, Both, Either, Store, CallOf, MethodOf, FieldOf, PartOf, ElementOf, StructOf, FieldInit, Parens, TupleOf, ArrayOf, Braces, IfElse, IfLetElse, MatchOn, ArmOf, LoopOf, WhileOf, WhileLetOf, BreakOf, ContinueOf, ReturnOf, MoveOf, PanicOf, LetOf, Empty, Semi, AnyPattern, BindPattern, LiteralPattern, TruthPattern, PathPattern, PartsPattern, FieldsPattern, FieldPattern, ParensPattern, TuplePattern, ArrayPattern, Alternatives, NamedType, GenericType, DynType, SelfType, ParensType, TupleType, ArrayType, NeverType, RefType, StructItem, EnumItem, FieldDecl, VariantDecl, TraitItem, ImplItem, FnItem, ParamOf, SelfParam, Odd}
+use Rattle.src_ast.specs.Syntax.{Syn, syn, at_of, shape_of, AStatement, LetOf, Syns, a_syn}
 use Rattle.src_ast.proofs.Named.{seen_as}
-use Rattle.mir_base.specs.declared.place_in_text.Pos.{Pos}
 use Rattle.typed_tree.specs.Tree as tree
 use Rattle.typed_tree.specs.Tree.{Nodes, a_node}
 use Rattle.typing_rules.specs.Check.{TypingState, Broken, and_then, pure}
@@ -18,87 +19,22 @@ use Rattle.typeck_checker.specs.Stand.{Stays, below, env, stack, top}
 use Rattle.typeck_checker.specs.declared.checker.Checker.{Checker}
 use Rattle.typeck_walk.specs.Blocks.{Grows, behind_statements, below_if, last_if, more_if, statement_as}
 
-statement_form : (e : Env) (at : Pos) (form : Shape) (s : TypingState) →
-    statement e (syn at form) s ≡ statement_as e (syn at form) at (statement_part form) s
-statement_form e at (Ident a) s = refl
-statement_form e at (LabelOf a) s = refl
-statement_form e at (Literal a b) s = refl
-statement_form e at (TruthLiteral a) s = refl
-statement_form e at (Path a b) s = refl
-statement_form e at (Minus a) s = refl
-statement_form e at (Bang a) s = refl
-statement_form e at (Star a) s = refl
-statement_form e at (Ampersand a b) s = refl
-statement_form e at (Calculate a b c) s = refl
-statement_form e at (Compare a b c) s = refl
-statement_form e at (Both a b) s = refl
-statement_form e at (Either a b) s = refl
-statement_form e at (Store a b) s = refl
-statement_form e at (CallOf a b) s = refl
-statement_form e at (MethodOf a b c) s = refl
-statement_form e at (FieldOf a b) s = refl
-statement_form e at (PartOf a b) s = refl
-statement_form e at (ElementOf a b) s = refl
-statement_form e at (StructOf a b c) s = refl
-statement_form e at (FieldInit a b) s = refl
-statement_form e at (Parens a) s = refl
-statement_form e at (TupleOf a) s = refl
-statement_form e at (ArrayOf a) s = refl
-statement_form e at (Braces a b) s = refl
-statement_form e at (IfElse a b c) s = refl
-statement_form e at (IfLetElse a b c d) s = refl
-statement_form e at (MatchOn a b) s = refl
-statement_form e at (ArmOf a b c) s = refl
-statement_form e at (LoopOf a b) s = refl
-statement_form e at (WhileOf a b c) s = refl
-statement_form e at (WhileLetOf a b c d) s = refl
-statement_form e at (BreakOf a b) s = refl
-statement_form e at (ContinueOf a) s = refl
-statement_form e at (ReturnOf a) s = refl
-statement_form e at (MoveOf a b c d) s = refl
-statement_form e at PanicOf s = refl
-statement_form e at (LetOf a b c) s = refl
-statement_form e at Empty s = refl
-statement_form e at (Semi a) s = refl
-statement_form e at AnyPattern s = refl
-statement_form e at (BindPattern a) s = refl
-statement_form e at (LiteralPattern a b c) s = refl
-statement_form e at (TruthPattern a) s = refl
-statement_form e at (PathPattern a b) s = refl
-statement_form e at (PartsPattern a b c d) s = refl
-statement_form e at (FieldsPattern a b c d) s = refl
-statement_form e at (FieldPattern a b) s = refl
-statement_form e at (ParensPattern a) s = refl
-statement_form e at (TuplePattern a b) s = refl
-statement_form e at (ArrayPattern a b) s = refl
-statement_form e at (Alternatives a) s = refl
-statement_form e at (NamedType a) s = refl
-statement_form e at (GenericType a b) s = refl
-statement_form e at (DynType a b) s = refl
-statement_form e at SelfType s = refl
-statement_form e at (ParensType a) s = refl
-statement_form e at (TupleType a) s = refl
-statement_form e at (ArrayType a b c) s = refl
-statement_form e at NeverType s = refl
-statement_form e at (RefType a b) s = refl
-statement_form e at (StructItem a b c d) s = refl
-statement_form e at (EnumItem a b c) s = refl
-statement_form e at (FieldDecl a b) s = refl
-statement_form e at (VariantDecl a b c) s = refl
-statement_form e at (TraitItem a b) s = refl
-statement_form e at (ImplItem a b c) s = refl
-statement_form e at (FnItem a b c d) s = refl
-statement_form e at (ParamOf a b) s = refl
-statement_form e at (SelfParam a) s = refl
-statement_form e at Odd s = refl
-
 pub statement_seen : (e : Env) (n : SyntaxNode) (s : TypingState) →
     statement e (syn_of n) s ≡ statement_as e (syn_of n) n.at (statement_part (shape_of (syn_of n))) s
 statement_seen e n s =
     of_syn (syn_of n) ∙ ap (λ (x : Syn). statement_as e (syn_of n) (at_of x) (statement_part (shape_of (syn_of n))) s) (seen_as n)
   where
     of_syn : (x : Syn) → statement e x s ≡ statement_as e x (at_of x) (statement_part (shape_of x)) s
-    of_syn (syn at form) = statement_form e at form s
+    of_syn (syn at (AStatement (LetOf a b c))) = refl
+    of_syn (syn at _) = refl
+
+-- the same by the form that was found
+pub statement_by : (e : Env) (n : SyntaxNode) (s : TypingState) (found seen : StatementForm) →
+    statement_of found ≡ statement_part (shape_of (syn_of n)) → found ≡ seen →
+    statement e (syn_of n) s ≡ statement_as e (syn_of n) n.at (statement_of seen) s
+statement_by e n s found seen of_node is =
+    statement_seen e n s ∙ ap (λ o. statement_as e (syn_of n) n.at o s) (sym of_node)
+    ∙ ap (λ (f : StatementForm). statement_as e (syn_of n) n.at (statement_of f) s) is
 
 -- ---- one more
 

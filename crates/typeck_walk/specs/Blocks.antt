@@ -10,7 +10,7 @@ use Rattle.typing_rules.specs.Places.{a_node_of}
 use Rattle.typing_rules.specs.Rows.{Typer, block_ty, evaluate, settled}
 use Rattle.typing_rules.specs.Scope.{Env, NamedEntry, with_variables}
 use Rattle.typing_rules.specs.Typed.{a_statement, for_parts, other_statement, typed}
-use Rattle.src_ast.specs.Syntax.{Shape, Syn}
+use Rattle.src_ast.specs.Syntax.{Syn, Statement}
 use Rattle.typeck_heads.specs.Answers.{Refuses}
 use Rattle.typeck_patterns.specs.BindingRests.{below_value}
 use Rattle.typeck_checker.specs.Lists.{below_all, last_nodes, nodes_on}
@@ -72,9 +72,9 @@ abbrev pub evaluated : Pos → Env → Bool → Typer → Check (Option Node × 
 evaluated at env has_semicolon e = a_statement <$> evaluate at env has_semicolon e
 
 -- a statement by its form: `None` is an expression
-abbrev pub statement_as : Env → Syn → Pos → Option Shape → Check (Option Node × Bool × Env)
+abbrev pub statement_as : Env → Syn → Pos → Option Statement → Check (Option Node × Bool × Env)
 statement_as env x at None = evaluated at env false (typed env x)
-statement_as env x at (Some form) = other_statement env at form
+statement_as env x at (Some s) = other_statement env at s
 
 -- a block, once its statements are checked
 abbrev pub block_rest : ℕ → Pos → Nodes → Bool → (Option TyId → Check MaybeNode) → Option TyId → Check Node

@@ -3,16 +3,13 @@ use Rattle.std.specs.Prelude.{ℕ, false, List, [], Option, Some, None}
 use Rattle.mir_base.specs.declared.place_in_text.Pos.{Pos}
 use Rattle.mir_base.specs.declared.rule.Rule.{Rule}
 use Rattle.mir_ty.specs.declared.ty.TyId.{TyId}
-use Rattle.typeck_patterns.specs.BindingRests.{arm_rest}
-use Rattle.typeck_exprs.specs.BranchRests.{if_let_else_rest}
-use Rattle.typeck_exprs.specs.CallRests.{match_rest}
-use Rattle.src_ast.specs.Syntax.{Word, Syn, syn, Shape, ArmOf, Syns, MaybeSyn, nothing, just}
+use Rattle.src_ast.specs.Syntax.{Word, Syn, syn, Shape, AnArm, Syns, MaybeSyn, nothing, just}
 use Rattle.typed_tree.specs.Tree as tree
 use Rattle.typed_tree.specs.Tree.{Node, absent}
 use Rattle.typing_rules.specs.Check.{Check, ◌>>=◌, breaks, the_items}
 use Rattle.typing_rules.specs.Patterns.{pattern}
 use Rattle.typing_rules.specs.Places.{a_node_of, bool, unit}
-use Rattle.typing_rules.specs.Rows.{PatternContext, arm, pattern_context, loop_around, settled}
+use Rattle.typing_rules.specs.Rows.{arm, arm_end, if_let_else_end, loop_around, match_end, pattern_context, PatternContext, settled}
 use Rattle.typing_rules.specs.Scope.{Env, NamedEntry, in_guard, with_variables, within_loop}
 use Rattle.typing_rules.specs.Typed.{matcher, typed, typed_arms, typed_maybe}
 use Rattle.well_typed.specs.Places.{ty_of}
@@ -21,7 +18,7 @@ use Rattle.well_typed.specs.Places.{ty_of}
 
 -- an arm by its form: `None` is none
 abbrev pub arm_check : Env → PatternContext → TyId → Option TyId → Pos → Option Shape → Check Node
-arm_check env e ty expected at (Some (ArmOf p guard body)) =
+arm_check env e ty expected at (Some (AnArm p guard body)) =
     arm (pattern env e ty p []) (λ xs. typed_maybe (with_variables (in_guard xs) env) guard (Some bool))
     (λ xs. typed (with_variables xs env) body) expected
 arm_check env e ty expected at _ = breaks Rule.T20 at
@@ -34,14 +31,14 @@ abbrev pub arm_parts : Env → ℕ → Node → List NamedEntry → MaybeSyn →
 arm_parts env id p xs guard body expected = do
   g ← typed_maybe (with_variables (in_guard xs) env) guard (Some bool)
   b ← typed (with_variables xs env) body expected
-  arm_rest id p g b
+  arm_end id p g b
 
 -- a `match`, once its scrutinee is checked
 abbrev pub arms_rest : Env → ℕ → Pos → Node → Syns → Option TyId → Check Node
 arms_rest env id at s arms expected = do
   before ← the_items
   rows ← typed_arms env (pattern_context env false s before) (ty_of s) expected arms
-  match_rest id at expected s rows.0 rows.1
+  match_end id at expected s rows.0 rows.1
 
 -- ---- `if let`
 
@@ -53,7 +50,7 @@ if_let_parts env id at s p xs body nothing expected = do
 if_let_parts env id at s p xs body (just otherwise) expected = do
   b ← typed (with_variables xs env) body expected
   o ← typed env otherwise expected
-  if_let_else_rest id at expected s p b o
+  if_let_else_end id at expected s p b o
 
 abbrev pub if_let_rest : Env → ℕ → Pos → Node → Syn → Syn → MaybeSyn → Option TyId → Check Node
 if_let_rest env id at s p body otherwise expected = do

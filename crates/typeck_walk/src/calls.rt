@@ -1,8 +1,6 @@
 //! Calls (The Rust Reference, "Call expressions", "Method-call expressions").
 ghost use Rattle.std.specs.Prelude.{◌≡◌};
 ghost use Rattle.typeck_calls.specs.Callees.{callee_seen};
-ghost use Rattle.typeck_calls.specs.CalleeRests.{closure_rest};
-ghost use Rattle.typeck_calls.specs.Rests.{method_rest};
 ghost use Rattle.src_ast.specs.Seen.{nodes_of, syn_of};
 ghost use Rattle.typed_tree.specs.Tree as tree;
 ghost use Rattle.typing_rules.specs.Check.{Check};
@@ -11,6 +9,7 @@ ghost use Rattle.typing_rules.specs.Patterns.{count_of};
 ghost use Rattle.typing_rules.specs.Rows as rows;
 ghost use Rattle.typing_rules.specs.Typed as rules;
 ghost use Rattle.typeck_checker.specs.Stand.{Gives, KeepsStack, below, env, stack, state, top};
+ghost use Rattle.typing_rules.specs.Rows.{closure_end, method_end};
 
 use crate::arguments::check_arguments;
 use crate::expressions::{check_expr, check_place_base};
@@ -49,7 +48,7 @@ fn closure_behind(
     args: Nodes,
     expected: Option<TyId>,
 ) -> Result<(), RuleError>
-    ensures gives { Gives (closure_rest id.0 at expected (top (stack checker.old)) (count_of (nodes_of args.entry)) (λ params. rules.typed_args (env checker.old) params (nodes_of args.entry)) (state checker.old)) result checker.new }
+    ensures gives { Gives (closure_end id.0 at expected (top (stack checker.old)) (count_of (nodes_of args.entry)) (λ params. rules.typed_args (env checker.old) params (nodes_of args.entry)) (state checker.old)) result checker.new }
     ensures kept { KeepsStack (below (stack checker.old)) checker.old result checker.new }
 {
     let callee = closure_callee(checker)?;
@@ -119,7 +118,7 @@ fn method_behind(
     args: Nodes,
     expected: Option<TyId>,
 ) -> Result<(), RuleError>
-    ensures gives { Gives (method_rest (env checker.old) id.0 at (named.method_named name.now) expected (top (stack checker.old)) (count_of (nodes_of args.entry)) (λ params. rules.typed_args (env checker.old) params (nodes_of args.entry)) (state checker.old)) result checker.new }
+    ensures gives { Gives (method_end (env checker.old) id.0 at (named.method_named name.now) expected (top (stack checker.old)) (count_of (nodes_of args.entry)) (λ params. rules.typed_args (env checker.old) params (nodes_of args.entry)) (state checker.old)) result checker.new }
     ensures kept { KeepsStack (below (stack checker.old)) checker.old result checker.new }
 {
     let receiver = method_receiver(checker, at, name)?;

@@ -14,7 +14,7 @@ use Rattle.typing_rules.specs.Patterns.{pattern}
 use Rattle.typing_rules.specs.Places.{used, a_node_of, unit, variable_place}
 use Rattle.typing_rules.specs.Rows.{Typer, PatternContext, taking, taken, fitted}
 use Rattle.typing_rules.specs.Scope.{Env, NamedEntry, Local, Capture, variable, with_variables}
-use Rattle.src_ast.specs.Syntax.{Word, Receiver, ByValue, ByShared, ByUnique, Syn, syn, Shape, Ident, AnyPattern, BindPattern, ParensPattern, ParamOf, SelfParam, Syns, no_syn, a_syn, MaybeSyn, nothing, just}
+use Rattle.src_ast.specs.Syntax.{Word, Receiver, ByValue, ByShared, ByUnique, Syn, syn, AName, APattern, AParam, Pattern, AnyPattern, BindPattern, ParensPattern, ParamOf, SelfParam, Syns, no_syn, a_syn, MaybeSyn, nothing, just}
 use Rattle.src_ast.specs.View.{self_name}
 use Rattle.typing_rules.specs.Written as types_
 use Rattle.typing_rules.specs.Written.{written, written_param}
@@ -34,11 +34,15 @@ self_ty ByValue ty = pure ty
 self_ty ByShared ty = interned (Ty.Shared ty)
 self_ty ByUnique ty = interned (Ty.Unique ty)
 
+abbrev pub receiver_end : Receiver → ℕ → Check TyId
+receiver_end receiver n = do
+  own ← interned (Ty.Adt n)
+  self_ty receiver own
+
 abbrev pub receiver_ty : Env → Pos → Receiver → Check TyId
 receiver_ty env at receiver = do
   n ← known Rule.T01 at env.self_adt
-  own ← interned (Ty.Adt n)
-  self_ty receiver own
+  receiver_end receiver n
 
 abbrev pub name_entry : Word → TyId → ℕ → NamedEntry
 name_entry name ty key = record { name = name; ty = ty; meaning = Local key }
@@ -53,9 +57,10 @@ name_param at name ty = do
 
 abbrev mutual
   pub is_name_or_wildcard : Syn → Bool
-  is_name_or_wildcard (syn at form) = is_name_or_wildcard_form form
+  is_name_or_wildcard (syn at (APattern p)) = is_name_or_wildcard_form p
+  is_name_or_wildcard _ = false
 
-  pub is_name_or_wildcard_form : Shape → Bool
+  pub is_name_or_wildcard_form : Pattern → Bool
   is_name_or_wildcard_form AnyPattern = true
   is_name_or_wildcard_form (BindPattern name) = true
   is_name_or_wildcard_form (ParensPattern inside) = is_name_or_wildcard inside
@@ -64,18 +69,33 @@ abbrev mutual
 abbrev pub param_pattern_context : PatternContext
 param_pattern_context = record { is_fixed = false; takes_all = true }
 
--- the type comes before the pattern, as in a `let`; a reference has a name or `_` for its pattern
-abbrev pub param : Env → (Syn → Check TyId) → Syn → List NamedEntry → Check (ParamTree × List NamedEntry)
-param env ty_of_param (syn at (ParamOf p ty)) earlier = do
-  t ← ty_of_param ty
-  items ← the_items
-  obeys Rule.T08 at (is_name_or_wildcard p || not (is_reference items t))
-  n ← pattern env param_pattern_context t p earlier
-  pure (record { pattern = n.0; ty = t }, n.1)
-param env ty_of_param (syn at (SelfParam receiver)) earlier = do
-  ty ← receiver_ty env at receiver
+abbrev pub self_param_end : Pos → TyId → List NamedEntry → Check (ParamTree × List NamedEntry)
+self_param_end at ty earlier = do
   p ← name_param at self_name ty
   pure (p.0, earlier ++ p.1 ∷ [])
+
+abbrev pub self_param : Env → Pos → Receiver → List NamedEntry → Check (ParamTree × List NamedEntry)
+self_param env at receiver earlier = do
+  ty ← receiver_ty env at receiver
+  self_param_end at ty earlier
+
+abbrev pub part_param_end : Env → TyId → Syn → List NamedEntry → Check (ParamTree × List NamedEntry)
+part_param_end env ty p earlier = do
+  n ← pattern env param_pattern_context ty p earlier
+  pure (record { pattern = n.0; ty = ty }, n.1)
+
+abbrev pub pattern_param_end : Env → Pos → TyId → Syn → List NamedEntry → Check (ParamTree × List NamedEntry)
+pattern_param_end env at ty p earlier = do
+  items ← the_items
+  obeys Rule.T08 at (is_name_or_wildcard p || not (is_reference items ty))
+  part_param_end env ty p earlier
+
+-- the type comes before the pattern, as in a `let`; a reference has a name or `_` for its pattern
+abbrev pub param : Env → (Syn → Check TyId) → Syn → List NamedEntry → Check (ParamTree × List NamedEntry)
+param env ty_of_param (syn at (AParam (ParamOf p ty))) earlier = do
+  t ← ty_of_param ty
+  pattern_param_end env at t p earlier
+param env ty_of_param (syn at (AParam (SelfParam receiver))) earlier = self_param env at receiver earlier
 param env ty_of_param (syn at _) earlier = breaks Rule.T20 at
 
 abbrev pub params_of : Env → (Syn → Check TyId) → Syns → List NamedEntry → Check (List ParamTree × List NamedEntry)
@@ -116,7 +136,7 @@ abbrev pub is_captured : Word → List NamedEntry → Bool
 is_captured name entries = is_some (variable entries name)
 
 abbrev pub capture : Env → ℕ → Syn → List NamedEntry → Check (Node × List NamedEntry)
-capture env k (syn at (Ident name)) earlier = do
+capture env k (syn at (AName name)) earlier = do
   obeys Rule.T01 at (is_captured name env.variables)
   obeys Rule.T02 at (not (is_captured name earlier))
   x ← known Rule.T01 at (variable env.variables name)

@@ -20,16 +20,16 @@ use Rattle.well_typed.specs.Types.{is_same}
 use Rattle.typing_rules.specs.Check.{Check, TypingState, Broken, ◌>>=◌, ◌>>◌, pure, breaks, obeys, known, the_items, interned, each_checked}
 use Rattle.typing_rules.specs.Items.{ItemSyn, items_of, item_syns, adt_names, trait_names, body_paths, method_body, drop_body, full_name, closure_name, impl_owner}
 use Rattle.typing_rules.specs.Places.{scalars, unit}
-use Rattle.src_ast.specs.Syntax.{number_word, Word, Named, Receiver, ByValue, ByShared, ByUnique, Syn, syn, MoveOf, StructItem, EnumItem, FieldDecl, VariantDecl, TraitItem, ImplItem, FnItem, ParamOf, SelfParam, Syns, no_syn, a_syn, list_of, MaybeSyn, nothing, just}
+use Rattle.src_ast.specs.Syntax.{Word, Named, number_word, Receiver, ByValue, ByShared, ByUnique, Syn, syn, AnExpression, AnItem, AParam, AField, AVariant, MoveOf, StructItem, EnumItem, TraitItem, ImplItem, FnItem, ParamOf, SelfParam, Syns, no_syn, a_syn, list_of, MaybeSyn, nothing, just}
 use Rattle.typing_rules.specs.Written.{WrittenScope, written, written_param, or_unit, number_of}
 
 -- ---- names of items
 
 abbrev pub item_name : Syn → Option Named
-item_name (syn at (StructItem derives name kind fields)) = Some name
-item_name (syn at (EnumItem derives name variants)) = Some name
-item_name (syn at (TraitItem name heads)) = Some name
-item_name (syn at (FnItem name params answer block)) = Some name
+item_name (syn at (AnItem (StructItem derives name kind fields))) = Some name
+item_name (syn at (AnItem (EnumItem derives name variants))) = Some name
+item_name (syn at (AnItem (TraitItem name heads))) = Some name
+item_name (syn at (AnItem (FnItem name params answer block))) = Some name
 item_name _ = None
 
 abbrev pub names_differ : List Named → List Word → Check (Unit {0})
@@ -61,11 +61,11 @@ derives word ds = list_any (λ d. bytes_eq word d.1) ds
 
 -- fields by their order or by their names
 abbrev pub field_name : ℕ → Syn → Word
-field_name k (syn at (FieldDecl name ty)) = name
+field_name k (syn at (AField name ty)) = name
 field_name k _ = number_word k
 
 abbrev pub field_type : Syn → Syn
-field_type (syn at (FieldDecl name ty)) = ty
+field_type (syn at (AField name ty)) = ty
 field_type ty = ty
 
 abbrev pub names_from : ℕ → List Syn → List Word
@@ -78,7 +78,7 @@ variant_of around name fields = do
   pure (record { name = name; fields = tys; field_names = names_from 0 (list_of fields) })
 
 abbrev pub declared_variant : WrittenScope → Syn → Check Variant
-declared_variant around (syn at (VariantDecl name kind fields)) = variant_of around name fields
+declared_variant around (syn at (AVariant name kind fields)) = variant_of around name fields
 declared_variant around (syn at _) = breaks Rule.T20 at
 
 abbrev pub adt_of : Known → List Named → Word → Bool → List Variant → Adt
@@ -101,8 +101,8 @@ receiver_ty own ByShared = interned (Ty.Shared own)
 receiver_ty own ByUnique = interned (Ty.Unique own)
 
 abbrev pub param_ty : WrittenScope → Check TyId → Syn → Check TyId
-param_ty around self (syn at (ParamOf p ty)) = written_param around ty
-param_ty around self (syn at (SelfParam receiver)) = self >>= (λ own. receiver_ty own receiver)
+param_ty around self (syn at (AParam (ParamOf p ty))) = written_param around ty
+param_ty around self (syn at (AParam (SelfParam receiver))) = self >>= (λ own. receiver_ty own receiver)
 param_ty around self (syn at _) = breaks Rule.T20 at
 
 abbrev pub answer_ty : WrittenScope → MaybeSyn → Check TyId
@@ -122,8 +122,8 @@ sig_of around self name params answer = do
 
 -- the head of a trait's method; without `&self` or `&mut self`, which is refused later, it gets `&dyn`
 abbrev pub is_by_reference : Syn → Bool
-is_by_reference (syn at (SelfParam ByShared)) = true
-is_by_reference (syn at (SelfParam ByUnique)) = true
+is_by_reference (syn at (AParam (SelfParam ByShared))) = true
+is_by_reference (syn at (AParam (SelfParam ByUnique))) = true
 is_by_reference _ = false
 
 abbrev pub has_receiver : Syns → Bool
@@ -132,14 +132,14 @@ has_receiver (a_syn first rest) = is_by_reference first
 
 abbrev pub behind_self : Syns → Syns
 behind_self no_syn = no_syn
-behind_self (a_syn (syn at (SelfParam receiver)) rest) = rest
+behind_self (a_syn (syn at (AParam (SelfParam receiver))) rest) = rest
 behind_self (a_syn (syn at form) rest) = a_syn (syn at form) rest
 
 abbrev pub with_receiver : TyId → Sig → Sig
 with_receiver ty sig = record sig { params = ty ∷ sig.params }
 
 abbrev pub trait_head : WrittenScope → TyId → Syn → Check Sig
-trait_head around own (syn at (FnItem name params answer block)) =
+trait_head around own (syn at (AnItem (FnItem name params answer block))) =
     if has_receiver params then sig_of around (pure own) name.1 params answer
     else (interned (Ty.Shared own) >>= (λ self. sig_of around (pure own) name.1 (behind_self params) answer >>= (λ
     sig. pure (with_receiver self sig))))
@@ -157,7 +157,7 @@ abbrev pub body_added : Sig → Check (Unit {0})
 body_added sig = added (λ items. with_body items sig)
 
 abbrev pub closure_param : WrittenScope → Syn → Check TyId
-closure_param around (syn at (ParamOf p ty)) = or_unit (written around ty)
+closure_param around (syn at (AParam (ParamOf p ty))) = or_unit (written around ty)
 closure_param around (syn at _) = pure unit
 
 -- the parameters of a closure, behind the closure itself
@@ -174,12 +174,12 @@ closure_head around closures name params answer = do
   body_added (record { name = name; params = tys; result = ty })
 
 abbrev pub body_sig : Known → Option Word → Count → Syn → Check Count
-body_sig k owner c (syn at (FnItem name params answer block)) = do
+body_sig k owner c (syn at (AnItem (FnItem name params answer block))) = do
   let self_adt = option_and_then (number_of k.adts) owner
   sig ← sig_of (names_alone k self_adt) (own_ty at self_adt) (full_name owner name.1) params answer
   body_added sig
   pure (record c { outer = full_name owner name.1; in_outer = 0 })
-body_sig k owner c (syn at (MoveOf captures params answer body)) = do
+body_sig k owner c (syn at (AnExpression (MoveOf captures params answer body))) = do
   let around = names_alone k (option_and_then (number_of k.adts) owner)
   closure_head around c.closures (closure_name c.outer (c.in_outer + 1)) params answer
   pure (record c { in_outer = c.in_outer + 1; closures = c.closures + 1 })
@@ -218,20 +218,20 @@ impl_head k (Some trait_) name = do
   obeys Rule.T01 name.0 (is_some (number_of k.adts name.1))
 
 abbrev pub item_head : Known → Syn → Check (Unit {0})
-item_head k (syn at (StructItem ds name kind fields)) = do
+item_head k (syn at (AnItem (StructItem ds name kind fields))) = do
   derives_known ds
   v ← variant_of (names_alone k (number_of k.adts name.1)) name.1 fields
   added (λ items. with_adt items (adt_of k ds name.1 false (v ∷ [])))
-item_head k (syn at (EnumItem ds name variants)) = do
+item_head k (syn at (AnItem (EnumItem ds name variants))) = do
   derives_known ds
   vs ← each_checked (declared_variant (names_alone k (number_of k.adts name.1))) (list_of variants)
   added (λ items. with_adt items (adt_of k ds name.1 true vs))
-item_head k (syn at (TraitItem name heads)) = do
+item_head k (syn at (AnItem (TraitItem name heads))) = do
   items ← the_items
   own ← interned (Ty.Dyn (length items.traits))
   sigs ← each_checked (trait_head (names_alone k None) own) (list_of heads)
   added (λ items. with_trait items (record { name = name.1; methods = sigs }))
-item_head k (syn at (ImplItem trait_ name methods)) = impl_head k trait_ name
+item_head k (syn at (AnItem (ImplItem trait_ name methods))) = impl_head k trait_ name
 item_head k (syn at _) = pure tt
 
 abbrev pub heads_collected : Known → Count → List ItemSyn → Check (Unit {0})
@@ -243,7 +243,7 @@ heads_collected k c (i ∷ is) = do
 
 -- impls come once all traits have their methods
 abbrev pub impl_of : Known → Syn → Check (Unit {0})
-impl_of k (syn at (ImplItem (Some trait_) name methods)) =
+impl_of k (syn at (AnItem (ImplItem (Some trait_) name methods))) =
     if is_drop trait_.1 then pure tt else (do
       n ← known Rule.T01 trait_.0 (number_of k.traits trait_.1)
       adt ← known Rule.T01 name.0 (number_of k.adts name.1)
@@ -270,8 +270,8 @@ may_derive items ds (Some adt) =
 
 -- the structs and enums in their order, each with its place and what it derives
 abbrev pub adt_item : Syn → Option (Pos × List Named)
-adt_item (syn at (StructItem ds name kind fields)) = Some (at, ds)
-adt_item (syn at (EnumItem ds name variants)) = Some (at, ds)
+adt_item (syn at (AnItem (StructItem ds name kind fields))) = Some (at, ds)
+adt_item (syn at (AnItem (EnumItem ds name variants))) = Some (at, ds)
 adt_item _ = None
 
 abbrev pub all_finite : ℕ → List (Pos × List Named) → Check (Unit {0})

@@ -7,22 +7,22 @@ use Rattle.mir_base.specs.declared.place_in_text.Pos.{Pos}
 use Rattle.src_tree.specs.declared.row.GrammarRow.{GrammarRow}
 use Rattle.src_tree.specs.Layout as layout
 use Rattle.src_tree.specs.Layout.{node, Parts, end, tok, sub}
-use Rattle.src_ast.specs.Syntax.{number_word, Word, FieldsKind, Unit_, Syn, syn, StructItem, EnumItem, VariantDecl, TraitItem, ImplItem, FnItem, Syns, no_syn, a_syn}
+use Rattle.src_ast.specs.Syntax.{Word, number_word, FieldsKind, Unit_, Syn, syn, AnItem, AVariant, StructItem, EnumItem, TraitItem, ImplItem, FnItem, Syns, no_syn, a_syn}
 use Rattle.src_ast.specs.View.{view}
 
 -- ---- structs, enums and traits
 
 abbrev pub adt_name : Syn → Option Word
-adt_name (syn at (StructItem derives name kind fields)) = Some name.1
-adt_name (syn at (EnumItem derives name variants)) = Some name.1
+adt_name (syn at (AnItem (StructItem derives name kind fields))) = Some name.1
+adt_name (syn at (AnItem (EnumItem derives name variants))) = Some name.1
 adt_name _ = None
 
 abbrev pub trait_name : Syn → Option Word
-trait_name (syn at (TraitItem name heads)) = Some name.1
+trait_name (syn at (AnItem (TraitItem name heads))) = Some name.1
 trait_name _ = None
 
 abbrev variant_kind : Syn → FieldsKind
-variant_kind (syn at (VariantDecl name kind fields)) = kind
+variant_kind (syn at (AVariant name kind fields)) = kind
 variant_kind _ = Unit_
 
 abbrev variant_kinds : Syns → List FieldsKind
@@ -30,8 +30,8 @@ variant_kinds no_syn = []
 variant_kinds (a_syn first rest) = variant_kind first ∷ variant_kinds rest
 
 abbrev kinds_of : Syn → Option (List FieldsKind)
-kinds_of (syn at (StructItem derives name kind fields)) = Some (kind ∷ [])
-kinds_of (syn at (EnumItem derives name variants)) = Some (variant_kinds variants)
+kinds_of (syn at (AnItem (StructItem derives name kind fields))) = Some (kind ∷ [])
+kinds_of (syn at (AnItem (EnumItem derives name variants))) = Some (variant_kinds variants)
 kinds_of _ = None
 
 abbrev pub adt_names : List Syn → List Word
@@ -79,11 +79,11 @@ abbrev pub item_syns : List ItemSyn → List Syn
 item_syns items = map (λ i. i.item) items
 
 abbrev pub impl_owner : Syn → Option Word
-impl_owner (syn at (ImplItem trait_ name methods)) = Some name.1
+impl_owner (syn at (AnItem (ImplItem trait_ name methods))) = Some name.1
 impl_owner _ = None
 
 abbrev pub own_name : Syn → Option Word
-own_name (syn at (FnItem name params answer block)) = Some name.1
+own_name (syn at (AnItem (FnItem name params answer block))) = Some name.1
 own_name _ = None
 
 -- a body by its path (The Rust Reference, "Paths"): `<S as T>::m` of the method of an impl of a trait, `<S>::m` of
@@ -92,8 +92,8 @@ abbrev pub method_path : Word → Word → Word → Word
 method_path owner trait_ name = codes "<" ++ owner ++ codes " as " ++ trait_ ++ codes ">::" ++ name
 
 abbrev pub path_in : Syn → Word → Word
-path_in (syn at (ImplItem (Some trait_) owner methods)) name = method_path owner.1 trait_.1 name
-path_in (syn at (ImplItem None owner methods)) name = codes "<" ++ owner.1 ++ codes ">::" ++ name
+path_in (syn at (AnItem (ImplItem (Some trait_) owner methods))) name = method_path owner.1 trait_.1 name
+path_in (syn at (AnItem (ImplItem None owner methods))) name = codes "<" ++ owner.1 ++ codes ">::" ++ name
 path_in _ name = name
 
 abbrev pub path_or_none : Syn → Option Word → Word

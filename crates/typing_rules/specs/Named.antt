@@ -13,7 +13,7 @@ use Rattle.mir_ty.specs.DropBodies.{is_drop_body}
 use Rattle.well_typed.specs.Types.{closure_of, is_enum, variant_at}
 use Rattle.typing_rules.specs.Rows.{Method, OfAdt, OfTrait}
 use Rattle.typing_rules.specs.Scope.{Env, NamedEntry, variable, adt_named, body_named, method_of, variant_named, kind_at, adt_at_head}
-use Rattle.src_ast.specs.Syntax.{Word, FieldsKind, Unit_, Tuple_, Syn, syn, Shape, Path, Parens}
+use Rattle.src_ast.specs.Syntax.{Word, FieldsKind, Unit_, Tuple_, Syn, syn, AnExpression, Expression, Path, Parens}
 use Rattle.typing_rules.specs.Written.{is_box}
 
 abbrev pub is_built_in : Word → Bool
@@ -154,7 +154,7 @@ abbrev pub self_callee : ItemTable → Env → Option ℕ → Callee
 self_callee items env None = Unnamed Rule.T01
 self_callee items env (Some adt) = if is_enum items adt then Unnamed Rule.T01 else constructor_of items env adt 0
 
-abbrev pub callee_form : ItemTable → Env → Shape → Callee
+abbrev pub callee_form : ItemTable → Env → Expression → Callee
 callee_form items env (Path (Some name) None) = variable_callee items env name (variable env.variables name)
 callee_form items env (Path None None) = self_callee items env env.self_adt
 callee_form items env (Path first (Some name)) = path_callee items env first name (adt_at_head items env first)
@@ -162,11 +162,12 @@ callee_form items env _ = AValue
 
 abbrev mutual
   pub callee_of : ItemTable → Env → Syn → Callee
-  callee_of items env (syn at form) = callee_by items env form
+  callee_of items env (syn at (AnExpression e)) = callee_by items env e
+  callee_of items env _ = AValue
 
-  pub callee_by : ItemTable → Env → Shape → Callee
+  pub callee_by : ItemTable → Env → Expression → Callee
   callee_by items env (Parens inside) = callee_of items env inside
-  callee_by items env form = callee_form items env form
+  callee_by items env e = callee_form items env e
 
 -- ---- methods of a value
 

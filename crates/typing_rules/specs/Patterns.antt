@@ -17,7 +17,7 @@ use Rattle.typing_rules.specs.Check.{Check, ◌>>=◌, ◌>>◌, ◌<$>◌, pure
 use Rattle.typing_rules.specs.Places.{used, a_node_of, int}
 use Rattle.typing_rules.specs.Rows.{PatternContext, taking, literal_value, is_signed_kind, most, all_given, are_known, Given}
 use Rattle.typing_rules.specs.Scope.{Env, NamedEntry, Local, variable, variant_named, field_named, kind_at, adt_at_head, adt_named}
-use Rattle.src_ast.specs.Syntax.{Word, FieldsKind, Unit_, Fields_, Syn, syn, Shape, AnyPattern, BindPattern, LiteralPattern, TruthPattern, PathPattern, PartsPattern, FieldsPattern, FieldPattern, ParensPattern, TuplePattern, ArrayPattern, Alternatives, Syns, no_syn, a_syn, nothing, just}
+use Rattle.src_ast.specs.Syntax.{Word, FieldsKind, Unit_, Fields_, Syn, syn, APattern, AFieldPattern, Pattern, AnyPattern, BindPattern, LiteralPattern, TruthPattern, PathPattern, PartsPattern, FieldsPattern, ParensPattern, TuplePattern, ArrayPattern, Alternatives, Syns, no_syn, a_syn, nothing, just}
 
 -- what a pattern gives: its node, and the bindings so far
 abbrev pub BoundPattern : Type 0
@@ -31,23 +31,46 @@ abbrev pub agrees_kind : Option IntKind → TyId → Bool
 agrees_kind None ty = true
 agrees_kind (Some kind) ty = is_same (int kind) ty
 
+abbrev pub tested_end : ℕ → Pos → Bool → TyId → tree.Form → Check Node
+tested_end id at takes_all ty form = do
+  obeys Rule.T18 at (not takes_all)
+  pure (used Use.Test (a_node_of id at ty form))
+
+abbrev pub number_end : ℕ → Pos → Bool → TyId → Bool → ℕ → Check Node
+number_end id at takes_all ty is_negative value =
+    tested_end id at takes_all ty (tree.NumberPattern (literal_value is_negative value))
+
+abbrev pub sized_end : ℕ → Pos → Bool → TyId → IntKind → Bool → ℕ → Check Node
+sized_end id at takes_all ty kind is_negative value = do
+  obeys Rule.T17 at (nat_le value (most kind is_negative))
+  number_end id at takes_all ty is_negative value
+
+abbrev pub kind_end : ℕ → Pos → Bool → TyId → IntKind → Bool → ℕ → Option IntKind → Check Node
+kind_end id at takes_all ty kind is_negative value suffix = do
+  obeys Rule.T03 at (agrees_kind suffix ty && (not is_negative || is_signed_kind kind))
+  sized_end id at takes_all ty kind is_negative value
+
+abbrev pub literal_pattern_end : ℕ → Pos → Bool → TyId → Bool → ℕ → Option IntKind → Check Node
+literal_pattern_end id at takes_all ty is_negative value suffix = do
+  items ← the_items
+  kind ← known Rule.T03 at (kind_of items ty)
+  kind_end id at takes_all ty kind is_negative value suffix
+
 abbrev pub literal_pattern : Pos → PatternContext → TyId → Bool → ℕ → Option IntKind → Check Node
 literal_pattern at e ty is_negative value suffix = do
   id ← number
+  literal_pattern_end id at e.takes_all ty is_negative value suffix
+
+abbrev pub truth_pattern_end : ℕ → Pos → Bool → TyId → Bool → Check Node
+truth_pattern_end id at takes_all ty value = do
   items ← the_items
-  kind ← known Rule.T03 at (kind_of items ty)
-  obeys Rule.T03 at (agrees_kind suffix ty && (not is_negative || is_signed_kind kind))
-  obeys Rule.T17 at (nat_le value (most kind is_negative))
-  obeys Rule.T18 at (not e.takes_all)
-  pure (used Use.Test (a_node_of id at ty (tree.NumberPattern (literal_value is_negative value))))
+  obeys Rule.T03 at (is_bool items ty)
+  tested_end id at takes_all ty (tree.TruthPattern value)
 
 abbrev pub truth_pattern : Pos → PatternContext → TyId → Bool → Check Node
 truth_pattern at e ty value = do
   id ← number
-  items ← the_items
-  obeys Rule.T03 at (is_bool items ty)
-  obeys Rule.T18 at (not e.takes_all)
-  pure (used Use.Test (a_node_of id at ty (tree.TruthPattern value)))
+  truth_pattern_end id at e.takes_all ty value
 
 abbrev pub bind : Pos → PatternContext → TyId → Word → List NamedEntry → Check BoundPattern
 bind at e ty name earlier = do
@@ -96,6 +119,19 @@ tested_if b n = if b then used Use.Test n else n
 abbrev pub inside_of : ItemTable → TyId → PatternContext → PatternContext
 inside_of items ty e = record e { is_fixed = e.is_fixed || has_drop_impl items ty }
 
+-- once the place is known to be of the type that the path names
+abbrev pub target_end : ℕ → Pos → PatternContext → TyId → PatternTarget →
+    (PatternContext → List TyId → Check (Fields × List NamedEntry × Bool ×
+    Bool)) → Check BoundPattern
+target_end id at e ty t parts = do
+  before ← the_items
+  ps ← parts (inside_of before ty e) (fields_of before t)
+  items ← the_items
+  obeys Rule.T04 at ps.2
+  obeys Rule.T12 at ps.3
+  obeys Rule.T18 at (not (e.takes_all && is_test items t))
+  pure (tested_if (is_test items t) (a_node_of id at ty (parts_form items t ps.0)), ps.1)
+
 -- the place is of the type that the path names; then its parts, how many there are, and whether it may be a test
 abbrev pub of_target : Pos → PatternContext → TyId → PatternTarget →
     (PatternContext → List TyId → Check (Fields × List NamedEntry × Bool ×
@@ -104,13 +140,7 @@ of_target at e ty t parts = do
   id ← number
   self ← interned (Ty.Adt t.adt)
   obeys Rule.T03 at (is_same ty self)
-  before ← the_items
-  ps ← parts (inside_of before ty e) (fields_of before t)
-  items ← the_items
-  obeys Rule.T04 at ps.2
-  obeys Rule.T12 at ps.3
-  obeys Rule.T18 at (not (e.takes_all && is_test items t))
-  pure (tested_if (is_test items t) (a_node_of id at ty (parts_form items t ps.0)), ps.1)
+  target_end id at e ty t parts
 
 -- a lone name: a unit struct's pattern, or a binding; a struct with fields has no such pattern
 abbrev pub is_unit_kind : FieldsKind → Bool
@@ -207,9 +237,10 @@ field_by v name earlier typed = field_at earlier (field_ty v.fields (field_named
 abbrev mutual
   -- a pattern for a place of a type, after these bindings of the same pattern
   pub pattern : Env → PatternContext → TyId → Syn → List NamedEntry → Check BoundPattern
-  pattern env e ty (syn at form) earlier = pattern_form env e ty at form earlier
+  pattern env e ty (syn at (APattern p)) earlier = pattern_form env e ty at p earlier
+  pattern env e ty (syn at _) earlier = breaks Rule.T20 at
 
-  pub pattern_form : Env → PatternContext → TyId → Pos → Shape → List NamedEntry → Check BoundPattern
+  pub pattern_form : Env → PatternContext → TyId → Pos → Pattern → List NamedEntry → Check BoundPattern
   pattern_form env e ty at AnyPattern earlier = do
     id ← number
     pure (a_node_of id at ty tree.Wildcard, earlier)
@@ -261,7 +292,6 @@ abbrev mutual
     ps ← each_pattern env e ty patterns earlier
     obeys Rule.T18 at (not (has_names earlier ps.1))
     pure (a_node_of id at ty (tree.OrPattern ps.0), ps.1)
-  pattern_form env e ty at _ earlier = breaks Rule.T20 at
 
   -- patterns of parts in their order; those past the last part are not typed
   pub part_patterns : Env → PatternContext → List TyId → Syns → List NamedEntry → Check (Nodes × List NamedEntry)
@@ -289,8 +319,8 @@ abbrev mutual
 
   pub field_pattern : Env → PatternContext → Variant → Syn → List NamedEntry →
       Check (Option (ℕ × Node) × List NamedEntry × Option ℕ)
-  field_pattern env e v (syn at (FieldPattern name nothing)) earlier =
+  field_pattern env e v (syn at (AFieldPattern name nothing)) earlier =
       field_by v name earlier (λ ty. bind at e ty name earlier)
-  field_pattern env e v (syn at (FieldPattern name (just inside))) earlier =
+  field_pattern env e v (syn at (AFieldPattern name (just inside))) earlier =
       field_by v name earlier (λ ty. pattern env e ty inside earlier)
   field_pattern env e v (syn at _) earlier = breaks Rule.T20 at

@@ -18,7 +18,7 @@ use Rattle.typing_rules.specs.Collected.{collected, starting_with}
 use Rattle.typing_rules.specs.Items.{items_of, item_syns, adt_names, trait_names, all_kinds}
 use Rattle.typing_rules.specs.Places.{unit}
 use Rattle.typing_rules.specs.Scope.{Env, adt_named, trait_named, body_named, method_word}
-use Rattle.src_ast.specs.Syntax.{Word, Named, ByShared, ByUnique, Syn, syn, StructItem, EnumItem, FieldDecl, VariantDecl, TraitItem, ImplItem, FnItem, SelfParam, Syns, no_syn, a_syn, list_of, MaybeSyn, nothing, just}
+use Rattle.src_ast.specs.Syntax.{Word, Named, ByShared, ByUnique, Syn, syn, AnItem, AParam, AField, AVariant, StructItem, EnumItem, TraitItem, ImplItem, FnItem, SelfParam, Syns, no_syn, a_syn, list_of, MaybeSyn, nothing, just}
 use Rattle.typing_rules.specs.Typed.{typed}
 use Rattle.typing_rules.specs.Written.{written, written_param}
 
@@ -29,7 +29,7 @@ count_of ss = length (list_of ss)
 
 -- a field by its name, once; a field by its order
 abbrev pub field : Env → List Word → Syn → Check (List Word)
-field env earlier (syn at (FieldDecl name ty)) = do
+field env earlier (syn at (AField name ty)) = do
   _ ← written (all_rules env) ty
   obeys Rule.T02 at (not (is_among name earlier))
   pure (name ∷ earlier)
@@ -45,7 +45,7 @@ fields env earlier (f ∷ fs) = do
 
 abbrev pub variants : Env → List Word → List Syn → Check (Unit {0})
 variants env earlier [] = pure tt
-variants env earlier (syn at (VariantDecl name kind fs) ∷ vs) = do
+variants env earlier (syn at (AVariant name kind fs) ∷ vs) = do
   fields env [] (list_of fs)
   obeys Rule.T02 at (not (is_among name earlier))
   obeys Rule.T19 at (nat_le (count_of fs) 32)
@@ -55,8 +55,8 @@ variants env earlier (syn at form ∷ vs) = breaks Rule.T20 at
 -- ---- heads
 
 abbrev pub is_by_reference : Syn → Bool
-is_by_reference (syn at (SelfParam ByShared)) = true
-is_by_reference (syn at (SelfParam ByUnique)) = true
+is_by_reference (syn at (AParam (SelfParam ByShared))) = true
+is_by_reference (syn at (AParam (SelfParam ByUnique))) = true
 is_by_reference _ = false
 
 abbrev pub takes_reference : Syns → Bool
@@ -72,12 +72,12 @@ head_rules env params answer = do
 
 -- in a trait a parameter `self` is of no struct or enum: it is passed over
 abbrev pub behind_self : Syns → Syns
-behind_self (a_syn (syn at (SelfParam receiver)) rest) = rest
+behind_self (a_syn (syn at (AParam (SelfParam receiver))) rest) = rest
 behind_self ss = ss
 
 abbrev pub trait_heads : Env → List Word → List Syn → Check (Unit {0})
 trait_heads env earlier [] = pure tt
-trait_heads env earlier (syn at (FnItem name params answer block) ∷ hs) = do
+trait_heads env earlier (syn at (AnItem (FnItem name params answer block)) ∷ hs) = do
   head_rules env (behind_self params) answer
   obeys Rule.T02 name.0 (not (is_among name.1 earlier))
   obeys Rule.T11 at (takes_reference params && not (bytes_eq name.1 (codes "drop")))
@@ -124,7 +124,7 @@ is_drop_sig items None = false
 is_drop_sig items (Some sig) = is_one_unique items sig.params && is_unit items sig.result
 
 abbrev pub takes_unique : Syns → Bool
-takes_unique (a_syn (syn at (SelfParam ByUnique)) rest) = true
+takes_unique (a_syn (syn at (AParam (SelfParam ByUnique))) rest) = true
 takes_unique _ = false
 
 abbrev pub is_drop : Word → Bool
@@ -151,7 +151,7 @@ is_seen owner name seen = list_any (λ s. bytes_eq s.0 owner && bytes_eq s.1 nam
 
 abbrev pub method_heads : Env → Option Named → Word → Seen → List Syn → Check Seen
 method_heads env trait_ owner seen [] = pure seen
-method_heads env trait_ owner seen (syn at (FnItem name params answer block) ∷ ms) = do
+method_heads env trait_ owner seen (syn at (AnItem (FnItem name params answer block)) ∷ ms) = do
   head_rules env params answer
   items ← the_items
   obeys Rule.T02 name.0 (not (is_seen owner name.1 seen))
@@ -160,7 +160,7 @@ method_heads env trait_ owner seen (syn at (FnItem name params answer block) ∷
 method_heads env trait_ owner seen (syn at form ∷ ms) = breaks Rule.T20 at
 
 abbrev pub method_name : Syn → Option Word
-method_name (syn at (FnItem name params answer block)) = Some name.1
+method_name (syn at (AnItem (FnItem name params answer block))) = Some name.1
 method_name _ = None
 
 abbrev pub method_names : Syns → List Word
@@ -204,26 +204,26 @@ abbrev pub in_impl : Env → Option ℕ → Env
 in_impl env self_adt = record env { self_adt = self_adt }
 
 abbrev pub item_rules : Env → Before → Syn → Check Before
-item_rules env before (syn at (StructItem ds name kind fs)) = do
+item_rules env before (syn at (AnItem (StructItem ds name kind fs))) = do
   items ← the_items
   fields (in_impl env (adt_named items name.1)) [] (list_of fs)
   obeys Rule.T19 at (nat_le (count_of fs) 32)
   pure before
-item_rules env before (syn at (EnumItem ds name vs)) = do
+item_rules env before (syn at (AnItem (EnumItem ds name vs))) = do
   items ← the_items
   variants (in_impl env (adt_named items name.1)) [] (list_of vs)
   obeys Rule.T19 at (nat_le (count_of vs) 64)
   pure before
-item_rules env before (syn at (TraitItem name heads)) = do
+item_rules env before (syn at (AnItem (TraitItem name heads))) = do
   trait_heads env [] (list_of heads)
   pure before
-item_rules env before (syn at (ImplItem trait_ name methods)) = do
+item_rules env before (syn at (AnItem (ImplItem trait_ name methods))) = do
   items ← the_items
   seen ← method_heads (in_impl env (adt_named items name.1)) trait_ name.1 before.methods (list_of methods)
   obeys Rule.T11 at (not (is_repeated trait_ name.1 before.impls) && has_all (asked_for items trait_) (method_names
       methods))
   pure (record { methods = seen; impls = with_impl trait_ name.1 before.impls })
-item_rules env before (syn at (FnItem name params answer block)) = do
+item_rules env before (syn at (AnItem (FnItem name params answer block))) = do
   head_rules env params answer
   items ← the_items
   main_rule at name.1 params items (option_and_then (slice_get items.bodies) (body_named items name.1))
@@ -237,7 +237,7 @@ block_of nothing at env expected = breaks Rule.T20 at
 block_of (just block) at env expected = typed env block expected
 
 abbrev pub fn_rules : Env → Syn → Check (Unit {0})
-fn_rules env (syn at (FnItem name params answer block)) = do
+fn_rules env (syn at (AnItem (FnItem name params answer block))) = do
   _ ← fn_body env at params answer (block_of block at)
   pure tt
 fn_rules env (syn at _) = breaks Rule.T20 at
@@ -247,10 +247,11 @@ all_fn_rules env [] = pure tt
 all_fn_rules env (f ∷ fs) = fn_rules env f >> all_fn_rules env fs
 
 abbrev pub bodies_of : Env → Syn → Check (Unit {0})
-bodies_of env (syn at (ImplItem trait_ name methods)) = do
+bodies_of env (syn at (AnItem (ImplItem trait_ name methods))) = do
   items ← the_items
   all_fn_rules (in_impl env (adt_named items name.1)) (list_of methods)
-bodies_of env (syn at (FnItem name params answer block)) = fn_rules env (syn at (FnItem name params answer block))
+bodies_of env (syn at (AnItem (FnItem name params answer block))) =
+    fn_rules env (syn at (AnItem (FnItem name params answer block)))
 bodies_of env _ = pure tt
 
 abbrev pub all_items : Env → Before → List Syn → Check (Unit {0})

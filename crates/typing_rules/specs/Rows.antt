@@ -19,7 +19,7 @@ use Rattle.typed_tree.specs.Tree.{Node, node, Form, Nodes, no_node, a_node, Fiel
 use Rattle.well_typed.specs.Places.{ty_of, form_of, is_place}
 use Rattle.well_typed.specs.Types.{is_same, is_unit, is_bool, is_never, is_int, is_dyn, kind_of, tuple_of, array_of, boxed_of, closure_of, inside_of, reference_of, is_reference, fits}
 use Rattle.typing_rules.specs.Check.{Check, ◌>>=◌, ◌>>◌, ◌<$>◌, pure, breaks, obeys, known, the_items, number, interned, breaks_out, types_of_breaks}
-use Rattle.typing_rules.specs.Places.{place_in_text, used, a_node_of, unit, bool, never, int, Fit, Fits, Coerced, Differs, fit, agrees, wanted, is_any, is_fixed, is_behind_shared, in_own_guard, variable_place, through}
+use Rattle.typing_rules.specs.Places.{place_in_text, used, a_node_of, unit, bool, never, int, Fit, Fits, Coerced, Differs, fit, agrees, wanted, is_any, is_fixed, is_behind_shared, in_own_guard, variable_place, Member, through}
 use Rattle.typing_rules.specs.Scope.{Env, NamedEntry, LabelledLoop}
 use Rattle.src_ast.specs.Syntax.{Word}
 
@@ -80,16 +80,21 @@ most IntKind.I64 is_negative = if is_negative then 2 ^ 63 else 2 ^ 63 - 1
 most IntKind.U32 is_negative = if is_negative then 0 else 2 ^ 32 - 1
 most _ is_negative = if is_negative then 0 else 2 ^ 64 - 1
 
+-- a number of a type that was chosen
+abbrev pub literal_end : ℕ → Pos → IntKind → Bool → ℕ → Option TyId → Check Node
+literal_end id at kind is_negative value expected = do
+  obeys Rule.T03 at (not is_negative || is_signed_kind kind)
+  n ← fitted expected (a_node_of id at (int kind) (tree.Number (literal_value is_negative value)))
+  obeys Rule.T17 at (nat_le value (most kind is_negative))
+  pure n
+
 -- its suffix, else the required integer type, else `i32`
 abbrev pub literal : Pos → Bool → ℕ → Option IntKind → Typer
 literal at is_negative value suffix expected = do
   id ← number
   items ← the_items
   let kind = chosen suffix (option_and_then (kind_of items) expected)
-  obeys Rule.T03 at (not is_negative || is_signed_kind kind)
-  n ← fitted expected (a_node_of id at (int kind) (tree.Number (literal_value is_negative value)))
-  obeys Rule.T17 at (nat_le value (most kind is_negative))
-  pure n
+  literal_end id at kind is_negative value expected
 
 -- a leaf of a type that it has whatever is required
 abbrev pub leaf : Pos → TyId → Form → Typer
@@ -102,14 +107,17 @@ leaf at ty form expected = do
 abbrev pub taking : ItemTable → TyId → Use
 taking items ty = if is_copy items ty then Use.Copy else Use.Move
 
+-- a place that may be copied or moved out of, where these bindings stand in their own guard
+abbrev pub may_be_taken : ItemTable → List ℕ → Node → Bool
+may_be_taken items keys p = is_copy items (ty_of p) || not (is_fixed items keys p || is_dyn items (ty_of p))
+
 -- a place in a value context is copied where its type is Copy, and moved out of otherwise
 abbrev pub taken : Env → Option TyId → Node → Check Node
 taken env expected place = do
   items ← the_items
   let ty = ty_of place
   n ← fitted expected (used (taking items ty) place)
-  obeys Rule.T07 (place_in_text place) (is_copy items ty || not (is_fixed items (in_own_guard env.variables) place ||
-      is_dyn items ty))
+  obeys Rule.T07 (place_in_text place) (may_be_taken items (in_own_guard env.variables) place)
   obeys Rule.T08 (place_in_text place) (not (is_reference items ty))
   pure n
 
@@ -120,51 +128,71 @@ no_reference n = do
   obeys Rule.T08 (place_in_text n) (not (is_reference items (ty_of n)))
   pure n
 
+abbrev pub field_end : Member (ℕ × TyId) → ℕ → Pos → Node → Check Node
+field_end member id at base = do
+  found ← through member at base
+  f ← known Rule.T12 at found.1
+  pure (a_node_of id at f.1 (tree.Field found.0 f.0))
+
 abbrev pub field : Pos → (ItemTable → TyId → Option (ℕ × TyId)) → Check Node → Check Node
 field at member base = do
   id ← number
   b ← base
-  found ← through member at b
-  f ← known Rule.T12 at found.1
-  pure (a_node_of id at f.1 (tree.Field found.0 f.0))
+  field_end member id at b
+
+abbrev pub deref_end : ℕ → Pos → Node → Check Node
+deref_end id at b = do
+  items ← the_items
+  ty ← known Rule.T03 at (inside_of items (ty_of b))
+  pure (a_node_of id at ty (tree.Deref b))
 
 abbrev pub deref : Pos → Check Node → Check Node
 deref at base = do
   id ← number
   b ← base
+  deref_end id at b
+
+abbrev pub element_end : ℕ → Pos → Node → Node → Check Node
+element_end id at b i = do
   items ← the_items
-  ty ← known Rule.T03 at (inside_of items (ty_of b))
-  pure (a_node_of id at ty (tree.Deref b))
+  a ← known Rule.T03 at (array_of items (ty_of b))
+  pure (a_node_of id at a.0 (tree.Index b i a.1))
 
 abbrev pub element : Pos → Check Node → Typer → Check Node
 element at base index = do
   id ← number
   b ← base >>= no_reference
   i ← index (Some (int IntKind.Usize))
-  items ← the_items
-  a ← known Rule.T03 at (array_of items (ty_of b))
-  pure (a_node_of id at a.0 (tree.Index b i a.1))
+  element_end id at b i
 
 -- ---- operators
+
+abbrev pub not_end : ℕ → Pos → Option TyId → Node → Check Node
+not_end id at expected n = do
+  items ← the_items
+  obeys Rule.T03 at (fits items bool (ty_of n))
+  fitted expected (a_node_of id at bool (tree.Not n))
 
 abbrev pub not_row : Pos → Typer → Typer
 not_row at operand expected = do
   id ← number
   n ← operand None
-  items ← the_items
-  obeys Rule.T03 at (fits items bool (ty_of n))
-  fitted expected (a_node_of id at bool (tree.Not n))
+  not_end id at expected n
 
 abbrev pub if_int : ItemTable → TyId → Option TyId
 if_int items ty = if is_int items ty then Some ty else None
+
+abbrev pub negate_end : ℕ → Pos → Option TyId → Node → Check Node
+negate_end id at expected n = do
+  obeys Rule.T03 at (is_same (ty_of n) (int IntKind.I32) || is_same (ty_of n) (int IntKind.I64))
+  fitted expected (a_node_of id at (ty_of n) (tree.Negate n))
 
 abbrev pub negate : Pos → Typer → Typer
 negate at operand expected = do
   id ← number
   items ← the_items
   n ← operand (wanted if_int items expected)
-  obeys Rule.T03 at (is_same (ty_of n) (int IntKind.I32) || is_same (ty_of n) (int IntKind.I64))
-  fitted expected (a_node_of id at (ty_of n) (tree.Negate n))
+  negate_end id at expected n
 
 abbrev pub unless_never : ItemTable → TyId → Option TyId
 unless_never items ty = if is_never items ty then None else Some ty
@@ -202,22 +230,36 @@ one_type items (ty ∷ tys) = option_and_then (one_of_two items ty) (one_type it
 abbrev pub int_or_bool : ItemTable → TyId → Option TyId
 int_or_bool items ty = if is_bool items ty then Some ty else if_int items ty
 
+abbrev pub arithmetic_end : ℕ → Pos → Math → Option TyId → Node → Node → Check Node
+arithmetic_end id at operator expected l r = do
+  items ← the_items
+  ty ← known Rule.T03 at (option_and_then (if_int items) (one_of_two items (ty_of l) (ty_of r)))
+  fitted expected (a_node_of id at ty (tree.Arithmetic operator l r))
+
 abbrev pub arithmetic : Pos → Math → Bool → Typer → Typer → Typer
 arithmetic at operator is_literal left right expected = do
   id ← number
   before ← the_items
   both ← operands is_literal (wanted if_int before expected) left right
+  arithmetic_end id at operator expected both.0 both.1
+
+abbrev pub comparison_end : ℕ → Pos → Cmp → Option TyId → Node → Node → Check Node
+comparison_end id at operator expected l r = do
   items ← the_items
-  ty ← known Rule.T03 at (option_and_then (if_int items) (one_of_two items (ty_of both.0) (ty_of both.1)))
-  fitted expected (a_node_of id at ty (tree.Arithmetic operator both.0 both.1))
+  _ ← known Rule.T03 at (option_and_then (int_or_bool items) (one_of_two items (ty_of l) (ty_of r)))
+  fitted expected (a_node_of id at bool (tree.Comparison operator l r))
 
 abbrev pub comparison : Pos → Cmp → Bool → Typer → Typer → Typer
 comparison at operator is_literal left right expected = do
   id ← number
   both ← operands is_literal None left right
+  comparison_end id at operator expected both.0 both.1
+
+abbrev pub logic_end : ℕ → Pos → (Node → Node → Form) → Option TyId → Node → Node → Check Node
+logic_end id at form expected l r = do
   items ← the_items
-  _ ← known Rule.T03 at (option_and_then (int_or_bool items) (one_of_two items (ty_of both.0) (ty_of both.1)))
-  fitted expected (a_node_of id at bool (tree.Comparison operator both.0 both.1))
+  obeys Rule.T03 at (fits items bool (ty_of l) && fits items bool (ty_of r))
+  fitted expected (a_node_of id at bool (form l r))
 
 -- `&&`, `||`
 abbrev pub logic : Pos → (Node → Node → Form) → Typer → Typer → Typer
@@ -225,13 +267,24 @@ logic at form left right expected = do
   id ← number
   l ← left None
   r ← right None
-  items ← the_items
-  obeys Rule.T03 at (fits items bool (ty_of l) && fits items bool (ty_of r))
-  fitted expected (a_node_of id at bool (form l r))
+  logic_end id at form expected l r
 
 abbrev pub own_in : List ℕ → Form → Bool
 own_in keys (tree.Variable key) = is_any key keys
 own_in keys _ = false
+
+-- a place, and no binding inside its own guard, of which these are the keys
+abbrev pub may_be_stored : List ℕ → Node → Bool
+may_be_stored keys p = is_place (form_of p) && not (own_in keys (form_of p))
+
+abbrev pub store_end : Env → ℕ → Pos → Option TyId → Node → Node → Check Node
+store_end env id at expected p v = do
+  items ← the_items
+  obeys Rule.T03 at (not (is_dyn items (ty_of p)))
+  n ← fitted expected (a_node_of id at unit (tree.Assign (used Use.Store p) v))
+  obeys Rule.T05 at (may_be_stored (in_own_guard env.variables) p)
+  obeys Rule.T08 (place_in_text p) (not (is_behind_shared items p))
+  pure n
 
 -- what is stored into is a place, and no binding inside its own guard
 abbrev pub store : Env → Pos → Check Node → Typer → Typer
@@ -239,12 +292,7 @@ store env at place value expected = do
   id ← number
   p ← place >>= no_reference
   v ← value (Some (ty_of p))
-  items ← the_items
-  obeys Rule.T03 at (not (is_dyn items (ty_of p)))
-  n ← fitted expected (a_node_of id at unit (tree.Assign (used Use.Store p) v))
-  obeys Rule.T05 at (is_place (form_of p) && not (own_in (in_own_guard env.variables) (form_of p)))
-  obeys Rule.T08 (place_in_text p) (not (is_behind_shared items p))
-  pure n
+  store_end env id at expected p v
 
 -- ---- references
 
@@ -270,29 +318,44 @@ borrow_of id at unique base = do
   ty ← interned (reference_ty unique (ty_of base))
   pure (a_node_of id at ty (tree.Borrow unique (used_if_place (borrow_by unique) base)))
 
--- `&e` and `&mut e`
-abbrev pub borrow : Pos → Bool → Check Node → Referrer
-borrow at unique base expected is_unique to = do
-  id ← number
-  b ← base >>= no_reference
+abbrev pub borrow_allowed_end : ℕ → Pos → Bool → Node → Check Node
+borrow_allowed_end id at unique b = do
+  items ← the_items
+  obeys Rule.T08 (place_in_text b) (not (unique && is_behind_shared items b))
+  borrow_of id at unique b
+
+abbrev pub borrow_end : ℕ → Pos → Bool → Bool → TyId → Node → Check Node
+borrow_end id at unique is_unique to b = do
   items ← the_items
   obeys Rule.T03 at (is_same (ty_of b) to && is_same_truth unique is_unique)
   obeys Rule.T08 (place_in_text b) (not (unique && is_behind_shared items b))
   borrow_of id at unique b
 
+-- `&e` and `&mut e`
+abbrev pub borrow : Pos → Bool → Check Node → Referrer
+borrow at unique base expected is_unique to = do
+  id ← number
+  b ← base >>= no_reference
+  borrow_end id at unique is_unique to b
+
 abbrev pub passes : Bool → TyId → Option (Bool × TyId) → Bool
 passes is_unique to None = false
 passes is_unique to (Some r) = is_same r.1 to && (r.0 || not is_unique)
+
+-- a borrow of what a reference variable names
+abbrev pub passed_on_end : Pos → NamedEntry → Bool → TyId → Check Node
+passed_on_end at x is_unique to = do
+  id ← number
+  through_id ← number
+  v ← variable_place at x
+  borrow_of id at is_unique (a_node_of through_id at to (tree.Deref v))
 
 -- a reference variable that is passed on borrows what it names, by `&mut` where the parameter is `&mut T`
 abbrev pub passed_on : Pos → NamedEntry → Referrer
 passed_on at x expected is_unique to = do
   items ← the_items
   obeys Rule.T03 at (passes is_unique to (reference_of items x.ty))
-  id ← number
-  through_id ← number
-  v ← variable_place at x
-  borrow_of id at is_unique (a_node_of through_id at to (tree.Deref v))
+  passed_on_end at x is_unique to
 
 abbrev pub argument_by : TyId → Typer → Referrer → Option (Bool × TyId) → Check Node
 argument_by ty by_value by_reference None = by_value (Some ty)
@@ -305,14 +368,25 @@ argument ty by_value by_reference = do
 
 -- ---- calls
 
+-- the node of a call, once its arguments are checked
+abbrev pub call_end : ℕ → Pos → TyId → Form → Bool → Bool → Option TyId → Check Node
+call_end id at answer form is_count may_be_called expected = do
+  n ← fitted expected (a_node_of id at answer form)
+  obeys Rule.T04 at is_count
+  obeys Rule.T13 at may_be_called
+  pure n
+
+abbrev pub counted_call_end : ℕ → Pos → TyId → Form → Rule → Bool → Option TyId → Check Node
+counted_call_end id at answer form rule is_count expected = do
+  n ← fitted expected (a_node_of id at answer form)
+  obeys rule at is_count
+  pure n
+
 abbrev pub call : Pos → (Nodes → Form) → TyId → ℕ → List TyId → (List TyId → Check Nodes) → Bool → Typer
 call at form answer count params args may_be_called expected = do
   id ← number
   given ← args params
-  n ← fitted expected (a_node_of id at answer (form given))
-  obeys Rule.T04 at (count == length params)
-  obeys Rule.T13 at may_be_called
-  pure n
+  call_end id at answer (form given) (count == length params) may_be_called expected
 
 -- what cannot be called, once its arguments are typed
 abbrev pub no_call : Pos → Rule → (List TyId → Check Nodes) → Typer
@@ -380,31 +454,40 @@ with_method env at id base (Some method) count args expected = do
       with_self env at id base method count args expected (head_of method).params
       else (args [] >> breaks Rule.T12 at)
 
+-- a method of a value that was checked, with what checks its arguments
+abbrev pub method_end : Env → ℕ → Pos → Member Method → Option TyId → Node → ℕ → (List TyId → Check Nodes) → Check Node
+method_end env id at named expected base count args = do
+  found ← through named at base
+  with_method env at id found.0 found.1 count args expected
+
 abbrev pub method_call : Env → Pos → (ItemTable → TyId → Option Method) → ℕ → Check Node → (List TyId → Check Nodes)
     → Typer
 method_call env at named count receiver args expected = do
   id ← number
   base ← receiver
-  found ← through named at base
-  with_method env at id found.0 found.1 count args expected
+  method_end env id at named expected base count args
 
 abbrev pub with_closure : Pos → ℕ → Node → ℕ → (List TyId → Check Nodes) → Option TyId → ℕ → Option Sig → Check Node
 with_closure at id c count args expected body None = args [] >> breaks Rule.T13 at
 with_closure at id c count args expected body (Some head) = do
   given ← args (drop 1 head.params)
-  n ← fitted expected (a_node_of id at head.result (tree.ClosureCall body c given))
-  obeys Rule.T04 at (count == length (drop 1 head.params))
-  pure n
+  counted_call_end id at head.result (tree.ClosureCall body c given) Rule.T04
+      (count == length (drop 1 head.params)) expected
+
+-- a closure that was checked, with what checks its arguments
+abbrev pub closure_end : ℕ → Pos → Option TyId → Node → ℕ → (List TyId → Check Nodes) → Check Node
+closure_end id at expected c count args = do
+  items ← the_items
+  let def = option_and_then (slice_get items.closures) (closure_of items (ty_of c))
+  let body = option_map_or (λ d. d.body) def 0
+  with_closure at id c count args expected body (option_and_then (λ d. slice_get items.bodies d.body) def)
 
 -- a value that is called is a closure
 abbrev pub closure_call : Pos → ℕ → Check Node → (List TyId → Check Nodes) → Typer
 closure_call at count callee args expected = do
   id ← number
   c ← callee
-  items ← the_items
-  let def = option_and_then (slice_get items.closures) (closure_of items (ty_of c))
-  let body = option_map_or (λ d. d.body) def 0
-  with_closure at id c count args expected body (option_and_then (λ d. slice_get items.bodies d.body) def)
+  closure_end id at expected c count args
 
 -- ---- built-in calls
 
@@ -417,9 +500,7 @@ abbrev pub built_in : Pos → TyId → (Nodes → Form) → ℕ → ℕ → Chec
 built_in at answer form count wants args expected = do
   id ← number
   given ← args
-  n ← fitted expected (a_node_of id at answer (form given))
-  obeys Rule.T04 at (count == wants)
-  pure n
+  counted_call_end id at answer (form given) Rule.T04 (count == wants) expected
 
 abbrev pub print_form : Nodes → Form
 print_form ns = with_one ns tree.Print
@@ -447,13 +528,19 @@ abbrev pub first_node : Nodes → Option Node
 first_node no_node = None
 first_node (a_node first rest) = Some first
 
-abbrev pub box_by : Pos → ℕ → ℕ → Option TyId → Option TyId → Option Node → Check Node
-box_by at id count expected content None = breaks Rule.T04 at
-box_by at id count expected content (Some c) = do
-  ty ← interned (Ty.Boxed (part_ty content c))
+abbrev pub box_of_end : ℕ → Pos → ℕ → Option TyId → TyId → Node → Check Node
+box_of_end id at count expected inside c = do
+  ty ← interned (Ty.Boxed inside)
   n ← fitted expected (a_node_of id at ty (tree.NewBox c))
   obeys Rule.T04 at (count == 1)
   pure n
+
+abbrev pub box_end : ℕ → Pos → ℕ → Option TyId → Option TyId → Node → Check Node
+box_end id at count expected content c = box_of_end id at count expected (part_ty content c) c
+
+abbrev pub box_by : Pos → ℕ → ℕ → Option TyId → Option TyId → Option Node → Check Node
+box_by at id count expected content None = breaks Rule.T04 at
+box_by at id count expected content (Some c) = box_end id at count expected content c
 
 abbrev pub listed : Option TyId → List TyId
 listed None = []
@@ -492,31 +579,47 @@ all_given (suc n) given = is_given n given && all_given n given
 abbrev pub are_known : Given → Bool
 are_known given = list_all is_some given
 
+abbrev pub made_end : ℕ → Pos → ℕ → ℕ → TyId → Bool → Option TyId → Fields × Given → Check Node
+made_end id at adt variant ty is_whole expected fs = do
+  n ← fitted expected (a_node_of id at ty (tree.Make adt variant fs.0))
+  obeys Rule.T04 at is_whole
+  obeys Rule.T12 at (are_known fs.1)
+  pure n
+
+abbrev pub struct_end : ℕ → Pos → ℕ → ℕ → TyId → ℕ → Option TyId → Fields × Given → Check Node
+struct_end id at adt variant ty count expected fs =
+    made_end id at adt variant ty (all_given count fs.1 && length fs.1 == count) expected fs
+
 -- `S { f: a }`: each field once
 abbrev pub struct_row : Pos → ℕ → ℕ → List TyId → Check (Fields × Given) → Typer
 struct_row at adt variant types fields expected = do
   id ← number
   ty ← interned (Ty.Adt adt)
   fs ← fields
-  n ← fitted expected (a_node_of id at ty (tree.Make adt variant fs.0))
-  obeys Rule.T04 at (all_given (length types) fs.1 && length fs.1 == length types)
-  obeys Rule.T12 at (are_known fs.1)
-  pure n
+  struct_end id at adt variant ty (length types) expected fs
+
+-- these types as those that are required of so many parts, where they are as many
+abbrev pub if_as_many : ℕ → List TyId → List (Option TyId)
+if_as_many count types = if length types == count then map Some types else []
 
 -- parts, each with its type; where a tuple of as many is required, its parts are
 abbrev pub parts_wanted : ItemTable → ℕ → Option TyId → List (Option TyId)
 parts_wanted items count expected =
-    option_map_or (λ tys. if length tys == count then map Some tys else []) (option_and_then (tuple_of items) expected) []
+    option_map_or (if_as_many count) (option_and_then (tuple_of items) expected) []
+
+abbrev pub tuple_end : ℕ → Pos → ℕ → List TyId → Nodes → Option TyId → Check Node
+tuple_end id at count tys parts expected = do
+  ty ← interned (Ty.Tuple tys)
+  n ← fitted expected (a_node_of id at ty (tree.Tuple parts))
+  obeys Rule.T19 at (nat_le count 12)
+  pure n
 
 abbrev pub tuple_row : Pos → ℕ → (List (Option TyId) → Check (Nodes × List TyId)) → Typer
 tuple_row at count parts expected = do
   id ← number
   before ← the_items
   ps ← parts (parts_wanted before count expected)
-  ty ← interned (Ty.Tuple ps.1)
-  n ← fitted expected (a_node_of id at ty (tree.Tuple ps.0))
-  obeys Rule.T19 at (nat_le count 12)
-  pure n
+  tuple_end id at count ps.1 ps.0 expected
 
 abbrev pub element_wanted : ItemTable → TyId → Option TyId
 element_wanted items ty = option_map (λ a. a.0) (array_of items ty)
@@ -525,19 +628,32 @@ abbrev pub element_ty : ItemTable → Option TyId → List TyId → Option TyId
 element_ty items None tys = one_type items tys
 element_ty items (Some ty) tys = Some ty
 
+abbrev pub array_end : ℕ → Pos → ℕ → TyId → Nodes → Option TyId → Check Node
+array_end id at count element elements expected = do
+  ty ← interned (Ty.Array element count)
+  n ← fitted expected (a_node_of id at ty (tree.Array elements))
+  obeys Rule.T19 at (nat_le count 32)
+  pure n
+
+-- an array, once its elements have a type, and once they are checked
+abbrev pub counted_array_end : ℕ → Pos → ℕ → Bool → TyId → Nodes → Option TyId → Check Node
+counted_array_end id at count has_type element elements expected = do
+  obeys Rule.T16 at (has_type || not (count == 0))
+  array_end id at count element elements expected
+
+abbrev pub elements_end : ℕ → Pos → ℕ → Option TyId → Nodes → List TyId → Option TyId → Check Node
+elements_end id at count wants elements types expected = do
+  items ← the_items
+  element ← known Rule.T03 at (element_ty items wants types)
+  counted_array_end id at count (is_some wants) element elements expected
+
 abbrev pub array_row : Pos → ℕ → (Option TyId → Check (Nodes × List TyId)) → Typer
 array_row at count elements expected = do
   id ← number
   before ← the_items
   let wants = wanted element_wanted before expected
   es ← elements wants
-  items ← the_items
-  element ← known Rule.T03 at (element_ty items wants es.1)
-  obeys Rule.T16 at (is_some wants || not (count == 0))
-  ty ← interned (Ty.Array element count)
-  n ← fitted expected (a_node_of id at ty (tree.Array es.0))
-  obeys Rule.T19 at (nat_le count 32)
-  pure n
+  elements_end id at count wants es.0 es.1 expected
 
 -- ---- blocks and branches
 
@@ -564,15 +680,19 @@ if_alone at c body expected = do
   b ← body (Some unit)
   settled expected (a_node_of id at unit (tree.If n b absent))
 
+abbrev pub if_else_end : ℕ → Pos → Option TyId → Node → Node → Node → Check Node
+if_else_end id at expected n b o = do
+  items ← the_items
+  ty ← known Rule.T03 at (one_of_two items (ty_of b) (ty_of o))
+  settled expected (a_node_of id at ty (tree.If n b (present o)))
+
 abbrev pub if_else : Pos → Typer → Typer → Typer → Typer
 if_else at c body otherwise expected = do
   id ← number
   n ← condition c
   b ← body expected
   o ← otherwise expected
-  items ← the_items
-  ty ← known Rule.T03 at (one_of_two items (ty_of b) (ty_of o))
-  settled expected (a_node_of id at ty (tree.If n b (present o)))
+  if_else_end id at expected n b o
 
 -- a scrutinee is a place, which is borrowed, or a temporary
 abbrev pub scrutinised : Check Node → Check Node
@@ -600,6 +720,12 @@ if_let_alone env at scrutinee pattern body expected = do
   b ← body p.1 (Some unit)
   settled expected (a_node_of id at unit (tree.IfLet p.0 s b absent))
 
+abbrev pub if_let_else_end : ℕ → Pos → Option TyId → Node → Node → Node → Node → Check Node
+if_let_else_end id at expected s p b o = do
+  items ← the_items
+  ty ← known Rule.T03 at (one_of_two items (ty_of b) (ty_of o))
+  settled expected (a_node_of id at ty (tree.IfLet p s b (present o)))
+
 abbrev pub if_let_else : Env → Pos → Check Node → Matcher → (List NamedEntry → Typer) → Typer → Typer
 if_let_else env at scrutinee pattern body otherwise expected = do
   id ← number
@@ -608,9 +734,11 @@ if_let_else env at scrutinee pattern body otherwise expected = do
   p ← pattern (pattern_context env false s before) (ty_of s)
   b ← body p.1 expected
   o ← otherwise expected
-  items ← the_items
-  ty ← known Rule.T03 at (one_of_two items (ty_of b) (ty_of o))
-  settled expected (a_node_of id at ty (tree.IfLet p.0 s b (present o)))
+  if_let_else_end id at expected s p.0 b o
+
+-- an arm of its pattern, guard and body
+abbrev pub arm_end : ℕ → Node → MaybeNode → Node → Check Node
+arm_end id p g b = pure (a_node_of id (place_in_text p) (ty_of b) (tree.Arm p g b))
 
 abbrev pub arm : Check (Node × List NamedEntry) → (List NamedEntry → Check MaybeNode) → (List NamedEntry → Typer) →
     Typer
@@ -619,7 +747,13 @@ arm pattern guard body expected = do
   p ← pattern
   g ← guard p.1
   b ← body p.1 expected
-  pure (a_node_of id (place_in_text p.0) (ty_of b) (tree.Arm p.0 g b))
+  arm_end id p.0 g b
+
+abbrev pub match_end : ℕ → Pos → Option TyId → Node → Nodes → List TyId → Check Node
+match_end id at expected s arms tys = do
+  items ← the_items
+  ty ← known Rule.T03 at (one_type items tys)
+  settled expected (a_node_of id at ty (tree.Match s arms))
 
 abbrev pub match_row : Env → Pos → Check Node → (PatternContext → TyId → Option TyId → Check (Nodes × List TyId)) → Typer
 match_row env at scrutinee arms expected = do
@@ -627,24 +761,26 @@ match_row env at scrutinee arms expected = do
   s ← scrutinised scrutinee
   before ← the_items
   rows ← arms (pattern_context env false s before) (ty_of s) expected
-  items ← the_items
-  ty ← known Rule.T03 at (one_type items rows.1)
-  settled expected (a_node_of id at ty (tree.Match s rows.0))
+  match_end id at expected s rows.0 rows.1
 
 -- ---- loops and jumps
 
 abbrev pub loop_around : Option Word → ℕ → Bool → Option TyId → LabelledLoop
 loop_around label id has_value expected = record { label = label; loop = id; has_value = has_value; expected = expected }
 
+abbrev pub loop_end : ℕ → Pos → Option TyId → Node → Check Node
+loop_end id at expected b = do
+  tys ← types_of_breaks id
+  items ← the_items
+  ty ← known Rule.T03 at (one_type items tys)
+  settled expected (a_node_of id at ty (tree.Loop b))
+
 -- the type of its breaks, `!` without any
 abbrev pub loop_row : Pos → Option Word → (LabelledLoop → Typer) → Typer
 loop_row at label body expected = do
   id ← number
   b ← body (loop_around label id true expected) (Some unit)
-  tys ← types_of_breaks id
-  items ← the_items
-  ty ← known Rule.T03 at (one_type items tys)
-  settled expected (a_node_of id at ty (tree.Loop b))
+  loop_end id at expected b
 
 -- the condition of a `while` and the scrutinee of a `while let` count as inside the loop
 abbrev pub while_row : Pos → Option Word → (LabelledLoop → Typer) → (LabelledLoop → Typer) → Typer
@@ -678,32 +814,49 @@ abbrev pub may_carry : MaybeNode → LabelledLoop → Bool
 may_carry absent a = true
 may_carry (present n) a = a.has_value
 
+abbrev pub break_out_end : ℕ → Pos → Option TyId → ℕ → MaybeNode → Check Node
+break_out_end id at expected loop v = do
+  breaks_out loop (ty_carried v)
+  settled expected (a_node_of id at never (tree.Break loop v))
+
+-- a jump out of the loop with this number, if it is known
+abbrev pub break_end : ℕ → Pos → Option TyId → Option LabelledLoop → MaybeNode → Check Node
+break_end id at expected to v = do
+  a ← known Rule.T06 at to
+  obeys Rule.T06 at (may_carry v a)
+  break_out_end id at expected a.loop v
+
 abbrev pub break_row : Pos → Option LabelledLoop → (Option TyId → Check MaybeNode) → Typer
 break_row at to value expected = do
   id ← number
   v ← value (carried to)
+  break_end id at expected to v
+
+abbrev pub continue_end : ℕ → Pos → Option TyId → Option LabelledLoop → Check Node
+continue_end id at expected to = do
   a ← known Rule.T06 at to
-  obeys Rule.T06 at (may_carry v a)
-  breaks_out a.loop (ty_carried v)
-  settled expected (a_node_of id at never (tree.Break a.loop v))
+  settled expected (a_node_of id at never (tree.Continue a.loop))
 
 abbrev pub continue_row : Pos → Option LabelledLoop → Typer
 continue_row at to expected = do
   id ← number
-  a ← known Rule.T06 at to
-  settled expected (a_node_of id at never (tree.Continue a.loop))
+  continue_end id at expected to
 
 abbrev pub is_some_node : MaybeNode → Bool
 is_some_node absent = false
 is_some_node (present n) = true
 
+abbrev pub return_end : ℕ → Pos → TyId → Option TyId → MaybeNode → Check Node
+return_end id at answer expected v = do
+  items ← the_items
+  obeys Rule.T03 at (is_some_node v || is_unit items answer)
+  settled expected (a_node_of id at never (tree.Return v))
+
 abbrev pub return_row : Pos → TyId → (Option TyId → Check MaybeNode) → Typer
 return_row at answer value expected = do
   id ← number
   v ← value (Some answer)
-  items ← the_items
-  obeys Rule.T03 at (is_some_node v || is_unit items answer)
-  settled expected (a_node_of id at never (tree.Return v))
+  return_end id at answer expected v
 
 -- ---- statements
 
@@ -750,11 +903,15 @@ let_row at env is_one_name written value pattern behind = do
   after ← the_items
   pure (a_node_of id at unit (tree.Let p.0 v), ends_by after v, behind p.1)
 
+abbrev pub evaluate_end : Env → ℕ → Pos → Bool → Node → Check (Node × Bool × Env)
+evaluate_end env id at has_semicolon n = do
+  items ← the_items
+  obeys Rule.T03 (place_in_text n) (has_semicolon || (is_unit items (ty_of n) || is_never items (ty_of n)))
+  pure (a_node_of id at unit (tree.Evaluate n), is_never items (ty_of n), env)
+
 -- a blocklike statement without `;` is `()` or `!`
 abbrev pub evaluate : Pos → Env → Bool → Typer → Check (Node × Bool × Env)
 evaluate at env has_semicolon e = do
   id ← number
   n ← e None
-  items ← the_items
-  obeys Rule.T03 (place_in_text n) (has_semicolon || (is_unit items (ty_of n) || is_never items (ty_of n)))
-  pure (a_node_of id at unit (tree.Evaluate n), is_never items (ty_of n), env)
+  evaluate_end env id at has_semicolon n

@@ -20,7 +20,7 @@ use Rattle.typing_rules.specs.Places.{unit, bool, never, int, variable_place, st
 use Rattle.typing_rules.specs.Rows as rows
 use Rattle.typing_rules.specs.Rows.{Typer, Referrer, PatternContext, Given, taken, no_reference, leaf}
 use Rattle.typing_rules.specs.Scope.{Env, NamedEntry, variable, with_variables, within_loop, jumps_to, in_guard, adt_named, field_named}
-use Rattle.src_ast.specs.Syntax.{Word, Syn, syn, Shape, Literal, TruthLiteral, Path, Minus, Bang, Star, Ampersand, Calculate, Compare, Both, Either, Store, CallOf, MethodOf, FieldOf, PartOf, ElementOf, StructOf, FieldInit, Parens, TupleOf, ArrayOf, Braces, IfElse, IfLetElse, MatchOn, ArmOf, LoopOf, WhileOf, WhileLetOf, BreakOf, ContinueOf, ReturnOf, MoveOf, PanicOf, LetOf, Empty, Semi, BindPattern, ParensPattern, Syns, no_syn, a_syn, MaybeSyn, nothing, just}
+use Rattle.src_ast.specs.Syntax.{Word, Syn, syn, AnExpression, AStatement, APattern, AnInit, AnArm, Expression, Literal, TruthLiteral, Path, Minus, Bang, Star, Ampersand, Calculate, Compare, Both, Either, Store, CallOf, MethodOf, FieldOf, PartOf, ElementOf, StructOf, Parens, TupleOf, ArrayOf, Braces, IfElse, IfLetElse, MatchOn, LoopOf, WhileOf, WhileLetOf, BreakOf, ContinueOf, ReturnOf, MoveOf, PanicOf, Statement, LetOf, Empty, Semi, Pattern, BindPattern, ParensPattern, Syns, no_syn, a_syn, MaybeSyn, nothing, just}
 use Rattle.typing_rules.specs.Written.{written}
 
 abbrev pub has_one : Syns → Bool
@@ -81,22 +81,23 @@ called env at callee count value args expected = do
 
 -- ---- literals
 
-abbrev pub is_plain_number : Shape → Bool
+abbrev pub is_plain_number : Expression → Bool
 is_plain_number (Literal value None) = true
 is_plain_number _ = false
 
 -- a number without a suffix, with a `-` before it or not, in parentheses or not
 abbrev mutual
   pub is_plain : Syn → Bool
-  is_plain (syn at form) = is_plain_form form
+  is_plain (syn at (AnExpression e)) = is_plain_form e
+  is_plain _ = false
 
-  pub is_plain_form : Shape → Bool
+  pub is_plain_form : Expression → Bool
   is_plain_form (Parens inside) = is_plain inside
-  is_plain_form (Minus (syn at form)) = is_plain_number form
-  is_plain_form form = is_plain_number form
+  is_plain_form (Minus (syn at (AnExpression e))) = is_plain_number e
+  is_plain_form e = is_plain_number e
 
 abbrev pub literal_in : Syn → Option (ℕ × Option IntKind)
-literal_in (syn at (Literal value suffix)) = Some (value, suffix)
+literal_in (syn at (AnExpression (Literal value suffix))) = Some (value, suffix)
 literal_in _ = None
 
 -- a `-` directly before a number belongs to it
@@ -121,9 +122,10 @@ names_struct items (Some adt) = not (is_enum items adt)
 
 abbrev mutual
   pub is_one_name : ItemTable → Syn → Bool
-  is_one_name items (syn at form) = is_one_name_form items form
+  is_one_name items (syn at (APattern p)) = is_one_name_form items p
+  is_one_name items _ = false
 
-  pub is_one_name_form : ItemTable → Shape → Bool
+  pub is_one_name_form : ItemTable → Pattern → Bool
   is_one_name_form items (BindPattern name) = not (names_struct items (adt_named items name))
   is_one_name_form items (ParensPattern inside) = is_one_name items inside
   is_one_name_form items _ = false
@@ -181,9 +183,10 @@ tuple at (a_syn first rest) parts = rows.tuple_row at (suc (count_of rest)) part
 -- A name of a variable, a field, an element, a dereference and such an expression in parentheses are places.
 abbrev mutual
   pub is_place_syn : Env → Syn → Bool
-  is_place_syn env (syn at form) = is_place env form
+  is_place_syn env (syn at (AnExpression e)) = is_place env e
+  is_place_syn env _ = false
 
-  pub is_place : Env → Shape → Bool
+  pub is_place : Env → Expression → Bool
   is_place env (Path first second) = is_some (variable_of env first second)
   is_place env (FieldOf base name) = true
   is_place env (PartOf base k) = true
@@ -193,29 +196,25 @@ abbrev mutual
   is_place env _ = false
 
 -- what may be an argument for a reference: `&e`, and a reference variable
-abbrev pub may_refer : Shape → Bool
+abbrev pub may_refer : Expression → Bool
 may_refer (Ampersand unique base) = true
 may_refer (Path first second) = true
 may_refer (Parens inside) = true
 may_refer _ = false
 
-abbrev pub is_expression : Shape → Bool
-is_expression (LetOf p ty v) = false
-is_expression (Semi e) = false
-is_expression Empty = false
-is_expression _ = true
-
 abbrev mutual
   -- an expression whose value is used
   pub typed : Env → Syn → Typer
-  typed env (syn at form) expected =
-      if is_place env form then place env at form >>= taken env expected else value env at form expected
+  typed env (syn at (AnExpression e)) expected =
+      if is_place env e then place env at e >>= taken env expected else value env at e expected
+  typed env (syn at _) expected = breaks Rule.T20 at
 
   -- an expression whose place is gone through: a place, or a value that becomes a temporary
   pub base_of : Env → Syn → Check Node
-  base_of env (syn at form) = if is_place env form then place env at form else value env at form None
+  base_of env (syn at (AnExpression e)) = if is_place env e then place env at e else value env at e None
+  base_of env (syn at _) = breaks Rule.T20 at
 
-  pub place : Env → Pos → Shape → Check Node
+  pub place : Env → Pos → Expression → Check Node
   place env at (Path first second) = variable_base env at first second (variable_of env first second)
   place env at (FieldOf base name) = rows.field at (struct_field name) (base_of env base)
   place env at (PartOf base k) = rows.field at (numbered_part k) (base_of env base)
@@ -224,7 +223,7 @@ abbrev mutual
   place env at (Parens inside) = base_of env inside
   place env at _ = breaks Rule.T20 at
 
-  pub value : Env → Pos → Shape → Typer
+  pub value : Env → Pos → Expression → Typer
   value env at (Path first second) = path_alone env at first second
   value env at (Parens inside) = typed env inside
   value env at (Literal n suffix) = rows.literal at false n suffix
@@ -270,7 +269,7 @@ abbrev mutual
   value env at (ReturnOf v) = rows.return_row at env.answer (typed_maybe env v)
   value env at (MoveOf captures params answer body) = closure env at captures params answer (λ inner. typed inner body)
   value env at PanicOf = leaf at never tree.Panic
-  value env at form = λ expected. breaks Rule.T20 at
+  value env at e = λ expected. breaks Rule.T20 at
 
   pub typed_maybe : Env → MaybeSyn → Option TyId → Check MaybeNode
   typed_maybe env nothing expected = pure absent
@@ -286,19 +285,20 @@ abbrev mutual
     pure (with_statement n.0 ns.0, n.1 || ns.1, ns.2)
 
   pub statement : Env → Syn → Check (Option Node × Bool × Env)
-  statement env (syn at form) =
-      if is_expression form then a_statement <$> rows.evaluate at env false (λ expected. if is_place env form then place
-      env at form >>= taken env expected else value env at form expected)
-      else other_statement env at form
+  statement env (syn at (AnExpression e)) =
+      a_statement <$> rows.evaluate at env false (λ expected. if is_place env e then place env at e >>= taken env
+      expected else value env at e expected)
+  statement env (syn at (AStatement s)) = other_statement env at s
+  statement env (syn at _) = breaks Rule.T20 at
 
-  pub other_statement : Env → Pos → Shape → Check (Option Node × Bool × Env)
+  pub other_statement : Env → Pos → Statement → Check (Option Node × Bool × Env)
   other_statement env at (LetOf p ty initialiser) = do
     items ← the_items
     n ← rows.let_row at env (is_one_name items p) (declared env ty) (initialised env (is_one_name items p)
         initialiser) (matcher env p) (λ xs. with_variables xs env)
     pure (a_statement n)
   other_statement env at (Semi e) = a_statement <$> rows.evaluate at env true (typed env e)
-  other_statement env at _ = pure (None, false, env)
+  other_statement env at Empty = pure (None, false, env)
 
   -- one name takes the value; another pattern takes the place apart, or a temporary
   pub initialised : Env → Bool → MaybeSyn → Option TyId → Check MaybeNode
@@ -307,8 +307,9 @@ abbrev mutual
       present <$> (if is_one_name then typed env e expected else for_parts env expected e)
 
   pub for_parts : Env → Option TyId → Syn → Check Node
-  for_parts env expected (syn at form) =
-      if is_place env form then place env at form >>= rows.place_for_parts env expected else value env at form expected
+  for_parts env expected (syn at (AnExpression e)) =
+      if is_place env e then place env at e >>= rows.place_for_parts env expected else value env at e expected
+  for_parts env expected (syn at _) = breaks Rule.T20 at
 
   pub typed_args : Env → List TyId → Syns → Check Nodes
   typed_args env params no_syn = pure no_node
@@ -322,11 +323,12 @@ abbrev mutual
     pure (a_node n ns)
 
   pub by_reference : Env → Syn → Referrer
-  by_reference env (syn at form) expected is_unique to =
-      if may_refer form then reference_form env at form expected is_unique to
-      else (if is_place env form then place env at form >>= taken env (Some expected) else value env at form (Some expected))
+  by_reference env (syn at (AnExpression e)) expected is_unique to =
+      if may_refer e then reference_form env at e expected is_unique to
+      else (if is_place env e then place env at e >>= taken env (Some expected) else value env at e (Some expected))
+  by_reference env (syn at _) expected is_unique to = breaks Rule.T20 at
 
-  pub reference_form : Env → Pos → Shape → Referrer
+  pub reference_form : Env → Pos → Expression → Referrer
   reference_form env at (Ampersand unique base) = rows.borrow at unique (base_of env base)
   reference_form env at (Path first second) = passed at (path env at first second) (variable_of env first second)
   reference_form env at (Parens inside) = by_reference env inside
@@ -334,7 +336,7 @@ abbrev mutual
 
   pub typed_inits : Env → Variant → Syns → Check (Fields × Given)
   typed_inits env v no_syn = pure (tree.no_field, [])
-  typed_inits env v (a_syn (syn at (FieldInit name init)) rest) = do
+  typed_inits env v (a_syn (syn at (AnInit name init)) rest) = do
     n ← init_value env at name init (field_want v (field_named v name))
     fs ← typed_inits env v rest
     pure (tree.a_field (or_zero (field_named v name)) n fs.0, field_named v name ∷ fs.1)
@@ -360,7 +362,7 @@ abbrev mutual
 
   pub typed_arms : Env → PatternContext → TyId → Option TyId → Syns → Check (Nodes × List TyId)
   typed_arms env e ty expected no_syn = pure (no_node, [])
-  typed_arms env e ty expected (a_syn (syn at (ArmOf p guard body)) rest) = do
+  typed_arms env e ty expected (a_syn (syn at (AnArm p guard body)) rest) = do
     n ← rows.arm (pattern env e ty p []) (λ xs. typed_maybe (with_variables (in_guard xs) env) guard (Some bool)) (λ
         xs. typed (with_variables xs env) body) expected
     ns ← typed_arms env e ty expected rest

@@ -9,7 +9,7 @@ use Rattle.mir_ty.specs.declared.ty.Ty.{Ty}
 use Rattle.mir_ty.specs.declared.ty.TyId.{TyId}
 use Rattle.typing_rules.specs.Check.{Check, TypingState, Broken, ◌>>=◌, ◌>>◌, pure, breaks, obeys, known, interned}
 use Rattle.typing_rules.specs.Places.{unit, bool, never, int}
-use Rattle.src_ast.specs.Syntax.{Word, Syn, syn, Shape, NamedType, GenericType, DynType, SelfType, ParensType, TupleType, ArrayType, NeverType, RefType, Syns, no_syn, a_syn}
+use Rattle.src_ast.specs.Syntax.{Word, Syn, syn, AType, WrittenType, NamedType, GenericType, DynType, SelfType, ParensType, TupleType, ArrayType, NeverType, RefType, Syns, no_syn, a_syn}
 
 abbrev pub scalar_among : List (Word × TyId) → Word → Option TyId
 scalar_among [] name = None
@@ -58,9 +58,10 @@ number_of names name = position_of (bytes_eq name) names
 module _ (around : WrittenScope) where
   abbrev mutual
     pub written : Syn → Check TyId
-    written (syn at form) = written_form at form
+    written (syn at (AType t)) = written_form at t
+    written (syn at _) = breaks Rule.T20 at
 
-    pub written_form : Pos → Shape → Check TyId
+    pub written_form : Pos → WrittenType → Check TyId
     written_form at (NamedType name) = named_by at (number_of around.adts name) (scalar_named name)
     written_form at (GenericType name content) = do
       obeys Rule.T01 at (is_box name)
@@ -90,7 +91,6 @@ module _ (around : WrittenScope) where
       ty ← written to
       obeys Rule.T08 at (not around.has_limits)
       interned (reference_to unique ty)
-    written_form at _ = breaks Rule.T20 at
 
     pub all_written : Syns → Check (List TyId)
     all_written no_syn = pure []
@@ -102,14 +102,15 @@ module _ (around : WrittenScope) where
   -- the type of a parameter may be a reference
   abbrev mutual
     pub written_param : Syn → Check TyId
-    written_param (syn at form) = written_param_form at form
+    written_param (syn at (AType t)) = written_param_form at t
+    written_param (syn at _) = breaks Rule.T20 at
 
-    pub written_param_form : Pos → Shape → Check TyId
+    pub written_param_form : Pos → WrittenType → Check TyId
     written_param_form at (ParensType inside) = written_param inside
     written_param_form at (RefType unique to) = do
       ty ← written to
       interned (reference_to unique ty)
-    written_param_form at form = written_form at form
+    written_param_form at t = written_form at t
 
 -- a type that breaks a rule stands as `()`
 abbrev pub or_unit_in : TypingState → Result (TyId × TypingState) Broken → Result (TyId × TypingState) Broken

@@ -1,6 +1,5 @@
 -- The rows of expressions: their closures are those of their parts, and their parts are shaped.
 use Rattle.std.proofs.Common.{◌≡◌, Bool, true, false, ◌||◌, List, ◌⊎◌, inl, inr, Option, Some, None, IsTrue, refl, sym, ap, ◌∙◌, subst, if◌then◌else◌}
-use Rattle.std.specs.Prelude.{is_some}
 use Rattle.mir_base.specs.declared.place_in_text.Pos.{Pos}
 use Rattle.src_token.specs.declared.mark.Mark.{Mark}
 use Rattle.src_token.specs.declared.token.Token.{Token}
@@ -14,16 +13,16 @@ use Rattle.src_tree.specs.declared.place.Seen.{Seen}
 use Rattle.src_tree.specs.Grammar as grammar
 use Rattle.src_tree.specs.Grammar.{NodeBeginning, Joined, GrammarRest, first}
 use Rattle.src_tree.specs.Layout.{node, end, tok, sub}
-use Rattle.src_ast.specs.Syntax.{Word, Syn, syn, Shape, Braces, Parens, TupleOf, Syns, no_syn, a_syn, MaybeSyn, nothing, just}
-use Rattle.src_ast.specs.View.{view, tokens_in, views, has, has_mark, ident_in, ident_name, first_of, rest_of, last_of, but_last, is_label, label_name, is_statement, block_by, round}
+use Rattle.src_ast.specs.Syntax.{Word, Syn, syn, AnExpression, Expression, Parens, TupleOf, Braces, Syns, no_syn, a_syn, MaybeSyn, nothing, just}
+use Rattle.src_ast.specs.View.{view, tokens_in, views, has, has_mark, ident_name, first_of, rest_of, last_of, but_last, is_label, is_statement, block_by, round}
 use Rattle.typing_rules.specs.Written.{WrittenScope}
 use Rattle.well_typed.specs.Claim.{Holds}
-use Rattle.typing_soundness.specs.Closures.{BodySyn, closures_of, closures_in, closures_among, closures_if_any}
-use Rattle.typing_soundness.specs.Shapes.{is_plain, is_block, shaped_form, all_shaped, maybe_shaped}
+use Rattle.typing_soundness.specs.Closures.{BodySyn, closures_of, closures_in_expression, closures_among, closures_if_any}
+use Rattle.typing_soundness.specs.Shapes.{is_plain, is_block, shaped_expression, all_shaped, maybe_shaped}
 use Rattle.typing_soundness.proofs.Due.{◌⊕◌, IsLoose, DuePart, value_part}
 use Rattle.typing_soundness.proofs.Functions.{closure_due}
 use Rattle.typing_soundness.proofs.Good.{Tree, Held, Tells, IsName, IsQuiet, IsExpr, IsLabel, IsBlock, RowIs, AtExpr, AtPattern, Stands, Each, EachBut}
-use Rattle.typing_soundness.proofs.Telling.{quiet, expr, of_quiet, each_join, each_map, each_of, has_behind, round_part}
+use Rattle.typing_soundness.proofs.Telling.{quiet, expr, of_quiet, each_join, each_map, each_of, has_behind}
 use Rattle.typing_soundness.proofs.Tokens.{IsPlain}
 use Rattle.typing_soundness.proofs.Types.{EntryDue}
 
@@ -57,25 +56,25 @@ last_shape (a_syn a (a_syn b ss)) h = let k = last_shape (a_syn b ss) h.1 in ((h
 
 block_closures : (around : WrittenScope) (ss : Syns) (last : MaybeSyn) → ((rest : List BodySyn) → closures_among around ss
     rest ≡ closures_among around (but_last ss) (closures_if_any around last rest)) → (rest : List BodySyn) →
-    closures_among around ss rest ≡ closures_in around (block_by ss last) rest
+    closures_among around ss rest ≡ closures_in_expression around (block_by ss last) rest
 block_closures around ss nothing h rest = refl
 block_closures around ss (just last) h rest = by (is_statement last)
   where
-    by : (b : Bool) → closures_among around ss rest ≡ closures_in around (if b then Braces ss nothing else Braces (but_last
+    by : (b : Bool) → closures_among around ss rest ≡ closures_in_expression around (if b then Braces ss nothing else Braces (but_last
         ss) (just last)) rest
     by true = refl
     by false = h rest
 
 block_shape : (ss : Syns) (last : MaybeSyn) → Holds (all_shaped ss) → Holds (all_shaped (but_last ss)) × Holds
-    (maybe_shaped last) → Holds (shaped_form (block_by ss last))
+    (maybe_shaped last) → Holds (shaped_expression (block_by ss last))
 block_shape ss nothing h k = (h, refl)
 block_shape ss (just last) h k = by (is_statement last)
   where
-    by : (b : Bool) → Holds (shaped_form (if b then Braces ss nothing else Braces (but_last ss) (just last)))
+    by : (b : Bool) → Holds (shaped_expression (if b then Braces ss nothing else Braces (but_last ss) (just last)))
     by true = (h, refl)
     by false = k
 
-block_is : (P : Shape → Type 0) → ((as_ : Syns) (m : MaybeSyn) → P (Braces as_ m)) → (ss : Syns) (last : MaybeSyn) → P
+block_is : (P : Expression → Type 0) → ((as_ : Syns) (m : MaybeSyn) → P (Braces as_ m)) → (ss : Syns) (last : MaybeSyn) → P
     (block_by ss last)
 block_is P h ss nothing = h ss nothing
 block_is P h ss (just last) = by (is_statement last)
@@ -90,28 +89,27 @@ block_row at parts e =
     let shapes = all_shape parts e in
     record {
       expr = expr refl (each_map (λ g k. k.tells) parts e) (λ a r. block_closures a ss (last_of ss) (last_closures a ss)
-          r) (block_shape ss (last_of ss) shapes (last_shape ss shapes)) (block_is (λ x. is_some (ident_in x) ≡ false)
-          (λ a m. refl) ss (last_of ss)) (block_is (λ x. is_some (label_name x) ≡ false) (λ a m. refl) ss (last_of ss));
-      block = block_is (λ x. IsTrue (is_block (syn at x))) (λ a m. refl) ss (last_of ss);
+          r) (block_shape ss (last_of ss) shapes (last_shape ss shapes)) refl refl;
+      block = block_is (λ x. IsTrue (is_block (syn at (AnExpression x)))) (λ a m. refl) ss (last_of ss);
     }
 
 -- ---- parentheses
 
 round_closures : (around : WrittenScope) (ts : List Token) (ss : Syns) (rest : List BodySyn) → closures_among around ss rest ≡
-    closures_in around (round Parens TupleOf ts ss) rest
+    closures_in_expression around (round Parens TupleOf ts ss) rest
 round_closures around ts no_syn rest = refl
 round_closures around ts (a_syn a no_syn) rest = by (has_mark Mark.Comma ts || has_mark Mark.DotDot ts)
   where
-    by : (b : Bool) → closures_of around a rest ≡ closures_in around (if b then TupleOf (a_syn a no_syn) else Parens a) rest
+    by : (b : Bool) → closures_of around a rest ≡ closures_in_expression around (if b then TupleOf (a_syn a no_syn) else Parens a) rest
     by true = refl
     by false = refl
 round_closures around ts (a_syn a (a_syn b ss)) rest = refl
 
-round_shape : (ts : List Token) (ss : Syns) → Holds (all_shaped ss) → Holds (shaped_form (round Parens TupleOf ts ss))
+round_shape : (ts : List Token) (ss : Syns) → Holds (all_shaped ss) → Holds (shaped_expression (round Parens TupleOf ts ss))
 round_shape ts no_syn h = refl
 round_shape ts (a_syn a no_syn) h = by (has_mark Mark.Comma ts || has_mark Mark.DotDot ts)
   where
-    by : (b : Bool) → Holds (shaped_form (if b then TupleOf (a_syn a no_syn) else Parens a))
+    by : (b : Bool) → Holds (shaped_expression (if b then TupleOf (a_syn a no_syn) else Parens a))
     by true = h
     by false = h.0
 round_shape ts (a_syn a (a_syn b ss)) h = h
@@ -123,8 +121,7 @@ round_row at gs e =
     let ts = tokens_in parts in
     let ss = views parts in
     expr refl (tells_list gs _ e) (λ a r. round_closures a ts ss r) (round_shape ts ss (shape_list gs _ e))
-    (round_part (λ x. is_some (ident_in x) ≡ false) Parens TupleOf (λ x. refl) (λ x. refl) ts ss) (round_part (λ x.
-    is_some (label_name x) ≡ false) Parens TupleOf (λ x. refl) (λ x. refl) ts ss)
+    refl refl
 
 -- ---- `break`
 

@@ -9,7 +9,7 @@ use Rattle.src_tree.specs.declared.kind.TokenKind.{TokenKind}
 use Rattle.src_tree.specs.declared.row.GrammarRow.{GrammarRow}
 use Rattle.src_tree.specs.Grammar as grammar
 use Rattle.src_tree.specs.Layout.{node, end, tok, sub}
-use Rattle.src_ast.specs.Syntax.{Syn, syn, Shape, MoveOf, FnItem, Syns, no_syn, a_syn, MaybeSyn, nothing, just}
+use Rattle.src_ast.specs.Syntax.{Syn, syn, Shape, AnExpression, AnItem, MoveOf, FnItem, Syns, no_syn, a_syn, MaybeSyn, nothing, just}
 use Rattle.src_ast.specs.View.{view, made, tokens_in, views, has, is_ident, ident_in, label_name, named, idents, behind_idents, behind_params, fn_row, closure_row, syns_of}
 use Rattle.typing_rules.specs.Items.{bodies_among}
 use Rattle.typing_rules.specs.Written.{WrittenScope}
@@ -33,13 +33,13 @@ own_name g k = subst (λ v. IsTrue (is_own_name (named v).1)) (sym k.is) k.named
 -- ---- closures
 
 closure_is : (at : Pos) (parts : Held) (captures ps : Syns) (answer : MaybeSyn) (block : Syn) → made GrammarRow.Closure
-    (tokens_in parts) (views parts) ≡ MoveOf captures ps answer block → Each Tells parts → ((around : WrittenScope) (rest :
+    (tokens_in parts) (views parts) ≡ AnExpression (MoveOf captures ps answer block) → Each Tells parts → ((around : WrittenScope) (rest :
     List BodySyn) → closures_among around (views parts) rest ≡ closures_of around block rest) → IsTrue (is_block block)
     → IsTrue (no_self ps) → Holds (shaped block) → IsExpr (node at GrammarRow.Closure parts)
 closure_is at parts captures ps answer block e h k b n s = record {
   tells = λ around rest.
       ap (λ x. body_text around (syn at x) (bodies_text around (bodies_among parts) rest)) e
-      ∙ ap (body_text around (syn at (MoveOf captures ps answer block))) (tell_all around parts h rest ∙ k around rest)
+      ∙ ap (body_text around (syn at (AnExpression (MoveOf captures ps answer block)))) (tell_all around parts h rest ∙ k around rest)
       ∙ sym (ap (λ x. closures_in around x rest) e);
   shape = subst (λ x. Holds (shaped_form x)) (sym e) (b, (n, s));
   no_name = ap (λ x. is_some (ident_in x)) e;
@@ -61,7 +61,7 @@ module _ (at : Pos) (gs m : Held) (names : Each IsName gs) (loose : IsLoose gs) 
   whole = tok (Token.Word Keyword.Move) (tok (Token.Mark Mark.OpenBracket) (gs ⊕ m))
 
   abbrev moves : Syns → MaybeSyn → Syn → Shape
-  moves ps answer block = MoveOf (syns_of (idents (views (gs ⊕ m)))) ps answer block
+  moves ps answer block = AnExpression (MoveOf (syns_of (idents (views (gs ⊕ m)))) ps answer block)
 
   behind : behind_idents (views (gs ⊕ m)) ≡ views m
   behind = behind_names gs m names ∙ behind_unnamed (views m) unnamed
@@ -139,7 +139,7 @@ Headed name gs m =
 module _ (at : Pos) (self : Bool) (name : Tree) (kn : IsName name) (gs : Held) (params : EachBut (IsParam self) (IsParam
     false) gs) (loose : IsLoose gs) where
   abbrev pub fn_form : Syns → MaybeSyn → Syn → Shape
-  fn_form ps answer block = FnItem (named (view name)) ps answer (just block)
+  fn_form ps answer block = AnItem (FnItem (named (view name)) ps answer (just block))
 
   still_params : Each IsStill gs
   still_params = param_still self gs params

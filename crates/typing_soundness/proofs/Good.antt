@@ -7,7 +7,7 @@ use Rattle.src_tree.specs.declared.row.GrammarRow.{GrammarRow}
 use Rattle.src_tree.specs.declared.row.Sort.{Sort}
 use Rattle.src_tree.specs.Grammar.{sort_of}
 use Rattle.src_tree.specs.Layout.{SyntaxNode, Parts, end, tok, sub}
-use Rattle.src_ast.specs.Syntax.{Word, syn, Ident, Syns, a_syn}
+use Rattle.src_ast.specs.Syntax.{Word, syn, AName, Syns, a_syn}
 use Rattle.src_ast.specs.View.{view, is_ident, is_label}
 use Rattle.typing_rules.specs.Items.{bodies_in}
 use Rattle.typing_rules.specs.Written.{WrittenScope}
@@ -37,7 +37,7 @@ pub record IsName (g : Tree) : Type 0 where
   pub silent : IsSilent g
   pub at : Pos
   pub word : Word
-  pub is : view g ≡ syn at (Ident word)
+  pub is : view g ≡ syn at (AName word)
   pub named : IsTextName word
 
 pub record IsLabel (g : Tree) : Type 0 where

@@ -1,7 +1,7 @@
 -- Parts behind parts, and what the rows of functions and closures are made of.
 use Rattle.std.proofs.Common.{◌≡◌, Bool, true, false, List, [], ◌∷◌, ◌++◌, IsTrue, refl, ap, ◌∙◌, if◌then◌else◌}
 use Rattle.src_tree.specs.Layout.{end, tok, sub}
-use Rattle.src_ast.specs.Syntax.{Named, Syn, syn, Shape, SelfParam, Syns, no_syn, a_syn, MaybeSyn, nothing, just}
+use Rattle.src_ast.specs.Syntax.{Named, Syn, syn, Shape, AParam, SelfParam, Syns, no_syn, a_syn, MaybeSyn, nothing, just}
 use Rattle.src_ast.specs.View.{view, views, is_ident, named, idents, behind_idents, last_of, but_last, from_just, behind_params}
 use Rattle.typing_rules.specs.Written.{WrittenScope}
 use Rattle.typing_soundness.specs.Closures.{BodySyn, closures_among}
@@ -107,7 +107,7 @@ unnamed_join (sub g gs) m h k = h.0
 -- ---- `self`
 
 self_first_is : (v : Syn) (rest : Syns) → self_first (a_syn v rest) ≡ no_self rest
-self_first_is (syn at (SelfParam receiver)) rest = refl
+self_first_is (syn at (AParam (SelfParam receiver))) rest = refl
 self_first_is (syn at form) rest = refl
 
 pub params_free : (gs : Held) → Each (IsParam false) gs → IsTrue (no_self (views gs))

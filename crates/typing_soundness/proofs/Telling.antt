@@ -1,5 +1,5 @@
 -- What is so of a row, from what is so of its parts.
-use Rattle.std.proofs.Common.{◌≡◌, Bool, true, false, ◌||◌, List, [], ◌∷◌, ◌++◌, IsTrue, refl, sym, ap, ◌∙◌, if◌then◌else◌}
+use Rattle.std.proofs.Common.{◌≡◌, false, ◌||◌, List, [], ◌∷◌, ◌++◌, IsTrue, refl, sym, ap, ◌∙◌}
 use Rattle.std.specs.Prelude.{is_some}
 use Rattle.mir_base.specs.declared.place_in_text.Pos.{Pos}
 use Rattle.src_token.specs.declared.mark.Mark.{Mark}
@@ -8,8 +8,8 @@ use Rattle.src_tree.specs.declared.kind.TokenKind.{TokenKind}
 use Rattle.src_tree.specs.declared.row.GrammarRow.{GrammarRow}
 use Rattle.src_tree.specs.Grammar.{is}
 use Rattle.src_tree.specs.Layout.{node, end, tok, sub}
-use Rattle.src_ast.specs.Syntax.{Syn, syn, Shape, Syns, no_syn, a_syn}
-use Rattle.src_ast.specs.View.{view, views, made, tokens_in, has, has_mark, ident_in, label_name, round}
+use Rattle.src_ast.specs.Syntax.{Syn, syn}
+use Rattle.src_ast.specs.View.{view, views, made, tokens_in, has, ident_in, label_name}
 use Rattle.typing_rules.specs.Items.{bodies_in, bodies_among, is_body_row, with_body}
 use Rattle.typing_rules.specs.Written.{WrittenScope}
 use Rattle.well_typed.specs.Claim.{Holds}
@@ -125,14 +125,3 @@ module _ {at : Pos} {r : GrammarRow} {parts : Held} where
     no_name = n;
     no_label = l;
   }
-
--- one part without a comma is the part in parentheses
-pub round_part : (P : Shape → Type 0) (one : Syn → Shape) (many : Syns → Shape) → ((a : Syn) → P (one a)) → ((as_ :
-    Syns) → P (many as_)) → (ts : List Token) (ss : Syns) → P (round one many ts ss)
-round_part P one many h k ts no_syn = k no_syn
-round_part P one many h k ts (a_syn a no_syn) = by (has_mark Mark.Comma ts || has_mark Mark.DotDot ts)
-  where
-    by : (b : Bool) → P (if b then many (a_syn a no_syn) else one a)
-    by true = k (a_syn a no_syn)
-    by false = h a
-round_part P one many h k ts (a_syn a (a_syn b rest)) = k (a_syn a (a_syn b rest))

@@ -10,7 +10,7 @@ use Rattle.src_tree.specs.declared.row.GrammarRow.{GrammarRow}
 use Rattle.src_tree.specs.declared.row.Sort.{Sort}
 use Rattle.src_tree.specs.Grammar as grammar
 use Rattle.src_tree.specs.Layout.{node, end, tok, sub}
-use Rattle.src_ast.specs.Syntax.{Named, FieldsKind, Syn, syn, Shape, StructItem, EnumItem, FnItem, ImplItem, Syns, no_syn, a_syn, list_of, MaybeSyn, nothing, just}
+use Rattle.src_ast.specs.Syntax.{Named, FieldsKind, Syn, syn, Shape, AnItem, StructItem, EnumItem, ImplItem, FnItem, Syns, no_syn, a_syn, list_of, MaybeSyn, nothing, just}
 use Rattle.src_ast.specs.View.{view, made, tokens_in, views, has_mark, ident_in, named, idents, behind_idents, last_of, but_last, fn_row, with_last_name, kind_of, kind_by, behind_word, impl_row}
 use Rattle.typing_rules.specs.Items.{bodies_in, bodies_among, is_body_row}
 use Rattle.typing_rules.specs.Promises.{is_plain_name}
@@ -39,8 +39,8 @@ type_name g k = subst (λ v. IsTrue (is_type_name (named v).1)) (sym k.is) k.nam
 -- ---- heads of traits
 
 head_is : (at : Pos) (name : Tree) (kn : IsName name) (gs m : Held) → EachBut (IsParam true) (IsParam false) gs → Each
-    IsStill m → (answer : MaybeSyn) → made GrammarRow.Head (tokens_in (Headed name gs m)) (views (Headed name gs m)) ≡ FnItem
-    (named (view name)) (views gs) answer nothing → IsHead (node at GrammarRow.Head (Headed name gs m))
+    IsStill m → (answer : MaybeSyn) → made GrammarRow.Head (tokens_in (Headed name gs m)) (views (Headed name gs m)) ≡ AnItem (FnItem
+    (named (view name)) (views gs) answer nothing) → IsHead (node at GrammarRow.Head (Headed name gs m))
 head_is at name kn gs m params still answer e =
     let tail = tok (Token.Mark Mark.CloseParenthesis) m in
     record {
@@ -52,7 +52,7 @@ head_is at name kn gs m params still answer e =
 
 pub head_due : (at : Pos) (self : Bool) (t : Token) → IsPlain t → EntryDue at self t (grammar.head t)
 head_due at self (Token.Word Keyword.Fn) p = λ name kn gs e l.
-    let form = λ (ps : Syns) (answer : MaybeSyn). FnItem (named (view name)) ps answer nothing in (
+    let form = λ (ps : Syns) (answer : MaybeSyn). AnItem (FnItem (named (view name)) ps answer nothing) in (
       λ ty kt.
           let m = tok (Token.Mark Mark.RArrow) (sub ty (tok (Token.Mark Mark.Semi) end)) in
           let joined = views_join gs (tok (Token.Mark Mark.CloseParenthesis) m) in
@@ -72,8 +72,8 @@ head_due at self _ p = tt
 
 -- ---- functions that are items
 
-fn_both : (at : Pos) (form : Shape) (name : Named) (ps : Syns) (answer block : MaybeSyn) → form ≡ FnItem name ps answer
-    block → (around : WrittenScope) (rest : List BodySyn) → function_text around (syn at form) rest ≡ inner_text around (syn at
+fn_both : (at : Pos) (form : Shape) (name : Named) (ps : Syns) (answer block : MaybeSyn) → form ≡ AnItem (FnItem name ps answer
+    block) → (around : WrittenScope) (rest : List BodySyn) → function_text around (syn at form) rest ≡ inner_text around (syn at
     form) rest
 fn_both at form name ps answer block e around rest =
     ap (λ x. function_text around (syn at x) rest) e ∙ sym (ap (λ x. inner_text around (syn at x) rest) e)
@@ -81,8 +81,8 @@ fn_both at form name ps answer block e around rest =
 fn_is : (at : Pos) (name : Tree) (kn : IsName name) (gs : Held) (params : EachBut (IsParam false) (IsParam false) gs)
     (loose : IsLoose gs) (m : Held) (b : Tree) → IsBlock b → Each Tells m → ((around : WrittenScope) (rest : List BodySyn) →
     closures_among around (views m) rest ≡ closures_of around (view b) rest) → (answer : MaybeSyn) → made GrammarRow.Fn
-    (tokens_in (Headed name gs m)) (views (Headed name gs m)) ≡ FnItem (named (view name)) (views gs) answer (just (view
-    b)) → IsItem (node at GrammarRow.Fn (Headed name gs m))
+    (tokens_in (Headed name gs m)) (views (Headed name gs m)) ≡ AnItem (FnItem (named (view name)) (views gs) answer (just (view
+    b))) → IsItem (node at GrammarRow.Fn (Headed name gs m))
 fn_is at name kn gs params loose m b kb h k answer e = record {
   tells = λ around rest. fn_tells at false name kn gs params loose m b kb h k answer _ e around rest ∙ fn_both at _ _ _ _
       _ e around rest;
@@ -164,11 +164,12 @@ struct_is : (at : Pos) (parts m : Held) (ds : List Named) (name : Tree) → IsNa
     (tokens_in parts) ≡ tokens_in m → IsTrue (has_kind (kind_of (tokens_in m)) (views m)) → Each IsQuiet m → IsItem
     (node at GrammarRow.Struct parts)
 struct_is at parts m ds name kn still is_named is_behind is_word kind quiets =
-    let form = λ (kind : FieldsKind) (fields : Syns) (ds : List Named) (n : Named). StructItem ds n kind fields in
+    let form = λ (kind : FieldsKind) (fields : Syns) (ds : List Named) (n : Named). AnItem (StructItem ds n kind fields) in
     let e = ap (with_last_name (form (kind_of (behind_word Keyword.Struct (tokens_in parts))) (behind_idents (views
     parts)))) is_named ∙ last_name_is (form (kind_of (behind_word Keyword.Struct (tokens_in parts))) (behind_idents (views
-    parts))) ds (named (view name)) ∙ ap (λ x. StructItem ds (named (view name)) (kind_of x) (behind_idents (views
-    parts))) is_word ∙ ap (StructItem ds (named (view name)) (kind_of (tokens_in m))) is_behind in
+    parts))) ds (named (view name)) ∙ ap (λ x. AnItem (StructItem ds (named (view name)) (kind_of x) (behind_idents (views
+    parts)))) is_word ∙ ap (λ z. AnItem (StructItem ds (named (view name))
+    (kind_of (tokens_in m)) z)) is_behind in
     record {
       tells = still_item at GrammarRow.Struct parts refl still (λ a r. ap (λ x. inner_text a (syn at x) r) e);
       shape = subst (λ x. Holds (item_shaped (syn at x))) (sym e) (plain_name name kn, kind);
@@ -189,9 +190,9 @@ enum_is : (at : Pos) (parts m : Held) (ds : List Named) (name : Tree) → IsName
     parts) ≡ ds ++ named (view name) ∷ [] → behind_idents (views parts) ≡ views m → Each IsVariant m → IsItem (node at
     GrammarRow.Enum parts)
 enum_is at parts m ds name kn still is_named is_behind variants =
-    let form = λ (ds : List Named) (n : Named). EnumItem ds n (behind_idents (views parts)) in
-    let e = ap (with_last_name form) is_named ∙ last_name_is form ds (named (view name)) ∙ ap (EnumItem ds (named (view
-    name))) is_behind in
+    let form = λ (ds : List Named) (n : Named). AnItem (EnumItem ds n (behind_idents (views parts))) in
+    let e = ap (with_last_name form) is_named ∙ last_name_is form ds (named (view name)) ∙ ap (λ z. AnItem (EnumItem ds
+    (named (view name)) z)) is_behind in
     record {
       tells = still_item at GrammarRow.Enum parts refl still (λ a r. ap (λ x. inner_text a (syn at x) r) e);
       shape = subst (λ x. Holds (item_shaped (syn at x))) (sym e) (plain_name name kn, all_variants m variants);
@@ -354,7 +355,7 @@ skip_name around name kn bodies rest =
     text_join around (bodies_in name) bodies rest ∙ kn.tells around _ ∙ kn.silent around _
 
 impl_is : (at : Pos) (parts m : Held) (trait_ : Option Named) (owner : Named) → IsTrue (is_own_name owner.1) → Each IsMethod m → made GrammarRow.Impl (tokens_in
-    parts) (views parts) ≡ ImplItem trait_ owner (views m) → ((around : WrittenScope) (rest : List BodySyn) → bodies_text
+    parts) (views parts) ≡ AnItem (ImplItem trait_ owner (views m)) → ((around : WrittenScope) (rest : List BodySyn) → bodies_text
     around (bodies_among parts) rest ≡ bodies_text around (bodies_among m) rest) → IsItem (node at GrammarRow.Impl parts)
 impl_is at parts m trait_ owner own methods e h = record {
   tells = λ around rest.
@@ -376,8 +377,8 @@ impl_due at self = λ name kn. (
       (idents_unnamed (views m) u) in
       let is_behind = behind_names front m (kn, (ko, tt)) ∙ behind_unnamed (views m) u in
       impl_is at _ m (Some (named (view name))) (named (view other)) (own_name other ko) (each_join IsMethod gs tail e tt)
-      (ap (λ z. impl_row true z (behind_idents (views (front ⊕ m)))) is_named ∙ ap (ImplItem (Some (named (view name)))
-      (named (view other))) is_behind) (λ a r. skip_name a name kn _ r ∙ skip_name a other ko _ r),
+      (ap (λ z. impl_row true z (behind_idents (views (front ⊕ m)))) is_named ∙ ap (λ z. AnItem (ImplItem (Some (named
+      (view name))) (named (view other)) z)) is_behind) (λ a r. skip_name a name kn _ r ∙ skip_name a other ko _ r),
   λ gs e l.
       let tail = tok (Token.Mark Mark.CloseBrace) end in
       let m = tok (Token.Mark Mark.OpenBrace) (gs ⊕ tail) in
@@ -388,7 +389,7 @@ impl_due at self = λ name kn. (
       impl_is at _ m None (named (view name)) (own_name name kn) (each_join IsMethod gs tail e tt)
       (ap (λ b. impl_row b (idents (views (front ⊕ m))) (behind_idents (views (front ⊕ m)))) (has_behind (TokenKind.Word
       Keyword.For) gs tail refl refl l) ∙ ap (λ z. impl_row false z (behind_idents (views (front ⊕ m)))) is_named ∙ ap
-      (ImplItem None (named (view name))) is_behind) (λ a r. skip_name a name kn _ r),
+      (λ z. AnItem (ImplItem None (named (view name)) z)) is_behind) (λ a r. skip_name a name kn _ r),
 )
 
 pub item_due : (at : Pos) (self : Bool) (t : Token) → IsPlain t → EntryDue at self t (grammar.item t)

@@ -1,7 +1,6 @@
 -- The rows of types and patterns: there are no closures in them.
-use Rattle.std.proofs.Common.{◌≡◌, Bool, true, false, Option, Some, None, refl}
+use Rattle.std.proofs.Common.{Bool, true, false, Option, Some, None, refl}
 use Rattle.std.proofs.lemmas.Bool.{true≢false}
-use Rattle.std.specs.Prelude.{is_some}
 use Rattle.mir_base.specs.declared.place_in_text.Pos.{Pos}
 use Rattle.src_token.specs.declared.mark.Mark.{Mark}
 use Rattle.src_token.specs.declared.token.Token.{Token}
@@ -9,15 +8,10 @@ use Rattle.src_token.specs.declared.word.Word.{Word as Keyword}
 use Rattle.src_tree.specs.declared.row.GrammarRow.{GrammarRow}
 use Rattle.src_tree.specs.Grammar as grammar
 use Rattle.src_tree.specs.Grammar.{NodeBeginning, GrammarRest}
-use Rattle.src_tree.specs.Layout.{node, end, tok}
-use Rattle.src_ast.specs.Syntax.{syn, ParensType, TupleType, ParensPattern, TuplePattern}
-use Rattle.src_ast.specs.View.{tokens_in, views, has_mark, ident_in}
-use Rattle.well_typed.specs.Claim.{Holds}
-use Rattle.typing_soundness.specs.Closures.{closures_in}
-use Rattle.typing_soundness.specs.Named.{field_named}
-use Rattle.typing_soundness.proofs.Due.{◌⊕◌, DuePart}
+use Rattle.src_tree.specs.Layout.{node, tok}
+use Rattle.typing_soundness.proofs.Due.{DuePart}
 use Rattle.typing_soundness.proofs.Good.{Held, IsQuiet, IsParam, RowIs}
-use Rattle.typing_soundness.proofs.Telling.{quiet, quiet_list, of_quiet, of_name, round_part}
+use Rattle.typing_soundness.proofs.Telling.{quiet, quiet_list, of_quiet, of_name}
 use Rattle.typing_soundness.proofs.Tokens.{IsPlain}
 
 -- how a node begins by a token
@@ -31,12 +25,7 @@ type_due at self (Token.Name n) p = (
   quiet refl tt (λ a r. refl) refl refl,
 )
 type_due at self (Token.Word Keyword.SelfType) p = quiet refl tt (λ a r. refl) refl refl
-type_due at self (Token.Mark Mark.OpenParenthesis) p = λ gs e l.
-    let parts = tok (Token.Mark Mark.OpenParenthesis) (gs ⊕ tok (Token.Mark Mark.CloseParenthesis) end) in
-    quiet refl (quiet_list gs _ e) (λ a r. round_part (λ x. closures_in a x r ≡ r) ParensType TupleType (λ x. refl) (λ
-    x. refl) (tokens_in parts) (views parts)) (round_part (λ x. is_some (ident_in x) ≡ false) ParensType TupleType (λ
-    x. refl) (λ x. refl) (tokens_in parts) (views parts)) (round_part (λ x. Holds (field_named (syn at x))) ParensType
-    TupleType (λ x. refl) (λ x. refl) (tokens_in parts) (views parts))
+type_due at self (Token.Mark Mark.OpenParenthesis) p = λ gs e l. quiet refl (quiet_list gs _ e) (λ a r. refl) refl refl
 type_due at self (Token.Mark Mark.OpenBracket) p = λ g k value suffix. quiet refl (of_quiet k, tt) (λ a r. refl) refl refl
 type_due at self (Token.Mark Mark.Not) p = quiet refl tt (λ a r. refl) refl refl
 type_due at self (Token.Mark Mark.And) p = (
@@ -92,14 +81,7 @@ pattern_due at self (Token.Number value suffix) p = quiet refl tt (λ a r. refl)
 pattern_due at self (Token.Mark Mark.Minus) p = λ value suffix. quiet refl tt (λ a r. refl) refl refl
 pattern_due at self (Token.Word Keyword.True) p = quiet refl tt (λ a r. refl) refl refl
 pattern_due at self (Token.Word Keyword.False) p = quiet refl tt (λ a r. refl) refl refl
-pattern_due at self (Token.Mark Mark.OpenParenthesis) p = λ gs e l.
-    let parts = tok (Token.Mark Mark.OpenParenthesis) (gs ⊕ tok (Token.Mark Mark.CloseParenthesis) end) in
-    let dots = has_mark Mark.DotDot (tokens_in parts) in
-    quiet refl (quiet_list gs _ e) (λ a r. round_part (λ x. closures_in a x r ≡ r) ParensPattern (λ ps. TuplePattern ps
-    dots) (λ x. refl) (λ x. refl) (tokens_in parts) (views parts)) (round_part (λ x. is_some (ident_in x) ≡ false)
-    ParensPattern (λ ps. TuplePattern ps dots) (λ x. refl) (λ x. refl) (tokens_in parts) (views parts)) (round_part (λ x.
-    Holds (field_named (syn at x))) ParensPattern (λ ps. TuplePattern ps dots) (λ x. refl) (λ x. refl) (tokens_in parts)
-    (views parts))
+pattern_due at self (Token.Mark Mark.OpenParenthesis) p = λ gs e l. quiet refl (quiet_list gs _ e) (λ a r. refl) refl refl
 pattern_due at self (Token.Mark Mark.OpenBracket) p =
     λ gs e l. quiet refl (quiet_list gs _ e) (λ a r. refl) refl refl
 pattern_due at true (Token.Word Keyword.SelfValue) p = self_param (quiet refl tt (λ a r. refl) refl refl)

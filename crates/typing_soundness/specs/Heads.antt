@@ -11,7 +11,7 @@ use Rattle.typing_rules.specs.Items.{ItemSyn, full_name}
 use Rattle.typing_rules.specs.Places.{unit}
 use Rattle.typing_rules.specs.Promises.{is_plain_name}
 use Rattle.typing_rules.specs.Written.{WrittenScope}
-use Rattle.src_ast.specs.Syntax.{Word, Syn, syn, MoveOf, StructItem, EnumItem, VariantDecl, ImplItem, FnItem, ParamOf, Syns, no_syn, a_syn, list_of, MaybeSyn, nothing, just}
+use Rattle.src_ast.specs.Syntax.{Word, Syn, syn, AnExpression, AnItem, AParam, AVariant, MoveOf, StructItem, EnumItem, ImplItem, FnItem, ParamOf, Syns, no_syn, a_syn, list_of, MaybeSyn, nothing, just}
 use Rattle.typing_soundness.specs.Closures.{BodySyn, Function, Closure, WrittenHead, Tape, functions_text, function_text}
 use Rattle.typing_soundness.specs.Met.{HasTypes}
 use Rattle.well_typed.specs.Claim.{Claim, fact}
@@ -27,7 +27,7 @@ module _ (around : WrittenScope) (items : ItemTable) where
       Means around items written ty
 
   abbrev pub MeansClosureParam : Syn → TyId → Type 0
-  MeansClosureParam (syn at (ParamOf p written)) ty = MeansIfAny written ty
+  MeansClosureParam (syn at (AParam (ParamOf p written))) ty = MeansIfAny written ty
   MeansClosureParam _ ty = Unit {0}
 
   abbrev pub MeanClosureParams : Syns → List TyId → Type 0
@@ -74,15 +74,15 @@ abbrev pub AreVariantsOf : Syns → List Variant → Type 0
 AreVariantsOf no_syn [] = Unit {0}
 AreVariantsOf no_syn (v ∷ vs) = ⊥
 AreVariantsOf (a_syn first rest) [] = ⊥
-AreVariantsOf (a_syn (syn at (VariantDecl name kind fields)) rest) (v ∷ vs) =
+AreVariantsOf (a_syn (syn at (AVariant name kind fields)) rest) (v ∷ vs) =
     ((v.name ≡ name) × IsVariantOf fields v) × AreVariantsOf rest vs
 AreVariantsOf (a_syn first rest) (v ∷ vs) = ⊥
 
 abbrev pub IsAdtOf : Syn → Adt → Type 0
-IsAdtOf (syn at (StructItem derives name kind fields)) adt =
+IsAdtOf (syn at (AnItem (StructItem derives name kind fields))) adt =
     (adt.name ≡ name.1) × (v : Variant) × (adt.variants ≡ v ∷ []) × IsVariantOf fields v × ((v.name ≡ name.1) ×
     (adt.is_enum ≡ false) × (adt.copy ≡ rules.derives (codes "Copy") derives))
-IsAdtOf (syn at (EnumItem derives name variants)) adt =
+IsAdtOf (syn at (AnItem (EnumItem derives name variants))) adt =
     (adt.name ≡ name.1) × (adt.is_enum ≡ true) × AreVariantsOf variants adt.variants × (adt.copy ≡ rules.derives (codes
     "Copy") derives)
 IsAdtOf _ adt = ⊥
@@ -97,9 +97,9 @@ AreAdtsOf _ _ = ⊥
 
 module _ (around : WrittenScope) where
   abbrev pub body_text : Syn → Tape
-  body_text (syn at (FnItem name params answer block)) =
+  body_text (syn at (AnItem (FnItem name params answer block))) =
       λ rest. Function (record { around = around; name = name.1; params = params; answer = answer }) ∷ rest
-  body_text (syn at (MoveOf captures params answer body)) =
+  body_text (syn at (AnExpression (MoveOf captures params answer body))) =
       λ rest. Closure (record { around = around; name = []; params = params; answer = answer }) ∷ rest
   body_text _ = λ rest. rest
 
@@ -109,9 +109,9 @@ module _ (around : WrittenScope) where
 
   -- the bodies of an item, in the order of the text
   abbrev pub inner_text : Syn → Tape
-  inner_text (syn at (ImplItem trait_ name methods)) = functions_text around (list_of methods)
-  inner_text (syn at (FnItem name params answer block)) =
-      function_text around (syn at (FnItem name params answer block))
+  inner_text (syn at (AnItem (ImplItem trait_ name methods))) = functions_text around (list_of methods)
+  inner_text (syn at (AnItem (FnItem name params answer block))) =
+      function_text around (syn at (AnItem (FnItem name params answer block)))
   inner_text _ = λ rest. rest
 
 -- an item is listed with all its bodies

@@ -3,13 +3,14 @@
 use Rattle.std.specs.Prelude.{Bool, true, false, ◌&&◌, nat_le, List, [], ◌∷◌, length}
 use Rattle.typing_rules.specs.Program.{behind_self}
 use Rattle.typing_rules.specs.Written.{is_usize}
-use Rattle.src_ast.specs.Syntax.{Syn, syn, Shape, NamedType, GenericType, DynType, SelfType, ParensType, TupleType, ArrayType, NeverType, RefType, StructItem, EnumItem, FieldDecl, VariantDecl, TraitItem, FnItem, MoveOf, ParamOf, SelfParam, Syns, no_syn, a_syn, list_of, MaybeSyn, nothing, just}
+use Rattle.src_ast.specs.Syntax.{Syn, syn, AnExpression, AType, AnItem, AParam, AField, AVariant, MoveOf, WrittenType, NamedType, GenericType, DynType, SelfType, ParensType, TupleType, ArrayType, NeverType, RefType, StructItem, EnumItem, TraitItem, FnItem, ParamOf, SelfParam, Syns, no_syn, a_syn, list_of, MaybeSyn, nothing, just}
 
 abbrev mutual
   pub legal : Syn → Bool
-  legal (syn at form) = legal_form form
+  legal (syn at (AType t)) = legal_form t
+  legal _ = false
 
-  pub legal_form : Shape → Bool
+  pub legal_form : WrittenType → Bool
   legal_form (NamedType name) = true
   legal_form (GenericType name content) = legal content
   legal_form (DynType name trait_) = true
@@ -27,19 +28,20 @@ abbrev mutual
 -- of a parameter, also a reference
 abbrev mutual
   pub legal_param : Syn → Bool
-  legal_param (syn at form) = legal_param_form form
+  legal_param (syn at (AType t)) = legal_param_form t
+  legal_param _ = false
 
-  pub legal_param_form : Shape → Bool
+  pub legal_param_form : WrittenType → Bool
   legal_param_form (ParensType inside) = legal_param inside
   legal_param_form (RefType unique to) = legal to
-  legal_param_form form = legal_form form
+  legal_param_form t = legal_form t
 
 -- ---- heads
 
 -- of a function or a method, and of a closure
 abbrev pub param_legal : (Syn → Bool) → Syn → Bool
-param_legal test (syn at (ParamOf p ty)) = test ty
-param_legal test (syn at (SelfParam receiver)) = true
+param_legal test (syn at (AParam (ParamOf p ty))) = test ty
+param_legal test (syn at (AParam (SelfParam receiver))) = true
 param_legal test _ = false
 
 abbrev pub params_legal : (Syn → Bool) → Syns → Bool
@@ -55,14 +57,14 @@ head_legal test params answer = params_legal test params && answer_legal answer
 
 -- of a body as it is listed
 abbrev pub body_legal : Syn → Bool
-body_legal (syn at (FnItem name params answer block)) = head_legal legal_param params answer
-body_legal (syn at (MoveOf captures params answer body)) = head_legal legal params answer
+body_legal (syn at (AnItem (FnItem name params answer block))) = head_legal legal_param params answer
+body_legal (syn at (AnExpression (MoveOf captures params answer body))) = head_legal legal params answer
 body_legal _ = true
 
 -- ---- items, but for the heads of bodies
 
 abbrev pub field_legal : Syn → Bool
-field_legal (syn at (FieldDecl name ty)) = legal ty
+field_legal (syn at (AField name ty)) = legal ty
 field_legal ty = legal ty
 
 abbrev pub fields_legal : List Syn → Bool
@@ -70,7 +72,7 @@ fields_legal [] = true
 fields_legal (f ∷ fs) = field_legal f && fields_legal fs
 
 abbrev pub variant_legal : Syn → Bool
-variant_legal (syn at (VariantDecl name kind fields)) = fields_legal (list_of fields)
+variant_legal (syn at (AVariant name kind fields)) = fields_legal (list_of fields)
 variant_legal _ = false
 
 abbrev pub variants_legal : List Syn → Bool
@@ -79,7 +81,8 @@ variants_legal (v ∷ vs) = variant_legal v && variants_legal vs
 
 -- the head of a trait's method, behind `self`
 abbrev pub trait_head_legal : Syn → Bool
-trait_head_legal (syn at (FnItem name params answer block)) = head_legal legal_param (behind_self params) answer
+trait_head_legal (syn at (AnItem (FnItem name params answer block))) =
+    head_legal legal_param (behind_self params) answer
 trait_head_legal _ = false
 
 abbrev pub trait_heads_legal : List Syn → Bool
@@ -87,7 +90,7 @@ trait_heads_legal [] = true
 trait_heads_legal (h ∷ hs) = trait_head_legal h && trait_heads_legal hs
 
 abbrev pub item_legal : Syn → Bool
-item_legal (syn at (StructItem derives name kind fields)) = fields_legal (list_of fields)
-item_legal (syn at (EnumItem derives name variants)) = variants_legal (list_of variants)
-item_legal (syn at (TraitItem name heads)) = trait_heads_legal (list_of heads)
+item_legal (syn at (AnItem (StructItem derives name kind fields))) = fields_legal (list_of fields)
+item_legal (syn at (AnItem (EnumItem derives name variants))) = variants_legal (list_of variants)
+item_legal (syn at (AnItem (TraitItem name heads))) = trait_heads_legal (list_of heads)
 item_legal _ = true

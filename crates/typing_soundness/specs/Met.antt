@@ -9,7 +9,7 @@ use Rattle.typed_tree.specs.Tree.{BodyTree}
 use Rattle.typing_rules.specs.Check.{TypingState}
 use Rattle.typing_rules.specs.Places.{unit}
 use Rattle.typing_rules.specs.Written.{WrittenScope}
-use Rattle.src_ast.specs.Syntax.{Receiver, ByValue, ByShared, ByUnique, Syn, syn, ParamOf, SelfParam, Syns, no_syn, a_syn, MaybeSyn, nothing, just}
+use Rattle.src_ast.specs.Syntax.{Receiver, ByValue, ByShared, ByUnique, Syn, syn, AParam, ParamOf, SelfParam, Syns, no_syn, a_syn, MaybeSyn, nothing, just}
 use Rattle.typing_soundness.specs.Legal.{legal, legal_param, head_legal}
 use Rattle.typing_soundness.specs.Types.{HaveTypes, Means}
 use Rattle.typing_soundness.specs.Closures.{BodySyn, Function, Closure, WrittenHead, Tape}
@@ -29,8 +29,8 @@ IsReceiver items ByUnique own ty = type_at items ty ≡ Some (Ty.Unique own)
 
 module _ (around : WrittenScope) (items : ItemTable) where
   abbrev pub MeansParam : Syn → TyId → Type 0
-  MeansParam (syn at (ParamOf p written)) ty = Means around items written ty
-  MeansParam (syn at (SelfParam receiver)) ty =
+  MeansParam (syn at (AParam (ParamOf p written))) ty = Means around items written ty
+  MeansParam (syn at (AParam (SelfParam receiver))) ty =
       (n : ℕ) × (own : TyId) × (around.self_adt ≡ Some n) × (type_at items own ≡ Some (Ty.Adt n)) × IsReceiver items
       receiver own ty
   MeansParam _ ty = ⊥

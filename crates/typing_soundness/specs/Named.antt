@@ -9,7 +9,7 @@ use Rattle.mir_ty.specs.ItemTable.{ItemTable}
 use Rattle.well_typed.specs.Claim.{Claim, fact, ◌&◌, each}
 use Rattle.well_typed.specs.Names.{is_word}
 use Rattle.typing_rules.specs.Promises.{is_plain_name}
-use Rattle.src_ast.specs.Syntax.{Word, Syn, syn, StructItem, EnumItem, FieldDecl, VariantDecl, TraitItem, ImplItem, FnItem, list_of}
+use Rattle.src_ast.specs.Syntax.{Word, Syn, syn, AnItem, AField, AVariant, StructItem, EnumItem, TraitItem, ImplItem, FnItem, list_of}
 
 abbrev pub is_type_name : Word → Bool
 is_type_name name = is_word name && (is_plain_name name && not (bytes_eq name (codes "dyn")))
@@ -30,25 +30,26 @@ begins_with_digit (byte ∷ bytes) = nat_le 48 byte && nat_le byte 57
 -- ---- as they are written
 
 abbrev pub field_named : Syn → Claim
-field_named (syn at (FieldDecl name ty)) = fact (not (begins_with_digit name))
+field_named (syn at (AField name ty)) = fact (not (begins_with_digit name))
 field_named _ = fact true
 
 abbrev pub variant_named : Syn → Claim
-variant_named (syn at (VariantDecl name kind fields)) = fact (is_word name) & each field_named (list_of fields)
+variant_named (syn at (AVariant name kind fields)) = fact (is_word name) & each field_named (list_of fields)
 variant_named _ = fact true
 
 -- of a function, or a method
 abbrev pub head_named : Syn → Claim
-head_named (syn at (FnItem name params answer block)) = fact (is_own_name name.1)
+head_named (syn at (AnItem (FnItem name params answer block))) = fact (is_own_name name.1)
 head_named _ = fact true
 
 abbrev pub item_named : Syn → Claim
-item_named (syn at (StructItem derives name kind fields)) =
+item_named (syn at (AnItem (StructItem derives name kind fields))) =
     fact (is_type_name name.1) & fact (is_own_name name.1) & each field_named (list_of fields)
-item_named (syn at (EnumItem derives name variants)) =
+item_named (syn at (AnItem (EnumItem derives name variants))) =
     fact (is_type_name name.1) & fact (is_own_name name.1) & each variant_named (list_of variants)
-item_named (syn at (TraitItem name heads)) = fact (is_own_name name.1) & each head_named (list_of heads)
-item_named (syn at (ImplItem trait_ name methods)) = fact (is_own_name name.1) & each head_named (list_of methods)
+item_named (syn at (AnItem (TraitItem name heads))) = fact (is_own_name name.1) & each head_named (list_of heads)
+item_named (syn at (AnItem (ImplItem trait_ name methods))) =
+    fact (is_own_name name.1) & each head_named (list_of methods)
 item_named item = head_named item
 
 -- ---- as a table has them

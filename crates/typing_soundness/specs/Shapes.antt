@@ -4,25 +4,25 @@
 use Rattle.std.specs.Prelude.{Bool, true, false, Option, Some, None}
 use Rattle.well_typed.specs.Claim.{Claim, fact, ◌&◌, each}
 use Rattle.typing_rules.specs.Promises.{is_plain_name}
-use Rattle.src_ast.specs.Syntax.{FieldsKind, Unit_, Word, Syn, syn, Shape, Path, Minus, Bang, Star, Ampersand, Calculate, Compare, Both, Either, Store, CallOf, MethodOf, FieldOf, PartOf, ElementOf, StructOf, FieldInit, Parens, TupleOf, ArrayOf, Braces, IfElse, IfLetElse, MatchOn, ArmOf, LoopOf, WhileOf, WhileLetOf, BreakOf, ReturnOf, MoveOf, SelfParam, LetOf, Semi, FnItem, StructItem, EnumItem, VariantDecl, TraitItem, ImplItem, list_of, Syns, no_syn, a_syn, MaybeSyn, nothing, just}
+use Rattle.src_ast.specs.Syntax.{Word, FieldsKind, Unit_, Syn, syn, Shape, AnExpression, AStatement, AnItem, AParam, AVariant, AnInit, AnArm, Expression, Path, Minus, Bang, Star, Ampersand, Calculate, Compare, Both, Either, Store, CallOf, MethodOf, FieldOf, PartOf, ElementOf, StructOf, Parens, TupleOf, ArrayOf, Braces, IfElse, IfLetElse, MatchOn, LoopOf, WhileOf, WhileLetOf, BreakOf, ReturnOf, MoveOf, LetOf, Semi, StructItem, EnumItem, TraitItem, ImplItem, FnItem, SelfParam, list_of, Syns, no_syn, a_syn, MaybeSyn, nothing, just}
 
 abbrev pub is_plain : Option Word → Bool
 is_plain None = true
 is_plain (Some name) = is_plain_name name
 
 abbrev pub is_block : Syn → Bool
-is_block (syn at (Braces statements tail)) = true
+is_block (syn at (AnExpression (Braces statements tail))) = true
 is_block _ = false
 
 -- `self` stands nowhere but first
 abbrev pub no_self : Syns → Bool
 no_self no_syn = true
-no_self (a_syn (syn at (SelfParam receiver)) rest) = false
+no_self (a_syn (syn at (AParam (SelfParam receiver))) rest) = false
 no_self (a_syn (syn at form) rest) = no_self rest
 
 abbrev pub self_first : Syns → Bool
 self_first no_syn = true
-self_first (a_syn (syn at (SelfParam receiver)) rest) = no_self rest
+self_first (a_syn (syn at (AParam (SelfParam receiver))) rest) = no_self rest
 self_first (a_syn (syn at form) rest) = no_self rest
 
 abbrev mutual
@@ -30,41 +30,46 @@ abbrev mutual
   shaped (syn at form) = shaped_form form
 
   pub shaped_form : Shape → Claim
-  shaped_form (Path first second) = fact (is_plain first) & fact (is_plain second)
-  shaped_form (Minus operand) = shaped operand
-  shaped_form (Bang operand) = shaped operand
-  shaped_form (Star operand) = shaped operand
-  shaped_form (Ampersand unique operand) = shaped operand
-  shaped_form (Calculate operator left right) = shaped left & shaped right
-  shaped_form (Compare operator left right) = shaped left & shaped right
-  shaped_form (Both left right) = shaped left & shaped right
-  shaped_form (Either left right) = shaped left & shaped right
-  shaped_form (Store place value) = shaped place & shaped value
-  shaped_form (CallOf callee args) = shaped callee & all_shaped args
-  shaped_form (MethodOf receiver name args) = shaped receiver & all_shaped args
-  shaped_form (FieldOf base name) = shaped base
-  shaped_form (PartOf base number) = shaped base
-  shaped_form (ElementOf base index) = shaped base & shaped index
-  shaped_form (StructOf first second inits) = all_shaped inits
-  shaped_form (FieldInit name value) = maybe_shaped value
-  shaped_form (Parens inside) = shaped inside
-  shaped_form (TupleOf parts) = all_shaped parts
-  shaped_form (ArrayOf elements) = all_shaped elements
-  shaped_form (Braces statements tail) = all_shaped statements & maybe_shaped tail
-  shaped_form (IfElse condition body otherwise) = shaped condition & shaped body & maybe_shaped otherwise
-  shaped_form (IfLetElse pattern scrutinee body otherwise) = shaped scrutinee & shaped body & maybe_shaped otherwise
-  shaped_form (MatchOn scrutinee arms) = shaped scrutinee & all_shaped arms
-  shaped_form (ArmOf pattern guard body) = maybe_shaped guard & shaped body
-  shaped_form (LoopOf label body) = shaped body
-  shaped_form (WhileOf label condition body) = shaped condition & shaped body
-  shaped_form (WhileLetOf label pattern scrutinee body) = shaped scrutinee & shaped body
-  shaped_form (BreakOf label value) = maybe_shaped value
-  shaped_form (ReturnOf value) = maybe_shaped value
-  shaped_form (MoveOf captures params answer body) =
-      fact (is_block body) & fact (no_self params) & shaped body
-  shaped_form (LetOf pattern ty value) = maybe_shaped value
-  shaped_form (Semi expression) = shaped expression
+  shaped_form (AnExpression e) = shaped_expression e
+  shaped_form (AStatement (LetOf pattern ty value)) = maybe_shaped value
+  shaped_form (AStatement (Semi expression)) = shaped expression
+  shaped_form (AnInit name value) = maybe_shaped value
+  shaped_form (AnArm pattern guard body) = maybe_shaped guard & shaped body
   shaped_form _ = fact true
+
+  pub shaped_expression : Expression → Claim
+  shaped_expression (Path first second) = fact (is_plain first) & fact (is_plain second)
+  shaped_expression (Minus operand) = shaped operand
+  shaped_expression (Bang operand) = shaped operand
+  shaped_expression (Star operand) = shaped operand
+  shaped_expression (Ampersand unique operand) = shaped operand
+  shaped_expression (Calculate operator left right) = shaped left & shaped right
+  shaped_expression (Compare operator left right) = shaped left & shaped right
+  shaped_expression (Both left right) = shaped left & shaped right
+  shaped_expression (Either left right) = shaped left & shaped right
+  shaped_expression (Store place value) = shaped place & shaped value
+  shaped_expression (CallOf callee args) = shaped callee & all_shaped args
+  shaped_expression (MethodOf receiver name args) = shaped receiver & all_shaped args
+  shaped_expression (FieldOf base name) = shaped base
+  shaped_expression (PartOf base number) = shaped base
+  shaped_expression (ElementOf base index) = shaped base & shaped index
+  shaped_expression (StructOf first second inits) = all_shaped inits
+  shaped_expression (Parens inside) = shaped inside
+  shaped_expression (TupleOf parts) = all_shaped parts
+  shaped_expression (ArrayOf elements) = all_shaped elements
+  shaped_expression (Braces statements tail) = all_shaped statements & maybe_shaped tail
+  shaped_expression (IfElse condition body otherwise) = shaped condition & shaped body & maybe_shaped otherwise
+  shaped_expression (IfLetElse pattern scrutinee body otherwise) =
+      shaped scrutinee & shaped body & maybe_shaped otherwise
+  shaped_expression (MatchOn scrutinee arms) = shaped scrutinee & all_shaped arms
+  shaped_expression (LoopOf label body) = shaped body
+  shaped_expression (WhileOf label condition body) = shaped condition & shaped body
+  shaped_expression (WhileLetOf label pattern scrutinee body) = shaped scrutinee & shaped body
+  shaped_expression (BreakOf label value) = maybe_shaped value
+  shaped_expression (ReturnOf value) = maybe_shaped value
+  shaped_expression (MoveOf captures params answer body) =
+      fact (is_block body) & fact (no_self params) & shaped body
+  shaped_expression _ = fact true
 
   pub all_shaped : Syns → Claim
   all_shaped no_syn = fact true
@@ -80,7 +85,7 @@ body_shaped nothing = fact true
 body_shaped (just body) = fact (is_block body) & shaped body
 
 abbrev pub function_shaped : Syn → Claim
-function_shaped (syn at (FnItem name params answer block)) = fact (self_first params) & body_shaped block
+function_shaped (syn at (AnItem (FnItem name params answer block))) = fact (self_first params) & body_shaped block
 function_shaped _ = fact true
 
 -- what is written without parts has none
@@ -89,14 +94,14 @@ has_kind Unit_ (a_syn first rest) = false
 has_kind kind fields = true
 
 abbrev pub variant_shaped : Syn → Claim
-variant_shaped (syn at (VariantDecl name kind fields)) = fact (has_kind kind fields)
+variant_shaped (syn at (AVariant name kind fields)) = fact (has_kind kind fields)
 variant_shaped _ = fact true
 
 abbrev pub item_shaped : Syn → Claim
-item_shaped (syn at (StructItem derives name kind fields)) =
+item_shaped (syn at (AnItem (StructItem derives name kind fields))) =
     fact (is_plain_name name.1) & fact (has_kind kind fields)
-item_shaped (syn at (EnumItem derives name variants)) =
+item_shaped (syn at (AnItem (EnumItem derives name variants))) =
     fact (is_plain_name name.1) & each variant_shaped (list_of variants)
-item_shaped (syn at (TraitItem name heads)) = each function_shaped (list_of heads)
-item_shaped (syn at (ImplItem trait_ name methods)) = each function_shaped (list_of methods)
+item_shaped (syn at (AnItem (TraitItem name heads))) = each function_shaped (list_of heads)
+item_shaped (syn at (AnItem (ImplItem trait_ name methods))) = each function_shaped (list_of methods)
 item_shaped item = function_shaped item

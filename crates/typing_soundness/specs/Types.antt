@@ -7,7 +7,7 @@ use Rattle.mir_ty.specs.ItemTable.{ItemTable, type_at}
 use Rattle.typing_rules.specs.Check.{TypingState}
 use Rattle.typing_rules.specs.Places.{unit, never}
 use Rattle.typing_rules.specs.Written.{WrittenScope, written, written_param, number_of, scalar_named, is_box, length_shown, reference_to}
-use Rattle.src_ast.specs.Syntax.{Syn, syn, Shape, NamedType, GenericType, DynType, SelfType, ParensType, TupleType, ArrayType, NeverType, RefType, Syns, no_syn, a_syn}
+use Rattle.src_ast.specs.Syntax.{Syn, syn, AType, WrittenType, NamedType, GenericType, DynType, SelfType, ParensType, TupleType, ArrayType, NeverType, RefType, Syns, no_syn, a_syn}
 
 -- later items have the types of earlier ones
 abbrev pub HaveTypes : ItemTable → ItemTable → Type 0
@@ -42,9 +42,10 @@ IsTupleOf items (t ∷ ts) ty = type_at items ty ≡ Some (Ty.Tuple (t ∷ ts))
 module _ (around : WrittenScope) where
   abbrev mutual
     pub Means : ItemTable → Syn → TyId → Type 0
-    Means items (syn at form) ty = MeansForm items form ty
+    Means items (syn at (AType t)) ty = MeansForm items t ty
+    Means items _ ty = ⊥
 
-    pub MeansForm : ItemTable → Shape → TyId → Type 0
+    pub MeansForm : ItemTable → WrittenType → TyId → Type 0
     MeansForm items (NamedType name) ty =
         NamesTy items (number_of around.adts name) (scalar_named name) ty
     MeansForm items (GenericType name content) ty =
@@ -61,7 +62,6 @@ module _ (around : WrittenScope) where
     MeansForm items NeverType ty = never ≡ ty
     MeansForm items (RefType unique to) ty =
         (inside : TyId) × Means items to inside × (type_at items ty ≡ Some (reference_to unique inside))
-    MeansForm items _ ty = ⊥
 
     pub MeanAll : ItemTable → Syns → List TyId → Type 0
     MeanAll items no_syn [] = Unit {0}

@@ -3,9 +3,9 @@ use Rattle.std.specs.Prelude.{option_map}
 use Rattle.std.specs.Borrow.{Bor}
 use Rattle.typeck_checker.specs.Lists.{below_all, last_nodes}
 use Rattle.typeck_calls.specs.Callees.{callee_seen}
-use Rattle.typeck_calls.specs.CalleeRests.{begun_rest, callee_rest, closure_rest}
+use Rattle.typeck_calls.specs.CalleeRests.{begun_rest, callee_rest}
 use Rattle.typeck_calls.specs.Calls.{Arguments}
-use Rattle.typeck_calls.specs.Rests.{method_rest, receiver_rest}
+use Rattle.typeck_calls.specs.Rests.{receiver_rest}
 use Rattle.typeck_patterns.specs.BindingRests.{value_if}
 use Rattle.typeck_walk.proofs.Lets.{brings, let_done, let_refused}
 use Rattle.typeck_walk.proofs.Inits.{behind_fields, by_tables, named_init, none_given, refused_fields, refused_value}
@@ -20,12 +20,11 @@ use Rattle.typeck_calls.proofs.InitForms.{init_seen}
 use Rattle.typeck_calls.proofs.Turns.{below_more, field_refused, no_more, one_field}
 use Rattle.typeck_calls.specs.Inits.{GivesInit, behind_inits, init_by, one_init, variant_by}
 use Rattle.typeck_calls.specs.StructFields.{numbered_by, variant_of}
-use Rattle.typeck_calls.specs.StructRests.{struct_rest}
 use Rattle.mir_ty.specs.declared.adt.Variant.{Variant}
-use Rattle.src_ast.specs.Syntax.{Shape, Word}
+use Rattle.src_ast.specs.Syntax.{Word, Shape}
 use Rattle.typed_tree.specs.Tree.{Fields}
 use Rattle.typing_rules.specs.Rows as rows_of
-use Rattle.typing_rules.specs.Rows.{Given}
+use Rattle.typing_rules.specs.Rows.{closure_end, Given, method_end, store_end, struct_end}
 use Rattle.typeck_checker.specs.declared.tables.Tables.{Tables}
 use Rattle.typeck_walk.proofs.Begun.{of_form, value_falls, no_nodes_yet}
 use Rattle.typeck_walk.proofs.Arms.{if_let_looked, if_let_refused, matched, none_yet, one_arm, refused_arm, while_let_looked}
@@ -34,17 +33,18 @@ use Rattle.typeck_walk.specs.Matches.{arm_of_syn}
 use Rattle.typeck_patterns.specs.PatternContext.{pattern_context_of}
 use Rattle.typeck_walk.proofs.CallSteps.{behind_args, closure_called, method_called, refused_args}
 use Rattle.typing_rules.specs.Named.{method_named}
-use Rattle.typeck_walk.proofs.Statements.{below_statement, block_left, grown_length, grows_on, one_statement, scope_left, scoped_grows}
+use Rattle.typeck_walk.proofs.Statements.{below_statement, block_left, grown_length, grows_on, one_statement, scope_left, scoped_grows, statement_by}
 use Rattle.typeck_walk.proofs.Stores.{borrowed, calculated, compared, stored}
-use Rattle.typeck_walk.proofs.Jumps.{broken_out}
+use Rattle.typeck_walk.proofs.Jumps.{broken_out, returned_alone}
 use Rattle.typeck_walk.specs.Bases.{plain_base}
+use Rattle.typeck_walk.specs.Blocks.{GivesStatement}
 use Rattle.typeck_exprs.specs.Jumps.{target_of, unlabelled}
-use Rattle.typeck_exprs.specs.Rests.{store_rest}
 use Rattle.mir_ty.specs.declared.ty.TyId.{TyId}
 use Rattle.typeck_env.specs.Scope.{word_in}
 use Rattle.typed_tree.specs.Tree as tree
 use Rattle.well_typed.specs.Places.{ty_of}
-use Rattle.typeck_exprs.specs.Forms.{value_as}
+use Rattle.typeck_exprs.specs.Forms.{place_by, value_as}
+use Rattle.typeck_exprs.specs.declared.place_forms.PlaceForm.{PlaceForm}
 use Rattle.typeck_exprs.specs.Sizes.{sizes}
 use Rattle.typeck_heads.specs.Answers.{Refuses}
 use Rattle.typeck_exprs.proofs.Lists.{below_next, below_part, one_argument, one_element, one_part, refused_argument, refused_part}
@@ -190,6 +190,40 @@ expressions::check_value-returns-in-Block-clause-gives t c =
     subst (λ (f : ExpressionForm). Gives (value_as (env c.args.checker.now) c.args.at (expression_of f) c.args.expected (state c.args.checker.now)) c.check_block.result c.check_block.new.checker)
     (sym c.in-Block.is) c.check_block.ensures.gives
 
+pub expressions::check_place-returns-in-Element-clause-gives : goal.expressions::check_place-returns-in-Element-clause-gives
+expressions::check_place-returns-in-Element-clause-gives t c =
+    subst (λ (f : PlaceForm). Gives (place_by (env c.args.checker.now) f (state c.args.checker.now)) c.check_index.result c.check_index.new.checker)
+    (sym c.in-Element.is) c.check_index.ensures.gives
+
+pub blocks::check_statement-returns-in-Let-clause-gives : goal.blocks::check_statement-returns-in-Let-clause-gives
+blocks::check_statement-returns-in-Let-clause-gives t c =
+    let before = c.args.checker.now in
+    subst (λ o. GivesStatement o c.check_let.result c.check_let.new.checker)
+    (sym (statement_by (env before) c.args.node.now (state before) c.statement_form.result _ c.statement_form.ensures c.in-Let.is))
+    c.check_let.ensures.gives
+
+pub blocks::check_statement-returns-in-Semi-clause-gives : goal.blocks::check_statement-returns-in-Semi-clause-gives
+blocks::check_statement-returns-in-Semi-clause-gives t c =
+    let before = c.args.checker.now in
+    subst (λ o. GivesStatement o c.evaluate.result c.evaluate.new.checker)
+    (sym (statement_by (env before) c.args.node.now (state before) c.statement_form.result _ c.statement_form.ensures c.in-Semi.is))
+    c.evaluate.ensures.gives
+
+pub blocks::check_statement-returns-in-Other-clause-gives : goal.blocks::check_statement-returns-in-Other-clause-gives
+blocks::check_statement-returns-in-Other-clause-gives t c =
+    let before = c.args.checker.now in
+    subst (λ o. GivesStatement o c.evaluate-in-Other.result c.evaluate-in-Other.new.checker)
+    (sym (statement_by (env before) c.args.node.now (state before) c.statement_form.result _ c.statement_form.ensures c.in-Other.is))
+    c.evaluate-in-Other.ensures.gives
+
+pub loops::check_return-returns-in-None-clause-gives : goal.loops::check_return-returns-in-None-clause-gives
+loops::check_return-returns-in-None-clause-gives t c =
+    let before = c.args.checker.now in
+    let middle = c.number.new.self in
+    subst (λ (o : Result (tree.Node × TypingState) Broken). Gives o c.return_alone_end.result c.return_alone_end.new.checker)
+    (sym (returned_alone (env before) (env middle) c.args.at c.args.value c.args.expected c.in_ok-id.id.0 (state before) (state middle) c.in-None.is c.in_ok-id.ensures.number c.in_ok-id.ensures.same.1.0))
+    c.return_alone_end.ensures.gives
+
 pub loops::check_break-returns-in_ok-check_expr-in-Some-clause-gives : goal.loops::check_break-returns-in_ok-check_expr-in-Some-clause-gives
 loops::check_break-returns-in_ok-check_expr-in-Some-clause-gives t c =
     let before = c.args.checker.now in
@@ -225,7 +259,7 @@ operators::check_assignment-returns-clause-gives t c =
     subst (λ (o : Result (tree.Node × TypingState) Broken). Gives o c.store_end.result c.store_end.new.checker)
     (sym (stored e (env after) c.args.at (rules_of.base_of e (syn_of c.args.place.now)) (rules_of.typed e (syn_of c.args.value.now)) c.args.expected c.in_ok-id.id.0 (top (stack middle)) (top (stack after))
     (state before) (state c.number.new.self) (state middle) (state after) c.in_ok-id.ensures.number place value third
-    ∙ ap (λ (ns : List tree.Node). store_rest (env after) c.in_ok-id.id.0 c.args.at c.args.expected (top ns) (top (stack after)) (state after)) (sym under)))
+    ∙ ap (λ (ns : List tree.Node). store_end (env after) c.in_ok-id.id.0 c.args.at c.args.expected (top ns) (top (stack after)) (state after)) (sym under)))
     c.store_end.ensures.gives
 
 -- ---- references
@@ -273,7 +307,7 @@ calls::closure_behind-returns-clause-gives t c =
     let here : arguments callee.params (state before) ≡ Ok (last_nodes c.in_ok-count.count (stack after), state after) =
     ap (λ (ps : List TyId). rules_of.typed_args (env before) ps (nodes_of c.args.args) (state before)) (sym c.as_slice.ensures) ∙ c.in_ok-count.ensures.gives in
     subst (λ (o : Result (tree.Node × TypingState) Broken). Gives o c.closure_end.result c.closure_end.new.checker)
-    (sym (behind_args (closure_rest c.args.id.0 c.args.at c.args.expected (top (stack before))) arguments callee.params (callee_rest c.args.id.0 c.args.at c.args.expected callee) (top (stack before)) count c.in_ok-count.count (last_nodes c.in_ok-count.count (stack after))
+    (sym (behind_args (closure_end c.args.id.0 c.args.at c.args.expected (top (stack before))) arguments callee.params (callee_rest c.args.id.0 c.args.at c.args.expected callee) (top (stack before)) count c.in_ok-count.count (last_nodes c.in_ok-count.count (stack after))
     (state before) (state before) (state after) (c.in_ok-callee.ensures.gives c.args.id.0 c.args.at c.args.expected count arguments) here c.in_ok-count.ensures.counted
     ∙ ap (λ (ns : List tree.Node). callee_rest c.args.id.0 c.args.at c.args.expected callee (top ns) c.in_ok-count.count (last_nodes c.in_ok-count.count (stack after)) (state after)) (sym c.in_ok-count.ensures.kept.0)))
     c.closure_end.ensures.gives
@@ -290,7 +324,7 @@ calls::closure_call-returns-clause-gives t c =
     subst (λ (o : Result (tree.Node × TypingState) Broken). Gives o c.closure_behind.result c.closure_behind.new.checker)
     (sym (closure_called c.args.at (count_of (nodes_of c.args.args)) (rules_of.typed (env before) (syn_of c.args.callee.now) None) (arguments (env before)) c.args.expected c.in_ok-id.id.0 (top (stack after))
     (state before) (state middle) (state after) c.in_ok-id.ensures.number value
-    ∙ ap (λ (f : Env). closure_rest c.in_ok-id.id.0 c.args.at c.args.expected (top (stack after)) (count_of (nodes_of c.args.args)) (arguments f) (state after)) (sym (c.in_ok-check_expr.ensures.kept.1.0 ∙ same))))
+    ∙ ap (λ (f : Env). closure_end c.in_ok-id.id.0 c.args.at c.args.expected (top (stack after)) (count_of (nodes_of c.args.args)) (arguments f) (state after)) (sym (c.in_ok-check_expr.ensures.kept.1.0 ∙ same))))
     c.closure_behind.ensures.gives
 
 pub calls::method_behind-returns-clause-gives : goal.calls::method_behind-returns-clause-gives
@@ -305,7 +339,7 @@ calls::method_behind-returns-clause-gives t c =
     ap (λ (f : Env). rules_of.typed_args f receiver.params (nodes_of c.args.args) (state middle)) (sym c.in_ok-receiver.ensures.kept.1.0)
     ∙ ap (λ (ps : List TyId). rules_of.typed_args (env middle) ps (nodes_of c.args.args) (state middle)) (sym c.as_slice.ensures) ∙ c.in_ok-count.ensures.gives in
     subst (λ (o : Result (tree.Node × TypingState) Broken). Gives o c.method_end.result c.method_end.new.checker)
-    (sym (behind_args (method_rest (env before) c.args.id.0 c.args.at (method_named c.args.name.now) c.args.expected (top (stack before))) arguments receiver.params (receiver_rest c.args.id.0 c.args.at c.args.expected receiver) (top (stack middle)) count c.in_ok-count.count (last_nodes c.in_ok-count.count (stack after))
+    (sym (behind_args (method_end (env before) c.args.id.0 c.args.at (method_named c.args.name.now) c.args.expected (top (stack before))) arguments receiver.params (receiver_rest c.args.id.0 c.args.at c.args.expected receiver) (top (stack middle)) count c.in_ok-count.count (last_nodes c.in_ok-count.count (stack after))
     (state before) (state middle) (state after) (c.in_ok-receiver.ensures.gives c.args.id.0 c.args.expected count arguments) here c.in_ok-count.ensures.counted
     ∙ ap (λ (ns : List tree.Node). receiver_rest c.args.id.0 c.args.at c.args.expected receiver (top ns) c.in_ok-count.count (last_nodes c.in_ok-count.count (stack after)) (state after)) (sym c.in_ok-count.ensures.kept.0)))
     c.method_end.ensures.gives
@@ -323,7 +357,7 @@ calls::check_method_call-returns-clause-gives t c =
     subst (λ (o : Result (tree.Node × TypingState) Broken). Gives o c.method_behind.result c.method_behind.new.checker)
     (sym (method_called e (env after) c.args.at (method_named c.args.name.now) (count_of (nodes_of c.args.args)) (rules_of.base_of e (syn_of c.args.receiver.now)) (arguments e) c.args.expected c.in_ok-id.id.0 (top (stack after))
     (state before) (state middle) (state after) c.in_ok-id.ensures.number base (c.in_ok-check_place_base.ensures.kept.1.0 ∙ same)
-    ∙ ap (λ (f : Env). method_rest (env after) c.in_ok-id.id.0 c.args.at (method_named c.args.name.now) c.args.expected (top (stack after)) (count_of (nodes_of c.args.args)) (arguments f) (state after)) (sym (c.in_ok-check_place_base.ensures.kept.1.0 ∙ same))))
+    ∙ ap (λ (f : Env). method_end (env after) c.in_ok-id.id.0 c.args.at (method_named c.args.name.now) c.args.expected (top (stack after)) (count_of (nodes_of c.args.args)) (arguments f) (state after)) (sym (c.in_ok-check_place_base.ensures.kept.1.0 ∙ same))))
     c.method_behind.ensures.gives
 
 pub calls::call_of-returns-in_err-begun-clause-gives : goal.calls::call_of-returns-in_err-begun-clause-gives
@@ -339,7 +373,7 @@ pub calls::closure_behind-returns-in_err-callee-clause-gives : goal.calls::closu
 calls::closure_behind-returns-in_err-callee-clause-gives t c =
     let before = c.args.checker.now in
     let arguments : Arguments = λ params. rules_of.typed_args (env before) params (nodes_of c.args.args) in
-    let refused : Refuses (closure_rest c.args.id.0 c.args.at c.args.expected (top (stack before)) (count_of (nodes_of c.args.args)) arguments (state before)) c.in_err-callee.field-0.0 =
+    let refused : Refuses (closure_end c.args.id.0 c.args.at c.args.expected (top (stack before)) (count_of (nodes_of c.args.args)) arguments (state before)) c.in_err-callee.field-0.0 =
     c.in_err-callee.ensures.gives c.args.id.0 c.args.at c.args.expected (count_of (nodes_of c.args.args)) arguments in
     grind (arith, refused)
 
@@ -351,8 +385,8 @@ calls::closure_behind-returns-in_err-count-clause-gives t c =
     let arguments : Arguments = λ params. rules_of.typed_args (env before) params (nodes_of c.args.args) in
     let here : Refuses (arguments callee.params (state before)) c.in_err-count.field-0.0 =
     subst (λ (ps : List TyId). Refuses (rules_of.typed_args (env before) ps (nodes_of c.args.args) (state before)) c.in_err-count.field-0.0) c.as_slice.ensures c.in_err-count.ensures.gives in
-    let refused : Refuses (closure_rest c.args.id.0 c.args.at c.args.expected (top (stack before)) count arguments (state before)) c.in_err-count.field-0.0 =
-    refused_args (closure_rest c.args.id.0 c.args.at c.args.expected (top (stack before))) arguments callee.params (callee_rest c.args.id.0 c.args.at c.args.expected callee) (top (stack before)) count
+    let refused : Refuses (closure_end c.args.id.0 c.args.at c.args.expected (top (stack before)) count arguments (state before)) c.in_err-count.field-0.0 =
+    refused_args (closure_end c.args.id.0 c.args.at c.args.expected (top (stack before))) arguments callee.params (callee_rest c.args.id.0 c.args.at c.args.expected callee) (top (stack before)) count
     (state before) (state before) c.in_err-count.field-0.0 (c.in_ok-callee.ensures.gives c.args.id.0 c.args.at c.args.expected count arguments) here in
     grind (arith, refused)
 
@@ -360,7 +394,7 @@ pub calls::method_behind-returns-in_err-receiver-clause-gives : goal.calls::meth
 calls::method_behind-returns-in_err-receiver-clause-gives t c =
     let before = c.args.checker.now in
     let arguments : Arguments = λ params. rules_of.typed_args (env before) params (nodes_of c.args.args) in
-    let refused : Refuses (method_rest (env before) c.args.id.0 c.args.at (method_named c.args.name.now) c.args.expected (top (stack before)) (count_of (nodes_of c.args.args)) arguments (state before)) c.in_err-receiver.field-0.0 =
+    let refused : Refuses (method_end (env before) c.args.id.0 c.args.at (method_named c.args.name.now) c.args.expected (top (stack before)) (count_of (nodes_of c.args.args)) arguments (state before)) c.in_err-receiver.field-0.0 =
     c.in_err-receiver.ensures.gives c.args.id.0 c.args.expected (count_of (nodes_of c.args.args)) arguments in
     grind (arith, refused)
 
@@ -665,9 +699,9 @@ structs::struct_row-returns-clause-gives t c =
     ∙ ap (λ (types : List TyId). rules_of.typed_inits (env middle) (variant_by made.name middle.tables c.args.adt c.args.variant types) (nodes_of c.args.inits) (state middle)) (sym c.as_slice.ensures)
     ∙ c.in_ok-given.ensures.gives made.name in
     subst (λ (o : Result (tree.Node × TypingState) Broken). Gives o c.struct_end.result c.struct_end.new.checker)
-    (sym (behind_fields (λ fs. rows_of.struct_row c.args.at c.args.adt c.args.variant made.fields fs c.args.expected) (struct_rest begun.id.0 c.args.at c.args.adt c.args.variant begun.ty (length begun.types) c.args.expected) fields _ (state before) (state middle) (state after)
+    (sym (behind_fields (λ fs. rows_of.struct_row c.args.at c.args.adt c.args.variant made.fields fs c.args.expected) (struct_end begun.id.0 c.args.at c.args.adt c.args.variant begun.ty (length begun.types) c.args.expected) fields _ (state before) (state middle) (state after)
     (c.in_ok-begun.ensures.gives c.args.at c.args.expected fields) here
-    ∙ ap (λ (l : Given). struct_rest begun.id.0 c.args.at c.args.adt c.args.variant begun.ty (length begun.types) c.args.expected (numbered_by l (last_nodes (length l) (stack after)), l) (state after)) (sym c.as_slice-2.ensures)))
+    ∙ ap (λ (l : Given). struct_end begun.id.0 c.args.at c.args.adt c.args.variant begun.ty (length begun.types) c.args.expected (numbered_by l (last_nodes (length l) (stack after)), l) (state after)) (sym c.as_slice-2.ensures)))
     c.struct_end.ensures.gives
 
 pub structs::struct_row-returns-in_err-begun-clause-gives : goal.structs::struct_row-returns-in_err-begun-clause-gives
@@ -693,7 +727,7 @@ structs::struct_row-returns-in_err-given-clause-gives t c =
     let here : Refuses (fields (state middle)) c.in_err-given.field-0.0 =
     subst (λ (o : Result ((Fields × Given) × TypingState) Broken). Refuses o c.in_err-given.field-0.0) same (c.in_err-given.ensures.gives made.name) in
     let refused : Refuses (rows_of.struct_row c.args.at c.args.adt c.args.variant made.fields fields c.args.expected (state before)) c.in_err-given.field-0.0 =
-    refused_fields (λ fs. rows_of.struct_row c.args.at c.args.adt c.args.variant made.fields fs c.args.expected) (struct_rest begun.id.0 c.args.at c.args.adt c.args.variant begun.ty (length begun.types) c.args.expected) fields (state before) (state middle) c.in_err-given.field-0.0
+    refused_fields (λ fs. rows_of.struct_row c.args.at c.args.adt c.args.variant made.fields fs c.args.expected) (struct_end begun.id.0 c.args.at c.args.adt c.args.variant begun.ty (length begun.types) c.args.expected) fields (state before) (state middle) c.in_err-given.field-0.0
     (c.in_ok-begun.ensures.gives c.args.at c.args.expected fields) here in
     grind (arith, refused)
 

@@ -27,7 +27,7 @@ use Rattle.typing_rules.specs.Patterns as rules
 use Rattle.typing_rules.specs.Promises.{Extends, IsReady, AreReady, Gives, are_bound, AreFresh, AreReadyTypes, IsPattern, SoundMatcher}
 use Rattle.typing_rules.specs.Rows.{PatternContext, Given, numbered_fields, are_known, all_given}
 use Rattle.typing_rules.specs.Scope.{Env, NamedEntry, adt_named, adt_at_head, variant_named, field_named, kind_at}
-use Rattle.src_ast.specs.Syntax.{Word, Syn, syn, Shape, AnyPattern, BindPattern, LiteralPattern, TruthPattern, PathPattern, PartsPattern, FieldsPattern, FieldPattern, ParensPattern, TuplePattern, ArrayPattern, Alternatives, Syns, no_syn, a_syn, nothing, just}
+use Rattle.src_ast.specs.Syntax.{Word, Syn, syn, APattern, AFieldPattern, Pattern, AnyPattern, BindPattern, LiteralPattern, TruthPattern, PathPattern, PartsPattern, FieldsPattern, ParensPattern, TuplePattern, ArrayPattern, Alternatives, Syns, no_syn, a_syn, nothing, just}
 use Rattle.typing_rules.proofs.Sound.Bindings.{Binds, binds_none, binds_join}
 use Rattle.typing_rules.proofs.Sound.Fitted.{same_self}
 use Rattle.typing_rules.proofs.Sound.Gives.{◌⋆◌, bind, weaker, with_ready, given, gives_nothing, obeyed, found, after_number, numbered, grows_trans, grows_refl}
@@ -407,9 +407,10 @@ mutual
   pub pattern_sound : (env : Env) (e : PatternContext) (ty : TyId) (p : Syn) (earlier : List NamedEntry) (s : TypingState) → IsReady
       s.items ty →
       Gives s (IsAfter e ty earlier s.next_node) (rules.pattern env e ty p earlier s)
-  pattern_sound env e ty (syn at form) earlier s ready = form_sound env e ty at form earlier s ready
+  pattern_sound env e ty (syn at (APattern p)) earlier s ready = form_sound env e ty at p earlier s ready
+  pattern_sound env e ty (syn at _) earlier s ready = gives_nothing Rule.T20 at
 
-  form_sound : (env : Env) (e : PatternContext) (ty : TyId) (at : Pos) (form : Shape) (earlier : List NamedEntry) (s : TypingState) →
+  form_sound : (env : Env) (e : PatternContext) (ty : TyId) (at : Pos) (form : Pattern) (earlier : List NamedEntry) (s : TypingState) →
       IsReady
       s.items ty → Gives s (IsAfter e ty earlier s.next_node) (rules.pattern_form env e ty at form earlier s)
   form_sound env e ty at AnyPattern earlier s = λ ready. wildcard_sound at e ty earlier s
@@ -479,7 +480,6 @@ mutual
             place for;
         binds = under earlier s.next_node (suc s.next_node) (nodes_among b.0) _ w b.1 (omega arith) refl refl is.binds;
       })
-  form_sound env e ty at _ earlier s = λ ready. gives_nothing Rule.T20 at
 
   parts_sound : (env : Env) (e : PatternContext) (tys : List TyId) (parts : Syns) (earlier : List NamedEntry) (s : TypingState) → ((n :
       ℕ) (t :
@@ -564,11 +564,11 @@ mutual
       (t : TyId)
       → slice_get v.fields k ≡ Some t → IsReady s.items t) → Gives s (IsFieldAfter e v.fields earlier s.next_node)
       (rules.field_pattern env e v field earlier s)
-  field_sound env e v (syn at (FieldPattern name nothing)) earlier s = λ ready.
+  field_sound env e v (syn at (AFieldPattern name nothing)) earlier s = λ ready.
       field_by_sound e v name earlier (λ ty. rules.bind at e ty name earlier) s (λ k t is. bind_sound at e t name
       earlier s (ready
       k t is))
-  field_sound env e v (syn at (FieldPattern name (just inside))) earlier s = λ ready.
+  field_sound env e v (syn at (AFieldPattern name (just inside))) earlier s = λ ready.
       field_by_sound e v name earlier (λ ty. rules.pattern env e ty inside earlier) s (λ k t is. pattern_sound env e t
       inside
       earlier s (ready k t is))

@@ -14,7 +14,7 @@ use Rattle.typing_rules.specs.Places.{a_node_of}
 use Rattle.typing_rules.specs.Promises.{Then, Fact, Gives}
 use Rattle.typing_rules.specs.Rows.{PatternContext, is_signed_kind, most, all_given, are_known}
 use Rattle.typing_rules.specs.Scope.{Env, NamedEntry, adt_named, kind_at, variable}
-use Rattle.src_ast.specs.Syntax.{Word, Syn, syn, Shape, AnyPattern, BindPattern, LiteralPattern, TruthPattern, PathPattern, PartsPattern, FieldsPattern, ParensPattern, TuplePattern, ArrayPattern, Alternatives}
+use Rattle.src_ast.specs.Syntax.{Word, Syn, syn, APattern, Pattern, AnyPattern, BindPattern, LiteralPattern, TruthPattern, PathPattern, PartsPattern, FieldsPattern, ParensPattern, TuplePattern, ArrayPattern, Alternatives}
 use Rattle.typing_rules.specs.Typed as typing
 use Rattle.typing_rules.proofs.Sound.AllPatterns.{matcher_sound}
 use Rattle.std.specs.Prelude.{is_some}
@@ -146,9 +146,10 @@ mutual
   one_name : (env : Env) (e : PatternContext) (ty : TyId) (p : Syn) (earlier : List NamedEntry) (s : TypingState) → Shows (Is
       (typing.is_one_name s.items p)) (rules.pattern env e ty p
       earlier s)
-  one_name env e ty (syn at form) earlier s = one_form env e ty at form earlier s
+  one_name env e ty (syn at (APattern p)) earlier s = one_form env e ty at p earlier s
+  one_name env e ty _ earlier s = record { so = tt }
 
-  one_form : (env : Env) (e : PatternContext) (ty : TyId) (at : Pos) (form : Shape) (earlier : List NamedEntry) (s : TypingState) →
+  one_form : (env : Env) (e : PatternContext) (ty : TyId) (at : Pos) (form : Pattern) (earlier : List NamedEntry) (s : TypingState) →
       Shows (Is (typing.is_one_name_form s.items form))
       (rules.pattern_form env e ty at form earlier s)
   one_form env e ty at AnyPattern earlier s = ends refl
@@ -190,7 +191,6 @@ mutual
       obeyed_on Rule.T20 at (nat_lt 1 (rules.count_of patterns)) _ (skip (rules.each_pattern env e ty patterns earlier
       (numbered
       s)) λ ps u. obeyed_on Rule.T18 at (not (rules.has_names earlier ps.1)) _ (ends refl))
-  one_form env e ty at _ earlier s = record { so = tt }
 
 both_give : {A : Type 0} {s : TypingState} {Q : Fact A} (P : A → Type 0) (r : Result (A × TypingState) Broken) → Gives s Q r →
     Shows (λ a t. P
@@ -216,9 +216,10 @@ module _ (old new : ItemTable) (e : new.adts ≡ old.adts) where
 
   mutual
     one_same : (p : Syn) → typing.is_one_name new p ≡ typing.is_one_name old p
-    one_same (syn at form) = one_same_form form
+    one_same (syn at (APattern p)) = one_same_form p
+    one_same _ = refl
 
-    one_same_form : (form : Shape) → typing.is_one_name_form new form ≡ typing.is_one_name_form old form
+    one_same_form : (form : Pattern) → typing.is_one_name_form new form ≡ typing.is_one_name_form old form
     one_same_form (BindPattern name) = ap not (one_lone name)
     one_same_form (ParensPattern inside) = one_same inside
     one_same_form _ = refl

@@ -14,7 +14,7 @@ use Rattle.typing_rules.specs.Check.{TypingState, interned}
 use Rattle.typing_rules.specs.Places.{int, bool}
 use Rattle.typing_rules.specs.Promises.{IsReady, IsAlone, AreReady, Gives}
 use Rattle.typing_rules.specs.RowPromises.{IsMade}
-use Rattle.src_ast.specs.Syntax.{Word, Syn, syn, Shape, NamedType, GenericType, DynType, SelfType, ParensType, TupleType, ArrayType, NeverType, RefType, Syns, no_syn, a_syn}
+use Rattle.src_ast.specs.Syntax.{Word, Syn, syn, AType, WrittenType, NamedType, GenericType, DynType, SelfType, ParensType, TupleType, ArrayType, NeverType, RefType, Syns, no_syn, a_syn}
 use Rattle.typing_rules.specs.Written as rules
 use Rattle.typing_rules.specs.Written.{WrittenScope}
 use Rattle.typing_rules.proofs.Sound.Constructors.{tuple_made, array_made}
@@ -128,9 +128,10 @@ named_sound at adt None s alone = found Rule.T01 at adt _ λ n h. adt_sound n s
 module _ (around : WrittenScope) (limits : around.has_limits ≡ true) where
   mutual
     pub written_sound : (ty : Syn) (s : TypingState) → Gives s (λ w t. IsAlone w.items t) (rules.written around ty s)
-    written_sound (syn at form) s = written_form_sound at form s
+    written_sound (syn at (AType t)) s = written_form_sound at t s
+    written_sound (syn at _) s = gives_nothing Rule.T20 at
 
-    written_form_sound : (at : Pos) (form : Shape) (s : TypingState) → Gives s (λ w t. IsAlone w.items t)
+    written_form_sound : (at : Pos) (form : WrittenType) (s : TypingState) → Gives s (λ w t. IsAlone w.items t)
         (rules.written_form around at
         form s)
     written_form_sound at (NamedType name) s =
@@ -168,7 +169,6 @@ module _ (around : WrittenScope) (limits : around.has_limits ≡ true) where
         bind (written_sound to s) λ ty t g d.
         obeyed Rule.T08 at (not around.has_limits) _ λ no_limits.
         absurd (let no_ : IsTrue false = subst (λ b. IsTrue (not b)) limits no_limits in cc)
-    written_form_sound at _ s = gives_nothing Rule.T20 at
 
     all_written_sound : (parts : Syns) (s : TypingState) → Gives s (λ w tys. AllAlone tys w) (rules.all_written around parts
         s)

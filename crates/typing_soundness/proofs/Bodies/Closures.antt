@@ -32,7 +32,7 @@ use Rattle.typing_rules.specs.Rows.{taken, taking}
 use Rattle.typing_rules.specs.Scope.{Env, NamedEntry, VariableMeaning, Local, Capture, InGuard, variable}
 use Rattle.typing_rules.specs.Typed as typing
 use Rattle.typing_rules.specs.Written as types
-use Rattle.src_ast.specs.Syntax.{Word, Syn, syn, Ident, Syns, no_syn, a_syn, MaybeSyn}
+use Rattle.src_ast.specs.Syntax.{Word, Syn, syn, AName, Syns, no_syn, a_syn, MaybeSyn}
 use Rattle.typing_rules.proofs.Sound.Fitted.{leaf_ends, same_self}
 use Rattle.typing_rules.proofs.Sound.Gives.{◌⋆◌, then_map, bind, weaker, with_ready, obeyed, found, given, after_number, numbered, grows_refl, grows_trans, grows_number, knows_later, items_later}
 use Rattle.typing_rules.proofs.Sound.Interned.{interned_sound, made_held}
@@ -99,7 +99,7 @@ named name ty k = record { name = name; ty = ty; meaning = Capture 0 k }
 
 capture_sound : (env : Env) (k : ℕ) (e : Syn) (earlier : List NamedEntry) (s : TypingState) → Knows env s → Gives s (λ w c.
     IsCaptured env k earlier w (a_node c.0 no_node, c.1)) (bodies.capture env k e earlier s)
-capture_sound env k (syn at (Ident name)) earlier s knows =
+capture_sound env k (syn at (AName name)) earlier s knows =
     obeyed Rule.T01 at (bodies.is_captured name env.variables) _ λ there.
     obeyed Rule.T02 at (not (bodies.is_captured name earlier)) _ λ new_name.
     found Rule.T01 at (variable env.variables name) _ λ x is.

@@ -22,7 +22,7 @@ use Rattle.typing_rules.specs.Promises.{Extends, IsBelow, IsReady, IsAlone, AreR
 use Rattle.typing_rules.specs.Rows.{block_ty}
 use Rattle.typing_rules.specs.Scope.{Env, NamedEntry, with_variables}
 use Rattle.typing_rules.specs.Typed as typing
-use Rattle.src_ast.specs.Syntax.{Syn, syn, Braces, MaybeSyn, nothing, just}
+use Rattle.src_ast.specs.Syntax.{Syn, syn, AnExpression, Braces, MaybeSyn, nothing, just}
 use Rattle.typing_rules.proofs.Sound.Bindings.{words}
 use Rattle.typing_rules.proofs.Sound.Fitted.{same_self}
 use Rattle.typing_rules.proofs.Sound.Gives.{numbered, with_ready, given}
@@ -113,7 +113,7 @@ IsBlock n = (statements : tree.Nodes) × (tail : tree.MaybeNode) × (form_of n �
 
 pub block_shape : (env : Env) (e : Syn) → IsTrue (is_block e) → (expected : Option TyId) (s : TypingState) → Walked (λ n t.
     IsBlock n) (typing.typed env e expected s)
-block_shape env (syn at (Braces statements tail)) h expected s =
+block_shape env (syn at (AnExpression (Braces statements tail))) h expected s =
     walk (any (typing.typed_all env statements (numbered s))) λ done t _. walk (any (typing.typed_maybe done.2 tail expected
     t)) λ last u _. walk_obeyed Rule.T03 at (agrees u.items expected (block_ty last done.1)) _ λ _. walk_ends (
       done.0,

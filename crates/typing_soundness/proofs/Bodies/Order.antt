@@ -22,7 +22,7 @@ use Rattle.typing_rules.specs.Items.{items_of, item_syns}
 use Rattle.typing_rules.specs.Program as rules
 use Rattle.typing_rules.specs.Scope.{Env, adt_named, body_named}
 use Rattle.typing_rules.specs.Written as types
-use Rattle.src_ast.specs.Syntax.{Word, Named, Syn, syn, StructItem, EnumItem, FieldDecl, VariantDecl, TraitItem, ImplItem, FnItem, Syns, list_of, MaybeSyn, nothing, just}
+use Rattle.src_ast.specs.Syntax.{Word, Named, Syn, syn, AnItem, AField, AVariant, StructItem, EnumItem, TraitItem, ImplItem, FnItem, Syns, list_of, MaybeSyn, nothing, just}
 use Rattle.typing_soundness.specs.Closures.{BodySyn, Function, WrittenHead, Tape, closures_if_any, function_text, functions_text, around_impl, item_text, items_text, program_text}
 use Rattle.typing_soundness.specs.Met.{AreTypesOf, HaveClosures, IsBodyOf, AreMade, Met, types_of}
 use Rattle.typing_soundness.specs.Types.{HaveTypes}
@@ -133,7 +133,7 @@ module _ (env : Env) where
   type_keeps ty s = walk_map (written_still (bodies.all_rules env) ty s) λ t u e. adds_stays e.stays
 
   field_keeps : (earlier : List Word) (f : Syn) (s : TypingState) → Keeps no_closure s (rules.field env earlier f s)
-  field_keeps earlier (syn at (FieldDecl name ty)) s =
+  field_keeps earlier (syn at (AField name ty)) s =
       then_ (type_keeps ty s) λ _ t. walk_obeyed Rule.T02 at (not (is_among name earlier)) _ λ _. walk_ends (adds_none
       t)
   field_keeps earlier (syn at form) s = then_ (type_keeps (syn at form) s) λ _ t. walk_ends {a = earlier} (adds_none t)
@@ -144,7 +144,7 @@ module _ (env : Env) where
 
   variants_keep : (earlier : List Word) (vs : List Syn) (s : TypingState) → Keeps no_closure s (rules.variants env earlier vs s)
   variants_keep earlier [] s = walk_ends (adds_none s)
-  variants_keep earlier (syn at (VariantDecl name kind fs) ∷ vs) s =
+  variants_keep earlier (syn at (AVariant name kind fs) ∷ vs) s =
       then_ (fields_keep [] (list_of fs) s) λ _ t. walk_obeyed Rule.T02 at (not (is_among name earlier)) _ λ _.
       walk_obeyed Rule.T19 at (nat_le (rules.count_of fs) 32) _ λ _. variants_keep (name ∷ earlier) vs t
   variants_keep earlier (syn at _ ∷ vs) s = record { so = tt }
@@ -158,7 +158,7 @@ module _ (env : Env) where
 
   trait_heads_keep : (earlier : List Word) (hs : List Syn) (s : TypingState) → Keeps no_closure s (rules.trait_heads env earlier hs s)
   trait_heads_keep earlier [] s = walk_ends (adds_none s)
-  trait_heads_keep earlier (syn at (FnItem name params answer block) ∷ hs) s =
+  trait_heads_keep earlier (syn at (AnItem (FnItem name params answer block)) ∷ hs) s =
       then_ (head_keeps (rules.behind_self params) answer s) λ _ t. walk_obeyed Rule.T02 name.0 (not (is_among name.1
       earlier)) _ λ _. walk_obeyed Rule.T11 at (rules.takes_reference params && not (bytes_eq name.1 (codes "drop"))) _
       λ _. trait_heads_keep (name.1 ∷ earlier) hs t
@@ -167,7 +167,7 @@ module _ (env : Env) where
   method_heads_keep : (trait_ : Option Named) (owner : Word) (seen : rules.Seen) (ms : List Syn) (s : TypingState) → Keeps no_closure s
       (rules.method_heads env trait_ owner seen ms s)
   method_heads_keep trait_ owner seen [] s = walk_ends (adds_none s)
-  method_heads_keep trait_ owner seen (syn at (FnItem name params answer block) ∷ ms) s =
+  method_heads_keep trait_ owner seen (syn at (AnItem (FnItem name params answer block)) ∷ ms) s =
       then_ (head_keeps params answer s) λ _ t. walk_obeyed Rule.T02 name.0 (not (rules.is_seen owner name.1 seen)) _ λ
       _. walk_obeyed Rule.T11 at (rules.has_head t.items trait_ owner name.1 params) _ λ _. method_heads_keep trait_
       owner ((owner, name.1) ∷ seen) ms t
@@ -183,19 +183,19 @@ main_keeps at name params (Some sig) s = by (rules.is_main_head name params sig 
     by false = record { so = tt }
 
 pub item_keeps : (env : Env) (before : rules.Before) (i : Syn) (s : TypingState) → Keeps no_closure s (rules.item_rules env before i s)
-item_keeps env before (syn at (StructItem ds name kind fs)) s =
+item_keeps env before (syn at (AnItem (StructItem ds name kind fs))) s =
     then_ (fields_keep (rules.in_impl env (adt_named s.items name.1)) [] (list_of fs) s) λ _ t. walk_obeyed Rule.T19 at
     (nat_le (rules.count_of fs) 32) _ λ _. walk_ends (adds_none t)
-item_keeps env before (syn at (EnumItem ds name vs)) s =
+item_keeps env before (syn at (AnItem (EnumItem ds name vs))) s =
     then_ (variants_keep (rules.in_impl env (adt_named s.items name.1)) [] (list_of vs) s) λ _ t. walk_obeyed Rule.T19
     at (nat_le (rules.count_of vs) 64) _ λ _. walk_ends (adds_none t)
-item_keeps env before (syn at (TraitItem name heads)) s =
+item_keeps env before (syn at (AnItem (TraitItem name heads))) s =
     then_ (trait_heads_keep env [] (list_of heads) s) λ _ t. walk_ends (adds_none t)
-item_keeps env before (syn at (ImplItem trait_ name methods)) s =
+item_keeps env before (syn at (AnItem (ImplItem trait_ name methods))) s =
     then_ (method_heads_keep (rules.in_impl env (adt_named s.items name.1)) trait_ name.1 before.methods (list_of
     methods) s) λ seen t. walk_obeyed Rule.T11 at (not (rules.is_repeated trait_ name.1 before.impls) && rules.has_all
     (rules.asked_for s.items trait_) (rules.method_names methods)) _ λ _. walk_ends (adds_none t)
-item_keeps env before (syn at (FnItem name params answer block)) s =
+item_keeps env before (syn at (AnItem (FnItem name params answer block))) s =
     then_ (head_keeps env params answer s) λ _ t. then_ (main_keeps at name.1 params (option_and_then (slice_get
     t.items.bodies) (body_named t.items name.1)) t) λ _ u. walk_ends (adds_none u)
 item_keeps env before (syn at _) s = record { so = tt }
@@ -297,7 +297,7 @@ module _ (env : Env) (name : Word) (params : Syns) (answer : MaybeSyn) (block : 
       s' = record s { next_body = suc s.next_body }
 
 fn_keeps : (env : Env) (f : Syn) (s : TypingState) → Keeps (function_text (bodies.all_rules env) f) s (rules.fn_rules env f s)
-fn_keeps env (syn at (FnItem name params answer block)) s =
+fn_keeps env (syn at (AnItem (FnItem name params answer block))) s =
     then_ (function_keeps env name.1 params answer block at s) λ _ t. walk_ends (adds_none t)
 fn_keeps env (syn at _) s = record { so = tt }
 
@@ -313,12 +313,12 @@ same_number env adts name s e = λ i. record (bodies.all_rules env) { self_adt =
 
 pub bodies_keep : (env : Env) (adts : List Adt) (i : Syn) (s : TypingState) → s.items.adts ≡ adts → Keeps (item_text (bodies.all_rules
     env) adts i) s (rules.bodies_of env i s)
-bodies_keep env adts (syn at (ImplItem trait_ name methods)) s e =
+bodies_keep env adts (syn at (AnItem (ImplItem trait_ name methods))) s e =
     subst (λ around. Keeps (functions_text around (list_of methods)) s (rules.all_fn_rules (rules.in_impl env (adt_named
     s.items name.1)) (list_of methods) s)) (same_number env adts name.1 s e) (all_fn_keep (rules.in_impl env (adt_named
     s.items name.1)) (list_of methods) s)
-bodies_keep env adts (syn at (FnItem name params answer block)) s e =
-    fn_keeps env (syn at (FnItem name params answer block)) s
+bodies_keep env adts (syn at (AnItem (FnItem name params answer block))) s e =
+    fn_keeps env (syn at (AnItem (FnItem name params answer block))) s
 bodies_keep env adts (syn at _) s e = walk_ends (adds_none s)
 
 items_keep : (env : Env) (adts : List Adt) (before : rules.Before) (is : List Syn) (s : TypingState) → s.items.adts ≡ adts →

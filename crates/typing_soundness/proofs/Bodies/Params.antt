@@ -26,7 +26,7 @@ use Rattle.typing_rules.specs.Places.{used, a_node_of}
 use Rattle.typing_rules.specs.Promises.{IsThere, IsReady, AreReady, Grows, Fact, Gives}
 use Rattle.typing_rules.specs.Rows.{PatternContext, taking}
 use Rattle.typing_rules.specs.Scope.{Env, NamedEntry, Local, adt_named, kind_at, variable}
-use Rattle.src_ast.specs.Syntax.{Word, Syn, syn, Shape, AnyPattern, BindPattern, ParensPattern, ParamOf, SelfParam, Syns, no_syn, a_syn}
+use Rattle.src_ast.specs.Syntax.{Word, Syn, syn, APattern, AParam, Pattern, AnyPattern, BindPattern, ParensPattern, ParamOf, SelfParam, Syns, no_syn, a_syn}
 use Rattle.src_ast.specs.View.{self_name}
 use Rattle.typing_rules.proofs.Sound.AllPatterns.{pattern_sound}
 use Rattle.typing_rules.proofs.Sound.Bindings.{Binds, binds_none, binds_from, binds_join, binds_one}
@@ -90,9 +90,10 @@ lone_name_simple env at e ty name earlier s = by (adt_named s.items name)
 mutual
   simple_sound : (env : Env) (e : PatternContext) (ty : TyId) (p : Syn) (earlier : List NamedEntry) (s : TypingState) → IsTrue
       (is_name_or_wildcard p) → Gives s (λ w b. IsSimple w.items ty b.0) (rules.pattern env e ty p earlier s)
-  simple_sound env e ty (syn at form) earlier s = simple_form env e ty at form earlier s
+  simple_sound env e ty (syn at (APattern p)) earlier s = simple_form env e ty at p earlier s
+  simple_sound env e ty _ earlier s = λ h. absurd (let no_ : IsTrue false = h in cc)
 
-  simple_form : (env : Env) (e : PatternContext) (ty : TyId) (at : Pos) (form : Shape) (earlier : List NamedEntry) (s : TypingState) →
+  simple_form : (env : Env) (e : PatternContext) (ty : TyId) (at : Pos) (form : Pattern) (earlier : List NamedEntry) (s : TypingState) →
       IsTrue (is_name_or_wildcard_form form) → Gives s (λ w b. IsSimple w.items ty b.0) (rules.pattern_form env e ty at
       form earlier s)
   simple_form env e ty at AnyPattern earlier s = λ h. after_number (given _ λ ready w g. inr (inl refl))
@@ -160,7 +161,7 @@ param_later {new = new} ty g h =
 module _ (env : Env) (ty_of_param : Syn → Check TyId) (good : (ty : Syn) (s : TypingState) → Gives s (λ w t. IsParamTy
     w.items t) (ty_of_param ty s)) where
   one_bound : (at : Pos) (p ty : Syn) (earlier : List NamedEntry) (s : TypingState) → Gives s (IsBound earlier s.next_node)
-      (bodies.param env ty_of_param (syn at (ParamOf p ty)) earlier s)
+      (bodies.param env ty_of_param (syn at (AParam (ParamOf p ty))) earlier s)
   one_bound at p ty earlier s =
       bind (good ty s) λ t u g d.
       obeyed Rule.T08 at (is_name_or_wildcard p || not (is_reference u.items t)) _ λ simple.
@@ -206,10 +207,10 @@ module _ (env : Env) (ty_of_param : Syn → Check TyId) (good : (ty : Syn) (s : 
         binds = binds_none earlier s.next_node [] w g.numbers refl refl;
         first = tt;
       }
-  rest_bound (a_syn (syn at (ParamOf p ty)) rest) h earlier s =
+  rest_bound (a_syn (syn at (AParam (ParamOf p ty))) rest) h earlier s =
       bind (one_bound at p ty earlier s) λ x t g d. bind (rest_bound rest h x.1 t) λ xs u i e. given (x.0 ∷ xs.0, xs.1)
       λ ready w l. join_bound earlier s.next_node x xs t w (d t (grows_refl t)) (d w (grows_trans i l)) (e w l)
-  rest_bound (a_syn (syn at (SelfParam receiver)) rest) h earlier s = absurd (let no_ : IsTrue false = h in cc)
+  rest_bound (a_syn (syn at (AParam (SelfParam receiver))) rest) h earlier s = absurd (let no_ : IsTrue false = h in cc)
   rest_bound (a_syn (syn at _) rest) h earlier s = record { so = λ ready. tt }
 
   self_bound : (at : Pos) (ty : TyId) (s : TypingState) → IsParamTy s.items ty → Gives s (IsBound [] s.next_node) (and_then
@@ -226,8 +227,8 @@ module _ (env : Env) (ty_of_param : Syn → Check TyId) (good : (ty : Syn) (s : 
   pub params_bound : (params : Syns) → IsTrue (self_first params) → (s : TypingState) → Gives s (AreBound [] s.next_node)
       (bodies.params_of env ty_of_param params [] s)
   params_bound no_syn h s = rest_bound no_syn refl [] s
-  params_bound (a_syn (syn at (ParamOf p ty)) rest) h s = rest_bound (a_syn (syn at (ParamOf p ty)) rest) h [] s
-  params_bound (a_syn (syn at (SelfParam receiver)) rest) h s =
+  params_bound (a_syn (syn at (AParam (ParamOf p ty))) rest) h s = rest_bound (a_syn (syn at (AParam (ParamOf p ty))) rest) h [] s
+  params_bound (a_syn (syn at (AParam (SelfParam receiver))) rest) h s =
       bind (bind (receiver_sound env at receiver s) λ ty t g d. weaker (IsBound [] s.next_node) (self_bound at ty t (d t
       (grows_refl t))) λ p w all l is. record {
         holds = is.holds;

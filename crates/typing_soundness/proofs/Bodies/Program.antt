@@ -21,7 +21,7 @@ use Rattle.typing_rules.specs.Written as types
 use Rattle.well_typed.specs.Names.{is_among}
 use Rattle.well_typed.specs.Program.{are_bodies, is_body}
 use Rattle.typing_soundness.specs.Program.{AreCollected, HaveHeads}
-use Rattle.src_ast.specs.Syntax.{Word, Named, FieldsKind, Syn, syn, StructItem, EnumItem, FieldDecl, VariantDecl, TraitItem, ImplItem, FnItem, SelfParam, Syns, no_syn, a_syn, list_of, MaybeSyn, nothing, just}
+use Rattle.src_ast.specs.Syntax.{Word, Named, FieldsKind, Syn, syn, AnItem, AParam, AField, AVariant, StructItem, EnumItem, TraitItem, ImplItem, FnItem, SelfParam, Syns, no_syn, a_syn, list_of, MaybeSyn, nothing, just}
 use Rattle.typing_rules.proofs.Sound.Gives.{bind, weaker, obeyed, given, then_map, grows_trans, items_later}
 use Rattle.typing_rules.proofs.Sound.Later.{alone_later, extends_refl, is_some_by}
 use Rattle.typing_rules.proofs.Sound.Written.{written_sound}
@@ -70,17 +70,17 @@ new_keeps {A} check s h = by (check (record s { next_node = 0; breaks = [] })) h
 
 no_self_first : (ss : Syns) → IsTrue (no_self ss) → IsTrue (self_first ss)
 no_self_first no_syn h = h
-no_self_first (a_syn (syn at (SelfParam receiver)) rest) h = absurd (let no_ : IsTrue false = h in cc)
+no_self_first (a_syn (syn at (AParam (SelfParam receiver))) rest) h = absurd (let no_ : IsTrue false = h in cc)
 no_self_first (a_syn (syn at form) rest) h = h
 
 behind_first : (ss : Syns) → IsTrue (self_first ss) → IsTrue (self_first (rules.behind_self ss))
 behind_first no_syn h = h
-behind_first (a_syn (syn at (SelfParam receiver)) rest) h = no_self_first rest h
+behind_first (a_syn (syn at (AParam (SelfParam receiver))) rest) h = no_self_first rest h
 behind_first (a_syn (syn at form) rest) h = h
 
 module _ (env : Env) where
   field_keeps : (earlier : List Word) (f : Syn) (s : TypingState) → Keeps s (rules.field env earlier f s)
-  field_keeps earlier (syn at (FieldDecl name ty)) s =
+  field_keeps earlier (syn at (AField name ty)) s =
       bind (written_sound (bodies.all_rules env) refl ty s) λ t u g d. obeyed Rule.T02 at (not (is_among name earlier))
       _ λ h. done (name ∷ earlier)
   field_keeps earlier (syn at form) s =
@@ -92,7 +92,7 @@ module _ (env : Env) where
 
   variants_keep : (earlier : List Word) (vs : List Syn) (s : TypingState) → Keeps s (rules.variants env earlier vs s)
   variants_keep earlier [] s = done tt
-  variants_keep earlier (syn at (VariantDecl name kind fs) ∷ vs) s =
+  variants_keep earlier (syn at (AVariant name kind fs) ∷ vs) s =
       bind (fields_keep [] (list_of fs) s) λ _ t g d. obeyed Rule.T02 at (not (is_among name earlier)) _ λ _. obeyed
       Rule.T19 at (nat_le (rules.count_of fs) 32) _ λ _. variants_keep (name ∷ earlier) vs t
   variants_keep earlier (syn at _ ∷ vs) s = record { so = λ ready. tt }
@@ -108,7 +108,7 @@ module _ (env : Env) where
   trait_heads_keep : (earlier : List Word) (hs : List Syn) (s : TypingState) → Holds (each function_shaped hs) → Keeps s
       (rules.trait_heads env earlier hs s)
   trait_heads_keep earlier [] s h = done tt
-  trait_heads_keep earlier (syn at (FnItem name params answer block) ∷ hs) s h =
+  trait_heads_keep earlier (syn at (AnItem (FnItem name params answer block)) ∷ hs) s h =
       bind (head_keeps (rules.behind_self params) answer s (behind_first params h.0.0)) λ _ t g d. obeyed Rule.T02
       name.0 (not (is_among name.1 earlier)) _ λ _. obeyed Rule.T11 at (rules.takes_reference params && not (bytes_eq
       name.1 (codes "drop"))) _ λ _. trait_heads_keep (name.1 ∷ earlier) hs t h.1
@@ -117,7 +117,7 @@ module _ (env : Env) where
   method_heads_keep : (trait_ : Option Named) (owner : Word) (seen : rules.Seen) (ms : List Syn) (s : TypingState) → Holds
       (each function_shaped ms) → Keeps s (rules.method_heads env trait_ owner seen ms s)
   method_heads_keep trait_ owner seen [] s h = done seen
-  method_heads_keep trait_ owner seen (syn at (FnItem name params answer block) ∷ ms) s h =
+  method_heads_keep trait_ owner seen (syn at (AnItem (FnItem name params answer block)) ∷ ms) s h =
       bind (head_keeps params answer s h.0.0) λ _ t g d. obeyed Rule.T02 name.0 (not (rules.is_seen owner name.1 seen))
       _ λ _. obeyed Rule.T11 at (rules.has_head t.items trait_ owner name.1 params) _ λ _. method_heads_keep trait_
       owner ((owner, name.1) ∷ seen) ms t h.1
@@ -135,19 +135,19 @@ main_keeps at name params (Some sig) s =
 
 pub item_keeps : (env : Env) (before : rules.Before) (i : Syn) (s : TypingState) → Holds (item_shaped i) → Keeps s
     (rules.item_rules env before i s)
-item_keeps env before (syn at (StructItem ds name kind fs)) s h =
+item_keeps env before (syn at (AnItem (StructItem ds name kind fs))) s h =
     bind (fields_keep (rules.in_impl env (adt_named s.items name.1)) [] (list_of fs) s) λ _ t g d. obeyed Rule.T19 at
     (nat_le (rules.count_of fs) 32) _ λ _. done before
-item_keeps env before (syn at (EnumItem ds name vs)) s h =
+item_keeps env before (syn at (AnItem (EnumItem ds name vs))) s h =
     bind (variants_keep (rules.in_impl env (adt_named s.items name.1)) [] (list_of vs) s) λ _ t g d. obeyed Rule.T19 at
     (nat_le (rules.count_of vs) 64) _ λ _. done before
-item_keeps env before (syn at (TraitItem name heads)) s h =
+item_keeps env before (syn at (AnItem (TraitItem name heads))) s h =
     bind (trait_heads_keep env [] (list_of heads) s h) λ _ t g d. done before
-item_keeps env before (syn at (ImplItem trait_ name methods)) s h =
+item_keeps env before (syn at (AnItem (ImplItem trait_ name methods))) s h =
     bind (method_heads_keep (rules.in_impl env (adt_named s.items name.1)) trait_ name.1 before.methods (list_of
     methods) s h) λ seen t g d. obeyed Rule.T11 at (not (rules.is_repeated trait_ name.1 before.impls) && rules.has_all
     (rules.asked_for s.items trait_) (rules.method_names methods)) _ λ _. done _
-item_keeps env before (syn at (FnItem name params answer block)) s h =
+item_keeps env before (syn at (AnItem (FnItem name params answer block))) s h =
     bind (head_keeps env params answer s h.0) λ _ t g d. bind (main_keeps at name.1 params (option_and_then (slice_get
     t.items.bodies) (body_named t.items name.1)) t) λ _ u i e. done before
 item_keeps env before (syn at _) s h = record { so = λ ready. tt }
@@ -186,9 +186,9 @@ no_block_keeps env at params answer s first =
 module _ (env : Env) (bare : (x : NamedEntry) → Contains env.variables x → ⊥) where
   fn_keeps : (f : Syn) (s : TypingState) → Holds (function_shaped f) → KnowsItems env.kinds env.self_adt s.items → Keeps s
       (rules.fn_rules env f s)
-  fn_keeps (syn at (FnItem name params answer (just b))) s h k =
+  fn_keeps (syn at (AnItem (FnItem name params answer (just b)))) s h k =
       bind (function_sound env at params answer b s k bare h.1.0 h.0 h.1.1) λ _ t g d. done tt
-  fn_keeps (syn at (FnItem name params answer nothing)) s h k =
+  fn_keeps (syn at (AnItem (FnItem name params answer nothing))) s h k =
       bind (no_block_keeps env at params answer s h.0) λ _ t g d. done tt
   fn_keeps (syn at _) s h k = record { so = λ ready. tt }
 
@@ -200,10 +200,10 @@ module _ (env : Env) (bare : (x : NamedEntry) → Contains env.variables x → �
 
 pub bodies_keep : (env : Env) → ((x : NamedEntry) → Contains env.variables x → ⊥) → (i : Syn) (s : TypingState) → Holds (item_shaped i)
     → KnowsItems env.kinds env.self_adt s.items → Keeps s (rules.bodies_of env i s)
-bodies_keep env bare (syn at (ImplItem trait_ name methods)) s h k =
+bodies_keep env bare (syn at (AnItem (ImplItem trait_ name methods))) s h k =
     all_fn_keep (rules.in_impl env (adt_named s.items name.1)) bare (list_of methods) s h (knows_impl s.items k name.1)
-bodies_keep env bare (syn at (FnItem name params answer block)) s h k =
-    fn_keeps env bare (syn at (FnItem name params answer block)) s h k
+bodies_keep env bare (syn at (AnItem (FnItem name params answer block))) s h k =
+    fn_keeps env bare (syn at (AnItem (FnItem name params answer block))) s h k
 bodies_keep env bare (syn at _) s h k = done tt
 
 pub items_keep : (env : Env) → ((x : NamedEntry) → Contains env.variables x → ⊥) → (before : rules.Before) (is : List Syn) (s

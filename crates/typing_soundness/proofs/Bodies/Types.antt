@@ -14,7 +14,7 @@ use Rattle.typing_rules.specs.Check.{TypingState, interned}
 use Rattle.typing_rules.specs.Places.{int, bool, unit, never}
 use Rattle.typing_rules.specs.Promises.{Extends, IsThere, IsReady, IsAlone, IsValueType, AreReady, Gives}
 use Rattle.typing_rules.specs.RowPromises.{IsMade}
-use Rattle.src_ast.specs.Syntax.{Word, Receiver, ByValue, ByShared, ByUnique, Syn, syn, Shape, NamedType, GenericType, DynType, SelfType, ParensType, TupleType, ArrayType, NeverType, RefType, Syns, no_syn, a_syn}
+use Rattle.src_ast.specs.Syntax.{Word, Receiver, ByValue, ByShared, ByUnique, Syn, syn, AType, WrittenType, NamedType, GenericType, DynType, SelfType, ParensType, TupleType, ArrayType, NeverType, RefType, Syns, no_syn, a_syn}
 use Rattle.typing_rules.specs.Bodies as bodies
 use Rattle.typing_rules.specs.Scope.{Env}
 use Rattle.typing_rules.specs.Written as rules
@@ -171,9 +171,10 @@ ref_param unique to s alone =
 module _ (around : WrittenScope) (limits : around.has_limits ≡ true) where
   mutual
     pub written_plain : (ty : Syn) (s : TypingState) → Gives s (λ w t. IsPlain w.items t) (rules.written around ty s)
-    written_plain (syn at form) s = written_form_plain at form s
+    written_plain (syn at (AType t)) s = written_form_plain at t s
+    written_plain (syn at _) s = gives_nothing Rule.T20 at
 
-    written_form_plain : (at : Pos) (form : Shape) (s : TypingState) → Gives s (λ w t. IsPlain w.items t) (rules.written_form
+    written_form_plain : (at : Pos) (form : WrittenType) (s : TypingState) → Gives s (λ w t. IsPlain w.items t) (rules.written_form
         around at form s)
     written_form_plain at (NamedType name) s =
         with_ready λ all. named_plain at (rules.number_of around.adts name) (rules.scalar_named name) s (λ ty h.
@@ -206,7 +207,6 @@ module _ (around : WrittenScope) (limits : around.has_limits ≡ true) where
     written_form_plain at (RefType unique to) s =
         bind (written_plain to s) λ ty t g d. obeyed Rule.T08 at (not around.has_limits) _ λ no_limits. absurd (let no_ :
         IsTrue false = subst (λ b. IsTrue (not b)) limits no_limits in cc)
-    written_form_plain at _ s = gives_nothing Rule.T20 at
 
     all_written_plain : (parts : Syns) (s : TypingState) → Gives s (λ w tys. AllAlone tys w) (rules.all_written around parts
         s)
@@ -215,7 +215,7 @@ module _ (around : WrittenScope) (limits : around.has_limits ≡ true) where
         bind (written_plain first s) λ ty t g d. bind (all_written_plain rest t) λ tys u h e. given (ty ∷ tys) λ ready w
         l. both_alone ty tys w (plain_alone w.items ty (d w (grows_trans h l))) (e w l)
 
-  plain_given : (at : Pos) (form : Shape) (s : TypingState) → Gives s (λ w t. IsParamTy w.items t) (rules.written_form around
+  plain_given : (at : Pos) (form : WrittenType) (s : TypingState) → Gives s (λ w t. IsParamTy w.items t) (rules.written_form around
       at form s)
   plain_given at form s =
       weaker (λ w t. IsParamTy w.items t) (written_form_plain at form s) λ t w all g is. plain_param w.items t is
@@ -223,9 +223,10 @@ module _ (around : WrittenScope) (limits : around.has_limits ≡ true) where
   mutual
     pub written_param_sound : (ty : Syn) (s : TypingState) → Gives s (λ w t. IsParamTy w.items t) (rules.written_param around
         ty s)
-    written_param_sound (syn at form) s = written_param_form_sound at form s
+    written_param_sound (syn at (AType t)) s = written_param_form_sound at t s
+    written_param_sound (syn at _) s = gives_nothing Rule.T20 at
 
-    written_param_form_sound : (at : Pos) (form : Shape) (s : TypingState) → Gives s (λ w t. IsParamTy w.items t)
+    written_param_form_sound : (at : Pos) (form : WrittenType) (s : TypingState) → Gives s (λ w t. IsParamTy w.items t)
         (rules.written_param_form around at form s)
     written_param_form_sound at (ParensType inside) s = written_param_sound inside s
     written_param_form_sound at (RefType unique to) s =

@@ -25,7 +25,7 @@ use Rattle.typing_rules.specs.Program as rules
 use Rattle.typing_rules.specs.Promises.{AreReady, made_of}
 use Rattle.typing_rules.specs.Scope.{Env, adt_named}
 use Rattle.typing_rules.specs.Written as types
-use Rattle.src_ast.specs.Syntax.{Word, Syn, syn, MoveOf, StructItem, EnumItem, FieldDecl, VariantDecl, TraitItem, FnItem, Syns, list_of, MaybeSyn}
+use Rattle.src_ast.specs.Syntax.{Word, Syn, syn, AnExpression, AnItem, AField, AVariant, MoveOf, StructItem, EnumItem, TraitItem, FnItem, Syns, list_of, MaybeSyn}
 use Rattle.typing_soundness.specs.Closures.{BodySyn, Tape, program_text}
 use Rattle.typing_soundness.specs.Met.{IsBodyOf, AreMade, behind, text_legal}
 use Rattle.typing_soundness.specs.Heads.{body_text, bodies_text, TellBodies}
@@ -53,7 +53,7 @@ in_body_so {A} {P} check s h = by (check (record s { next_node = 0; breaks = [] 
 module _ (env : Env) where
   field_accepted : (earlier : List Word) (f : Syn) (s : TypingState) → Walked (λ a t. IsTrue (field_legal f)) (rules.field env
       earlier f s)
-  field_accepted earlier (syn at (FieldDecl name ty)) s =
+  field_accepted earlier (syn at (AField name ty)) s =
       walk (written_legal (all_rules env) ty s) λ x t h. walk_obeyed Rule.T02 at (not (is_among name earlier)) _ λ _.
       walk_ends h
   field_accepted earlier (syn at form) s =
@@ -68,7 +68,7 @@ module _ (env : Env) where
   variants_accepted : (earlier : List Word) (vs : List Syn) (s : TypingState) → Walked (λ a t. IsTrue (variants_legal vs))
       (rules.variants env earlier vs s)
   variants_accepted earlier [] s = walk_ends refl
-  variants_accepted earlier (syn at (VariantDecl name kind fs) ∷ vs) s =
+  variants_accepted earlier (syn at (AVariant name kind fs) ∷ vs) s =
       walk (fields_accepted [] (list_of fs) s) λ _ t h. walk_obeyed Rule.T02 at (not (is_among name earlier)) _ λ _.
       walk_obeyed Rule.T19 at (nat_le (rules.count_of fs) 32) _ λ _. walk_map (variants_accepted (name ∷ earlier) vs t) λ a
       u k. and_so (fields_legal (list_of fs)) _ h k
@@ -85,7 +85,7 @@ module _ (env : Env) where
   trait_heads_accepted : (earlier : List Word) (hs : List Syn) (s : TypingState) → Walked (λ a t. IsTrue (trait_heads_legal hs))
       (rules.trait_heads env earlier hs s)
   trait_heads_accepted earlier [] s = walk_ends refl
-  trait_heads_accepted earlier (syn at (FnItem name params answer block) ∷ hs) s =
+  trait_heads_accepted earlier (syn at (AnItem (FnItem name params answer block)) ∷ hs) s =
       walk (head_accepted (rules.behind_self params) answer s) λ _ t h. walk_obeyed Rule.T02 name.0 (not (is_among name.1
       earlier)) _ λ _. walk_obeyed Rule.T11 at (rules.takes_reference params && not (bytes_eq name.1 (codes "drop"))) _ λ _.
       walk_map (trait_heads_accepted (name.1 ∷ earlier) hs t) λ a u k. and_so (head_legal legal_param (rules.behind_self
@@ -94,13 +94,13 @@ module _ (env : Env) where
 
 item_accepted : (env : Env) (before : rules.Before) (i : Syn) (s : TypingState) → Walked (λ a t. IsTrue (item_legal i))
     (rules.item_rules env before i s)
-item_accepted env before (syn at (StructItem ds name kind fs)) s =
+item_accepted env before (syn at (AnItem (StructItem ds name kind fs))) s =
     walk (fields_accepted (rules.in_impl env (adt_named s.items name.1)) [] (list_of fs) s) λ _ t h. walk_obeyed Rule.T19
     at (nat_le (rules.count_of fs) 32) _ λ _. walk_ends h
-item_accepted env before (syn at (EnumItem ds name vs)) s =
+item_accepted env before (syn at (AnItem (EnumItem ds name vs))) s =
     walk (variants_accepted (rules.in_impl env (adt_named s.items name.1)) [] (list_of vs) s) λ _ t h. walk_obeyed
     Rule.T19 at (nat_le (rules.count_of vs) 64) _ λ _. walk_ends h
-item_accepted env before (syn at (TraitItem name heads)) s =
+item_accepted env before (syn at (AnItem (TraitItem name heads))) s =
     walk (trait_heads_accepted env [] (list_of heads) s) λ _ t h. walk_ends h
 item_accepted env before (syn at form) s = whatever _ refl
 
@@ -123,8 +123,8 @@ made_legal items from to (text ∷ texts) (body ∷ bodies) h =
 module _ (around : types.WrittenScope) where
   body_listed : (b : Syn) (rest : List BodySyn) → All (λ t. IsTrue (text_legal t)) (body_text around b rest) → IsTrue
       (body_legal b) × All (λ t. IsTrue (text_legal t)) rest
-  body_listed (syn at (FnItem name params answer block)) rest h = h
-  body_listed (syn at (MoveOf captures params answer body)) rest h = h
+  body_listed (syn at (AnItem (FnItem name params answer block))) rest h = h
+  body_listed (syn at (AnExpression (MoveOf captures params answer body))) rest h = h
   body_listed (syn at _) rest h = (refl, h)
 
   bodies_listed : (bs : List Syn) (rest : List BodySyn) → All (λ t. IsTrue (text_legal t)) (bodies_text around bs rest) → All

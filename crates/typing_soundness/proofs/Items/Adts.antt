@@ -21,7 +21,7 @@ use Rattle.typing_rules.specs.Items.{ItemSyn, items_of, item_syns}
 use Rattle.typing_rules.specs.Program as rules
 use Rattle.typing_rules.specs.Promises.{AreReady, IsAlone}
 use Rattle.typing_rules.specs.Scope.{Env, adt_named}
-use Rattle.src_ast.specs.Syntax.{Word, Syn, syn, StructItem, EnumItem, VariantDecl, Syns, no_syn, a_syn, list_of}
+use Rattle.src_ast.specs.Syntax.{Word, Syn, syn, AnItem, AVariant, StructItem, EnumItem, Syns, no_syn, a_syn, list_of}
 use Rattle.typing_soundness.specs.Heads.{IsVariantOf, AreVariantsOf, IsAdtOf, AreAdtsOf}
 use Rattle.typing_soundness.specs.Items.{is_one_variant, has_variants, IsAdtTyped}
 use Rattle.typing_soundness.specs.Program.{IsAccepted}
@@ -41,20 +41,20 @@ use Rattle.typing_soundness.proofs.Walking.Steps.{walk, walk_map, walk_obeyed, w
 -- names that differ, and few fields
 abbrev VariantsKept : List Word → List Syn → Type 0
 VariantsKept earlier [] = Unit {0}
-VariantsKept earlier (syn at (VariantDecl name kind fields) ∷ vs) =
+VariantsKept earlier (syn at (AVariant name kind fields) ∷ vs) =
     IsTrue (not (is_among name earlier)) × IsTrue (nat_le (rules.count_of fields) 32) × VariantsKept (name ∷ earlier) vs
 VariantsKept earlier (syn at form ∷ vs) = ⊥
 
 abbrev ItemKept : Syn → Type 0
-ItemKept (syn at (StructItem derives name kind fields)) = IsTrue (nat_le (rules.count_of fields) 32)
-ItemKept (syn at (EnumItem derives name variants)) =
+ItemKept (syn at (AnItem (StructItem derives name kind fields))) = IsTrue (nat_le (rules.count_of fields) 32)
+ItemKept (syn at (AnItem (EnumItem derives name variants))) =
     VariantsKept [] (list_of variants) × IsTrue (nat_le (rules.count_of variants) 64)
 ItemKept _ = Unit {0}
 
 variants_kept : (env : Env) (earlier : List Word) (vs : List Syn) (s : TypingState) → Walked (λ a t. VariantsKept earlier vs)
     (rules.variants env earlier vs s)
 variants_kept env earlier [] s = walk_ends tt
-variants_kept env earlier (syn at (VariantDecl name kind fields) ∷ vs) s =
+variants_kept env earlier (syn at (AVariant name kind fields) ∷ vs) s =
     walk (whatever {P = Unit {0}} (rules.fields env [] (list_of fields) s) tt) λ _ t _. walk_obeyed Rule.T02 at (not
     (is_among name earlier)) _ λ h. walk_obeyed Rule.T19 at (nat_le (rules.count_of fields) 32) _ λ few. walk_map
     (variants_kept env (name ∷ earlier) vs t) λ a u k. (h, few, k)
@@ -62,10 +62,10 @@ variants_kept env earlier (syn at _ ∷ vs) s = record { so = tt }
 
 item_kept : (env : Env) (before : rules.Before) (i : Syn) (s : TypingState) → Walked (λ a t. ItemKept i) (rules.item_rules env
     before i s)
-item_kept env before (syn at (StructItem derives name kind fields)) s =
+item_kept env before (syn at (AnItem (StructItem derives name kind fields))) s =
     walk (whatever {P = Unit {0}} (rules.fields (rules.in_impl env (adt_named s.items name.1)) [] (list_of fields) s) tt)
     λ _ t _. walk_obeyed Rule.T19 at (nat_le (rules.count_of fields) 32) _ λ few. walk_ends few
-item_kept env before (syn at (EnumItem derives name variants)) s =
+item_kept env before (syn at (AnItem (EnumItem derives name variants))) s =
     walk (variants_kept (rules.in_impl env (adt_named s.items name.1)) [] (list_of variants) s) λ _ t h. walk_obeyed
     Rule.T19 at (nat_le (rules.count_of variants) 64) _ λ few. walk_ends (h, few)
 item_kept env before (syn at _) s = whatever _ tt
@@ -79,8 +79,8 @@ items_kept env before (i ∷ is) s =
 
 -- of structs and enums alone
 kept_with : (i : Syn) (is : List Syn) → ItemKept i → All ItemKept is → All ItemKept (adts_in i ++ is)
-kept_with (syn at (StructItem derives name kind fields)) is h k = (h, k)
-kept_with (syn at (EnumItem derives name variants)) is h k = (h, k)
+kept_with (syn at (AnItem (StructItem derives name kind fields))) is h k = (h, k)
+kept_with (syn at (AnItem (EnumItem derives name variants))) is h k = (h, k)
 kept_with (syn at _) is h k = k
 
 adts_kept : (is : List ItemSyn) → All ItemKept (item_syns is) → All ItemKept (all_adts is)
@@ -106,7 +106,7 @@ none_later : (word : Word) (earlier : List Word) (vs : Syns) (xs : List Variant)
 none_later word earlier no_syn [] h kept are = refl
 none_later word earlier no_syn (x ∷ xs) h kept are = absurd are
 none_later word earlier (a_syn first rest) [] h kept are = absurd are
-none_later word earlier (a_syn (syn at (VariantDecl name kind fields)) rest) (x ∷ xs) h kept are =
+none_later word earlier (a_syn (syn at (AVariant name kind fields)) rest) (x ∷ xs) h kept are =
     let here : bytes_eq word x.name ≡ false = ap (bytes_eq word) are.0.0 ∙ h name (among_false name earlier kept.0) in
     ap (λ b. b || is_among word (map name_of xs)) here ∙ none_later word (name ∷ earlier) rest xs (λ other e. h other
     (second (bytes_eq other name) (is_among other earlier) e)) kept.2 are.1
@@ -121,7 +121,7 @@ names_differ : (earlier : List Word) (vs : Syns) (xs : List Variant) → Variant
 names_differ earlier no_syn [] kept are = refl
 names_differ earlier no_syn (x ∷ xs) kept are = absurd are
 names_differ earlier (a_syn first rest) [] kept are = absurd are
-names_differ earlier (a_syn (syn at (VariantDecl name kind fields)) rest) (x ∷ xs) kept are =
+names_differ earlier (a_syn (syn at (AVariant name kind fields)) rest) (x ∷ xs) kept are =
     let apart : is_among x.name (map name_of xs) ≡ false = ap (λ w. is_among w (map name_of xs)) are.0.0 ∙ none_later name
     (name ∷ earlier) rest xs (λ other e. nat_list_eq_equiv.symm name other ∙ first_false (bytes_eq other name) (is_among
     other earlier) e) kept.2 are.1 in
@@ -138,7 +138,7 @@ variants_counted : (vs : Syns) (xs : List Variant) → AreVariantsOf vs xs → l
 variants_counted no_syn [] are = refl
 variants_counted no_syn (x ∷ xs) are = absurd are
 variants_counted (a_syn first rest) [] are = absurd are
-variants_counted (a_syn (syn at (VariantDecl name kind fields)) rest) (x ∷ xs) are = ap suc (variants_counted rest xs are.1)
+variants_counted (a_syn (syn at (AVariant name kind fields)) rest) (x ∷ xs) are = ap suc (variants_counted rest xs are.1)
 variants_counted (a_syn (syn at _) rest) (x ∷ xs) are = absurd are
 
 -- as many names as fields, and few of them
@@ -159,7 +159,7 @@ all_counted : (earlier : List Word) (vs : Syns) (xs : List Variant) → Variants
 all_counted earlier no_syn [] kept are = tt
 all_counted earlier no_syn (x ∷ xs) kept are = absurd are
 all_counted earlier (a_syn first rest) [] kept are = absurd are
-all_counted earlier (a_syn (syn at (VariantDecl name kind fields)) rest) (x ∷ xs) kept are =
+all_counted earlier (a_syn (syn at (AVariant name kind fields)) rest) (x ∷ xs) kept are =
     (counted fields x are.0.1 kept.1, all_counted (name ∷ earlier) rest xs kept.2 are.1)
 all_counted earlier (a_syn (syn at _) rest) (x ∷ xs) kept are = absurd are
 
@@ -183,11 +183,11 @@ struct_variants adt v name n is w e =
     n ∙ bytes_self name
 
 adt_declared : (i : Syn) (adt : Adt) → IsAdtOf i adt → ItemKept i → IsDeclared adt
-adt_declared (syn at (StructItem derives name kind fields)) adt are kept = (
+adt_declared (syn at (AnItem (StructItem derives name kind fields))) adt are kept = (
   struct_variants adt are.1 name.1 are.0 are.2 are.4.0 are.4.1,
   subst (All IsCounted) (sym are.2) (counted fields are.1 are.3 kept, tt),
 )
-adt_declared (syn at (EnumItem derives name variants)) adt are kept = (
+adt_declared (syn at (AnItem (EnumItem derives name variants))) adt are kept = (
   ap (λ b. variants_by b adt) are.1 ∙ and_from (nat_le (length adt.variants) 64) _ (ap (λ n. nat_le n 64)
       (variants_counted variants adt.variants are.2) ∙ kept.1) (names_differ [] variants adt.variants kept.0 are.2),
   all_counted [] variants adt.variants kept.0 are.2,

@@ -21,7 +21,7 @@ use Rattle.typing_rules.specs.Items.{items_of, item_syns}
 use Rattle.typing_rules.specs.Program as rules
 use Rattle.typing_rules.specs.Promises.{AreReady, IsKnown, Extends, Grows, Gives, KnowsItems}
 use Rattle.typing_rules.specs.Scope.{Env, NamedEntry, adt_named, trait_named, body_named, method_word}
-use Rattle.src_ast.specs.Syntax.{Word, Named, Syn, syn, StructItem, EnumItem, TraitItem, ImplItem, FnItem, Syns, list_of, MaybeSyn}
+use Rattle.src_ast.specs.Syntax.{Word, Named, Syn, syn, AnItem, ImplItem, FnItem, Syns, list_of, MaybeSyn}
 use Rattle.typing_rules.proofs.Sound.Gives.{bind, weaker, with_ready, obeyed, given, grows_refl, grows_trans, items_later}
 use Rattle.typing_soundness.specs.Program.{AreCollected}
 use Rattle.typing_soundness.specs.Shapes.{function_shaped, item_shaped}
@@ -140,12 +140,12 @@ module _ (old new : ItemTable) (e : Extends old new) (ready : AreReady old) wher
 
 abbrev pub HeadsAsked : ItemTable → Option Named → Word → List Syn → Type 0
 HeadsAsked items trait_ owner [] = Unit {0}
-HeadsAsked items trait_ owner (syn at (FnItem name params answer block) ∷ ms) =
+HeadsAsked items trait_ owner (syn at (AnItem (FnItem name params answer block)) ∷ ms) =
     IsTrue (rules.has_head items trait_ owner name.1 params) × HeadsAsked items trait_ owner ms
 HeadsAsked items trait_ owner (syn at _ ∷ ms) = ⊥
 
 abbrev pub IsAsked : ItemTable → Syn → Type 0
-IsAsked items (syn at (ImplItem trait_ name methods)) =
+IsAsked items (syn at (AnItem (ImplItem trait_ name methods))) =
     HeadsAsked items trait_ name.1 (list_of methods) × IsTrue (rules.has_all (rules.asked_for items trait_) (rules.method_names
     methods))
 IsAsked items _ = Unit {0}
@@ -153,15 +153,15 @@ IsAsked items _ = Unit {0}
 one_more : {A : Type 0} (t : TypingState) (trait_ : Option Named) (owner : Word) (at : Pos) (name : Named) (params : Syns) (answer
     block : MaybeSyn) (ms : List Syn) → IsTrue (rules.has_head t.items trait_ owner name.1 params) → {r : Result (A × TypingState)
     Broken} → Gives t (λ w _. HeadsAsked w.items trait_ owner ms) r → Gives t (λ w _. HeadsAsked w.items trait_ owner (syn at
-    (FnItem name params answer block) ∷ ms)) r
+    (AnItem (FnItem name params answer block)) ∷ ms)) r
 one_more t trait_ owner at name params answer block ms asked h =
-    with_ready λ ready. weaker (λ w _. HeadsAsked w.items trait_ owner (syn at (FnItem name params answer block) ∷ ms)) h λ a w _
+    with_ready λ ready. weaker (λ w _. HeadsAsked w.items trait_ owner (syn at (AnItem (FnItem name params answer block)) ∷ ms)) h λ a w _
     g q. (head_later t.items w.items g.items ready trait_ owner name.1 params ∙ asked, q)
 
 methods_asked : (env : Env) (trait_ : Option Named) (owner : Word) (seen : rules.Seen) (ms : List Syn) (s : TypingState) → Holds (each
     function_shaped ms) → Gives s (λ w _. HeadsAsked w.items trait_ owner ms) (rules.method_heads env trait_ owner seen ms s)
 methods_asked env trait_ owner seen [] s h = given seen λ ready w g. tt
-methods_asked env trait_ owner seen (syn at (FnItem name params answer block) ∷ ms) s h =
+methods_asked env trait_ owner seen (syn at (AnItem (FnItem name params answer block)) ∷ ms) s h =
     bind (head_keeps env params answer s h.0.0) λ _ t g d. obeyed Rule.T02 name.0 (not (rules.is_seen owner name.1 seen)) _ λ
     _. obeyed Rule.T11 at (rules.has_head t.items trait_ owner name.1 params) _ λ asked. one_more t trait_ owner at name params
     answer block ms asked (methods_asked env trait_ owner ((owner, name.1) ∷ seen) ms t h.1)
@@ -181,7 +181,7 @@ no_more env before i s h all = weaker (λ w _. IsAsked w.items i) (item_keeps en
 
 item_asked : (env : Env) (before : rules.Before) (i : Syn) (s : TypingState) → Holds (item_shaped i) → Gives s (λ w _. IsAsked w.items
     i) (rules.item_rules env before i s)
-item_asked env before (syn at (ImplItem trait_ name methods)) s h =
+item_asked env before (syn at (AnItem (ImplItem trait_ name methods))) s h =
     bind (methods_asked (rules.in_impl env (adt_named s.items name.1)) trait_ name.1 before.methods (list_of methods) s h) λ
     seen t g d. obeyed Rule.T11 at (not (rules.is_repeated trait_ name.1 before.impls) && rules.has_all (rules.asked_for s.items
     trait_) (rules.method_names methods)) _ λ ok. given _ λ ready w l. (

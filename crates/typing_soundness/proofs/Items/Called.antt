@@ -15,7 +15,7 @@ use Rattle.typing_rules.specs.Check.{TypingState, Broken}
 use Rattle.typing_rules.specs.Collected as rules
 use Rattle.typing_rules.specs.Items.{ItemSyn, items_of, item_syns, body_paths, impl_owner, full_name, closure_name}
 use Rattle.typing_rules.specs.Written as types
-use Rattle.src_ast.specs.Syntax.{Word, Named, Syn, syn, MoveOf, StructItem, EnumItem, TraitItem, ImplItem, FnItem, list_of}
+use Rattle.src_ast.specs.Syntax.{Word, Named, Syn, syn, AnExpression, AnItem, MoveOf, StructItem, EnumItem, TraitItem, ImplItem, FnItem, list_of}
 use Rattle.typing_soundness.specs.Walks.{Walked}
 use Rattle.typing_soundness.proofs.Items.Collected.{all_names, SameHeads, same_heads, same_both, impls_same, finite_still, derive_still, obeyed_still, derives_still, names_still, each_still, variant_collected, variants_collected, trait_head_still, closure_params_collected, closure_answer_collected, sig_collected}
 use Rattle.typing_soundness.proofs.Items.Distinct.{names_of}
@@ -28,9 +28,9 @@ use Rattle.typing_soundness.proofs.Walking.Steps.{walk, walk_map, walk_obeyed, w
 
 abbrev pub bodies_called : Option Word → List Syn → List (Option Word)
 bodies_called owner [] = []
-bodies_called owner (syn at (FnItem name params answer block) ∷ bs) =
+bodies_called owner (syn at (AnItem (FnItem name params answer block)) ∷ bs) =
     Some (full_name owner name.1) ∷ bodies_called owner bs
-bodies_called owner (syn at (MoveOf captures params answer body) ∷ bs) = None ∷ bodies_called owner bs
+bodies_called owner (syn at (AnExpression (MoveOf captures params answer body)) ∷ bs) = None ∷ bodies_called owner bs
 bodies_called owner (syn at _ ∷ bs) = bodies_called owner bs
 
 abbrev pub all_called : List ItemSyn → List (Option Word)
@@ -38,7 +38,7 @@ all_called [] = []
 all_called (i ∷ is) = bodies_called (impl_owner i.item) i.bodies ++ all_called is
 
 abbrev pub traits_called : Syn → List Word
-traits_called (syn at (TraitItem name heads)) = name.1 ∷ []
+traits_called (syn at (AnItem (TraitItem name heads))) = name.1 ∷ []
 traits_called _ = []
 
 abbrev pub all_traits_called : List ItemSyn → List Word
@@ -100,11 +100,11 @@ called fs c d name is {s} {t} e sig named u heads traits = record {
 module _ (k : rules.Known) where
   body_calls : (owner : Option Word) (c : rules.Count) (b : Syn) (s : TypingState) → Walked (λ d t. Calls (bodies_called owner (b ∷
       [])) [] c d s t) (rules.body_sig k owner c b s)
-  body_calls owner c (syn at (FnItem name params answer block)) s =
+  body_calls owner c (syn at (AnItem (FnItem name params answer block))) s =
       walk (sig_collected (all_names k owner) at (full_name owner name.1) params answer s) λ sig t h. walk_ends (called (Some
       (full_name owner name.1) ∷ []) c (record c { outer = full_name owner name.1; in_outer = 0 }) (full_name owner name.1) (λ
       rest. refl) h.0 sig h.2 _ refl refl)
-  body_calls owner c (syn at (MoveOf captures params answer body)) s =
+  body_calls owner c (syn at (AnExpression (MoveOf captures params answer body))) s =
       walk {f = λ _ t. Ok (record c { in_outer = c.in_outer + 1; closures = c.closures + 1 }, t)} head λ _ t h. walk_ends h
     where
       given : Walked (λ tys t. SameWalk s t) (rules.closure_params (record (all_names k owner) { has_limits = false })
@@ -125,8 +125,8 @@ module _ (k : rules.Known) where
   -- one body, and others
   bodies_with : (owner : Option Word) (b : Syn) (bs : List Syn) → bodies_called owner (b ∷ []) ++ bodies_called owner bs ≡
       bodies_called owner (b ∷ bs)
-  bodies_with owner (syn at (FnItem name params answer block)) bs = refl
-  bodies_with owner (syn at (MoveOf captures params answer body)) bs = refl
+  bodies_with owner (syn at (AnItem (FnItem name params answer block))) bs = refl
+  bodies_with owner (syn at (AnExpression (MoveOf captures params answer body))) bs = refl
   bodies_with owner (syn at _) bs = refl
 
   bodies_call : (owner : Option Word) (c : rules.Count) (bs : List Syn) (s : TypingState) → Walked (λ d t. Calls (bodies_called owner
@@ -138,13 +138,13 @@ module _ (k : rules.Known) where
 
   item_calls : (c : rules.Count) (i : Syn) (s : TypingState) → Walked (λ _ t. Calls [] (traits_called i) c c s t) (rules.item_head k i
       s)
-  item_calls c (syn at (StructItem ds name kind fields)) s =
+  item_calls c (syn at (AnItem (StructItem ds name kind fields))) s =
       walk (derives_still ds s) λ _ t e. walk (variant_collected (rules.names_alone k (types.number_of k.adts name.1)) name.1
       fields t) λ v u g. walk_ends (let w = onward e g.0 in calls_none c w.stays.heads w.stays.traits)
-  item_calls c (syn at (EnumItem ds name variants)) s =
+  item_calls c (syn at (AnItem (EnumItem ds name variants))) s =
       walk (derives_still ds s) λ _ t e. walk (variants_collected (rules.names_alone k (types.number_of k.adts name.1))
       variants t) λ vs u g. walk_ends (let w = onward e g.0 in calls_none c w.stays.heads w.stays.traits)
-  item_calls c (syn at (TraitItem name heads)) s =
+  item_calls c (syn at (AnItem (TraitItem name heads))) s =
       walk_interned_as (Ty.Dyn (length s.items.traits)) s λ own t e is. walk (each_still (rules.trait_head (rules.names_alone k
       None) own) (trait_head_still (rules.names_alone k None) own) (list_of heads) t) λ sigs u g. walk_ends (let w = onward e g
       in record {
@@ -154,9 +154,9 @@ module _ (k : rules.Known) where
         traits = map-append (λ (def : TraitDef). def.name) u.items.traits (record { name = name.1; methods = sigs } ∷ []) ∙ ap (λ
             defs. map (λ (def : TraitDef). def.name) defs ++ name.1 ∷ []) w.stays.traits;
       })
-  item_calls c (syn at (ImplItem None name methods)) s =
+  item_calls c (syn at (AnItem (ImplItem None name methods))) s =
       walk_map (obeyed_still Rule.T01 name.0 (is_some (types.number_of k.adts name.1)) s) λ _ t e. calls_still c e
-  item_calls c (syn at (ImplItem (Some trait_) name methods)) s =
+  item_calls c (syn at (AnItem (ImplItem (Some trait_) name methods))) s =
       walk_obeyed Rule.T01 trait_.0 (rules.is_drop trait_.1 || is_some (types.number_of k.traits trait_.1)) _ λ _. walk_map
       (obeyed_still Rule.T01 name.0 (is_some (types.number_of k.adts name.1)) s) λ _ t e. calls_still c e
   item_calls c (syn at _) s = walk_ends (calls_still c (still s))

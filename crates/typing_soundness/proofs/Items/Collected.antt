@@ -25,7 +25,7 @@ use Rattle.typing_rules.specs.Check.{Check, TypingState, Broken, and_then, obeys
 use Rattle.typing_rules.specs.Collected as rules
 use Rattle.typing_rules.specs.Items.{ItemSyn, items_of, item_syns, body_paths, impl_owner, full_name, closure_name}
 use Rattle.typing_rules.specs.Written as types
-use Rattle.src_ast.specs.Syntax.{number_word, Word, Named, Receiver, ByValue, ByShared, ByUnique, Syn, syn, Shape, NamedType, GenericType, DynType, SelfType, ParensType, TupleType, ArrayType, NeverType, RefType, MoveOf, StructItem, EnumItem, VariantDecl, TraitItem, ImplItem, FnItem, ParamOf, SelfParam, Syns, no_syn, a_syn, list_of, MaybeSyn, nothing, just}
+use Rattle.src_ast.specs.Syntax.{Word, Named, number_word, Receiver, ByValue, ByShared, ByUnique, Syn, syn, AnExpression, AType, AnItem, AParam, AVariant, MoveOf, WrittenType, NamedType, GenericType, DynType, SelfType, ParensType, TupleType, ArrayType, NeverType, RefType, StructItem, EnumItem, TraitItem, ImplItem, FnItem, ParamOf, SelfParam, Syns, no_syn, a_syn, list_of, MaybeSyn, nothing, just}
 use Rattle.typing_soundness.specs.Closures.{BodySyn, Function, Closure, WrittenHead, Tape}
 use Rattle.typing_soundness.specs.Met.{IsReceiver, MeansParam, MeanParams, MeansAnswer, HasTypes, AreMade, behind}
 use Rattle.typing_soundness.specs.Heads.{owner_of, MeansIfAny, MeansClosureParam, MeanClosureParams, MeansClosureAnswer, AreHeadTypes, IsHeadOf, IsVariantOf, AreVariantsOf, IsAdtOf, AreAdtsOf, body_text, bodies_text}
@@ -91,9 +91,10 @@ module _ (around : types.WrittenScope) (items : ItemTable) where
 
   mutual
     written_is_given : (e : Syn) (ty : TyId) → Means around items e ty → (s : TypingState) → IsGiven (types.written names e s)
-    written_is_given (syn at form) ty h s = form_is_given at form ty h s
+    written_is_given (syn at (AType t)) ty h s = form_is_given at t ty h s
+    written_is_given _ ty h s = absurd h
 
-    form_is_given : (at : Pos) (form : Shape) (ty : TyId) → MeansForm around items form ty → (s : TypingState) → IsGiven
+    form_is_given : (at : Pos) (form : WrittenType) (ty : TyId) → MeansForm around items form ty → (s : TypingState) → IsGiven
         (types.written_form names at form s)
     form_is_given at (NamedType name) ty h s =
         named_is_given at (types.number_of around.adts name) (types.scalar_named name) ty h s
@@ -115,7 +116,6 @@ module _ (around : types.WrittenScope) (items : ItemTable) where
     form_is_given at NeverType ty h s = is_given _
     form_is_given at (RefType unique to) ty h s =
         given_both (written_is_given to h.0 h.1 s) λ a t. interned_is_given (types.reference_to unique a) t
-    form_is_given at _ ty h s = absurd h
 
     all_are_given : (xs : Syns) (tys : List TyId) → MeanAll around items xs tys → (s : TypingState) → IsGiven
         (types.all_written names xs s)
@@ -174,7 +174,7 @@ module _ (old new : ItemTable) (e : HaveTypes old new) where
     if_any_later written ty h = λ others t m. means_later around old new e written ty (h others t m)
 
     closure_param_later : (p : Syn) (ty : TyId) → MeansClosureParam around old p ty → MeansClosureParam around new p ty
-    closure_param_later (syn at (ParamOf p written)) ty h = if_any_later written ty h
+    closure_param_later (syn at (AParam (ParamOf p written))) ty h = if_any_later written ty h
     closure_param_later (syn at _) ty h = h
 
     closure_params_later : (ps : Syns) (tys : List TyId) → MeanClosureParams around old ps tys → MeanClosureParams around
@@ -277,8 +277,8 @@ module _ (around : types.WrittenScope) where
 
   head_param_collected : (at : Pos) (p : Syn) (s : TypingState) → Walked (λ ty t. SameWalk s t × MeansParam around t.items p ty)
       (rules.param_ty named (rules.own_ty at around.self_adt) p s)
-  head_param_collected at (syn here (ParamOf p ty)) s = param_collected ty s
-  head_param_collected at (syn here (SelfParam receiver)) s =
+  head_param_collected at (syn here (AParam (ParamOf p ty))) s = param_collected ty s
+  head_param_collected at (syn here (AParam (SelfParam receiver))) s =
       walk {f = λ own. rules.receiver_ty own receiver} own_collected λ own t h. walk_map (receiver_collected own receiver
       t) λ ty u k. (
         onward h.2 k.0,
@@ -308,7 +308,7 @@ module _ (around : types.WrittenScope) where
 
   closure_param_collected : (p : Syn) (s : TypingState) → Walked (λ ty t. SameWalk s t × MeansClosureParam around t.items p ty)
       (rules.closure_param named p s)
-  closure_param_collected (syn at (ParamOf p ty)) s = or_unit_collected ty s
+  closure_param_collected (syn at (AParam (ParamOf p ty))) s = or_unit_collected ty s
   closure_param_collected (syn at _) s = walk_ends (still s, tt)
 
   pub closure_params_collected : (ps : Syns) (s : TypingState) → Walked (λ tys t. SameWalk s t × MeanClosureParams around t.items ps
@@ -383,13 +383,13 @@ IsOwner k owner = owner_of (all_names k owner) ≡ owner
 
 pub body_collected : (k : rules.Known) (owner : Option Word) (own : IsOwner k owner) (c : rules.Count) (b : Syn) (s : TypingState) → Walked (λ d t. Collects
     (body_text (all_names k owner) b) [] c.closures d.closures s t) (rules.body_sig k owner c b s)
-body_collected k owner own c (syn at (FnItem name params answer block)) s =
+body_collected k owner own c (syn at (AnItem (FnItem name params answer block))) s =
     walk (sig_collected (all_names k owner) at (full_name owner name.1) params answer s) λ sig t h. walk_ends (with_head
     (all_names k owner) (Function (record { around = all_names k owner; name = name.1; params = params; answer = answer })) c.closures s
     t sig h.0 (h.1, h.2 ∙ ap (λ o. full_name o name.1) (sym own)))
-body_collected k owner own c (syn at (MoveOf captures params answer body)) s =
-    walk closure_collected λ _ t h. walk_ends (subst (λ n. Collects (body_text (all_names k owner) (syn at (MoveOf captures
-    params answer body))) [] c.closures n s t) (omega arith) h)
+body_collected k owner own c (syn at (AnExpression (MoveOf captures params answer body))) s =
+    walk closure_collected λ _ t h. walk_ends (subst (λ n. Collects (body_text (all_names k owner) (syn at (AnExpression (MoveOf captures
+    params answer body)))) [] c.closures n s t) (omega arith) h)
   where
     head : WrittenHead
     head = record { around = all_names k owner; name = []; params = params; answer = answer }
@@ -411,7 +411,7 @@ body_collected k owner own c (syn at (MoveOf captures params answer body)) s =
           h.1,
         )
 
-    closure_collected : Walked (λ _ t. Collects (body_text (all_names k owner) (syn at (MoveOf captures params answer body)))
+    closure_collected : Walked (λ _ t. Collects (body_text (all_names k owner) (syn at (AnExpression (MoveOf captures params answer body))))
         [] c.closures (suc c.closures) s t) (rules.closure_head (named (all_names k owner)) c.closures name params answer
         s)
     closure_collected =
@@ -480,12 +480,12 @@ variant_collected around name fields s =
 
 -- a variant that is declared
 abbrev IsDeclared : Syn → Variant → Type 0
-IsDeclared (syn at (VariantDecl name kind fields)) v = (v.name ≡ name) × IsVariantOf fields v
+IsDeclared (syn at (AVariant name kind fields)) v = (v.name ≡ name) × IsVariantOf fields v
 IsDeclared _ v = ⊥
 
 declared_collected : (around : types.WrittenScope) (v : Syn) (s : TypingState) → Walked (λ x t. SameWalk s t × IsDeclared v x)
     (rules.declared_variant around v s)
-declared_collected around (syn at (VariantDecl name kind fields)) s =
+declared_collected around (syn at (AVariant name kind fields)) s =
     walk_map (variant_collected around name fields s) λ v t h. (h.0, (h.1, h.2))
 declared_collected around (syn at _) s = record { so = tt }
 
@@ -500,7 +500,7 @@ variants_collected around (a_syn first rest) s =
   where
     with_variant : (v : Syn) (x : Variant) (rest : Syns) (xs : List Variant) → IsDeclared v x → AreVariantsOf rest xs →
         AreVariantsOf (a_syn v rest) (x ∷ xs)
-    with_variant (syn at (VariantDecl name kind fields)) x rest xs h g = (h, g)
+    with_variant (syn at (AVariant name kind fields)) x rest xs h g = (h, g)
     with_variant (syn at _) x rest xs h g = absurd h
 
 receiver_still : (own : TyId) (receiver : Receiver) (s : TypingState) → Walked (Still s) (rules.receiver_ty own receiver s)
@@ -510,8 +510,8 @@ receiver_still own ByUnique s = interned_still (Ty.Unique own) s (still s)
 
 param_still : (around : types.WrittenScope) (self : Check TyId) → ((s : TypingState) → Walked (Still s) (self s)) → (p : Syn) (s :
     TypingState) → Walked (Still s) (rules.param_ty around self p s)
-param_still around self good (syn at (ParamOf p ty)) s = written_param_still around ty s
-param_still around self good (syn at (SelfParam receiver)) s =
+param_still around self good (syn at (AParam (ParamOf p ty))) s = written_param_still around ty s
+param_still around self good (syn at (AParam (SelfParam receiver))) s =
     walk (good s) λ own t e. walk_map (receiver_still own receiver t) λ ty u g. onward e g
 param_still around self good (syn at _) s = record { so = tt }
 
@@ -528,7 +528,7 @@ sig_still around self good name params answer s =
 
 pub trait_head_still : (around : types.WrittenScope) (own : TyId) (h : Syn) (s : TypingState) → Walked (Still s) (rules.trait_head around
     own h s)
-trait_head_still around own (syn at (FnItem name params answer block)) s = by (rules.has_receiver params)
+trait_head_still around own (syn at (AnItem (FnItem name params answer block))) s = by (rules.has_receiver params)
   where
     own_still : (t : TypingState) → Walked (Still t) (Ok (own, t))
     own_still t = walk_ends (still t)
@@ -544,8 +544,8 @@ trait_head_still around own (syn at _) s = record { so = tt }
 
 -- a struct or an enum
 abbrev pub adts_in : Syn → List Syn
-adts_in (syn at (StructItem derives name kind fields)) = syn at (StructItem derives name kind fields) ∷ []
-adts_in (syn at (EnumItem derives name variants)) = syn at (EnumItem derives name variants) ∷ []
+adts_in (syn at (AnItem (StructItem derives name kind fields))) = syn at (AnItem (StructItem derives name kind fields)) ∷ []
+adts_in (syn at (AnItem (EnumItem derives name variants))) = syn at (AnItem (EnumItem derives name variants)) ∷ []
 adts_in _ = []
 
 with_adt_collects : (n : ℕ) (i : Syn) {s t : TypingState} → SameWalk s t → (adt : Adt) → IsAdtOf i adt → Collects no_closure (i ∷
@@ -564,22 +564,22 @@ with_adt_collects n i {s} {t} e adt is = record {
 
 pub item_head_collected : (k : rules.Known) (n : ℕ) (i : Syn) (s : TypingState) → Walked (λ _ t. Collects no_closure (adts_in i) n
     n s t) (rules.item_head k i s)
-item_head_collected k n (syn at (StructItem ds name kind fields)) s =
+item_head_collected k n (syn at (AnItem (StructItem ds name kind fields))) s =
     walk (derives_still ds s) λ _ t e. walk (variant_collected (rules.names_alone k (types.number_of k.adts name.1)) name.1
-    fields t) λ v u g. walk_ends (with_adt_collects n (syn at (StructItem ds name kind fields)) (onward e g.0) (rules.adt_of
+    fields t) λ v u g. walk_ends (with_adt_collects n (syn at (AnItem (StructItem ds name kind fields))) (onward e g.0) (rules.adt_of
     k ds name.1 false (v ∷ [])) (refl, v, refl, g.2, (g.1, refl, refl)))
-item_head_collected k n (syn at (EnumItem ds name variants)) s =
+item_head_collected k n (syn at (AnItem (EnumItem ds name variants))) s =
     walk (derives_still ds s) λ _ t e. walk (variants_collected (rules.names_alone k (types.number_of k.adts name.1))
-    variants t) λ vs u g. walk_ends (with_adt_collects n (syn at (EnumItem ds name variants)) (onward e g.0) (rules.adt_of k
+    variants t) λ vs u g. walk_ends (with_adt_collects n (syn at (AnItem (EnumItem ds name variants))) (onward e g.0) (rules.adt_of k
     ds name.1 true vs) (refl, refl, g.1, refl))
-item_head_collected k n (syn at (TraitItem name heads)) s =
+item_head_collected k n (syn at (AnItem (TraitItem name heads))) s =
     walk (interned_still (Ty.Dyn (length s.items.traits)) s (still s)) λ own t e. walk (each_still (rules.trait_head
     (rules.names_alone k None) own) (trait_head_still (rules.names_alone k None) own) (list_of heads) t) λ sigs u g.
     walk_ends (let w = onward e g in collects_none n s _ w.stays.adts w.stays.types w.stays.distinct w.stays.closures
     w.stays.heads)
-item_head_collected k n (syn at (ImplItem None name methods)) s =
+item_head_collected k n (syn at (AnItem (ImplItem None name methods))) s =
     walk_map (obeyed_still Rule.T01 name.0 (is_some (types.number_of k.adts name.1)) s) λ _ t e. collects_still n e
-item_head_collected k n (syn at (ImplItem (Some trait_) name methods)) s =
+item_head_collected k n (syn at (AnItem (ImplItem (Some trait_) name methods))) s =
     walk_obeyed Rule.T01 trait_.0 (rules.is_drop trait_.1 || is_some (types.number_of k.traits trait_.1)) _ λ _. walk_map
     (obeyed_still Rule.T01 name.0 (is_some (types.number_of k.adts name.1)) s) λ _ t e. collects_still n e
 item_head_collected k n (syn at _) s = walk_ends (collects_refl n s)
@@ -610,9 +610,9 @@ tells_so (Ok a) p = walk_ends p
 tells_so (Err e) p = record { so = tt }
 
 pub owner_known : (k : rules.Known) (i : Syn) (s : TypingState) → Walked (λ _ t. IsOwner k (impl_owner i)) (rules.item_head k i s)
-owner_known k (syn at (ImplItem None name methods)) s =
+owner_known k (syn at (AnItem (ImplItem None name methods))) s =
     obeyed_tells Rule.T01 name.0 (is_some (types.number_of k.adts name.1)) s (is_owner k name.1)
-owner_known k (syn at (ImplItem (Some trait_) name methods)) s =
+owner_known k (syn at (AnItem (ImplItem (Some trait_) name methods))) s =
     walk_obeyed Rule.T01 trait_.0 (rules.is_drop trait_.1 || is_some (types.number_of k.traits trait_.1)) _ λ _.
     obeyed_tells Rule.T01 name.0 (is_some (types.number_of k.adts name.1)) s (is_owner k name.1)
 owner_known k (syn at _) s = tells_so _ refl
@@ -668,7 +668,7 @@ same_both p q = record {
 }
 
 impl_same : (k : rules.Known) (i : Syn) (s : TypingState) → Walked (λ _ t. SameHeads s t) (rules.impl_of k i s)
-impl_same k (syn at (ImplItem (Some trait_) name methods)) s = by (rules.is_drop trait_.1)
+impl_same k (syn at (AnItem (ImplItem (Some trait_) name methods))) s = by (rules.is_drop trait_.1)
   where
     added : Check (Unit {0})
     added t =
@@ -687,7 +687,7 @@ impl_same k (syn at (ImplItem (Some trait_) name methods)) s = by (rules.is_drop
           closures = refl;
           heads = refl;
         })
-impl_same k (syn at (ImplItem None name methods)) s = walk_ends (same_heads (still s))
+impl_same k (syn at (AnItem (ImplItem None name methods))) s = walk_ends (same_heads (still s))
 impl_same k (syn at _) s = walk_ends (same_heads (still s))
 
 pub impls_same : (k : rules.Known) (is : List Syn) (s : TypingState) → Walked (λ _ t. SameHeads s t) (each_checked (rules.impl_of k)

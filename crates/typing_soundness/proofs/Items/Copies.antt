@@ -19,7 +19,7 @@ use Rattle.typing_rules.specs.Items.{ItemSyn, items_of, item_syns, body_paths}
 use Rattle.typing_rules.specs.Promises.{AreReady, Extends, IsAlone, IsReady, IsThere, IsValueType}
 use Rattle.typing_rules.specs.Written.{number_of}
 use Rattle.typing_rules.proofs.Sound.Later.{same_copy}
-use Rattle.src_ast.specs.Syntax.{Named, Syn, syn, StructItem, EnumItem}
+use Rattle.src_ast.specs.Syntax.{Named, Syn, syn, AnItem, StructItem, EnumItem}
 use Rattle.typing_soundness.specs.Heads.{IsAdtOf, AreAdtsOf}
 use Rattle.typing_soundness.specs.Items.{may_be_copy}
 use Rattle.typing_soundness.specs.Program.{IsAccepted}
@@ -69,8 +69,8 @@ collecting_derived is end s =
 
 derived_with : (i : Syn) (is : List ItemSyn) → filter_map rules.adt_item (all_adts is) ≡ derived_in is → filter_map
     rules.adt_item (adts_in i ++ all_adts is) ≡ filter_map rules.adt_item (i ∷ item_syns is)
-derived_with (syn at (StructItem ds name kind fields)) is e = ap (λ as_. (at, ds) ∷ as_) e
-derived_with (syn at (EnumItem ds name variants)) is e = ap (λ as_. (at, ds) ∷ as_) e
+derived_with (syn at (AnItem (StructItem ds name kind fields))) is e = ap (λ as_. (at, ds) ∷ as_) e
+derived_with (syn at (AnItem (EnumItem ds name variants))) is e = ap (λ as_. (at, ds) ∷ as_) e
 derived_with (syn at _) is e = e
 
 pub derived_of_text : (is : List ItemSyn) → filter_map rules.adt_item (all_adts is) ≡ derived_in is
@@ -93,9 +93,9 @@ one_copies items ds adt e h =
 adt_copies : (items : ItemTable) (n : ℕ) (i : Syn) (is : List Syn) (adt : Adt) → IsAdtOf i adt → slice_get items.adts n ≡
     Some adt → AreDerived items n (filter_map rules.adt_item (i ∷ is)) → IsTrue (may_be_copy items adt) × AreDerived items
     (suc n) (filter_map rules.adt_item is)
-adt_copies items n (syn at (StructItem ds name kind fields)) is adt are at_n h =
+adt_copies items n (syn at (AnItem (StructItem ds name kind fields))) is adt are at_n h =
     (one_copies items ds adt are.4.2 (subst (λ o. IsTrue (rules.may_derive items ds o)) at_n h.0), h.1)
-adt_copies items n (syn at (EnumItem ds name variants)) is adt are at_n h =
+adt_copies items n (syn at (AnItem (EnumItem ds name variants))) is adt are at_n h =
     (one_copies items ds adt are.3 (subst (λ o. IsTrue (rules.may_derive items ds o)) at_n h.0), h.1)
 adt_copies items n (syn at _) is adt are at_n h = absurd are
 

@@ -13,7 +13,7 @@ use Rattle.typed_tree.specs.Tree.{ProgramTree}
 use Rattle.well_typed.specs.Claim.{Holds, each}
 use Rattle.well_typed.specs.Names.{are_distinct, is_among, is_word}
 use Rattle.typing_rules.specs.Items.{items_of, item_syns}
-use Rattle.src_ast.specs.Syntax.{Word, Syn, syn, StructItem, EnumItem, TraitItem, FnItem}
+use Rattle.src_ast.specs.Syntax.{Word, Syn, syn, AnItem, StructItem, EnumItem, TraitItem, FnItem}
 use Rattle.typing_soundness.specs.Named.{item_named}
 use Rattle.typing_soundness.specs.Program.{IsAccepted}
 use Rattle.typing_soundness.proofs.Items.Numbered.{IsWorded}
@@ -37,10 +37,10 @@ distinct_parts (v ∷ vs) ws h =
 
 worded : (is : List Syn) → Holds (each item_named is) → All IsWorded is
 worded [] h = tt
-worded (syn at (StructItem derives name kind fields) ∷ is) h = ((and_parts (is_word name.1) _ h.0.0).0, worded is h.1)
-worded (syn at (EnumItem derives name variants) ∷ is) h = ((and_parts (is_word name.1) _ h.0.0).0, worded is h.1)
-worded (syn at (TraitItem name heads) ∷ is) h = ((and_parts (is_word name.1) _ h.0.0).0, worded is h.1)
-worded (syn at (FnItem name params answer block) ∷ is) h = ((and_parts (is_word name.1) _ h.0).0, worded is h.1)
+worded (syn at (AnItem (StructItem derives name kind fields)) ∷ is) h = ((and_parts (is_word name.1) _ h.0.0).0, worded is h.1)
+worded (syn at (AnItem (EnumItem derives name variants)) ∷ is) h = ((and_parts (is_word name.1) _ h.0.0).0, worded is h.1)
+worded (syn at (AnItem (TraitItem name heads)) ∷ is) h = ((and_parts (is_word name.1) _ h.0.0).0, worded is h.1)
+worded (syn at (AnItem (FnItem name params answer block)) ∷ is) h = ((and_parts (is_word name.1) _ h.0).0, worded is h.1)
 worded (syn at _ ∷ is) h = (tt, worded is h.1)
 
 module _ (parts : Parts Pos) (items : ItemTable) (p : ProgramTree) (h : IsAccepted parts items p) where

@@ -24,7 +24,7 @@ use Rattle.typing_rules.specs.Items.{ItemSyn, items_of, item_syns, adt_names, bo
 use Rattle.typing_rules.specs.Program as checks
 use Rattle.typing_rules.specs.Promises.{Extends}
 use Rattle.typing_rules.specs.Written as types
-use Rattle.src_ast.specs.Syntax.{Word, Named, ByShared, ByUnique, ByValue, Syn, syn, StructItem, EnumItem, TraitItem, ImplItem, FnItem, SelfParam, Syns, no_syn, a_syn, list_of}
+use Rattle.src_ast.specs.Syntax.{Word, ByValue, ByShared, ByUnique, Syn, syn, AnItem, AParam, StructItem, EnumItem, SelfParam, Syns, no_syn, a_syn}
 use Rattle.typing_soundness.specs.Closures.{Tape}
 use Rattle.typing_soundness.specs.Heads.{AreAdtsOf}
 use Rattle.typing_soundness.specs.Items.{is_to, is_unique, is_one_self, is_drop_head, has_drop_head, DropsHaveHeads}
@@ -66,11 +66,11 @@ module _ (k : rules.Known) where
       none (a ∷ as_) h = absurd h
 
   item_drops : (i : Syn) (s : TypingState) → Walked (KeepsDrops s) (rules.item_head k i s)
-  item_drops (syn at (StructItem ds name kind fields)) s =
+  item_drops (syn at (AnItem (StructItem ds name kind fields))) s =
       walk (derives_still ds s) λ _ t e. walk (variant_collected (rules.names_alone k (types.number_of k.adts name.1)) name.1
       fields t) λ v u g. walk_ends (λ h. one_more u.items.adts (rules.adt_of k ds name.1 false (v ∷ [])) (same_drops
       s.items.adts u.items.adts (onward e g.0).stays.adts h) refl)
-  item_drops (syn at (EnumItem ds name variants)) s =
+  item_drops (syn at (AnItem (EnumItem ds name variants))) s =
       walk (derives_still ds s) λ _ t e. walk (variants_collected (rules.names_alone k (types.number_of k.adts name.1))
       variants t) λ vs u g. walk_ends (λ h. one_more u.items.adts (rules.adt_of k ds name.1 true vs) (same_drops
       s.items.adts u.items.adts (onward e g.0).stays.adts h) refl)
@@ -146,13 +146,13 @@ module _ (parts : Parts Pos) (items : ItemTable) (p : ProgramTree) (h : IsAccept
         params) → MeanParams (all_names known (Some adt.name)) p.items params (ty ∷ []) → IsTrue (is_to
         p.items n ty)
     to_self n adt at ty no_syn takes means = absurd means
-    to_self n adt at ty (a_syn (syn here (SelfParam ByUnique)) rest) takes means =
+    to_self n adt at ty (a_syn (syn here (AParam (SelfParam ByUnique))) rest) takes means =
         let self = means.0 in
         ap (λ o. option_map_or (λ (r : Bool × TyId). option_map_or (λ m. m == n) (adt_of p.items r.1) false) o false) (ap
         (option_and_then reference_in) self.4) ∙ (ap (λ o. option_map_or (λ m. m == n) o false) (ap (option_and_then adt_in)
         self.3) ∙ eq-eqb self.0 n (adt_number adts n self.0 adt at self.2))
-    to_self n adt at ty (a_syn (syn here (SelfParam ByShared)) rest) takes means = absurd (false≢true takes)
-    to_self n adt at ty (a_syn (syn here (SelfParam ByValue)) rest) takes means = absurd (false≢true takes)
+    to_self n adt at ty (a_syn (syn here (AParam (SelfParam ByShared))) rest) takes means = absurd (false≢true takes)
+    to_self n adt at ty (a_syn (syn here (AParam (SelfParam ByValue))) rest) takes means = absurd (false≢true takes)
     to_self n adt at ty (a_syn (syn here _) rest) takes means = absurd (false≢true takes)
 
     one_self : (n : ℕ) (adt : Adt) → slice_get p.items.adts n ≡ Some adt → (params : Syns) → IsTrue (checks.takes_unique params) →

@@ -19,7 +19,7 @@ use Rattle.typing_rules.specs.Items.{ItemSyn, items_of, item_syns}
 use Rattle.typing_rules.specs.Program as rules
 use Rattle.typing_rules.specs.Scope.{Env, adt_named}
 use Rattle.typing_rules.specs.Written.{written}
-use Rattle.src_ast.specs.Syntax.{number_word, Word, Syn, syn, StructItem, EnumItem, FieldDecl, VariantDecl, Syns, no_syn, a_syn, list_of}
+use Rattle.src_ast.specs.Syntax.{Word, number_word, Syn, syn, AnItem, AField, AVariant, StructItem, EnumItem, Syns, no_syn, a_syn, list_of}
 use Rattle.typing_soundness.specs.Heads.{IsVariantOf, AreVariantsOf, IsAdtOf, AreAdtsOf}
 use Rattle.typing_soundness.specs.Items.{FieldsDiffer}
 use Rattle.typing_soundness.specs.Named.{begins_with_digit, field_named, variant_named, item_named}
@@ -37,11 +37,11 @@ use Rattle.typing_soundness.proofs.Walking.Steps.{walk, walk_map, walk_obeyed, w
 -- ---- what the rule on fields asks
 
 abbrev FieldKept : List Word → Syn → Type 0
-FieldKept earlier (syn at (FieldDecl name ty)) = IsTrue (not (is_among name earlier))
+FieldKept earlier (syn at (AField name ty)) = IsTrue (not (is_among name earlier))
 FieldKept earlier _ = Unit {0}
 
 abbrev with_field : Syn → List Word → List Word
-with_field (syn at (FieldDecl name ty)) earlier = name ∷ earlier
+with_field (syn at (AField name ty)) earlier = name ∷ earlier
 with_field _ earlier = earlier
 
 abbrev FieldsKept : List Word → List Syn → Type 0
@@ -55,7 +55,7 @@ type_kept env earlier ty s =
 
 field_kept : (env : Env) (earlier : List Word) (f : Syn) (s : TypingState) → Walked (λ names t. FieldKept earlier f × (with_field f
     earlier ≡ names)) (rules.field env earlier f s)
-field_kept env earlier (syn at (FieldDecl name ty)) s =
+field_kept env earlier (syn at (AField name ty)) s =
     walk (whatever {P = Unit {0}} (written (all_rules env) ty s) tt) λ _ t _. walk_obeyed Rule.T02 at (not (is_among name
     earlier)) _ λ h. walk_ends (h, refl)
 field_kept env earlier (syn at form) s = walk_map (type_kept env earlier (syn at form) s) λ names t e. (tt, e)
@@ -70,18 +70,18 @@ fields_kept env earlier (f ∷ fs) s =
     )
 
 abbrev VariantKept : Syn → Type 0
-VariantKept (syn at (VariantDecl name kind fields)) = FieldsKept [] (list_of fields)
+VariantKept (syn at (AVariant name kind fields)) = FieldsKept [] (list_of fields)
 VariantKept _ = Unit {0}
 
 abbrev ItemKept : Syn → Type 0
-ItemKept (syn at (StructItem derives name kind fields)) = FieldsKept [] (list_of fields)
-ItemKept (syn at (EnumItem derives name variants)) = All VariantKept (list_of variants)
+ItemKept (syn at (AnItem (StructItem derives name kind fields))) = FieldsKept [] (list_of fields)
+ItemKept (syn at (AnItem (EnumItem derives name variants))) = All VariantKept (list_of variants)
 ItemKept _ = Unit {0}
 
 variants_kept : (env : Env) (earlier : List Word) (vs : List Syn) (s : TypingState) → Walked (λ a t. All VariantKept vs)
     (rules.variants env earlier vs s)
 variants_kept env earlier [] s = walk_ends tt
-variants_kept env earlier (syn at (VariantDecl name kind fields) ∷ vs) s =
+variants_kept env earlier (syn at (AVariant name kind fields) ∷ vs) s =
     walk (fields_kept env [] (list_of fields) s) λ _ t h. walk_obeyed Rule.T02 at (not (is_among name earlier)) _ λ _.
     walk_obeyed Rule.T19 at (nat_le (rules.count_of fields) 32) _ λ _. walk_map (variants_kept env (name ∷ earlier) vs t)
     λ a u k. (h, k)
@@ -89,9 +89,9 @@ variants_kept env earlier (syn at _ ∷ vs) s = record { so = tt }
 
 item_kept : (env : Env) (before : rules.Before) (i : Syn) (s : TypingState) → Walked (λ a t. ItemKept i) (rules.item_rules env
     before i s)
-item_kept env before (syn at (StructItem derives name kind fields)) s =
+item_kept env before (syn at (AnItem (StructItem derives name kind fields))) s =
     walk (fields_kept (rules.in_impl env (adt_named s.items name.1)) [] (list_of fields) s) λ _ t h. whatever _ h
-item_kept env before (syn at (EnumItem derives name variants)) s =
+item_kept env before (syn at (AnItem (EnumItem derives name variants))) s =
     walk (variants_kept (rules.in_impl env (adt_named s.items name.1)) [] (list_of variants) s) λ _ t h. whatever _ h
 item_kept env before (syn at _) s = whatever _ tt
 
@@ -107,8 +107,8 @@ abbrev ItemIs : Syn → Type 0
 ItemIs i = ItemKept i × Holds (item_named i)
 
 kept_with : (i : Syn) (is : List Syn) → ItemIs i → All ItemIs is → All ItemIs (adts_in i ++ is)
-kept_with (syn at (StructItem derives name kind fields)) is h k = (h, k)
-kept_with (syn at (EnumItem derives name variants)) is h k = (h, k)
+kept_with (syn at (AnItem (StructItem derives name kind fields))) is h k = (h, k)
+kept_with (syn at (AnItem (EnumItem derives name variants))) is h k = (h, k)
 kept_with (syn at _) is h k = k
 
 adts_kept : (is : List ItemSyn) → All ItemKept (item_syns is) → Holds (each item_named (item_syns is)) → All ItemIs
@@ -135,7 +135,7 @@ no_number name n h e = false≢true (ap not (sym (number_digit n)) ∙ ap (λ w.
 -- a number's word, and the names of later fields
 number_apart : (n k : ℕ) (fs : List Syn) → n < k → Holds (each field_named fs) → Apart (number_word n) (names_from k fs)
 number_apart n k [] l h = tt
-number_apart n k (syn at (FieldDecl name ty) ∷ fs) l h =
+number_apart n k (syn at (AField name ty) ∷ fs) l h =
     (λ e. no_number name n h.0 (sym e), number_apart n (suc k) fs (omega (arith, l)) h.1)
 number_apart n k (syn at _ ∷ fs) l h = (
   λ e. let s = same_number n k e in absurd (omega (arith, l, s)),
@@ -153,7 +153,7 @@ either false b h = h
 name_apart : (name : Word) (earlier : List Word) (k : ℕ) (fs : List Syn) → IsTrue (not (begins_with_digit name)) → is_among name
     earlier ≡ true → FieldsKept earlier fs → Holds (each field_named fs) → Apart name (names_from k fs)
 name_apart name earlier k [] free has kept h = tt
-name_apart name earlier k (syn at (FieldDecl other ty) ∷ fs) free has kept h = (
+name_apart name earlier k (syn at (AField other ty) ∷ fs) free has kept h = (
   λ e. same_among name other earlier e has kept.0,
   name_apart name (other ∷ earlier) (suc k) fs free (either (bytes_eq name other) (is_among name earlier) has) kept.1 h.1,
 )
@@ -163,7 +163,7 @@ name_apart name earlier k (syn at _ ∷ fs) free has kept h =
 names_differ : (earlier : List Word) (k : ℕ) (fs : List Syn) → FieldsKept earlier fs → Holds (each field_named fs) → Differ
     (names_from k fs)
 names_differ earlier k [] kept h = tt
-names_differ earlier k (syn at (FieldDecl name ty) ∷ fs) kept h = (
+names_differ earlier k (syn at (AField name ty) ∷ fs) kept h = (
   name_apart name (name ∷ earlier) (suc k) fs h.0 (ap (λ b. b || is_among name earlier) ((bytes_eq-Decides name name).1
       refl)) kept.1 h.1,
   names_differ (name ∷ earlier) (suc k) fs kept.1 h.1,
@@ -186,7 +186,7 @@ variants_differ : (vs : Syns) (xs : List Variant) → All VariantKept (list_of v
 variants_differ no_syn [] kept h are = tt
 variants_differ no_syn (x ∷ xs) kept h are = absurd are
 variants_differ (a_syn first rest) [] kept h are = absurd are
-variants_differ (a_syn (syn at (VariantDecl name kind fields)) rest) (x ∷ xs) kept h are =
+variants_differ (a_syn (syn at (AVariant name kind fields)) rest) (x ∷ xs) kept h are =
     (variant_differs fields x kept.0 h.0.1 are.0.1, variants_differ rest xs kept.1 h.1 are.1)
 variants_differ (a_syn (syn at _) rest) (x ∷ xs) kept h are = absurd are
 
@@ -194,9 +194,9 @@ abbrev HasAllFields : Adt → Type 0
 HasAllFields adt = All HasFields adt.variants
 
 adt_differs : (i : Syn) (adt : Adt) → IsAdtOf i adt → ItemIs i → HasAllFields adt
-adt_differs (syn at (StructItem derives name kind fields)) adt are h =
+adt_differs (syn at (AnItem (StructItem derives name kind fields))) adt are h =
     subst (All HasFields) (sym are.2) (variant_differs fields are.1 h.0 h.1.1.1 are.3, tt)
-adt_differs (syn at (EnumItem derives name variants)) adt are h =
+adt_differs (syn at (AnItem (EnumItem derives name variants))) adt are h =
     variants_differ variants adt.variants h.0 h.1.1.1 are.2
 adt_differs (syn at _) adt are h = absurd are
 

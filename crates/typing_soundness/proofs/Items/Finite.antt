@@ -25,7 +25,7 @@ use Rattle.typing_rules.specs.Items.{ItemSyn, items_of, item_syns, body_paths}
 use Rattle.typing_rules.specs.Promises.{AreReady, Extends, IsAlone, IsValueType, made_of, ComesAfter}
 use Rattle.typing_rules.specs.Written.{number_of}
 use Rattle.typing_rules.proofs.Sound.Interned.{made_held}
-use Rattle.src_ast.specs.Syntax.{Syn, syn, StructItem, EnumItem}
+use Rattle.src_ast.specs.Syntax.{Syn, syn, AnItem, StructItem, EnumItem}
 use Rattle.typing_soundness.specs.Heads.{IsAdtOf, AreAdtsOf}
 use Rattle.typing_soundness.specs.Program.{IsAccepted}
 use Rattle.typing_soundness.specs.Walks.{Walked}
@@ -510,8 +510,8 @@ asked_at items n (i ∷ is) (a ∷ adts) are h k adt at = by i are.0 h (asked_at
 
     by : (j : Syn) → IsAdtOf j a → AreChecked items n (filter_map rules.adt_item (j ∷ is)) → Later → (k : ℕ) → slice_get (a ∷
         adts) k ≡ Some adt → IsChecked items (n + k)
-    by (syn at (StructItem ds name kind fields)) one h later = on h later
-    by (syn at (EnumItem ds name variants)) one h later = on h later
+    by (syn at (AnItem (StructItem ds name kind fields))) one h later = on h later
+    by (syn at (AnItem (EnumItem ds name variants))) one h later = on h later
     by (syn at _) one h later = absurd one
 
 module _ (parts : Parts Pos) (items : ItemTable) (p : ProgramTree) (h : IsAccepted parts items p) where

@@ -27,13 +27,13 @@ use Rattle.typing_rules.specs.Places.{scalars}
 use Rattle.typing_rules.specs.Program.{checked, outermost}
 use Rattle.typing_rules.specs.Promises.{AreClosures}
 use Rattle.typing_rules.specs.Written as types
-use Rattle.src_ast.specs.Syntax.{Word, Receiver, ByValue, ByShared, ByUnique, Syn, syn, Shape, Minus, Bang, Star, Ampersand, Calculate, Compare, Both, Either, Store, CallOf, MethodOf, FieldOf, PartOf, ElementOf, StructOf, FieldInit, Parens, TupleOf, ArrayOf, Braces, IfElse, IfLetElse, MatchOn, ArmOf, LoopOf, WhileOf, WhileLetOf, BreakOf, ReturnOf, MoveOf, LetOf, Semi, StructItem, EnumItem, ImplItem, FnItem, ParamOf, SelfParam, Syns, no_syn, a_syn, list_of, MaybeSyn, nothing, just}
+use Rattle.src_ast.specs.Syntax.{Word, Receiver, ByValue, ByShared, ByUnique, Syn, syn, Shape, AnExpression, AStatement, AnItem, AParam, AnInit, AnArm, Expression, Minus, Bang, Star, Ampersand, Calculate, Compare, Both, Either, Store, CallOf, MethodOf, FieldOf, PartOf, ElementOf, StructOf, Parens, TupleOf, ArrayOf, Braces, IfElse, IfLetElse, MatchOn, LoopOf, WhileOf, WhileLetOf, BreakOf, ReturnOf, MoveOf, LetOf, Semi, StructItem, EnumItem, ImplItem, FnItem, ParamOf, SelfParam, Syns, no_syn, a_syn, list_of, MaybeSyn, nothing, just}
 use Rattle.typing_rules.proofs.Sound.Interned.{not_there}
-use Rattle.typing_soundness.specs.Closures.{BodySyn, Function, Closure, WrittenHead, Tape, closures_of, closures_in, closures_among, closures_if_any, function_text, functions_text, around_impl, item_text, items_text, program_text}
+use Rattle.typing_soundness.specs.Closures.{BodySyn, Function, Closure, WrittenHead, Tape, closures_of, closures_in, closures_in_expression, closures_among, closures_if_any, function_text, functions_text, around_impl, item_text, items_text, program_text}
 use Rattle.typing_soundness.specs.Met.{IsReceiver, MeansParam, MeanParams, MeansAnswer, AreTypesOf, IsBodyOf, AreMade, Met, types_of, behind}
 use Rattle.typing_soundness.specs.Heads.{MeanClosureParams, MeansClosureAnswer, AreHeadTypes, IsHeadOf, IsAdtOf, AreAdtsOf, inner_text, TellBodies, has_no_self}
 use Rattle.typing_soundness.specs.Program.{HaveHeads}
-use Rattle.typing_soundness.specs.Shapes.{shaped, shaped_form, all_shaped, maybe_shaped, body_shaped, function_shaped, item_shaped, no_self}
+use Rattle.typing_soundness.specs.Shapes.{shaped, shaped_form, shaped_expression, all_shaped, maybe_shaped, body_shaped, function_shaped, item_shaped, no_self}
 use Rattle.typing_soundness.specs.Walks.{Walked}
 use Rattle.typing_soundness.proofs.Items.Collected as collected
 use Rattle.typing_soundness.proofs.Items.Collected.{AreHeads, SameHeads, all_names, listed_text, all_adts, adts_in, Collects}
@@ -53,43 +53,48 @@ module _ (around : types.WrittenScope) where
 
     plain_form : (form : Shape) → Holds (shaped_form form) → (rest : List BodySyn) → Holds (each has_no_self rest) → Holds
         (each has_no_self (closures_in around form rest))
-    plain_form (Minus operand) h rest p = plain_closures operand h rest p
-    plain_form (Bang operand) h rest p = plain_closures operand h rest p
-    plain_form (Star operand) h rest p = plain_closures operand h rest p
-    plain_form (Ampersand unique operand) h rest p = plain_closures operand h rest p
-    plain_form (Calculate operator left right) h rest p = plain_closures left h.0 _ (plain_closures right h.1 rest p)
-    plain_form (Compare operator left right) h rest p = plain_closures left h.0 _ (plain_closures right h.1 rest p)
-    plain_form (Both left right) h rest p = plain_closures left h.0 _ (plain_closures right h.1 rest p)
-    plain_form (Either left right) h rest p = plain_closures left h.0 _ (plain_closures right h.1 rest p)
-    plain_form (Store place value) h rest p = plain_closures place h.0 _ (plain_closures value h.1 rest p)
-    plain_form (CallOf callee args) h rest p = plain_closures callee h.0 _ (plain_among args h.1 rest p)
-    plain_form (MethodOf receiver name args) h rest p = plain_closures receiver h.0 _ (plain_among args h.1 rest p)
-    plain_form (FieldOf base name) h rest p = plain_closures base h rest p
-    plain_form (PartOf base number) h rest p = plain_closures base h rest p
-    plain_form (ElementOf base index) h rest p = plain_closures base h.0 _ (plain_closures index h.1 rest p)
-    plain_form (StructOf first second inits) h rest p = plain_among inits h rest p
-    plain_form (FieldInit name value) h rest p = plain_if_any value h rest p
-    plain_form (Parens inside) h rest p = plain_closures inside h rest p
-    plain_form (TupleOf parts) h rest p = plain_among parts h rest p
-    plain_form (ArrayOf elements) h rest p = plain_among elements h rest p
-    plain_form (Braces statements tail) h rest p = plain_among statements h.0 _ (plain_if_any tail h.1 rest p)
-    plain_form (IfElse condition body otherwise) h rest p =
-        plain_closures condition h.0 _ (plain_closures body h.1.0 _ (plain_if_any otherwise h.1.1 rest p))
-    plain_form (IfLetElse pattern scrutinee body otherwise) h rest p =
-        plain_closures scrutinee h.0 _ (plain_closures body h.1.0 _ (plain_if_any otherwise h.1.1 rest p))
-    plain_form (MatchOn scrutinee arms) h rest p = plain_closures scrutinee h.0 _ (plain_among arms h.1 rest p)
-    plain_form (ArmOf pattern guard body) h rest p = plain_if_any guard h.0 _ (plain_closures body h.1 rest p)
-    plain_form (LoopOf label body) h rest p = plain_closures body h rest p
-    plain_form (WhileOf label condition body) h rest p =
-        plain_closures condition h.0 _ (plain_closures body h.1 rest p)
-    plain_form (WhileLetOf label pattern scrutinee body) h rest p =
-        plain_closures scrutinee h.0 _ (plain_closures body h.1 rest p)
-    plain_form (BreakOf label value) h rest p = plain_if_any value h rest p
-    plain_form (ReturnOf value) h rest p = plain_if_any value h rest p
-    plain_form (MoveOf captures params answer body) h rest p = (h.1.0, plain_closures body h.1.1 rest p)
-    plain_form (LetOf pattern ty value) h rest p = plain_if_any value h rest p
-    plain_form (Semi expression) h rest p = plain_closures expression h rest p
+    plain_form (AnExpression e) h rest p = plain_expression e h rest p
+    plain_form (AnInit name value) h rest p = plain_if_any value h rest p
+    plain_form (AnArm pattern guard body) h rest p = plain_if_any guard h.0 _ (plain_closures body h.1 rest p)
+    plain_form (AStatement (LetOf pattern ty value)) h rest p = plain_if_any value h rest p
+    plain_form (AStatement (Semi expression)) h rest p = plain_closures expression h rest p
     plain_form _ h rest p = p
+
+    plain_expression : (form : Expression) → Holds (shaped_expression form) → (rest : List BodySyn) → Holds (each has_no_self rest) → Holds
+        (each has_no_self (closures_in_expression around form rest))
+    plain_expression (Minus operand) h rest p = plain_closures operand h rest p
+    plain_expression (Bang operand) h rest p = plain_closures operand h rest p
+    plain_expression (Star operand) h rest p = plain_closures operand h rest p
+    plain_expression (Ampersand unique operand) h rest p = plain_closures operand h rest p
+    plain_expression (Calculate operator left right) h rest p = plain_closures left h.0 _ (plain_closures right h.1 rest p)
+    plain_expression (Compare operator left right) h rest p = plain_closures left h.0 _ (plain_closures right h.1 rest p)
+    plain_expression (Both left right) h rest p = plain_closures left h.0 _ (plain_closures right h.1 rest p)
+    plain_expression (Either left right) h rest p = plain_closures left h.0 _ (plain_closures right h.1 rest p)
+    plain_expression (Store place value) h rest p = plain_closures place h.0 _ (plain_closures value h.1 rest p)
+    plain_expression (CallOf callee args) h rest p = plain_closures callee h.0 _ (plain_among args h.1 rest p)
+    plain_expression (MethodOf receiver name args) h rest p = plain_closures receiver h.0 _ (plain_among args h.1 rest p)
+    plain_expression (FieldOf base name) h rest p = plain_closures base h rest p
+    plain_expression (PartOf base number) h rest p = plain_closures base h rest p
+    plain_expression (ElementOf base index) h rest p = plain_closures base h.0 _ (plain_closures index h.1 rest p)
+    plain_expression (StructOf first second inits) h rest p = plain_among inits h rest p
+    plain_expression (Parens inside) h rest p = plain_closures inside h rest p
+    plain_expression (TupleOf parts) h rest p = plain_among parts h rest p
+    plain_expression (ArrayOf elements) h rest p = plain_among elements h rest p
+    plain_expression (Braces statements tail) h rest p = plain_among statements h.0 _ (plain_if_any tail h.1 rest p)
+    plain_expression (IfElse condition body otherwise) h rest p =
+        plain_closures condition h.0 _ (plain_closures body h.1.0 _ (plain_if_any otherwise h.1.1 rest p))
+    plain_expression (IfLetElse pattern scrutinee body otherwise) h rest p =
+        plain_closures scrutinee h.0 _ (plain_closures body h.1.0 _ (plain_if_any otherwise h.1.1 rest p))
+    plain_expression (MatchOn scrutinee arms) h rest p = plain_closures scrutinee h.0 _ (plain_among arms h.1 rest p)
+    plain_expression (LoopOf label body) h rest p = plain_closures body h rest p
+    plain_expression (WhileOf label condition body) h rest p =
+        plain_closures condition h.0 _ (plain_closures body h.1 rest p)
+    plain_expression (WhileLetOf label pattern scrutinee body) h rest p =
+        plain_closures scrutinee h.0 _ (plain_closures body h.1 rest p)
+    plain_expression (BreakOf label value) h rest p = plain_if_any value h rest p
+    plain_expression (ReturnOf value) h rest p = plain_if_any value h rest p
+    plain_expression (MoveOf captures params answer body) h rest p = (h.1.0, plain_closures body h.1.1 rest p)
+    plain_expression _ h rest p = p
 
     plain_among : (es : Syns) → Holds (all_shaped es) → (rest : List BodySyn) → Holds (each has_no_self rest) → Holds (each
         has_no_self (closures_among around es rest))
@@ -108,7 +113,7 @@ module _ (around : types.WrittenScope) where
 
   plain_function : (f : Syn) → Holds (function_shaped f) → (rest : List BodySyn) → Holds (each has_no_self rest) → Holds
       (each has_no_self (function_text around f rest))
-  plain_function (syn at (FnItem name params answer block)) h rest p = (refl, plain_block block h.1 rest p)
+  plain_function (syn at (AnItem (FnItem name params answer block))) h rest p = (refl, plain_block block h.1 rest p)
   plain_function (syn at _) h rest p = p
 
   plain_functions : (fs : List Syn) → Holds (each function_shaped fs) → (rest : List BodySyn) → Holds (each has_no_self
@@ -118,10 +123,10 @@ module _ (around : types.WrittenScope) where
 
 plain_item : (around : types.WrittenScope) (adts : List Adt) (i : Syn) → Holds (item_shaped i) → (rest : List BodySyn) → Holds
     (each has_no_self rest) → Holds (each has_no_self (item_text around adts i rest))
-plain_item around adts (syn at (ImplItem trait_ name methods)) h rest p =
+plain_item around adts (syn at (AnItem (ImplItem trait_ name methods))) h rest p =
     plain_functions (around_impl around adts name.1) (list_of methods) h rest p
-plain_item around adts (syn at (FnItem name params answer block)) h rest p =
-    plain_function around (syn at (FnItem name params answer block)) h rest p
+plain_item around adts (syn at (AnItem (FnItem name params answer block))) h rest p =
+    plain_function around (syn at (AnItem (FnItem name params answer block))) h rest p
 plain_item around adts (syn at _) h rest p = p
 
 plain_items : (around : types.WrittenScope) (adts : List Adt) (is : List Syn) → Holds (each item_shaped is) → (rest : List BodySyn)
@@ -155,10 +160,10 @@ module _ (all : List ItemSyn) (adts : List Adt) (words : map (λ (adt : Adt). ad
     outer = all_rules (outermost (item_syns all))
 
     item_listed : (i : Syn) → inner_text (all_names (rules.known_of all) (impl_owner i)) i ≡ item_text outer adts i
-    item_listed (syn at (ImplItem trait_ name methods)) =
+    item_listed (syn at (AnItem (ImplItem trait_ name methods))) =
         λ j. functions_text (record outer { self_adt = number_found (adt_names (item_syns all)) adts name.1 words j })
         (list_of methods)
-    item_listed (syn at (FnItem name params answer block)) = refl
+    item_listed (syn at (AnItem (FnItem name params answer block))) = refl
     item_listed (syn at _) = refl
 
     pub items_listed : (is : List ItemSyn) → TellBodies is → listed_text (rules.known_of all) is ≡ items_text outer adts
@@ -171,8 +176,8 @@ module _ (all : List ItemSyn) (adts : List Adt) (words : map (λ (adt : Adt). ad
 -- structs and enums have the names of the text
 adt_word_is : (i : Syn) (adt : Adt) (is : List Syn) (ws : List Word) → IsAdtOf i adt → ws ≡ adt_names is → adt.name ∷ ws ≡
     adt_names (i ∷ is)
-adt_word_is (syn at (StructItem derives name kind fields)) adt is ws h e = λ j. h.0 j ∷ e j
-adt_word_is (syn at (EnumItem derives name variants)) adt is ws h e = λ j. h.0 j ∷ e j
+adt_word_is (syn at (AnItem (StructItem derives name kind fields))) adt is ws h e = λ j. h.0 j ∷ e j
+adt_word_is (syn at (AnItem (EnumItem derives name variants))) adt is ws h e = λ j. h.0 j ∷ e j
 adt_word_is (syn at _) adt is ws h e = absurd h
 
 adt_words : (is : List Syn) (adts : List Adt) → AreAdtsOf is adts → map (λ (adt : Adt). adt.name) adts ≡ adt_names is
@@ -183,8 +188,8 @@ adt_words (i ∷ is) (a ∷ adts) h = adt_word_is i a is _ h.0 (adt_words is adt
 
 words_with : (x : Syn) (is : List ItemSyn) → adt_names (all_adts is) ≡ adt_names (item_syns is) → adt_names (adts_in x ++
     all_adts is) ≡ adt_names (x ∷ item_syns is)
-words_with (syn at (StructItem derives name kind fields)) is e = ap (λ ws. name.1 ∷ ws) e
-words_with (syn at (EnumItem derives name variants)) is e = ap (λ ws. name.1 ∷ ws) e
+words_with (syn at (AnItem (StructItem derives name kind fields))) is e = ap (λ ws. name.1 ∷ ws) e
+words_with (syn at (AnItem (EnumItem derives name variants))) is e = ap (λ ws. name.1 ∷ ws) e
 words_with (syn at _) is e = e
 
 words_of_text : (is : List ItemSyn) → adt_names (all_adts is) ≡ adt_names (item_syns is)
@@ -206,8 +211,8 @@ module _ (items : ItemTable) (distinct : AreDistinct items.types) where
     receiver_once ByUnique own ty other h g = same_type around items distinct ty other (Ty.Unique own) (Ty.Unique own) h g refl
 
     param_once : (p : Syn) (ty other : TyId) → MeansParam around items p ty → MeansParam around items p other → ty ≡ other
-    param_once (syn at (ParamOf p written)) ty other h g = means_once around items distinct written ty other h g
-    param_once (syn at (SelfParam receiver)) ty other h g =
+    param_once (syn at (AParam (ParamOf p written))) ty other h g = means_once around items distinct written ty other h g
+    param_once (syn at (AParam (SelfParam receiver))) ty other h g =
         let n : h.0 ≡ g.0 = same_Some h.0 g.0 (sym h.2 ∙ g.2) in
         let own : h.1 ≡ g.1 = same_type around items distinct h.1 g.1 (Ty.Adt h.0) (Ty.Adt g.0) h.3 g.3 (ap Ty.Adt n) in
         receiver_once receiver g.1 ty other (subst (λ o. IsReceiver items receiver o ty) own h.4) g.4
@@ -236,10 +241,10 @@ module _ (items : ItemTable) (distinct : AreDistinct items.types) where
     closure_params_once no_syn plain (ty ∷ tys) others h g = absurd h
     closure_params_once (a_syn first rest) plain [] others h g = absurd h
     closure_params_once (a_syn first rest) plain (ty ∷ tys) [] h g = absurd g
-    closure_params_once (a_syn (syn at (ParamOf p written)) rest) plain (ty ∷ tys) (o ∷ others) h g =
+    closure_params_once (a_syn (syn at (AParam (ParamOf p written))) rest) plain (ty ∷ tys) (o ∷ others) h g =
         λ i. means_once around items distinct written ty o h.0 (g.0 items ty h.0) i ∷ closure_params_once rest plain tys
         others h.1 g.1 i
-    closure_params_once (a_syn (syn at (SelfParam receiver)) rest) plain (ty ∷ tys) (o ∷ others) h g =
+    closure_params_once (a_syn (syn at (AParam (SelfParam receiver))) rest) plain (ty ∷ tys) (o ∷ others) h g =
         absurd (false≢true plain)
     closure_params_once (a_syn (syn at _) rest) plain (ty ∷ tys) (o ∷ others) h g = absurd h.0
 

@@ -21,7 +21,7 @@ use Rattle.typing_rules.specs.Places.{unit}
 use Rattle.typing_rules.specs.Promises.{AreReady, IsAlone, IsValueType}
 use Rattle.typing_rules.specs.Written.{WrittenScope, scalar_named, number_of, length_shown, reference_to}
 use Rattle.typing_rules.proofs.Sound.Interned.{equal_is}
-use Rattle.src_ast.specs.Syntax.{Word, Receiver, ByValue, ByShared, ByUnique, Syn, syn, Shape, NamedType, GenericType, DynType, SelfType, ParensType, TupleType, ArrayType, NeverType, RefType, ParamOf, SelfParam, Syns, no_syn, a_syn, MaybeSyn, nothing, just}
+use Rattle.src_ast.specs.Syntax.{Word, Receiver, ByValue, ByShared, ByUnique, Syn, syn, AType, AParam, WrittenType, NamedType, GenericType, DynType, SelfType, ParensType, TupleType, ArrayType, NeverType, RefType, ParamOf, SelfParam, Syns, no_syn, a_syn, MaybeSyn, nothing, just}
 use Rattle.typing_soundness.specs.Closures.{BodySyn, Function, Closure, WrittenHead}
 use Rattle.typing_soundness.specs.Met.{IsReceiver, MeansParam, MeanParams, MeansAnswer, AreTypesOf, IsBodyOf, AreMade, text_legal, types_of, behind}
 use Rattle.typing_soundness.specs.Heads.{has_no_self}
@@ -95,9 +95,10 @@ module _ (items : ItemTable) (all : AreReady items) (around : WrittenScope) wher
 
   mutual
     pub means_made : (e : Syn) (id : TyId) → Means around items e id → IsMadeTy items (legal e) id
-    means_made (syn at form) id h = form_made form id h
+    means_made (syn at (AType t)) id h = form_made t id h
+    means_made _ id h = absurd h
 
-    form_made : (form : Shape) (id : TyId) → MeansForm around items form id → IsMadeTy items (legal_form form) id
+    form_made : (form : WrittenType) (id : TyId) → MeansForm around items form id → IsMadeTy items (legal_form form) id
     form_made (NamedType name) id h =
         named_made true name (number_of around.adts name) (scalar_named name) id refl h
     form_made (GenericType name content) id h = (Ty.Boxed h.0, h.2, refl, λ _. refl)
@@ -108,7 +109,6 @@ module _ (items : ItemTable) (all : AreReady items) (around : WrittenScope) wher
     form_made (ArrayType element count suffix) id h = (Ty.Array h.0 (length_shown count), h.2, refl, λ _. refl)
     form_made NeverType id h = subst (IsMadeTy items true) h (plain_made true _ (never_plain items all))
     form_made (RefType unique to) id h = reference_made unique h.0 id h.2
-    form_made _ id h = absurd h
 
   receiver_made : (receiver : Receiver) (n : ℕ) (own id : TyId) → type_at items own ≡ Some (Ty.Adt n) → IsReceiver items
       receiver own id → IsTrue (is_param items id)
@@ -118,8 +118,8 @@ module _ (items : ItemTable) (all : AreReady items) (around : WrittenScope) wher
   receiver_made ByUnique n own id at h = param_so items id (Ty.Unique own) h refl
 
   param_typed : (p : Syn) (id : TyId) → MeansParam around items p id → IsTrue (is_param items id)
-  param_typed (syn at (ParamOf p written)) id h = let m = means_made written id h in param_so items id m.0 m.1 m.2
-  param_typed (syn at (SelfParam receiver)) id h = receiver_made receiver h.0 h.1 id h.3 h.4
+  param_typed (syn at (AParam (ParamOf p written))) id h = let m = means_made written id h in param_so items id m.0 m.1 m.2
+  param_typed (syn at (AParam (SelfParam receiver))) id h = receiver_made receiver h.0 h.1 id h.3 h.4
   param_typed (syn at _) id h = absurd h
 
   params_typed : (ps : Syns) (ids : List TyId) → MeanParams around items ps ids → IsTrue (list_all (is_param items) ids)
@@ -132,9 +132,9 @@ module _ (items : ItemTable) (all : AreReady items) (around : WrittenScope) wher
   -- of a closure, whose parameters are no references
   param_alone : (p : Syn) (rest : Syns) (id : TyId) → IsTrue (no_self (a_syn p rest)) → IsTrue (param_legal legal p) →
       MeansParam around items p id → IsTrue (stands_alone items id) × IsTrue (no_self rest)
-  param_alone (syn at (ParamOf p written)) rest id free l h =
+  param_alone (syn at (AParam (ParamOf p written))) rest id free l h =
       let m = means_made written id h in (alone_so items id m.0 m.1 m.2 (m.3 l), free)
-  param_alone (syn at (SelfParam receiver)) rest id free l h = absurd (false≢true free)
+  param_alone (syn at (AParam (SelfParam receiver))) rest id free l h = absurd (false≢true free)
   param_alone (syn at _) rest id free l h = absurd h
 
   params_alone : (ps : Syns) (ids : List TyId) → IsTrue (no_self ps) → IsTrue (params_legal legal ps) → MeanParams around

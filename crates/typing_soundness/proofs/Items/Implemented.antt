@@ -29,7 +29,7 @@ use Rattle.typing_rules.specs.Promises.{Extends}
 use Rattle.typing_rules.specs.Scope.{trait_named, method_word}
 use Rattle.typing_rules.specs.Written as types
 use Rattle.typing_rules.proofs.Sound.Places.{contains_cases}
-use Rattle.src_ast.specs.Syntax.{Word, Named, ByShared, ByUnique, ByValue, Syn, syn, ImplItem, FnItem, SelfParam, Syns, no_syn, a_syn, list_of, MaybeSyn, nothing as no_syntax, just}
+use Rattle.src_ast.specs.Syntax.{Word, Named, ByValue, ByShared, ByUnique, Syn, syn, AnItem, AParam, ImplItem, FnItem, SelfParam, Syns, no_syn, a_syn, list_of, MaybeSyn}
 use Rattle.typing_soundness.specs.Closures.{BodySyn, Function, Closure, WrittenHead, functions_text, closures_if_any}
 use Rattle.typing_soundness.specs.Heads.{bodies_text, inner_text, TellBodies, TellsBodies}
 use Rattle.typing_soundness.specs.Items.{is_to, are_same_params, implements_head, implements_all, is_impl, ImplsAreTyped}
@@ -94,7 +94,7 @@ all_pass p (y ∷ ys) (suc k) x h is = all_pass p ys k x (and_parts (p y) _ h).1
 -- ---- each method of an impl has a path
 
 abbrev names_in : Syn → List Word
-names_in (syn at (ImplItem trait_ name methods)) = checks.method_names methods
+names_in (syn at (AnItem (ImplItem trait_ name methods))) = checks.method_names methods
 names_in (syn at _) = []
 
 later_member : {A : Type 0} (y : A) (ys : List A) (x : A) → Contains ys x → Contains (y ∷ ys) x
@@ -115,12 +115,12 @@ module _ (around : types.WrittenScope) where
   method_text : (name : Word) (ms : List Syn) → Contains (filter_map checks.method_name ms) name → HasText name (functions_text
       around ms [])
   method_text name [] has = absurd (omega (arith, has.1))
-  method_text name (syn at (FnItem own params answer block) ∷ ms) has =
+  method_text name (syn at (AnItem (FnItem own params answer block)) ∷ ms) has =
       by (contains_cases own.1 (filter_map checks.method_name ms) name has) (method_text name ms)
     where
       by : (own.1 ≡ name) ⊎ Contains (filter_map checks.method_name ms) name → (Contains (filter_map checks.method_name ms) name →
-          HasText name (functions_text around ms [])) → HasText name (functions_text around (syn at (FnItem own params answer
-          block) ∷ ms) [])
+          HasText name (functions_text around ms [])) → HasText name (functions_text around (syn at (AnItem (FnItem own params answer
+          block)) ∷ ms) [])
       by (inl e) on = (_, (0, omega arith, refl), e)
       by (inr more) on = text_later name _ _ (over_closures name block _ (on more))
   method_text name (syn at _ ∷ ms) has = method_text name ms has
@@ -147,7 +147,7 @@ module _ (k : rules.Known) where
 
       by : (item : Syn) → i.item ≡ item → Contains (names_in i.item) name → Contains (map (body_path i.item) i.bodies) (path_in
           i.item name)
-      by (syn at (ImplItem trait_ owner methods)) e has =
+      by (syn at (AnItem (ImplItem trait_ owner methods))) e has =
           found (subst (λ (f : List BodySyn → List BodySyn). HasText name (f [])) (sym (tell around)) (subst (λ x. HasText name
           (inner_text around x [])) (sym e) (method_text around name (list_of methods) (subst (λ x. Contains (names_in x) name) e
           has))))
@@ -170,8 +170,8 @@ module _ (k : rules.Known) where
 
 module _ (k : rules.Known) (traits : List TraitDef) where
   abbrev IsOwnImpl : Syn → ImplDef → Type 0
-  IsOwnImpl (syn at (ImplItem (Some trait_) name methods)) def =
-      (rules.is_drop trait_.1 ≡ false) × IsImplOf k traits (syn at (ImplItem (Some trait_) name methods)) def
+  IsOwnImpl (syn at (AnItem (ImplItem (Some trait_) name methods))) def =
+      (rules.is_drop trait_.1 ≡ false) × IsImplOf k traits (syn at (AnItem (ImplItem (Some trait_) name methods))) def
   IsOwnImpl (syn at _) def = ⊥
 
   -- an impl with its item, of which something is so
@@ -190,10 +190,10 @@ module _ (k : rules.Known) (traits : List TraitDef) where
     where
       by : (item : Syn) → i.item ≡ item → ((defs : List ImplDef) → AreImplsOf k traits (all_impls k (item_syns is)) defs → All
           (HasItem P) defs) → RestHave P is item
-      by (syn at (ImplItem (Some t) name methods)) e on = which (rules.is_drop t.1) refl
+      by (syn at (AnItem (ImplItem (Some t) name methods))) e on = which (rules.is_drop t.1) refl
         where
           which : (b : Bool) → rules.is_drop t.1 ≡ b → (defs : List ImplDef) → AreImplsOf k traits (unless_drop k b (syn at
-              (ImplItem (Some t) name methods)) ++ all_impls k (item_syns is)) defs → All (HasItem P) defs
+              (AnItem (ImplItem (Some t) name methods))) ++ all_impls k (item_syns is)) defs → All (HasItem P) defs
           which true drops defs are = on defs are
           which false drops [] are = tt
           which false drops (d ∷ defs) are =
@@ -226,21 +226,21 @@ module _ (parts : Parts Pos) (items : ItemTable) (p : ProgramTree) (h : IsAccept
       params) → (ty : TyId) (tys : List TyId) → MeanParams (all_names known (Some owner)) p.items params (ty ∷ tys) → IsTrue (is_to
       p.items n ty)
   own_self owner n is no_syn takes ty tys means = absurd means
-  own_self owner n is (a_syn (syn at (SelfParam ByShared)) rest) takes ty tys means = to means.0
+  own_self owner n is (a_syn (syn at (AParam (SelfParam ByShared))) rest) takes ty tys means = to means.0
     where
       to : (m : ℕ) × (own : TyId) × (types.number_of known.adts owner ≡ Some m) × (type_at p.items own ≡ Some (Ty.Adt m)) ×
           (type_at p.items ty ≡ Some (Ty.Shared own)) → IsTrue (is_to p.items n ty)
       to self = ap (λ o. option_map_or (λ (r : Bool × TyId). option_map_or (λ m. m == n) (adt_of p.items r.1) false) o false) (ap
           (option_and_then reference_in) self.4) ∙ (ap (λ o. option_map_or (λ m. m == n) o false) (ap (option_and_then adt_in)
           self.3) ∙ eq-eqb self.0 n (same_Some self.0 n (sym self.2 ∙ is)))
-  own_self owner n is (a_syn (syn at (SelfParam ByUnique)) rest) takes ty tys means = to means.0
+  own_self owner n is (a_syn (syn at (AParam (SelfParam ByUnique))) rest) takes ty tys means = to means.0
     where
       to : (m : ℕ) × (own : TyId) × (types.number_of known.adts owner ≡ Some m) × (type_at p.items own ≡ Some (Ty.Adt m)) ×
           (type_at p.items ty ≡ Some (Ty.Unique own)) → IsTrue (is_to p.items n ty)
       to self = ap (λ o. option_map_or (λ (r : Bool × TyId). option_map_or (λ m. m == n) (adt_of p.items r.1) false) o false) (ap
           (option_and_then reference_in) self.4) ∙ (ap (λ o. option_map_or (λ m. m == n) o false) (ap (option_and_then adt_in)
           self.3) ∙ eq-eqb self.0 n (same_Some self.0 n (sym self.2 ∙ is)))
-  own_self owner n is (a_syn (syn at (SelfParam ByValue)) rest) takes ty tys means = absurd (false≢true takes)
+  own_self owner n is (a_syn (syn at (AParam (SelfParam ByValue))) rest) takes ty tys means = absurd (false≢true takes)
   own_self owner n is (a_syn (syn at _) rest) takes ty tys means = absurd (false≢true takes)
 
   with_self : (owner : Word) (n : ℕ) → types.number_of known.adts owner ≡ Some n → (params : Syns) → IsTrue
@@ -336,7 +336,7 @@ module _ (parts : Parts Pos) (items : ItemTable) (p : ProgramTree) (h : IsAccept
     where
       by : (item : Syn) → IsAsked p.items item → ((name : Word) → Contains (names_in item) name → Contains known.paths (path_in item
           name)) → IsOwnImpl known items.traits item def → Holds (is_impl p.items def)
-      by (syn at (ImplItem (Some t) o methods)) asked paths own =
+      by (syn at (AnItem (ImplItem (Some t) o methods))) asked paths own =
           let of = own.1 in
           let tr = mapped_from (λ (d : TraitDef). d.name) p.items.traits def.trait_no t.1 (ap (λ ws. slice_get ws def.trait_no)
           (named_traits parts items p h) ∙ word_at known.traits t.1 def.trait_no of.0) in

@@ -21,7 +21,7 @@ use Rattle.typing_rules.specs.Program as checks
 use Rattle.typing_rules.specs.Promises.{Extends}
 use Rattle.typing_rules.specs.Scope.{Env, adt_named, body_named}
 use Rattle.typing_rules.specs.Written as types
-use Rattle.src_ast.specs.Syntax.{Word, Syn, syn, StructItem, EnumItem, TraitItem, ImplItem, FnItem, list_of}
+use Rattle.src_ast.specs.Syntax.{Word, Syn, syn, AnItem, StructItem, EnumItem, TraitItem, ImplItem, FnItem, list_of}
 use Rattle.typing_soundness.specs.Items.{is_impl_of, are_distinct_impls}
 use Rattle.typing_soundness.specs.Program.{IsAccepted}
 use Rattle.typing_soundness.specs.Walks.{Walked}
@@ -39,7 +39,7 @@ use Rattle.typing_soundness.proofs.Walking.Steps.{walk, walk_map, walk_obeyed, w
 
 module _ (k : rules.Known) where
   abbrev pub IsImplOf : List TraitDef → Syn → ImplDef → Type 0
-  IsImplOf traits (syn at (ImplItem (Some trait_) name methods)) def =
+  IsImplOf traits (syn at (AnItem (ImplItem (Some trait_) name methods))) def =
       (types.number_of k.traits trait_.1 ≡ Some def.trait_no) × (types.number_of k.adts name.1 ≡ Some def.adt) × (def.bodies ≡
       rules.impl_bodies k.paths name.1 trait_.1 (rules.methods_of (slice_get traits def.trait_no)))
   IsImplOf traits _ def = ⊥
@@ -78,8 +78,8 @@ module _ (k : rules.Known) where
   unless_drop drops i = if drops then [] else (i ∷ [])
 
   abbrev pub impls_in : Syn → List Syn
-  impls_in (syn at (ImplItem (Some trait_) name methods)) =
-      unless_drop (rules.is_drop trait_.1) (syn at (ImplItem (Some trait_) name methods))
+  impls_in (syn at (AnItem (ImplItem (Some trait_) name methods))) =
+      unless_drop (rules.is_drop trait_.1) (syn at (AnItem (ImplItem (Some trait_) name methods)))
   impls_in _ = []
 
   abbrev pub all_impls : List Syn → List Syn
@@ -87,14 +87,14 @@ module _ (k : rules.Known) where
   all_impls (i ∷ is) = impls_in i ++ all_impls is
 
   impl_adds : (i : Syn) (s : TypingState) → Walked (λ _ t. AddsImpls (impls_in i) s t) (rules.impl_of k i s)
-  impl_adds (syn at (ImplItem (Some trait_) name methods)) s = by (rules.is_drop trait_.1)
+  impl_adds (syn at (AnItem (ImplItem (Some trait_) name methods))) s = by (rules.is_drop trait_.1)
     where
       added : Check (Unit {0})
       added t =
           and_then (known Rule.T01 trait_.0 (types.number_of k.traits trait_.1) t) (λ n u. and_then (known Rule.T01 name.0
           (types.number_of k.adts name.1) u) (λ adt. rules.impl_added k n adt trait_.1 name.1))
 
-      by : (b : Bool) → Walked (λ _ t. AddsImpls (unless_drop b (syn at (ImplItem (Some trait_) name methods))) s t) ((if b then
+      by : (b : Bool) → Walked (λ _ t. AddsImpls (unless_drop b (syn at (AnItem (ImplItem (Some trait_) name methods)))) s t) ((if b then
           (λ t. Ok (tt, t)) else added) s)
       by true = walk_ends (adds_no_impl s)
       by false =
@@ -105,7 +105,7 @@ module _ (k : rules.Known) where
             impls = refl;
             are = ((is, at_adt, refl), tt);
           })
-  impl_adds (syn at (ImplItem None name methods)) s = walk_ends (adds_no_impl s)
+  impl_adds (syn at (AnItem (ImplItem None name methods))) s = walk_ends (adds_no_impl s)
   impl_adds (syn at _) s = walk_ends (adds_no_impl s)
 
   impls_add : (is : List Syn) (s : TypingState) → Walked (λ _ t. AddsImpls (all_impls is) s t) (each_checked (rules.impl_of k) is
@@ -139,11 +139,11 @@ collecting_impls is end =
 -- ---- what the rule on impls asks
 
 abbrev ImplKept : checks.Seen → Syn → Type 0
-ImplKept seen (syn at (ImplItem (Some trait_) name methods)) = IsTrue (not (checks.is_seen name.1 trait_.1 seen))
+ImplKept seen (syn at (AnItem (ImplItem (Some trait_) name methods))) = IsTrue (not (checks.is_seen name.1 trait_.1 seen))
 ImplKept seen _ = Unit {0}
 
 abbrev behind : Syn → checks.Seen → checks.Seen
-behind (syn at (ImplItem (Some trait_) name methods)) seen = (name.1, trait_.1) ∷ seen
+behind (syn at (AnItem (ImplItem (Some trait_) name methods))) seen = (name.1, trait_.1) ∷ seen
 behind _ seen = seen
 
 abbrev ImplsKept : checks.Seen → List Syn → Type 0
@@ -152,23 +152,23 @@ ImplsKept seen (i ∷ is) = ImplKept seen i × ImplsKept (behind i seen) is
 
 impl_kept : (env : Env) (before : checks.Before) (i : Syn) (s : TypingState) → Walked (λ next t. ImplKept before.impls i × (next.impls ≡
     behind i before.impls)) (checks.item_rules env before i s)
-impl_kept env before (syn at (StructItem ds name kind fs)) s =
+impl_kept env before (syn at (AnItem (StructItem ds name kind fs))) s =
     walk (whatever {P = Unit {0}} (checks.fields (checks.in_impl env (adt_named s.items name.1)) [] (list_of fs) s) tt) λ _ t
     _. walk_obeyed Rule.T19 at (nat_le (checks.count_of fs) 32) _ λ _. walk_ends (tt, refl)
-impl_kept env before (syn at (EnumItem ds name vs)) s =
+impl_kept env before (syn at (AnItem (EnumItem ds name vs))) s =
     walk (whatever {P = Unit {0}} (checks.variants (checks.in_impl env (adt_named s.items name.1)) [] (list_of vs) s) tt) λ _
     t _. walk_obeyed Rule.T19 at (nat_le (checks.count_of vs) 64) _ λ _. walk_ends (tt, refl)
-impl_kept env before (syn at (TraitItem name heads)) s =
+impl_kept env before (syn at (AnItem (TraitItem name heads))) s =
     walk (whatever {P = Unit {0}} (checks.trait_heads env [] (list_of heads) s) tt) λ _ t _. walk_ends (tt, refl)
-impl_kept env before (syn at (ImplItem (Some trait_) name methods)) s =
+impl_kept env before (syn at (AnItem (ImplItem (Some trait_) name methods))) s =
     walk (whatever {P = Unit {0}} (checks.method_heads (checks.in_impl env (adt_named s.items name.1)) (Some trait_) name.1
     before.methods (list_of methods) s) tt) λ seen t _. walk_obeyed Rule.T11 at (not (checks.is_seen name.1 trait_.1
     before.impls) && checks.has_all (checks.asked_for s.items (Some trait_)) (checks.method_names methods)) _ λ h. walk_ends
     ((and_parts (not (checks.is_seen name.1 trait_.1 before.impls)) _ h).0, refl)
-impl_kept env before (syn at (ImplItem None name methods)) s =
+impl_kept env before (syn at (AnItem (ImplItem None name methods))) s =
     walk (whatever {P = Unit {0}} (checks.method_heads (checks.in_impl env (adt_named s.items name.1)) None name.1
     before.methods (list_of methods) s) tt) λ seen t _. walk_ends (tt, refl)
-impl_kept env before (syn at (FnItem name params answer block)) s =
+impl_kept env before (syn at (AnItem (FnItem name params answer block))) s =
     walk (whatever {P = Unit {0}} (checks.head_rules env params answer s) tt) λ _ t _. walk {f = λ _ u. Ok (before, u)}
     (whatever {P = Unit {0}} (checks.main_rule at name.1 params t.items (option_and_then (slice_get t.items.bodies)
     (body_named t.items name.1)) t) tt) λ _ u _. walk_ends (tt, refl)
@@ -215,7 +215,7 @@ module _ (k : rules.Known) (traits : List TraitDef) where
 
     seen_later : (i : Syn) (seen : checks.Seen) → checks.is_seen owner trait_ seen ≡ true → checks.is_seen owner trait_ (behind i
         seen) ≡ true
-    seen_later (syn at (ImplItem (Some t) name methods)) seen has = by (bytes_eq name.1 owner && bytes_eq t.1 trait_)
+    seen_later (syn at (AnItem (ImplItem (Some t) name methods))) seen has = by (bytes_eq name.1 owner && bytes_eq t.1 trait_)
       where
         by : (b : Bool) → (b || checks.is_seen owner trait_ seen) ≡ true
         by true = refl
@@ -228,10 +228,10 @@ module _ (k : rules.Known) (traits : List TraitDef) where
 
     one_apart : (seen : checks.Seen) → checks.is_seen owner trait_ seen ≡ true → (i : Syn) → ImplKept seen i → (is : List Syn) →
         ((defs : List ImplDef) → Apart is defs) → (defs : List ImplDef) → Apart (impls_in k i ++ is) defs
-    one_apart seen has (syn at (ImplItem (Some t) name methods)) no_ is rest defs are =
+    one_apart seen has (syn at (AnItem (ImplItem (Some t) name methods))) no_ is rest defs are =
         by (rules.is_drop t.1) defs are
       where
-        by : (b : Bool) (defs : List ImplDef) → Apart (unless_drop k b (syn at (ImplItem (Some t) name methods)) ++ is) defs
+        by : (b : Bool) (defs : List ImplDef) → Apart (unless_drop k b (syn at (AnItem (ImplItem (Some t) name methods))) ++ is) defs
         by true defs are = rest defs are
         by false [] are = refl
         by false (d ∷ defs) are =
@@ -250,9 +250,9 @@ module _ (k : rules.Known) (traits : List TraitDef) where
 
   first_apart : (seen : checks.Seen) (i : Syn) (is : List Syn) → ImplsKept (behind i seen) is → ((defs : List ImplDef) →
       AreApart (all_impls k is) defs) → (defs : List ImplDef) → AreApart (impls_in k i ++ all_impls k is) defs
-  first_apart seen (syn at (ImplItem (Some t) name methods)) is kept rest defs are = by (rules.is_drop t.1) defs are
+  first_apart seen (syn at (AnItem (ImplItem (Some t) name methods))) is kept rest defs are = by (rules.is_drop t.1) defs are
     where
-      by : (b : Bool) (defs : List ImplDef) → AreApart (unless_drop k b (syn at (ImplItem (Some t) name methods)) ++ all_impls k
+      by : (b : Bool) (defs : List ImplDef) → AreApart (unless_drop k b (syn at (AnItem (ImplItem (Some t) name methods))) ++ all_impls k
           is) defs
       by true defs are = rest defs are
       by false [] are = refl

@@ -19,7 +19,7 @@ use Rattle.typing_rules.specs.Patterns.{is_unit_kind}
 use Rattle.typing_rules.specs.Promises.{AreReady, KnowsItems, is_plain_name}
 use Rattle.typing_rules.specs.Scope.{kind_at, or_unit}
 use Rattle.typing_rules.specs.Written.{WrittenScope, number_of, scalar_named, length_shown, reference_to}
-use Rattle.src_ast.specs.Syntax.{FieldsKind, Unit_, Tuple_, Fields_, Word, Receiver, ByValue, ByShared, ByUnique, Syn, syn, Shape, NamedType, GenericType, DynType, SelfType, ParensType, TupleType, ArrayType, NeverType, RefType, StructItem, EnumItem, VariantDecl, ParamOf, SelfParam, Syns, no_syn, a_syn, list_of}
+use Rattle.src_ast.specs.Syntax.{Word, FieldsKind, Unit_, Tuple_, Fields_, Receiver, ByValue, ByShared, ByUnique, Syn, syn, AType, AnItem, AParam, AVariant, WrittenType, NamedType, GenericType, DynType, SelfType, ParensType, TupleType, ArrayType, NeverType, RefType, StructItem, EnumItem, ParamOf, SelfParam, Syns, no_syn, a_syn, list_of}
 use Rattle.typing_soundness.specs.Closures.{BodySyn, Function, Closure}
 use Rattle.typing_soundness.specs.Met.{IsReceiver, MeansParam, MeanParams, AreMade, behind}
 use Rattle.typing_soundness.specs.Types.{Means, MeansForm, NamesTy, IsTupleOf}
@@ -48,7 +48,7 @@ abbrev somewhere : Pos
 somewhere = record { line = 0; col = 0 }
 
 abbrev variant_kinds : Syns → List FieldsKind
-variant_kinds vs = first_of (all_kinds (syn somewhere (EnumItem [] (somewhere, []) vs) ∷ []))
+variant_kinds vs = first_of (all_kinds (syn somewhere (AnItem (EnumItem [] (somewhere, []) vs)) ∷ []))
 
 no_length : (tys : List TyId) → length tys ≡ 0 → tys ≡ []
 no_length [] e = refl
@@ -69,7 +69,7 @@ variants_fit : (vs : Syns) (xs : List Variant) → Holds (each variant_shaped (l
 variants_fit no_syn [] h are = tt
 variants_fit no_syn (x ∷ xs) h are = absurd are
 variants_fit (a_syn first rest) [] h are = absurd are
-variants_fit (a_syn (syn at (VariantDecl name kind fields)) rest) (x ∷ xs) h are =
+variants_fit (a_syn (syn at (AVariant name kind fields)) rest) (x ∷ xs) h are =
     (variant_fit kind fields x h.0 are.0.1, variants_fit rest xs h.1 are.1)
 variants_fit (a_syn (syn at _) rest) (x ∷ xs) h are = absurd are
 
@@ -89,7 +89,7 @@ adts_fit : (is : List Syn) (adts : List Adt) → Holds (each item_shaped is) →
 adts_fit [] [] h are = tt
 adts_fit [] (adt ∷ adts) h are = absurd are
 adts_fit (i ∷ is) [] h are = absurd are
-adts_fit (syn at (StructItem derives name kind fields) ∷ is) (adt ∷ adts) h are = (
+adts_fit (syn at (AnItem (StructItem derives name kind fields)) ∷ is) (adt ∷ adts) h are = (
   record {
     variants = subst (AreFit (kind ∷ [])) (sym are.0.2) (variant_fit kind fields are.0.1 h.0.1 are.0.3, tt);
     first = λ e. (are.0.1, ap (λ vs. slice_get vs 0) are.0.2);
@@ -97,7 +97,7 @@ adts_fit (syn at (StructItem derives name kind fields) ∷ is) (adt ∷ adts) h 
   },
   adts_fit is adts h.1 are.1,
 )
-adts_fit (syn at (EnumItem derives name variants) ∷ is) (adt ∷ adts) h are = (
+adts_fit (syn at (AnItem (EnumItem derives name variants)) ∷ is) (adt ∷ adts) h are = (
   record {
     variants = variants_fit variants adt.variants h.0.1 are.0.2;
     first = λ e. absurd (false≢true (sym e ∙ are.0.1));
@@ -110,8 +110,8 @@ adts_fit (syn at _ ∷ is) (adt ∷ adts) h are = absurd are.0
 -- an item that is no struct and no enum has no kinds
 kinds_with : (i : Syn) (is : List ItemSyn) → all_kinds (all_adts is) ≡ all_kinds (item_syns is) → all_kinds (adts_in i ++
     all_adts is) ≡ all_kinds (i ∷ item_syns is)
-kinds_with (syn at (StructItem derives name kind fields)) is e = ap (λ ks. (kind ∷ []) ∷ ks) e
-kinds_with (syn at (EnumItem derives name variants)) is e = ap (λ ks. variant_kinds variants ∷ ks) e
+kinds_with (syn at (AnItem (StructItem derives name kind fields))) is e = ap (λ ks. (kind ∷ []) ∷ ks) e
+kinds_with (syn at (AnItem (EnumItem derives name variants))) is e = ap (λ ks. variant_kinds variants ∷ ks) e
 kinds_with (syn at _) is e = e
 
 kinds_of_text : (is : List ItemSyn) → all_kinds (all_adts is) ≡ all_kinds (item_syns is)
@@ -120,8 +120,8 @@ kinds_of_text (i ∷ is) = kinds_with i.item is (kinds_of_text is)
 
 shaped_with : (i : Syn) (is : List ItemSyn) → Holds (item_shaped i) → Holds (each item_shaped (all_adts is)) → Holds (each
     item_shaped (adts_in i ++ all_adts is))
-shaped_with (syn at (StructItem derives name kind fields)) is h k = (h, k)
-shaped_with (syn at (EnumItem derives name variants)) is h k = (h, k)
+shaped_with (syn at (AnItem (StructItem derives name kind fields))) is h k = (h, k)
+shaped_with (syn at (AnItem (EnumItem derives name variants))) is h k = (h, k)
 shaped_with (syn at _) is h k = k
 
 adts_shaped : (is : List ItemSyn) → Holds (each item_shaped (item_syns is)) → Holds (each item_shaped (all_adts is))
@@ -171,9 +171,10 @@ module _ (items : ItemTable) (all : AreReady items) (around : WrittenScope) wher
 
   mutual
     means_plain : (e : Syn) (id : TyId) → Means around items e id → IsNoClosure items id
-    means_plain (syn at form) id h = form_plain form id h
+    means_plain (syn at (AType t)) id h = form_plain t id h
+    means_plain _ id h = absurd h
 
-    form_plain : (form : Shape) (id : TyId) → MeansForm around items form id → IsNoClosure items id
+    form_plain : (form : WrittenType) (id : TyId) → MeansForm around items form id → IsNoClosure items id
     form_plain (NamedType name) id h =
         named_plain name (number_of around.adts name) (scalar_named name) id refl h
     form_plain (GenericType name content) id h = (Ty.Boxed h.0, h.2, refl)
@@ -184,7 +185,6 @@ module _ (items : ItemTable) (all : AreReady items) (around : WrittenScope) wher
     form_plain (ArrayType element count suffix) id h = (Ty.Array h.0 (length_shown count), h.2, refl)
     form_plain NeverType id h = let p = never_plain items all in subst (IsNoClosure items) h (p.0, p.1, p.3)
     form_plain (RefType unique to) id h = reference_plain unique h.0 id h.2
-    form_plain _ id h = absurd h
 
   receiver_plain : (receiver : Receiver) (n : ℕ) (own id : TyId) → type_at items own ≡ Some (Ty.Adt n) → IsReceiver items
       receiver own id → IsNoClosure items id
@@ -193,8 +193,8 @@ module _ (items : ItemTable) (all : AreReady items) (around : WrittenScope) wher
   receiver_plain ByUnique n own id at h = (Ty.Unique own, h, refl)
 
   param_plain : (p : Syn) (id : TyId) → MeansParam around items p id → IsNoClosure items id
-  param_plain (syn at (ParamOf p written)) id h = means_plain written id h
-  param_plain (syn at (SelfParam receiver)) id h = receiver_plain receiver h.0 h.1 id h.3 h.4
+  param_plain (syn at (AParam (ParamOf p written))) id h = means_plain written id h
+  param_plain (syn at (AParam (SelfParam receiver))) id h = receiver_plain receiver h.0 h.1 id h.3 h.4
   param_plain (syn at _) id h = absurd h
 
 -- a head is that of a text

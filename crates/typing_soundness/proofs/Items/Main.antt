@@ -26,8 +26,8 @@ use Rattle.typing_rules.specs.Scope.{Env, body_named}
 use Rattle.typing_rules.specs.Written as types
 use Rattle.typing_rules.proofs.Sound.Later.{passes_got, passes_by}
 use Rattle.typing_rules.proofs.Sound.Places.{contains_cases}
-use Rattle.src_ast.specs.Syntax.{Word, Named, Syn, syn, Shape, Minus, Bang, Star, Ampersand, Calculate, Compare, Both, Either, Store, CallOf, MethodOf, FieldOf, PartOf, ElementOf, StructOf, FieldInit, Parens, TupleOf, ArrayOf, Braces, IfElse, IfLetElse, MatchOn, ArmOf, LoopOf, WhileOf, WhileLetOf, BreakOf, ReturnOf, MoveOf, LetOf, Semi, ImplItem, FnItem, Syns, no_syn, a_syn, list_of, MaybeSyn, nothing, just}
-use Rattle.typing_soundness.specs.Closures.{BodySyn, Function, Closure, WrittenHead, closures_of, closures_in, closures_among, closures_if_any, functions_text}
+use Rattle.src_ast.specs.Syntax.{Word, Named, Syn, syn, Shape, AnExpression, AStatement, AnItem, AnInit, AnArm, Expression, Minus, Bang, Star, Ampersand, Calculate, Compare, Both, Either, Store, CallOf, MethodOf, FieldOf, PartOf, ElementOf, StructOf, Parens, TupleOf, ArrayOf, Braces, IfElse, IfLetElse, MatchOn, LoopOf, WhileOf, WhileLetOf, BreakOf, ReturnOf, MoveOf, LetOf, Semi, ImplItem, FnItem, Syns, no_syn, a_syn, list_of, MaybeSyn, nothing, just}
+use Rattle.typing_soundness.specs.Closures.{BodySyn, Function, Closure, WrittenHead, closures_of, closures_in, closures_in_expression, closures_among, closures_if_any, functions_text}
 use Rattle.typing_soundness.specs.Heads.{IsHeadOf, function_name, body_text, bodies_text, inner_text, TellBodies}
 use Rattle.typing_soundness.specs.Items.{is_main}
 use Rattle.typing_soundness.specs.Met.{MeanParams, AreMade, behind}
@@ -116,41 +116,45 @@ module _ (Kept : List BodySyn → Type 0) (closure : (head : WrittenHead) (rest 
     each_closure (syn at form) rest p = each_in form rest p
 
     each_in : (form : Shape) (rest : List BodySyn) → Kept rest → Kept (closures_in around form rest)
-    each_in (Minus operand) rest p = each_closure operand rest p
-    each_in (Bang operand) rest p = each_closure operand rest p
-    each_in (Star operand) rest p = each_closure operand rest p
-    each_in (Ampersand unique operand) rest p = each_closure operand rest p
-    each_in (Calculate operator left right) rest p = each_closure left _ (each_closure right rest p)
-    each_in (Compare operator left right) rest p = each_closure left _ (each_closure right rest p)
-    each_in (Both left right) rest p = each_closure left _ (each_closure right rest p)
-    each_in (Either left right) rest p = each_closure left _ (each_closure right rest p)
-    each_in (Store place value) rest p = each_closure place _ (each_closure value rest p)
-    each_in (CallOf callee args) rest p = each_closure callee _ (each_among args rest p)
-    each_in (MethodOf receiver name args) rest p = each_closure receiver _ (each_among args rest p)
-    each_in (FieldOf base name) rest p = each_closure base rest p
-    each_in (PartOf base number) rest p = each_closure base rest p
-    each_in (ElementOf base index) rest p = each_closure base _ (each_closure index rest p)
-    each_in (StructOf first second inits) rest p = each_among inits rest p
-    each_in (FieldInit name value) rest p = each_if_any value rest p
-    each_in (Parens inside) rest p = each_closure inside rest p
-    each_in (TupleOf parts) rest p = each_among parts rest p
-    each_in (ArrayOf elements) rest p = each_among elements rest p
-    each_in (Braces statements tail) rest p = each_among statements _ (each_if_any tail rest p)
-    each_in (IfElse condition body otherwise) rest p =
-        each_closure condition _ (each_closure body _ (each_if_any otherwise rest p))
-    each_in (IfLetElse pattern scrutinee body otherwise) rest p =
-        each_closure scrutinee _ (each_closure body _ (each_if_any otherwise rest p))
-    each_in (MatchOn scrutinee arms) rest p = each_closure scrutinee _ (each_among arms rest p)
-    each_in (ArmOf pattern guard body) rest p = each_if_any guard _ (each_closure body rest p)
-    each_in (LoopOf label body) rest p = each_closure body rest p
-    each_in (WhileOf label condition body) rest p = each_closure condition _ (each_closure body rest p)
-    each_in (WhileLetOf label pattern scrutinee body) rest p = each_closure scrutinee _ (each_closure body rest p)
-    each_in (BreakOf label value) rest p = each_if_any value rest p
-    each_in (ReturnOf value) rest p = each_if_any value rest p
-    each_in (MoveOf captures params answer body) rest p = closure _ _ (each_closure body rest p)
-    each_in (LetOf pattern ty value) rest p = each_if_any value rest p
-    each_in (Semi expression) rest p = each_closure expression rest p
+    each_in (AnExpression e) rest p = each_in_expression e rest p
+    each_in (AnInit name value) rest p = each_if_any value rest p
+    each_in (AnArm pattern guard body) rest p = each_if_any guard _ (each_closure body rest p)
+    each_in (AStatement (LetOf pattern ty value)) rest p = each_if_any value rest p
+    each_in (AStatement (Semi expression)) rest p = each_closure expression rest p
     each_in _ rest p = p
+
+    each_in_expression : (form : Expression) (rest : List BodySyn) → Kept rest → Kept (closures_in_expression around form rest)
+    each_in_expression (Minus operand) rest p = each_closure operand rest p
+    each_in_expression (Bang operand) rest p = each_closure operand rest p
+    each_in_expression (Star operand) rest p = each_closure operand rest p
+    each_in_expression (Ampersand unique operand) rest p = each_closure operand rest p
+    each_in_expression (Calculate operator left right) rest p = each_closure left _ (each_closure right rest p)
+    each_in_expression (Compare operator left right) rest p = each_closure left _ (each_closure right rest p)
+    each_in_expression (Both left right) rest p = each_closure left _ (each_closure right rest p)
+    each_in_expression (Either left right) rest p = each_closure left _ (each_closure right rest p)
+    each_in_expression (Store place value) rest p = each_closure place _ (each_closure value rest p)
+    each_in_expression (CallOf callee args) rest p = each_closure callee _ (each_among args rest p)
+    each_in_expression (MethodOf receiver name args) rest p = each_closure receiver _ (each_among args rest p)
+    each_in_expression (FieldOf base name) rest p = each_closure base rest p
+    each_in_expression (PartOf base number) rest p = each_closure base rest p
+    each_in_expression (ElementOf base index) rest p = each_closure base _ (each_closure index rest p)
+    each_in_expression (StructOf first second inits) rest p = each_among inits rest p
+    each_in_expression (Parens inside) rest p = each_closure inside rest p
+    each_in_expression (TupleOf parts) rest p = each_among parts rest p
+    each_in_expression (ArrayOf elements) rest p = each_among elements rest p
+    each_in_expression (Braces statements tail) rest p = each_among statements _ (each_if_any tail rest p)
+    each_in_expression (IfElse condition body otherwise) rest p =
+        each_closure condition _ (each_closure body _ (each_if_any otherwise rest p))
+    each_in_expression (IfLetElse pattern scrutinee body otherwise) rest p =
+        each_closure scrutinee _ (each_closure body _ (each_if_any otherwise rest p))
+    each_in_expression (MatchOn scrutinee arms) rest p = each_closure scrutinee _ (each_among arms rest p)
+    each_in_expression (LoopOf label body) rest p = each_closure body rest p
+    each_in_expression (WhileOf label condition body) rest p = each_closure condition _ (each_closure body rest p)
+    each_in_expression (WhileLetOf label pattern scrutinee body) rest p = each_closure scrutinee _ (each_closure body rest p)
+    each_in_expression (BreakOf label value) rest p = each_if_any value rest p
+    each_in_expression (ReturnOf value) rest p = each_if_any value rest p
+    each_in_expression (MoveOf captures params answer body) rest p = closure _ _ (each_closure body rest p)
+    each_in_expression _ rest p = p
 
     each_among : (es : Syns) (rest : List BodySyn) → Kept rest → Kept (closures_among around es rest)
     each_among no_syn rest p = p
@@ -169,7 +173,7 @@ IsMain items params =
     (is_unit items sig.result)
 
 abbrev MainItem : ItemTable → Syn → Type 0
-MainItem items (syn at (FnItem name params answer block)) = IsTrue (bytes_eq name.1 main) → IsMain items params
+MainItem items (syn at (AnItem (FnItem name params answer block))) = IsTrue (bytes_eq name.1 main) → IsMain items params
 MainItem items _ = Unit {0}
 
 no_params : (params : Syns) → (checks.count_of params == 0) ≡ true → params ≡ no_syn
@@ -187,13 +191,13 @@ obeyed_state rule at true s h = walk_ends (h refl)
 obeyed_state rule at false s h = record { so = tt }
 
 main_ruled : (at : Pos) (name : Named) (params : Syns) (answer block : MaybeSyn) (t : TypingState) → Walked (λ _ u. MainItem u.items
-    (syn at (FnItem name params answer block))) (checks.main_rule at name.1 params t.items (option_and_then (slice_get
+    (syn at (AnItem (FnItem name params answer block)))) (checks.main_rule at name.1 params t.items (option_and_then (slice_get
     t.items.bodies) (body_named t.items name.1)) t)
 main_ruled at name params answer block t =
     by (option_and_then (slice_get t.items.bodies) (body_named t.items name.1)) refl
   where
     by : (o : Option Sig) → option_and_then (slice_get t.items.bodies) (body_named t.items name.1) ≡ o → Walked (λ _ u.
-        MainItem u.items (syn at (FnItem name params answer block))) (checks.main_rule at name.1 params t.items o t)
+        MainItem u.items (syn at (AnItem (FnItem name params answer block)))) (checks.main_rule at name.1 params t.items o t)
     by None is = walk_ends (λ called m sig named at_m. absurd (none-some sig (sym is ∙ found called m sig named at_m)))
       where
         found : IsTrue (bytes_eq name.1 main) → (m : ℕ) (sig : Sig) → body_named t.items main ≡ Some m → slice_get
@@ -202,7 +206,7 @@ main_ruled at name params answer block t =
             ap (λ w. option_and_then (slice_get t.items.bodies) (body_named t.items w)) (same_word name.1 main called) ∙ (ap
             (option_and_then (slice_get t.items.bodies)) named ∙ at_m)
     by (Some first) is =
-        obeyed_state {P = λ u. MainItem u.items (syn at (FnItem name params answer block))} Rule.T03 at
+        obeyed_state {P = λ u. MainItem u.items (syn at (AnItem (FnItem name params answer block)))} Rule.T03 at
         (checks.is_main_head name.1 params first t.items) t λ ok called m sig named at_m.
         let same : first ≡ sig = same_Some first sig (sym is ∙ (ap (λ w. option_and_then (slice_get t.items.bodies)
         (body_named t.items w)) (same_word name.1 main called) ∙ (ap (option_and_then (slice_get t.items.bodies)) named ∙
@@ -212,13 +216,13 @@ main_ruled at name params answer block t =
 
 main_kept : (env : Env) (before : checks.Before) (i : Syn) (s : TypingState) → Walked (λ _ t. MainItem t.items i)
     (checks.item_rules env before i s)
-main_kept env before (syn at (FnItem name params answer block)) s =
+main_kept env before (syn at (AnItem (FnItem name params answer block))) s =
     walk (whatever {P = Unit {0}} (checks.head_rules env params answer s) tt) λ _ t _. walk {f = λ _ u. Ok (before, u)}
     (main_ruled at name params answer block t) λ _ u h. walk_ends h
 main_kept env before (syn at _) s = whatever _ tt
 
 main_later : (old new : ItemTable) → HaveTypes old new → new.bodies ≡ old.bodies → (i : Syn) → MainItem old i → MainItem new i
-main_later old new types bodies (syn at (FnItem name params answer block)) h =
+main_later old new types bodies (syn at (AnItem (FnItem name params answer block))) h =
     λ called m sig named at_m. let k = h called m sig (ap (position_of (λ (s : Sig). bytes_eq s.name main)) (sym bodies) ∙ named) (ap (λ hs. slice_get hs
     m) (sym bodies) ∙ at_m) in
     let g = passes_got is_unit_ty (type_at old sig.result) k.1 in
@@ -261,7 +265,7 @@ module _ (items : ItemTable) (k : rules.Known) where
   methods_text : (owner : Word) → IsOwner k (Some owner) → (ms : List Syn) (rest : List BodySyn) → All (MainText items) rest →
       All (MainText items) (functions_text (all_names k (Some owner)) ms rest)
   methods_text owner own [] rest p = p
-  methods_text owner own (syn at (FnItem name params answer block) ∷ ms) rest p = (
+  methods_text owner own (syn at (AnItem (FnItem name params answer block)) ∷ ms) rest p = (
     λ called. absurd (method_is_no_main owner name.1 (ap (λ o. full_name o name.1) (sym own) ∙ same_word _ main called)),
     closures_text (all_names k (Some owner)) block _ (methods_text owner own ms rest p),
   )
@@ -269,8 +273,8 @@ module _ (items : ItemTable) (k : rules.Known) where
 
   item_main : (i : Syn) → MainItem items i → IsOwner k (impl_owner i) → (rest : List BodySyn) → All (MainText items) rest → All
       (MainText items) (inner_text (all_names k (impl_owner i)) i rest)
-  item_main (syn at (ImplItem trait_ name methods)) h own rest p = methods_text name.1 own (list_of methods) rest p
-  item_main (syn at (FnItem name params answer block)) h own rest p =
+  item_main (syn at (AnItem (ImplItem trait_ name methods))) h own rest p = methods_text name.1 own (list_of methods) rest p
+  item_main (syn at (AnItem (FnItem name params answer block))) h own rest p =
       (h, closures_text (all_names k None) block rest p)
   item_main (syn at _) h own rest p = p
 
@@ -299,8 +303,8 @@ called_behind text texts (head, has, e) = (head, (suc has.0, omega (arith, has.1
 
 module _ (k : rules.Known) where
   over_body : (around : types.WrittenScope) (b : Syn) (rest : List BodySyn) → Called rest → Called (body_text around b rest)
-  over_body around (syn at (FnItem name params answer block)) rest c = called_behind _ rest c
-  over_body around (syn at (MoveOf captures params answer body)) rest c = called_behind _ rest c
+  over_body around (syn at (AnItem (FnItem name params answer block))) rest c = called_behind _ rest c
+  over_body around (syn at (AnExpression (MoveOf captures params answer body))) rest c = called_behind _ rest c
   over_body around (syn at _) rest c = c
 
   over_bodies : (around : types.WrittenScope) (bs : List Syn) (rest : List BodySyn) → Called rest → Called (bodies_text around bs
@@ -318,11 +322,11 @@ module _ (k : rules.Known) where
   is_begun (byte ∷ bytes) = true
 
   its_path : (i b : Syn) → body_path i b ≡ main → (rest : List BodySyn) → Called (body_text (all_names k (impl_owner i)) b rest)
-  its_path (syn place (ImplItem (Some trait_) owner methods)) (syn at (FnItem name params answer block)) e rest =
+  its_path (syn place (AnItem (ImplItem (Some trait_) owner methods))) (syn at (AnItem (FnItem name params answer block))) e rest =
       absurd (false≢true (sym (ap is_angle e)))
-  its_path (syn place (ImplItem None owner methods)) (syn at (FnItem name params answer block)) e rest =
+  its_path (syn place (AnItem (ImplItem None owner methods))) (syn at (AnItem (FnItem name params answer block))) e rest =
       absurd (false≢true (sym (ap is_angle e)))
-  its_path (syn place _) (syn at (FnItem name params answer block)) e rest = (_, (0, omega arith, refl), e)
+  its_path (syn place _) (syn at (AnItem (FnItem name params answer block))) e rest = (_, (0, omega arith, refl), e)
   its_path i (syn at _) e rest = absurd (false≢true (ap is_begun e))
 
   bodies_path : (i : Syn) (bs : List Syn) (rest : List BodySyn) → Contains (map (body_path i) bs) main → Called (bodies_text

@@ -13,7 +13,7 @@ use Rattle.well_typed.specs.Items.{is_equal}
 use Rattle.typing_rules.specs.Check.{TypingState, Broken, interned, interned_at}
 use Rattle.typing_rules.specs.Written as rules
 use Rattle.typing_rules.specs.Written.{WrittenScope}
-use Rattle.src_ast.specs.Syntax.{Syn, syn, Shape, NamedType, GenericType, DynType, SelfType, ParensType, TupleType, ArrayType, NeverType, RefType, Syns, no_syn, a_syn}
+use Rattle.src_ast.specs.Syntax.{Syn, syn, AType, WrittenType, NamedType, GenericType, DynType, SelfType, ParensType, TupleType, ArrayType, NeverType, RefType, Syns, no_syn, a_syn}
 use Rattle.typing_rules.proofs.Sound.Interned.{found_at}
 use Rattle.typing_soundness.specs.Types.{HaveTypes, NamesTy, IsTupleOf, Means, MeansForm, MeanAll}
 use Rattle.typing_soundness.proofs.Walking.Later.{means_later, all_later}
@@ -40,9 +40,10 @@ module _ (around : WrittenScope) where
 
     mutual
       pub means_once : (x : Syn) (a b : TyId) → Means around items x a → Means around items x b → a ≡ b
-      means_once (syn at form) a b h g = form_once form a b h g
+      means_once (syn at (AType t)) a b h g = form_once t a b h g
+      means_once _ a b h g = absurd h
 
-      form_once : (form : Shape) (a b : TyId) → MeansForm around items form a → MeansForm around items form b → a ≡ b
+      form_once : (form : WrittenType) (a b : TyId) → MeansForm around items form a → MeansForm around items form b → a ≡ b
       form_once (NamedType name) a b h g =
           named_once (rules.number_of around.adts name) (rules.scalar_named name) a b h g
       form_once (GenericType name content) a b h g =
@@ -63,7 +64,6 @@ module _ (around : WrittenScope) where
       form_once (RefType unique to) a b h g =
           same_type a b (rules.reference_to unique h.0) (rules.reference_to unique g.0) h.2 g.2 (ap (rules.reference_to
           unique) (means_once to h.0 g.0 h.1 g.1))
-      form_once _ a b h g = absurd h
 
       all_once : (xs : Syns) (as_ bs : List TyId) → MeanAll around items xs as_ → MeanAll around items xs bs → as_ ≡ bs
       all_once no_syn [] [] h g = refl
@@ -110,9 +110,10 @@ module _ (around : WrittenScope) where
 
   mutual
     pub written_given : (x : Syn) (s : TypingState) → Walked (Given x s) (rules.written around x s)
-    written_given (syn at form) s = form_given at form s
+    written_given (syn at (AType t)) s = form_given at t s
+    written_given _ s = record { so = tt }
 
-    form_given : (at : Pos) (form : Shape) (s : TypingState) → Walked (λ id t. HaveTypes s.items t.items × MeansForm around
+    form_given : (at : Pos) (form : WrittenType) (s : TypingState) → Walked (λ id t. HaveTypes s.items t.items × MeansForm around
         t.items form id) (rules.written_form around at form s)
     form_given at (NamedType name) s =
         named_given at (rules.number_of around.adts name) (rules.scalar_named name) s
@@ -171,7 +172,6 @@ module _ (around : WrittenScope) where
             h.2,
           ),
         )
-    form_given at _ s = record { so = tt }
 
     all_given : (xs : Syns) (s : TypingState) → Walked (λ tys t. HaveTypes s.items t.items × MeanAll around t.items xs tys)
         (rules.all_written around xs s)
@@ -185,9 +185,10 @@ module _ (around : WrittenScope) where
 
   mutual
     pub param_given : (x : Syn) (s : TypingState) → Walked (Given x s) (rules.written_param around x s)
-    param_given (syn at form) s = param_form_given at form s
+    param_given (syn at (AType t)) s = param_form_given at t s
+    param_given _ s = record { so = tt }
 
-    param_form_given : (at : Pos) (form : Shape) (s : TypingState) → Walked (λ id t. HaveTypes s.items t.items × MeansForm
+    param_form_given : (at : Pos) (form : WrittenType) (s : TypingState) → Walked (λ id t. HaveTypes s.items t.items × MeansForm
         around t.items form id) (rules.written_param_form around at form s)
     param_form_given at (ParensType inside) s = param_given inside s
     param_form_given at (RefType unique to) s =

@@ -10,7 +10,7 @@ use Rattle.typing_rules.specs.Check.{TypingState}
 use Rattle.typing_rules.specs.Items.{full_name}
 use Rattle.typing_rules.specs.Program as checks
 use Rattle.typing_rules.specs.Scope.{Env, adt_named, body_named}
-use Rattle.src_ast.specs.Syntax.{Word, Named, Syn, syn, StructItem, EnumItem, TraitItem, ImplItem, FnItem, list_of}
+use Rattle.src_ast.specs.Syntax.{Word, Named, Syn, syn, AnItem, StructItem, EnumItem, TraitItem, ImplItem, FnItem, list_of}
 use Rattle.typing_soundness.specs.Walks.{Walked}
 use Rattle.typing_soundness.proofs.Items.Distinct.{Apart, Differ, has, same_method}
 use Rattle.typing_soundness.proofs.Items.Ready.{All}
@@ -24,11 +24,11 @@ Pair = Word × Word
 
 abbrev pub pairs_of : Word → List Syn → List Pair
 pairs_of owner [] = []
-pairs_of owner (syn at (FnItem name params answer block) ∷ ms) = (owner, name.1) ∷ pairs_of owner ms
+pairs_of owner (syn at (AnItem (FnItem name params answer block)) ∷ ms) = (owner, name.1) ∷ pairs_of owner ms
 pairs_of owner (syn at _ ∷ ms) = pairs_of owner ms
 
 abbrev pub pairs_in : Syn → List Pair
-pairs_in (syn at (ImplItem trait_ name methods)) = pairs_of name.1 (list_of methods)
+pairs_in (syn at (AnItem (ImplItem trait_ name methods))) = pairs_of name.1 (list_of methods)
 pairs_in _ = []
 
 abbrev pub all_pairs : List Syn → List Pair
@@ -54,7 +54,7 @@ IsKept seen ps next = PairsKept seen ps × (behind ps seen ≡ next)
 heads_kept : (env : Env) (trait_ : Option Named) (owner : Word) (seen : checks.Seen) (ms : List Syn) (s : TypingState) → Walked (λ next
     t. IsKept seen (pairs_of owner ms) next) (checks.method_heads env trait_ owner seen ms s)
 heads_kept env trait_ owner seen [] s = walk_ends (tt, refl)
-heads_kept env trait_ owner seen (syn at (FnItem name params answer block) ∷ ms) s =
+heads_kept env trait_ owner seen (syn at (AnItem (FnItem name params answer block)) ∷ ms) s =
     walk (whatever {P = Unit {0}} (checks.head_rules env params answer s) tt) λ _ t _. walk_obeyed Rule.T02 name.0 (not
     (checks.is_seen owner name.1 seen)) _ λ h. walk_obeyed Rule.T11 at (checks.has_head t.items trait_ owner name.1 params) _ λ
     _. walk_map (heads_kept env trait_ owner ((owner, name.1) ∷ seen) ms t) λ next u k. ((h, k.0), k.1)
@@ -62,19 +62,19 @@ heads_kept env trait_ owner seen (syn at _ ∷ ms) s = record { so = tt }
 
 item_kept : (env : Env) (before : checks.Before) (i : Syn) (s : TypingState) → Walked (λ next t. IsKept before.methods (pairs_in i)
     next.methods) (checks.item_rules env before i s)
-item_kept env before (syn at (StructItem ds name kind fs)) s =
+item_kept env before (syn at (AnItem (StructItem ds name kind fs))) s =
     walk (whatever {P = Unit {0}} (checks.fields (checks.in_impl env (adt_named s.items name.1)) [] (list_of fs) s) tt) λ _ t
     _. walk_obeyed Rule.T19 at (nat_le (checks.count_of fs) 32) _ λ _. walk_ends (tt, refl)
-item_kept env before (syn at (EnumItem ds name vs)) s =
+item_kept env before (syn at (AnItem (EnumItem ds name vs))) s =
     walk (whatever {P = Unit {0}} (checks.variants (checks.in_impl env (adt_named s.items name.1)) [] (list_of vs) s) tt) λ _
     t _. walk_obeyed Rule.T19 at (nat_le (checks.count_of vs) 64) _ λ _. walk_ends (tt, refl)
-item_kept env before (syn at (TraitItem name heads)) s =
+item_kept env before (syn at (AnItem (TraitItem name heads))) s =
     walk (whatever {P = Unit {0}} (checks.trait_heads env [] (list_of heads) s) tt) λ _ t _. walk_ends (tt, refl)
-item_kept env before (syn at (ImplItem trait_ name methods)) s =
+item_kept env before (syn at (AnItem (ImplItem trait_ name methods))) s =
     walk (heads_kept (checks.in_impl env (adt_named s.items name.1)) trait_ name.1 before.methods (list_of methods) s) λ seen t
     h. walk_obeyed Rule.T11 at (not (checks.is_repeated trait_ name.1 before.impls) && checks.has_all (checks.asked_for s.items
     trait_) (checks.method_names methods)) _ λ _. walk_ends h
-item_kept env before (syn at (FnItem name params answer block)) s =
+item_kept env before (syn at (AnItem (FnItem name params answer block))) s =
     walk (whatever {P = Unit {0}} (checks.head_rules env params answer s) tt) λ _ t _. walk {f = λ _ u. Ok (before, u)}
     (whatever {P = Unit {0}} (checks.main_rule at name.1 params t.items (option_and_then (slice_get t.items.bodies)
     (body_named t.items name.1)) t) tt) λ _ u _. walk_ends (tt, refl)

@@ -21,7 +21,7 @@ use Rattle.typing_rules.specs.Check.{Check, TypingState, Broken, and_then, obeys
 use Rattle.typing_rules.specs.Collected as rules
 use Rattle.typing_rules.specs.Items.{ItemSyn, items_of, item_syns, impl_owner, full_name, body_paths}
 use Rattle.typing_rules.specs.Written as types
-use Rattle.src_ast.specs.Syntax.{Word, Named, Receiver, ByValue, ByShared, ByUnique, Syn, syn, Shape, NamedType, GenericType, DynType, SelfType, ParensType, TupleType, ArrayType, NeverType, RefType, MoveOf, StructItem, EnumItem, VariantDecl, TraitItem, ImplItem, FnItem, ParamOf, SelfParam, Syns, no_syn, a_syn, list_of, MaybeSyn, nothing, just}
+use Rattle.src_ast.specs.Syntax.{Word, Named, Receiver, ByValue, ByShared, ByUnique, Syn, syn, AnExpression, AType, AnItem, AParam, AVariant, MoveOf, WrittenType, NamedType, GenericType, DynType, SelfType, ParensType, TupleType, ArrayType, NeverType, RefType, StructItem, EnumItem, TraitItem, ImplItem, FnItem, ParamOf, SelfParam, Syns, no_syn, a_syn, list_of, MaybeSyn, nothing, just}
 use Rattle.typing_soundness.specs.Named.{is_type_name, variant_named, head_named, item_named, adt_named, trait_named, HasNames}
 use Rattle.typing_soundness.specs.Program.{NamesAreWords}
 use Rattle.typing_soundness.specs.Walks.{Walked}
@@ -90,9 +90,10 @@ module _ (around : types.WrittenScope) where
 
   mutual
     written_kept : (ty : Syn) (s : TypingState) → Keeps s (types.written around ty s)
-    written_kept (syn at form) s = form_kept at form s
+    written_kept (syn at (AType t)) s = form_kept at t s
+    written_kept _ s = record { so = tt }
 
-    form_kept : (at : Pos) (form : Shape) (s : TypingState) → Keeps s (types.written_form around at form s)
+    form_kept : (at : Pos) (form : WrittenType) (s : TypingState) → Keeps s (types.written_form around at form s)
     form_kept at (NamedType name) s =
         named_kept at (types.number_of around.adts name) (types.scalar_named name) s
     form_kept at (GenericType name content) s =
@@ -114,7 +115,6 @@ module _ (around : types.WrittenScope) where
     form_kept at (RefType unique to) s =
         step (written_kept to s) λ ty t. step (obeyed_kept Rule.T08 at (not around.has_limits) t) λ _ u. interned_kept
         (types.reference_to unique ty) u
-    form_kept at _ s = record { so = tt }
 
     all_kept : (parts : Syns) (s : TypingState) → Keeps s (types.all_written around parts s)
     all_kept no_syn s = ends [] s
@@ -122,9 +122,10 @@ module _ (around : types.WrittenScope) where
 
   mutual
     param_kept : (ty : Syn) (s : TypingState) → Keeps s (types.written_param around ty s)
-    param_kept (syn at form) s = param_form_kept at form s
+    param_kept (syn at (AType t)) s = param_form_kept at t s
+    param_kept _ s = record { so = tt }
 
-    param_form_kept : (at : Pos) (form : Shape) (s : TypingState) → Keeps s (types.written_param_form around at form s)
+    param_form_kept : (at : Pos) (form : WrittenType) (s : TypingState) → Keeps s (types.written_param_form around at form s)
     param_form_kept at (ParensType inside) s = param_kept inside s
     param_form_kept at (RefType unique to) s =
         step (written_kept to s) λ ty t. interned_kept (types.reference_to unique ty) t
@@ -141,8 +142,8 @@ module _ (around : types.WrittenScope) where
 
   module _ (self : Check TyId) (good : (s : TypingState) → Keeps s (self s)) where
     of_param_kept : (p : Syn) (s : TypingState) → Keeps s (rules.param_ty around self p s)
-    of_param_kept (syn at (ParamOf p ty)) s = param_kept ty s
-    of_param_kept (syn at (SelfParam receiver)) s = step (good s) λ own t. receiver_kept own receiver t
+    of_param_kept (syn at (AParam (ParamOf p ty))) s = param_kept ty s
+    of_param_kept (syn at (AParam (SelfParam receiver))) s = step (good s) λ own t. receiver_kept own receiver t
     of_param_kept (syn at _) s = record { so = tt }
 
     -- a head, and its name
@@ -153,7 +154,7 @@ module _ (around : types.WrittenScope) where
         λ ty u f. walk_ends (onward e f, refl)
 
   closure_param_kept : (p : Syn) (s : TypingState) → Keeps s (rules.closure_param around p s)
-  closure_param_kept (syn at (ParamOf p ty)) s = or_unit_kept s (types.written around ty s) (written_kept ty s)
+  closure_param_kept (syn at (AParam (ParamOf p ty))) s = or_unit_kept s (types.written around ty s) (written_kept ty s)
   closure_param_kept (syn at _) s = walk_ends (kept s)
 
   -- a variant, and its name
@@ -211,13 +212,13 @@ derives_kept (d ∷ ds) s = step (obeyed_kept Rule.T01 d.0 (rules.is_derivable d
 
 declared_named : (around : types.WrittenScope) (v : Syn) (s : TypingState) → Holds (variant_named v) → Walked (λ (x : Variant) t. Kept s
     t × IsTrue (is_word x.name)) (rules.declared_variant around v s)
-declared_named around (syn at (VariantDecl name kind fields)) s h =
+declared_named around (syn at (AVariant name kind fields)) s h =
     walk_map (variant_kept around name fields s) λ v t e. (e.0, subst (λ w. IsTrue (is_word w)) (sym e.1) h.0)
 declared_named around (syn at _) s h = record { so = tt }
 
 trait_head_named : (around : types.WrittenScope) (own : TyId) (x : Syn) (s : TypingState) → Holds (head_named x) → Walked (λ (sig : Sig) t.
     Kept s t × IsTrue (is_word sig.name)) (rules.trait_head around own x s)
-trait_head_named around own (syn at (FnItem name params answer block)) s h = by (rules.has_receiver params)
+trait_head_named around own (syn at (AnItem (FnItem name params answer block))) s h = by (rules.has_receiver params)
   where
     pure_own : Check TyId
     pure_own t = Ok (own, t)
@@ -240,7 +241,7 @@ trait_head_named around own (syn at (FnItem name params answer block)) s h = by 
 trait_head_named around own (syn at _) s h = record { so = tt }
 
 item_head_names : (k : rules.Known) (i : Syn) (s : TypingState) → Holds (item_named i) → Names s (rules.item_head k i s)
-item_head_names k (syn at (StructItem ds name kind fields)) s h =
+item_head_names k (syn at (AnItem (StructItem ds name kind fields))) s h =
     walk (derives_kept ds s) λ _ t e. walk (variant_kept (rules.names_alone k (types.number_of k.adts name.1)) name.1 fields
     t) λ v u f. walk_ends (λ had.
     let has = names_kept (onward e f.0) had in
@@ -252,7 +253,7 @@ item_head_names k (syn at (StructItem ds name kind fields)) s h =
   where
     word_of : (w : Word) → IsTrue (is_type_name w) → IsTrue (is_word w)
     word_of w t = true_left (is_word w) _ t
-item_head_names k (syn at (EnumItem ds name variants)) s h =
+item_head_names k (syn at (AnItem (EnumItem ds name variants))) s h =
     walk (derives_kept ds s) λ _ t e. walk (each_named variant_named (λ (v : Variant). is_word v.name)
     (rules.declared_variant (rules.names_alone k (types.number_of k.adts name.1))) (declared_named (rules.names_alone k
     (types.number_of k.adts name.1))) (list_of variants) t h.1.1) λ vs u f. walk_ends (λ had.
@@ -261,7 +262,7 @@ item_head_names k (syn at (EnumItem ds name variants)) s h =
       adts = more_adts u.items (rules.adt_of k ds name.1 true vs) has.adts (and_true (is_type_name name.1) _ h.0 f.1);
       traits = has.traits;
     })
-item_head_names k (syn at (TraitItem name heads)) s h =
+item_head_names k (syn at (AnItem (TraitItem name heads))) s h =
     walk (interned_kept (Ty.Dyn (length s.items.traits)) s) λ own t e. walk (each_named head_named (λ (m : Sig). is_word
     m.name) (rules.trait_head (rules.names_alone k None) own) (trait_head_named (rules.names_alone k None) own) (list_of
     heads) t h.1) λ sigs u f. walk_ends (λ had.
@@ -270,9 +271,9 @@ item_head_names k (syn at (TraitItem name heads)) s h =
       adts = has.adts;
       traits = more_traits u.items (record { name = name.1; methods = sigs }) has.traits f.1;
     })
-item_head_names k (syn at (ImplItem None name methods)) s h =
+item_head_names k (syn at (AnItem (ImplItem None name methods))) s h =
     by_kept (obeyed_kept Rule.T01 name.0 (is_some (types.number_of k.adts name.1)) s)
-item_head_names k (syn at (ImplItem (Some trait_) name methods)) s h =
+item_head_names k (syn at (AnItem (ImplItem (Some trait_) name methods))) s h =
     by_kept (step (obeyed_kept Rule.T01 trait_.0 (rules.is_drop trait_.1 || is_some (types.number_of k.traits trait_.1)) s)
     λ _ t. obeyed_kept Rule.T01 name.0 (is_some (types.number_of k.adts name.1)) t)
 item_head_names k (syn at _) s h = walk_ends (λ had. had)
@@ -284,13 +285,13 @@ own_kept at self_adt s = step (known_kept Rule.T01 at self_adt s) λ n t. intern
 
 body_kept : (k : rules.Known) (owner : Option Word) (c : rules.Count) (b : Syn) (s : TypingState) → Keeps s (rules.body_sig k owner c
     b s)
-body_kept k owner c (syn at (FnItem name params answer block)) s =
+body_kept k owner c (syn at (AnItem (FnItem name params answer block))) s =
     walk (sig_kept (rules.names_alone k self_adt) (rules.own_ty at self_adt) (own_kept at self_adt) (full_name owner name.1)
     params answer s) λ sig t e. walk_ends (onward e.0 (record { adts = refl; traits = refl }))
   where
     self_adt : Option ℕ
     self_adt = option_and_then (types.number_of k.adts) owner
-body_kept k owner c (syn at (MoveOf captures params answer body)) s =
+body_kept k owner c (syn at (AnExpression (MoveOf captures params answer body))) s =
     step (step (step (interned_kept (Ty.Closure c.closures) s) λ self t. step (each_kept (rules.closure_param around)
     (closure_param_kept around) (list_of params) t) λ tys u. ends (self ∷ tys) u) λ tys t. step (or_unit_kept t
     (rules.answer_ty around answer t) (answer_kept around answer t)) λ ty u. walk_ends (record {
@@ -315,7 +316,7 @@ heads_names k c (i ∷ is) s h =
     t)) λ d u. heads_names k d is u h.1
 
 impl_kept : (k : rules.Known) (i : Syn) (s : TypingState) → Keeps s (rules.impl_of k i s)
-impl_kept k (syn at (ImplItem (Some trait_) name methods)) s = by (rules.is_drop trait_.1)
+impl_kept k (syn at (AnItem (ImplItem (Some trait_) name methods))) s = by (rules.is_drop trait_.1)
   where
     added : Check (Unit {0})
     added t =
@@ -327,7 +328,7 @@ impl_kept k (syn at (ImplItem (Some trait_) name methods)) s = by (rules.is_drop
     by false =
         step (known_kept Rule.T01 trait_.0 (types.number_of k.traits trait_.1) s) λ n t. step (known_kept Rule.T01 name.0
         (types.number_of k.adts name.1) t) λ adt u. walk_ends (record { adts = refl; traits = refl })
-impl_kept k (syn at (ImplItem None name methods)) s = walk_ends (kept s)
+impl_kept k (syn at (AnItem (ImplItem None name methods))) s = walk_ends (kept s)
 impl_kept k (syn at _) s = walk_ends (kept s)
 
 finite_kept : (n : ℕ) (as_ : List (Pos × List Named)) (s : TypingState) → Keeps s (rules.all_finite n as_ s)

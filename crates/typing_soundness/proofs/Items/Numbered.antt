@@ -21,7 +21,7 @@ use Rattle.typing_rules.specs.Program as checks
 use Rattle.typing_rules.specs.Promises.{Extends}
 use Rattle.typing_rules.specs.Scope.{body_named, method_word}
 use Rattle.typing_rules.specs.Written as types
-use Rattle.src_ast.specs.Syntax.{Word, Named, Syn, syn, StructItem, EnumItem, TraitItem, ImplItem, FnItem, Syns, list_of, MaybeSyn}
+use Rattle.src_ast.specs.Syntax.{Word, Named, Syn, syn, AnItem, StructItem, EnumItem, TraitItem, ImplItem, FnItem, Syns, list_of}
 use Rattle.typing_soundness.specs.Closures.{BodySyn, Function, Closure, WrittenHead, functions_text}
 use Rattle.typing_soundness.specs.Heads.{IsHeadOf, owner_of, inner_text}
 use Rattle.typing_soundness.specs.Met.{MeanParams}
@@ -73,21 +73,21 @@ found_by_name name_of xs d n x is =
 
 -- the names of items in a text are words
 abbrev pub IsWorded : Syn → Type 0
-IsWorded (syn at (StructItem derives name kind fields)) = IsTrue (is_word name.1)
-IsWorded (syn at (EnumItem derives name variants)) = IsTrue (is_word name.1)
-IsWorded (syn at (TraitItem name heads)) = IsTrue (is_word name.1)
-IsWorded (syn at (FnItem name params answer block)) = IsTrue (is_word name.1)
+IsWorded (syn at (AnItem (StructItem derives name kind fields))) = IsTrue (is_word name.1)
+IsWorded (syn at (AnItem (EnumItem derives name variants))) = IsTrue (is_word name.1)
+IsWorded (syn at (AnItem (TraitItem name heads))) = IsTrue (is_word name.1)
+IsWorded (syn at (AnItem (FnItem name params answer block))) = IsTrue (is_word name.1)
 IsWorded (syn at _) = Unit {0}
 
 pub adts_worded : (is : List Syn) → All IsWorded is → All (λ w. IsTrue (is_word w)) (adt_names is)
 adts_worded [] h = tt
-adts_worded (syn at (StructItem derives name kind fields) ∷ is) h = (h.0, adts_worded is h.1)
-adts_worded (syn at (EnumItem derives name variants) ∷ is) h = (h.0, adts_worded is h.1)
+adts_worded (syn at (AnItem (StructItem derives name kind fields)) ∷ is) h = (h.0, adts_worded is h.1)
+adts_worded (syn at (AnItem (EnumItem derives name variants)) ∷ is) h = (h.0, adts_worded is h.1)
 adts_worded (syn at _ ∷ is) h = adts_worded is h.1
 
 pub traits_worded : (is : List Syn) → All IsWorded is → All (λ w. IsTrue (is_word w)) (trait_names is)
 traits_worded [] h = tt
-traits_worded (syn at (TraitItem name heads) ∷ is) h = (h.0, traits_worded is h.1)
+traits_worded (syn at (AnItem (TraitItem name heads)) ∷ is) h = (h.0, traits_worded is h.1)
 traits_worded (syn at _ ∷ is) h = traits_worded is h.1
 
 -- one of some names, which are words
@@ -102,10 +102,10 @@ number_worded ws h w known = by (types.number_of ws w) refl known
 -- ---- what the collection asks of impls
 
 abbrev pub IsTraitKnown : rules.Known → Syn → Type 0
-IsTraitKnown k (syn at (ImplItem (Some trait_) name methods)) =
+IsTraitKnown k (syn at (AnItem (ImplItem (Some trait_) name methods))) =
     IsTrue (rules.is_drop trait_.1 || is_some (types.number_of k.traits trait_.1)) × IsTrue (is_some (types.number_of k.adts
     name.1))
-IsTraitKnown k (syn at (ImplItem None name methods)) = IsTrue (is_some (types.number_of k.adts name.1))
+IsTraitKnown k (syn at (AnItem (ImplItem None name methods))) = IsTrue (is_some (types.number_of k.adts name.1))
 IsTraitKnown k (syn at _) = Unit {0}
 
 obeyed_so : {P : Type 0} (rule : Rule) (at : Pos) (b : Bool) (s : TypingState) → (IsTrue b → P) → Walked (λ _ t. P) (obeys rule at b s)
@@ -113,10 +113,10 @@ obeyed_so rule at true s h = walk_ends (h refl)
 obeyed_so rule at false s h = record { so = tt }
 
 impl_known : (k : rules.Known) (i : Syn) (s : TypingState) → Walked (λ _ t. IsTraitKnown k i) (rules.item_head k i s)
-impl_known k (syn at (ImplItem (Some trait_) name methods)) s =
+impl_known k (syn at (AnItem (ImplItem (Some trait_) name methods))) s =
     walk_obeyed Rule.T01 trait_.0 (rules.is_drop trait_.1 || is_some (types.number_of k.traits trait_.1)) _ λ h. obeyed_so
     Rule.T01 name.0 (is_some (types.number_of k.adts name.1)) s λ g. (h, g)
-impl_known k (syn at (ImplItem None name methods)) s =
+impl_known k (syn at (AnItem (ImplItem None name methods))) s =
     obeyed_so Rule.T01 name.0 (is_some (types.number_of k.adts name.1)) s λ g. g
 impl_known k (syn at _) s = whatever _ tt
 
@@ -153,26 +153,26 @@ module _ (items : ItemTable) (k : rules.Known) where
 
   -- a method with what is asked of it; a function, whose name is a word
   abbrev Fact : Syn → WrittenHead → Type 0
-  Fact (syn at (ImplItem trait_ owner methods)) head =
+  Fact (syn at (AnItem (ImplItem trait_ owner methods))) head =
       (head.around ≡ all_names k (Some owner.1)) × IsTrue (is_word owner.1) × IsTraitWord trait_ × IsTrue (checks.has_head items
       trait_ owner.1 head.name head.params) × IsOwner k (Some owner.1)
   Fact (syn at _) head = IsTrue (is_word head.name)
 
   methods_so : (at : Pos) (trait_ : Option Named) (owner : Named) (methods : Syns) → IsTrue (is_word owner.1) → IsTraitWord
-      trait_ → IsOwner k (Some owner.1) → (ms : List Syn) → HeadsAsked items trait_ owner.1 ms → (rest : List BodySyn) → All (IsOf Fact (syn at (ImplItem
-      trait_ owner methods))) rest → All (IsOf Fact (syn at (ImplItem trait_ owner methods))) (functions_text (all_names k (Some
+      trait_ → IsOwner k (Some owner.1) → (ms : List Syn) → HeadsAsked items trait_ owner.1 ms → (rest : List BodySyn) → All (IsOf Fact (syn at (AnItem (ImplItem
+      trait_ owner methods)))) rest → All (IsOf Fact (syn at (AnItem (ImplItem trait_ owner methods)))) (functions_text (all_names k (Some
       owner.1)) ms rest)
   methods_so at trait_ owner methods ow tw own [] h rest p = p
-  methods_so at trait_ owner methods ow tw own (syn here (FnItem name params answer block) ∷ ms) h rest p = (
+  methods_so at trait_ owner methods ow tw own (syn here (AnItem (FnItem name params answer block)) ∷ ms) h rest p = (
     (refl, ow, tw, h.0, own),
-    each_if_any (All (IsOf Fact (syn at (ImplItem trait_ owner methods)))) (λ head texts q. (tt, q)) (all_names k (Some owner.1)) block _ (methods_so
+    each_if_any (All (IsOf Fact (syn at (AnItem (ImplItem trait_ owner methods))))) (λ head texts q. (tt, q)) (all_names k (Some owner.1)) block _ (methods_so
         at trait_ owner methods ow tw own ms h.1 rest p),
   )
   methods_so at trait_ owner methods ow tw own (syn here _ ∷ ms) h rest p = absurd h
 
   item_so : (traits : All (λ w. IsTrue (is_word w)) k.traits) (adts : All (λ w. IsTrue (is_word w)) k.adts) (i : Syn) → IsWorded
       i → IsAsked items i → IsTraitKnown k i → IsOwner k (impl_owner i) → All (IsOf Fact i) (inner_text (all_names k (impl_owner i)) i [])
-  item_so traits adts (syn at (ImplItem (Some trait_) owner methods)) w h known own =
+  item_so traits adts (syn at (AnItem (ImplItem (Some trait_) owner methods))) w h known own =
       methods_so at (Some trait_) owner methods (number_worded k.adts adts owner.1 known.1) (by (rules.is_drop trait_.1) refl
       known.0) own (list_of methods) h.0 [] tt
     where
@@ -180,11 +180,11 @@ module _ (items : ItemTable) (k : rules.Known) where
           trait_.1)
       by true e known = subst (λ v. IsTrue (is_word v)) (sym (same_word trait_.1 (codes "Drop") e)) refl
       by false e known = number_worded k.traits traits trait_.1 known
-  item_so traits adts (syn at (ImplItem None owner methods)) w h known own =
+  item_so traits adts (syn at (AnItem (ImplItem None owner methods))) w h known own =
       methods_so at None owner methods (number_worded k.adts adts owner.1 known) tt own (list_of methods) h.0 [] tt
-  item_so traits adts (syn at (FnItem name params answer block)) w h known own = (
+  item_so traits adts (syn at (AnItem (FnItem name params answer block))) w h known own = (
     w,
-    each_if_any (All (IsOf Fact (syn at (FnItem name params answer block)))) (λ head texts q. (tt, q)) (all_names k None) block [] tt,
+    each_if_any (All (IsOf Fact (syn at (AnItem (FnItem name params answer block))))) (λ head texts q. (tt, q)) (all_names k None) block [] tt,
   )
   item_so traits adts (syn at _) w h known own = tt
 
@@ -276,11 +276,11 @@ module _ (parts : Parts Pos) (items : ItemTable) (p : ProgramTree) (h : IsAccept
     by_text : (n : ℕ) (text : BodySyn) → slice_get (listed_text k all []) n ≡ Some text → (i : Syn) → HasPath i path text → IsOf
         (Fact p.items k) i text → IsMethod p.items k owner trait_ name n
     by_text n (Closure head) at i e fact = absurd (path_is_begun e)
-    by_text n (Function head) at (syn here (ImplItem (Some t) o methods)) e fact =
+    by_text n (Function head) at (syn here (AnItem (ImplItem (Some t) o methods))) e fact =
         let s = path_tells o.1 t.1 head.name owner trait_ name fact.1 fact.2 ow tw (sym e) in
         head_at n head at (fact.0 ∙ ap (λ w. all_names k (Some w)) s.0) (subst (λ w. IsOwner k (Some w)) s.0 fact.4) s.2 t s.1
         (sym (λ i. checks.has_head p.items (Some t) (s.0 i) (s.2 i) head.params) ∙ fact.3)
-    by_text n (Function head) at (syn here (ImplItem None o methods)) e fact =
+    by_text n (Function head) at (syn here (AnItem (ImplItem None o methods))) e fact =
         absurd (path_is_other o.1 head.name owner trait_ name fact.1 ow (sym e))
     by_text n (Function head) at (syn here _) e fact = absurd (path_is_no_name head.name owner trait_ name fact (sym e))
 

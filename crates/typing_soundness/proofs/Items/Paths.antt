@@ -10,7 +10,7 @@ use Rattle.typing_rules.specs.Check.{TypingState}
 use Rattle.typing_rules.specs.Collected as rules
 use Rattle.typing_rules.specs.Items.{ItemSyn, item_syns, body_path, body_paths, path_in, method_path, impl_owner}
 use Rattle.typing_rules.specs.Written as types
-use Rattle.src_ast.specs.Syntax.{Word, Named, Syn, syn, MoveOf, ImplItem, FnItem, Syns, list_of, MaybeSyn}
+use Rattle.src_ast.specs.Syntax.{Word, Syn, syn, AnExpression, AnItem, MoveOf, FnItem}
 use Rattle.typing_soundness.specs.Closures.{BodySyn, Function, Closure, WrittenHead, functions_text, function_text}
 use Rattle.typing_soundness.specs.Heads.{body_text, bodies_text, inner_text, TellBodies}
 use Rattle.typing_soundness.specs.Walks.{Walked}
@@ -137,8 +137,8 @@ aligned_map Q R f (a ∷ as_) (b ∷ bs) h = (f a b h.0, aligned_map Q R f as_ b
 
 -- a body is a function, a method or a closure
 abbrev IsBody : Syn → Type 0
-IsBody (syn at (FnItem name params answer block)) = Unit {0}
-IsBody (syn at (MoveOf captures params answer body)) = Unit {0}
+IsBody (syn at (AnItem (FnItem name params answer block))) = Unit {0}
+IsBody (syn at (AnExpression (MoveOf captures params answer body))) = Unit {0}
 IsBody (syn at _) = ⊥
 
 abbrev pub AreBodies : List ItemSyn → Type 0
@@ -148,11 +148,11 @@ module _ (k : rules.Known) where
   bodies_seen : (owner : Option Word) (c : rules.Count) (bs : List Syn) (s : TypingState) → Walked (λ _ t. All IsBody bs)
       (rules.body_sigs k owner c bs s)
   bodies_seen owner c [] s = walk_ends tt
-  bodies_seen owner c (syn at (FnItem name params answer block) ∷ bs) s =
-      walk (whatever {P = Unit {0}} (rules.body_sig k owner c (syn at (FnItem name params answer block)) s) tt) λ d t _.
+  bodies_seen owner c (syn at (AnItem (FnItem name params answer block)) ∷ bs) s =
+      walk (whatever {P = Unit {0}} (rules.body_sig k owner c (syn at (AnItem (FnItem name params answer block))) s) tt) λ d t _.
       walk_map (bodies_seen owner d bs t) λ _ u h. (tt, h)
-  bodies_seen owner c (syn at (MoveOf captures params answer body) ∷ bs) s =
-      walk (whatever {P = Unit {0}} (rules.body_sig k owner c (syn at (MoveOf captures params answer body)) s) tt) λ d t _.
+  bodies_seen owner c (syn at (AnExpression (MoveOf captures params answer body)) ∷ bs) s =
+      walk (whatever {P = Unit {0}} (rules.body_sig k owner c (syn at (AnExpression (MoveOf captures params answer body))) s) tt) λ d t _.
       walk_map (bodies_seen owner d bs t) λ _ u h. (tt, h)
   bodies_seen owner c (syn at _ ∷ bs) s = record { so = tt }
 
@@ -172,13 +172,13 @@ module _ (around : types.WrittenScope) where
   pub paths_of_bodies : (i : Syn) (bs : List Syn) → All IsBody bs → Aligned (HasPath i) (map (body_path i) bs) (bodies_text around
       bs [])
   paths_of_bodies i [] h = tt
-  paths_of_bodies i (syn at (FnItem name params answer block) ∷ bs) h = (refl, paths_of_bodies i bs h.1)
-  paths_of_bodies i (syn at (MoveOf captures params answer body) ∷ bs) h = (refl, paths_of_bodies i bs h.1)
+  paths_of_bodies i (syn at (AnItem (FnItem name params answer block)) ∷ bs) h = (refl, paths_of_bodies i bs h.1)
+  paths_of_bodies i (syn at (AnExpression (MoveOf captures params answer body)) ∷ bs) h = (refl, paths_of_bodies i bs h.1)
   paths_of_bodies i (syn at _ ∷ bs) h = absurd h.0
 
   body_first : (b : Syn) (rest others : List BodySyn) → body_text around b (rest ++ others) ≡ body_text around b rest ++ others
-  body_first (syn at (FnItem name params answer block)) rest others = refl
-  body_first (syn at (MoveOf captures params answer body)) rest others = refl
+  body_first (syn at (AnItem (FnItem name params answer block))) rest others = refl
+  body_first (syn at (AnExpression (MoveOf captures params answer body))) rest others = refl
   body_first (syn at _) rest others = refl
 
   bodies_first : (bs : List Syn) (rest : List BodySyn) → bodies_text around bs rest ≡ bodies_text around bs [] ++ rest

@@ -28,7 +28,7 @@ use Rattle.typing_rules.proofs.Sound.Written.{dyn_made}
 use Rattle.typing_rules.specs.Places.{unit}
 use Rattle.typing_rules.specs.Promises.{IsAlone, IsKnown, IsReady, IsThere, AreReady, Gives, Extends}
 use Rattle.typing_rules.specs.Written as types
-use Rattle.src_ast.specs.Syntax.{Word, Named, Receiver, ByValue, ByShared, ByUnique, Syn, syn, Shape, NamedType, GenericType, DynType, SelfType, ParensType, TupleType, ArrayType, NeverType, RefType, StructItem, EnumItem, FieldDecl, VariantDecl, TraitItem, ImplItem, FnItem, MoveOf, ParamOf, SelfParam, Syns, no_syn, a_syn, list_of, MaybeSyn, nothing, just}
+use Rattle.src_ast.specs.Syntax.{Word, Named, Receiver, ByValue, ByShared, ByUnique, Syn, syn, AnExpression, AType, AnItem, AParam, AField, AVariant, MoveOf, WrittenType, NamedType, GenericType, DynType, SelfType, ParensType, TupleType, ArrayType, NeverType, RefType, StructItem, EnumItem, TraitItem, ImplItem, FnItem, ParamOf, SelfParam, Syns, no_syn, a_syn, list_of, MaybeSyn, nothing, just}
 use Rattle.typing_rules.proofs.Sound.Gives.{bind, weaker, with_ready, given, gives_nothing, obeyed, found, grows_refl, grows_trans}
 use Rattle.typing_rules.specs.RowPromises.{IsMade}
 use Rattle.typing_rules.proofs.Sound.Interned.{interned_sound}
@@ -52,9 +52,10 @@ module _ (around : types.WrittenScope) where
 
   mutual
     pub same_written : (e : Syn) → IsTrue (legal e) → (s : TypingState) → types.written names e s ≡ types.written full e s
-    same_written (syn at form) h s = same_form at form h s
+    same_written (syn at (AType t)) h s = same_form at t h s
+    same_written _ h s = absurd (false≢true h)
 
-    same_form : (at : Pos) (form : Shape) → IsTrue (legal_form form) → (s : TypingState) → types.written_form names at form s ≡
+    same_form : (at : Pos) (form : WrittenType) → IsTrue (legal_form form) → (s : TypingState) → types.written_form names at form s ≡
         types.written_form full at form s
     same_form at (NamedType name) h s = refl
     same_form at (GenericType name content) h s =
@@ -96,9 +97,10 @@ module _ (around : types.WrittenScope) where
   mutual
     pub same_param : (e : Syn) → IsTrue (legal_param e) → (s : TypingState) → types.written_param names e s ≡ types.written_param
         full e s
-    same_param (syn at form) h s = same_param_form at form h s
+    same_param (syn at (AType t)) h s = same_param_form at t h s
+    same_param _ h s = refl
 
-    same_param_form : (at : Pos) (form : Shape) → IsTrue (legal_param_form form) → (s : TypingState) → types.written_param_form
+    same_param_form : (at : Pos) (form : WrittenType) → IsTrue (legal_param_form form) → (s : TypingState) → types.written_param_form
         names at form s ≡ types.written_param_form full at form s
     same_param_form at (ParensType inside) h s = same_param inside h s
     same_param_form at (RefType unique to) h s =
@@ -170,8 +172,8 @@ module _ (around : types.WrittenScope) where
 
   head_param_ready : (at : Pos) (p : Syn) (s : TypingState) → IsTrue (param_legal legal_param p) → Gives s (λ w ty. IsParamTy
       w.items ty) (rules.param_ty (names around) (rules.own_ty at around.self_adt) p s)
-  head_param_ready at (syn here (ParamOf p ty)) s h = param_ready around ty h s
-  head_param_ready at (syn here (SelfParam receiver)) s h =
+  head_param_ready at (syn here (AParam (ParamOf p ty))) s h = param_ready around ty h s
+  head_param_ready at (syn here (AParam (SelfParam receiver))) s h =
       bind (own_ready at s) λ own t g d. receiver_ready own receiver t (d t (grows_refl t))
   head_param_ready at (syn here _) s h = absurd (false≢true h)
 
@@ -209,7 +211,7 @@ module _ (around : types.WrittenScope) where
 
   closure_param_ready : (p : Syn) (s : TypingState) → IsTrue (param_legal legal p) → Gives s (λ w ty. IsPlain w.items ty)
       (rules.closure_param (names around) p s)
-  closure_param_ready (syn at (ParamOf p ty)) s h =
+  closure_param_ready (syn at (AParam (ParamOf p ty))) s h =
       or_unit_ready s (types.written (names around) ty s) (type_ready around ty h s)
   closure_param_ready (syn at _) s h = with_ready λ all. given unit λ ready w g. unit_plain w.items (g.ready all)
 
@@ -454,7 +456,7 @@ heads_all (x ∷ hs) h = (true_left (trait_head_legal x) _ h, heads_all hs (true
 module _ (around : types.WrittenScope) where
   field_ready : (f : Syn) (s : TypingState) → IsTrue (field_legal f) → Gives s (λ w ty. IsPlain w.items ty) (types.written (names
       around) (rules.field_type f) s)
-  field_ready (syn at (FieldDecl name ty)) s h = type_ready around ty h s
+  field_ready (syn at (AField name ty)) s h = type_ready around ty h s
   field_ready (syn at form) s h = type_ready around (syn at form) h s
 
   variant_ready : (name : Word) (fields : Syns) (s : TypingState) → IsTrue (fields_legal (list_of fields)) → Gives s (λ w v. All
@@ -466,7 +468,7 @@ module _ (around : types.WrittenScope) where
 
   declared_ready : (v : Syn) (s : TypingState) → IsTrue (variant_legal v) → Gives s (λ w v. All (IsPlain w.items) v.fields)
       (rules.declared_variant (names around) v s)
-  declared_ready (syn at (VariantDecl name kind fields)) s h = variant_ready name fields s h
+  declared_ready (syn at (AVariant name kind fields)) s h = variant_ready name fields s h
   declared_ready (syn at _) s h = absurd (false≢true h)
 
 fields_later : (old new : ItemTable) → Extends old new → (v : Variant) → All (IsPlain old) v.fields → All (IsPlain new)
@@ -506,9 +508,9 @@ module _ (around : types.WrittenScope) (own : TyId) where
 
   dyn_param_ready : (p : Syn) (s : TypingState) → IsTrue (param_legal legal_param p) × MayBeBorrowed s.items own → Gives s (λ w ty.
       IsKnown w.items ty) (rules.param_ty (names around) pure_own p s)
-  dyn_param_ready (syn here (ParamOf p ty)) s h =
+  dyn_param_ready (syn here (AParam (ParamOf p ty))) s h =
       weaker (λ w t. IsKnown w.items t) (param_ready around ty h.0 s) λ t w ready g is. (is.0, is.1)
-  dyn_param_ready (syn here (SelfParam receiver)) s h = dyn_receiver_ready receiver s h.1
+  dyn_param_ready (syn here (AParam (SelfParam receiver))) s h = dyn_receiver_ready receiver s h.1
   dyn_param_ready (syn here _) s h = absurd (false≢true h.0)
 
   borrowed_later : (old new : ItemTable) → Extends old new → MayBeBorrowed old own → MayBeBorrowed new own
@@ -536,18 +538,18 @@ module _ (around : types.WrittenScope) (own : TyId) where
   pub with_self_legal : (params : Syns) → IsTrue (params_legal legal_param (behind_self params)) → IsTrue (params_legal legal_param
       params)
   with_self_legal no_syn h = h
-  with_self_legal (a_syn (syn at (SelfParam receiver)) rest) h = h
+  with_self_legal (a_syn (syn at (AParam (SelfParam receiver))) rest) h = h
   with_self_legal (a_syn (syn at _) rest) h = h
 
   pub same_behind : (params : Syns) → IsTrue (params_legal legal_param (behind_self params)) → IsTrue (params_legal legal_param
       (rules.behind_self params))
   same_behind no_syn h = h
-  same_behind (a_syn (syn at (SelfParam receiver)) rest) h = h
+  same_behind (a_syn (syn at (AParam (SelfParam receiver))) rest) h = h
   same_behind (a_syn (syn at _) rest) h = h
 
   trait_head_ready : (x : Syn) (s : TypingState) → IsTrue (trait_head_legal x) → MayBeBorrowed s.items own → Gives s (λ w sig.
       HasKnown w.items sig) (rules.trait_head (names around) own x s)
-  trait_head_ready (syn at (FnItem name params answer block)) s h b = by (rules.has_receiver params)
+  trait_head_ready (syn at (AnItem (FnItem name params answer block))) s h b = by (rules.has_receiver params)
     where
       legal_params : IsTrue (params_legal legal_param (behind_self params))
       legal_params = true_left (params_legal legal_param (behind_self params)) _ h
@@ -578,20 +580,20 @@ with_fields : (s t : TypingState) (adt : Adt) → (AreReady s.items → AreReady
 with_fields s t adt h ready = let r = h ready in (ready_with_adt t.items adt r.0 r.1, tt)
 
 item_head_ready : (k : rules.Known) (i : Syn) (s : TypingState) → IsTrue (item_legal i) → Readies s Kept (rules.item_head k i s)
-item_head_ready k (syn at (StructItem ds name kind fields)) s h =
+item_head_ready k (syn at (AnItem (StructItem ds name kind fields))) s h =
     walk (ready_of (λ items u. Unit {0}) (rules.derives_known ds s) (derives_ready ds s)) λ _ t e. walk (ready_of (λ items v.
     All (IsPlain items) v.fields) _ (variant_ready (around k name.1) name.1 fields t h)) λ v u g. walk_ends (with_fields
     s u (rules.adt_of k ds name.1 false (v ∷ [])) (λ ready. let r = g (e ready).0 in (r.0, (r.1, tt))))
   where
     around : rules.Known → Word → types.WrittenScope
     around k name = rules.names_alone k (types.number_of k.adts name)
-item_head_ready k (syn at (EnumItem ds name variants)) s h =
+item_head_ready k (syn at (AnItem (EnumItem ds name variants))) s h =
     walk (ready_of (λ items u. Unit {0}) (rules.derives_known ds s) (derives_ready ds s)) λ _ t e. walk (ready_of (λ items
     vs. AreFields items vs) _ (each_gives (rules.declared_variant (rules.names_alone k (types.number_of k.adts name.1))) (λ
     v. IsTrue (variant_legal v)) (λ items v. All (IsPlain items) v.fields) fields_later (λ v u legal_v. declared_ready
     (rules.names_alone k (types.number_of k.adts name.1)) v u legal_v) (list_of variants) t (variants_all (list_of variants)
     h))) λ vs u g. walk_ends (with_fields s u (rules.adt_of k ds name.1 true vs) (λ ready. g (e ready).0))
-item_head_ready k (syn at (TraitItem name heads)) s h =
+item_head_ready k (syn at (AnItem (TraitItem name heads))) s h =
     walk (ready_of (λ items own. type_at items own ≡ Some (Ty.Dyn (length s.items.traits))) (interned (Ty.Dyn (length
     s.items.traits)) s) (interned_sound (Ty.Dyn (length s.items.traits)) s (dyn_made s.items (length s.items.traits)))) λ own
     t e. walk_ready own t e
@@ -632,9 +634,9 @@ item_head_ready k (syn at (TraitItem name heads)) s h =
               ready_with_trait a.1.items (record { name = name.1; methods = a.0 }) (m.0.ready r.0) (m.1 a.1 (grows_refl a.1)),
               tt,
             ))
-item_head_ready k (syn at (ImplItem None name methods)) s h =
+item_head_ready k (syn at (AnItem (ImplItem None name methods))) s h =
     ready_of (λ items u. Unit {0}) _ (obeyed_ready Rule.T01 name.0 (is_some (types.number_of k.adts name.1)) s)
-item_head_ready k (syn at (ImplItem (Some trait_) name methods)) s h =
+item_head_ready k (syn at (AnItem (ImplItem (Some trait_) name methods))) s h =
     ready_of (λ items u. Unit {0}) _ (obeyed Rule.T01 trait_.0 (rules.is_drop trait_.1 || is_some (types.number_of k.traits
     trait_.1)) _ λ _. obeyed_ready Rule.T01 name.0 (is_some (types.number_of k.adts name.1)) s)
 item_head_ready k (syn at _) s h = walk_ends (λ ready. (ready, tt))
@@ -643,7 +645,7 @@ item_head_ready k (syn at _) s h = walk_ends (λ ready. (ready, tt))
 
 body_ready : (k : rules.Known) (owner : Option Word) (c : rules.Count) (b : Syn) (s : TypingState) → IsTrue (body_legal b) →
     s.items.closures ≡ [] → Readies s Kept (rules.body_sig k owner c b s)
-body_ready k owner c (syn at (FnItem name params answer block)) s h none =
+body_ready k owner c (syn at (AnItem (FnItem name params answer block))) s h none =
     walk (ready_of (λ items sig. HasParams items sig) _ (sig_ready (all_names k owner) at (full_name owner name.1) params
     answer s h)) λ sig t e. walk_ends (λ ready.
     let r = e ready in (
@@ -651,7 +653,7 @@ body_ready k owner c (syn at (FnItem name params answer block)) s h none =
           (plain_alone t.items sig.result r.1.1),
       tt,
     ))
-body_ready k owner c (syn at (MoveOf captures params answer body)) s h none =
+body_ready k owner c (syn at (AnExpression (MoveOf captures params answer body))) s h none =
     walk (walk (ready_of (λ items tys. All (IsKnown items) tys) _ (closure_params_ready (all_names k owner) c.closures params
     s none (true_left (params_legal legal params) _ h))) λ tys t e. behind tys t e) λ _ t e. walk_ends e
   where
@@ -729,7 +731,7 @@ with_impl_ready items def all = record {
 }
 
 impl_ready : (k : rules.Known) (i : Syn) (s : TypingState) → Readies s Kept (rules.impl_of k i s)
-impl_ready k (syn at (ImplItem (Some trait_) name methods)) s = by (rules.is_drop trait_.1)
+impl_ready k (syn at (AnItem (ImplItem (Some trait_) name methods))) s = by (rules.is_drop trait_.1)
   where
     added : Check (Unit {0})
     added t =
@@ -741,7 +743,7 @@ impl_ready k (syn at (ImplItem (Some trait_) name methods)) s = by (rules.is_dro
     by false =
         walk_found Rule.T01 trait_.0 (types.number_of k.traits trait_.1) _ λ n is. walk_found Rule.T01 name.0
         (types.number_of k.adts name.1) _ λ adt is. walk_ends (λ ready. (with_impl_ready s.items _ ready, tt))
-impl_ready k (syn at (ImplItem None name methods)) s = walk_ends (λ ready. (ready, tt))
+impl_ready k (syn at (AnItem (ImplItem None name methods))) s = walk_ends (λ ready. (ready, tt))
 impl_ready k (syn at _) s = walk_ends (λ ready. (ready, tt))
 
 pub impls_ready : (k : rules.Known) (is : List Syn) (s : TypingState) → Readies s Kept (each_checked (rules.impl_of k) is s)

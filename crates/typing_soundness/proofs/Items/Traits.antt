@@ -28,7 +28,7 @@ use Rattle.typing_rules.specs.Program as checks
 use Rattle.typing_rules.specs.Promises.{AreReady, Extends}
 use Rattle.typing_rules.specs.Scope.{Env}
 use Rattle.typing_rules.specs.Written as types
-use Rattle.src_ast.specs.Syntax.{Word, Receiver, ByValue, ByShared, ByUnique, Syn, syn, MoveOf, StructItem, EnumItem, TraitItem, ImplItem, FnItem, ParamOf, SelfParam, Syns, no_syn, a_syn, list_of, MaybeSyn}
+use Rattle.src_ast.specs.Syntax.{Word, Receiver, ByValue, ByShared, ByUnique, Syn, syn, AnExpression, AnItem, AParam, MoveOf, StructItem, EnumItem, TraitItem, ImplItem, FnItem, ParamOf, SelfParam, Syns, no_syn, a_syn, list_of, MaybeSyn}
 use Rattle.typing_soundness.specs.Items.{is_head_typed, begins_with_self, is_method_typed, IsTraitTyped}
 use Rattle.typing_soundness.specs.Met.{IsReceiver}
 use Rattle.typing_soundness.specs.Program.{IsAccepted}
@@ -52,8 +52,8 @@ use Rattle.typing_soundness.proofs.Walking.Steps.{walk, walk_map, walk_obeyed, w
 
 module _ (around : types.WrittenScope) (own : TyId) where
   abbrev MeansTraitParam : ItemTable → Syn → TyId → Type 0
-  MeansTraitParam items (syn at (ParamOf p written)) ty = Means around items written ty
-  MeansTraitParam items (syn at (SelfParam receiver)) ty = IsReceiver items receiver own ty
+  MeansTraitParam items (syn at (AParam (ParamOf p written))) ty = Means around items written ty
+  MeansTraitParam items (syn at (AParam (SelfParam receiver))) ty = IsReceiver items receiver own ty
   MeansTraitParam items _ ty = ⊥
 
   abbrev MeanTraitParams : ItemTable → Syns → List TyId → Type 0
@@ -64,7 +64,7 @@ module _ (around : types.WrittenScope) (own : TyId) where
 
   -- a head that begins with a receiver
   abbrev IsTraitHead : ItemTable → Syn → Sig → Type 0
-  IsTraitHead items (syn at (FnItem name params answer block)) sig =
+  IsTraitHead items (syn at (AnItem (FnItem name params answer block))) sig =
       IsTrue (rules.has_receiver params) → (sig.name ≡ name.1) × MeanTraitParams items params sig.params
   IsTraitHead items _ sig = ⊥
 
@@ -75,8 +75,8 @@ module _ (around : types.WrittenScope) (own : TyId) where
 
   module _ (old new : ItemTable) (e : HaveTypes old new) where
     param_on : (p : Syn) (ty : TyId) → MeansTraitParam old p ty → MeansTraitParam new p ty
-    param_on (syn at (ParamOf p written)) ty h = means_later around old new e written ty h
-    param_on (syn at (SelfParam receiver)) ty h = receiver_later old new e receiver own ty h
+    param_on (syn at (AParam (ParamOf p written))) ty h = means_later around old new e written ty h
+    param_on (syn at (AParam (SelfParam receiver))) ty h = receiver_later old new e receiver own ty h
     param_on (syn at _) ty h = absurd h
 
     params_on : (ps : Syns) (tys : List TyId) → MeanTraitParams old ps tys → MeanTraitParams new ps tys
@@ -86,7 +86,7 @@ module _ (around : types.WrittenScope) (own : TyId) where
     params_on (a_syn first rest) (ty ∷ tys) h = (param_on first ty h.0, params_on rest tys h.1)
 
     head_on : (x : Syn) (sig : Sig) → IsTraitHead old x sig → IsTraitHead new x sig
-    head_on (syn at (FnItem name params answer block)) sig h =
+    head_on (syn at (AnItem (FnItem name params answer block))) sig h =
         λ has. ((h has).0, params_on params sig.params (h has).1)
     head_on (syn at _) sig h = absurd h
 
@@ -106,8 +106,8 @@ module _ (around : types.WrittenScope) (own : TyId) where
 
   trait_param_given : (p : Syn) (s : TypingState) → Walked (λ ty t. SameWalk s t × MeansTraitParam t.items p ty) (rules.param_ty
       named pure_own p s)
-  trait_param_given (syn at (ParamOf p ty)) s = param_collected around ty s
-  trait_param_given (syn at (SelfParam receiver)) s = receiver_collected around own receiver s
+  trait_param_given (syn at (AParam (ParamOf p ty))) s = param_collected around ty s
+  trait_param_given (syn at (AParam (SelfParam receiver))) s = receiver_collected around own receiver s
   trait_param_given (syn at _) s = record { so = tt }
 
   trait_params_given : (ps : Syns) (s : TypingState) → Walked (λ tys t. SameWalk s t × MeanTraitParams t.items ps tys)
@@ -128,7 +128,7 @@ module _ (around : types.WrittenScope) (own : TyId) where
       )
 
   trait_head_given : (x : Syn) (s : TypingState) → Walked (λ sig t. IsTraitHead t.items x sig) (rules.trait_head named own x s)
-  trait_head_given (syn at (FnItem name params answer block)) s = by (rules.has_receiver params) refl
+  trait_head_given (syn at (AnItem (FnItem name params answer block))) s = by (rules.has_receiver params) refl
     where
       by : (b : Bool) → rules.has_receiver params ≡ b → Walked (λ sig t. IsTrue (rules.has_receiver params) → (sig.name ≡
           name.1) × MeanTraitParams t.items params sig.params) ((if b then rules.sig_of named pure_own name.1 params answer
@@ -153,7 +153,7 @@ module _ (around : types.WrittenScope) (own : TyId) where
 
 module _ (around : types.WrittenScope) where
   abbrev IsTraitOf : ItemTable → ℕ → Syn → TraitDef → Type 0
-  IsTraitOf items n (syn at (TraitItem name heads)) def =
+  IsTraitOf items n (syn at (AnItem (TraitItem name heads))) def =
       (own : TyId) × (type_at items own ≡ Some (Ty.Dyn n)) × AreTraitHeads around own items (list_of heads)
       def.methods × (def.name ≡ name.1)
   IsTraitOf items n _ def = ⊥
@@ -165,7 +165,7 @@ module _ (around : types.WrittenScope) where
 
   trait_on : (old new : ItemTable) → HaveTypes old new → (n : ℕ) (i : Syn) (def : TraitDef) → IsTraitOf old n i def →
       IsTraitOf new n i def
-  trait_on old new e n (syn at (TraitItem name heads)) def h =
+  trait_on old new e n (syn at (AnItem (TraitItem name heads))) def h =
       (h.0, e h.0.0 (Ty.Dyn n) h.1, heads_on around h.0 old new e (list_of heads) def.methods h.2, h.3)
   trait_on old new e n (syn at _) def h = absurd h
 
@@ -219,7 +219,7 @@ module _ (around : types.WrittenScope) where
   }
 
 abbrev pub traits_in : Syn → List Syn
-traits_in (syn at (TraitItem name heads)) = syn at (TraitItem name heads) ∷ []
+traits_in (syn at (AnItem (TraitItem name heads))) = syn at (AnItem (TraitItem name heads)) ∷ []
 traits_in _ = []
 
 abbrev pub all_traits : List ItemSyn → List Syn
@@ -234,10 +234,10 @@ module _ (k : rules.Known) where
 
   body_adds : (owner : Option Word) (c : rules.Count) (b : Syn) (s : TypingState) → Walked (λ _ t. Adds [] s t) (rules.body_sig k
       owner c b s)
-  body_adds owner c (syn at (FnItem name params answer block)) s =
+  body_adds owner c (syn at (AnItem (FnItem name params answer block))) s =
       walk (sig_collected (all_names k owner) at (full_name owner name.1) params answer s) λ sig t h. walk_ends (adds_none
       (all_names k None) h.0 _ refl refl refl)
-  body_adds owner c (syn at (MoveOf captures params answer body)) s =
+  body_adds owner c (syn at (AnExpression (MoveOf captures params answer body))) s =
       walk {f = λ _ t. Ok (record c { in_outer = c.in_outer + 1; closures = c.closures + 1 }, t)} head λ _ t h. walk_ends h
     where
       given : Walked (λ tys t. SameWalk s t) (rules.closure_params (record (all_names k owner) { has_limits = false })
@@ -260,19 +260,19 @@ module _ (k : rules.Known) where
       walk (body_adds owner c b s) λ d t h. walk_map (bodies_add owner d bs t) λ e u g. adds_both (all_names k None) h g
 
   item_adds : (i : Syn) (s : TypingState) → Walked (λ _ t. Adds (traits_in i) s t) (rules.item_head k i s)
-  item_adds (syn at (StructItem ds name kind fields)) s =
+  item_adds (syn at (AnItem (StructItem ds name kind fields))) s =
       walk (derives_still ds s) λ _ t e. walk (variant_collected (rules.names_alone k (types.number_of k.adts name.1))
       name.1 fields t) λ v u g. let w = onward e g.0 in walk_ends (adds_none (all_names k None) w _ refl refl refl)
-  item_adds (syn at (EnumItem ds name variants)) s =
+  item_adds (syn at (AnItem (EnumItem ds name variants))) s =
       walk (derives_still ds s) λ _ t e. walk (variants_collected (rules.names_alone k (types.number_of k.adts name.1))
       variants t) λ vs u g. let w = onward e g.0 in walk_ends (adds_none (all_names k None) w _ refl refl refl)
-  item_adds (syn at (TraitItem name heads)) s =
+  item_adds (syn at (AnItem (TraitItem name heads))) s =
       walk_interned_as (Ty.Dyn (length s.items.traits)) s λ own t e is. walk (trait_heads_given (all_names k None) own
       (list_of heads) t) λ sigs u g. walk_ends (added own t e is sigs u g)
     where
       added : (own : TyId) (t : TypingState) → SameWalk s t → type_at t.items own ≡ Some (Ty.Dyn (length s.items.traits)) → (sigs :
           List Sig) (u : TypingState) → SameWalk t u × AreTraitHeads (all_names k None) own u.items (list_of heads) sigs → Adds
-          (syn at (TraitItem name heads) ∷ []) s (record u {
+          (syn at (AnItem (TraitItem name heads)) ∷ []) s (record u {
             items = with_trait u.items (record {
               name = name.1;
               methods =
@@ -295,10 +295,10 @@ module _ (k : rules.Known) where
           tt,
         );
       }
-  item_adds (syn at (ImplItem None name methods)) s =
+  item_adds (syn at (AnItem (ImplItem None name methods))) s =
       walk_map (obeyed_still Rule.T01 name.0 (is_some (types.number_of k.adts name.1)) s) λ _ t e. adds_still (all_names k
       None) e
-  item_adds (syn at (ImplItem (Some trait_) name methods)) s =
+  item_adds (syn at (AnItem (ImplItem (Some trait_) name methods))) s =
       walk_obeyed Rule.T01 trait_.0 (rules.is_drop trait_.1 || is_some (types.number_of k.traits trait_.1)) _ λ _. walk_map
       (obeyed_still Rule.T01 name.0 (is_some (types.number_of k.adts name.1)) s) λ _ t e. adds_still (all_names k None) e
   item_adds (syn at _) s = walk_ends (adds_still (all_names k None) (still s))
@@ -339,7 +339,7 @@ collecting_traits is end =
 module _ (around : types.WrittenScope) (items : ItemTable) where
   first_name : (n : ℕ) (i : Syn) (def : TraitDef) (is : List Syn) (ws : List Word) → IsTraitOf around items n i def → ws ≡
       trait_names is → def.name ∷ ws ≡ trait_names (i ∷ is)
-  first_name n (syn at (TraitItem name heads)) def is ws h e = λ j. h.3 j ∷ e j
+  first_name n (syn at (AnItem (TraitItem name heads))) def is ws h e = λ j. h.3 j ∷ e j
   first_name n (syn at _) def is ws h e = absurd h
 
   own_names : (n : ℕ) (is : List Syn) (defs : List TraitDef) → AreTraitsOf around items n is defs → map (λ (def : TraitDef).
@@ -351,7 +351,7 @@ module _ (around : types.WrittenScope) (items : ItemTable) where
 
 names_with : (x : Syn) (is : List ItemSyn) → trait_names (all_traits is) ≡ trait_names (item_syns is) → trait_names (traits_in x ++
     all_traits is) ≡ trait_names (x ∷ item_syns is)
-names_with (syn at (TraitItem name heads)) is e = ap (λ ws. name.1 ∷ ws) e
+names_with (syn at (AnItem (TraitItem name heads))) is e = ap (λ ws. name.1 ∷ ws) e
 names_with (syn at _) is e = e
 
 names_of_text : (is : List ItemSyn) → trait_names (all_traits is) ≡ trait_names (item_syns is)
@@ -396,19 +396,19 @@ differ_distinct earlier (w ∷ ws) d =
 
 abbrev HeadsKept : List Word → List Syn → Type 0
 HeadsKept earlier [] = Unit {0}
-HeadsKept earlier (syn at (FnItem name params answer block) ∷ hs) =
+HeadsKept earlier (syn at (AnItem (FnItem name params answer block)) ∷ hs) =
     IsTrue (not (is_among name.1 earlier)) × IsTrue (checks.takes_reference params && not (bytes_eq name.1 (codes
     "drop"))) × HeadsKept (name.1 ∷ earlier) hs
 HeadsKept earlier (syn at form ∷ hs) = ⊥
 
 abbrev TraitKept : Syn → Type 0
-TraitKept (syn at (TraitItem name heads)) = HeadsKept [] (list_of heads)
+TraitKept (syn at (AnItem (TraitItem name heads))) = HeadsKept [] (list_of heads)
 TraitKept _ = Unit {0}
 
 heads_kept : (env : Env) (earlier : List Word) (hs : List Syn) (s : TypingState) → Walked (λ a t. HeadsKept earlier hs)
     (checks.trait_heads env earlier hs s)
 heads_kept env earlier [] s = walk_ends tt
-heads_kept env earlier (syn at (FnItem name params answer block) ∷ hs) s =
+heads_kept env earlier (syn at (AnItem (FnItem name params answer block)) ∷ hs) s =
     walk (whatever {P = Unit {0}} (checks.head_rules env (checks.behind_self params) answer s) tt) λ _ t _. walk_obeyed
     Rule.T02 name.0 (not (is_among name.1 earlier)) _ λ h. walk_obeyed Rule.T11 at (checks.takes_reference params && not
     (bytes_eq name.1 (codes "drop"))) _ λ k. walk_map (heads_kept env (name.1 ∷ earlier) hs t) λ a u g. (h, k, g)
@@ -416,7 +416,7 @@ heads_kept env earlier (syn at _ ∷ hs) s = record { so = tt }
 
 trait_kept : (env : Env) (before : checks.Before) (i : Syn) (s : TypingState) → Walked (λ a t. TraitKept i) (checks.item_rules env
     before i s)
-trait_kept env before (syn at (TraitItem name heads)) s =
+trait_kept env before (syn at (AnItem (TraitItem name heads))) s =
     walk (heads_kept env [] (list_of heads) s) λ _ t h. walk_ends h
 trait_kept env before (syn at _) s = whatever _ tt
 
@@ -432,7 +432,7 @@ abbrev TraitIs : Syn → Type 0
 TraitIs i = TraitKept i × Holds (item_shaped i)
 
 kept_with : (i : Syn) (is : List Syn) → TraitIs i → All TraitIs is → All TraitIs (traits_in i ++ is)
-kept_with (syn at (TraitItem name heads)) is h k = (h, k)
+kept_with (syn at (AnItem (TraitItem name heads))) is h k = (h, k)
 kept_with (syn at _) is h k = k
 
 traits_are : (is : List ItemSyn) → All TraitKept (item_syns is) → Holds (each item_shaped (item_syns is)) → All TraitIs
@@ -459,15 +459,15 @@ module _ (items : ItemTable) (all : AreReady items) (around : types.WrittenScope
   params_typed no_syn [] free h = refl
   params_typed no_syn (ty ∷ tys) free h = absurd h
   params_typed (a_syn first rest) [] free h = absurd h
-  params_typed (a_syn (syn at (ParamOf p written)) rest) (ty ∷ tys) free h =
+  params_typed (a_syn (syn at (AParam (ParamOf p written))) rest) (ty ∷ tys) free h =
       let m = means_made items all around written ty h.0 in
       and_from (is_param items ty) _ (param_so items ty m.0 m.1 m.2) (params_typed rest tys free h.1)
-  params_typed (a_syn (syn at (SelfParam receiver)) rest) (ty ∷ tys) free h = absurd (false≢true free)
+  params_typed (a_syn (syn at (AParam (SelfParam receiver))) rest) (ty ∷ tys) free h = absurd (false≢true free)
   params_typed (a_syn (syn at _) rest) (ty ∷ tys) free h = absurd h.0
 
   with_self : (receiver : Receiver) (rest : Syns) (tys : List TyId) (p : Pos) → IsTrue (rules.has_receiver (a_syn (syn p
-      (SelfParam receiver)) rest)) → IsTrue (no_self rest) → MeanTraitParams around own items (a_syn (syn p (SelfParam
-      receiver)) rest) tys → IsTrue (list_all (is_param items) tys) × IsTrue (begins_with_self items n tys)
+      (AParam (SelfParam receiver))) rest)) → IsTrue (no_self rest) → MeanTraitParams around own items (a_syn (syn p (AParam (SelfParam
+      receiver))) rest) tys → IsTrue (list_all (is_param items) tys) × IsTrue (begins_with_self items n tys)
   with_self receiver rest [] p has free h = absurd h
   with_self ByValue rest (ty ∷ tys) p has free h = absurd (false≢true has)
   with_self ByShared rest (ty ∷ tys) p has free h =
@@ -481,14 +481,14 @@ module _ (items : ItemTable) (all : AreReady items) (around : types.WrittenScope
       MeanTraitParams around own items params tys → IsTrue (list_all (is_param items) tys) × IsTrue (begins_with_self items n
       tys)
   head_typed no_syn tys has first h = absurd (false≢true has)
-  head_typed (a_syn (syn p (SelfParam receiver)) rest) tys has first h = with_self receiver rest tys p has first h
+  head_typed (a_syn (syn p (AParam (SelfParam receiver))) rest) tys has first h = with_self receiver rest tys p has first h
   head_typed (a_syn (syn p _) rest) tys has first h = absurd (false≢true has)
 
   same_receiver : (params : Syns) → IsTrue (checks.takes_reference params) → IsTrue (rules.has_receiver params)
   same_receiver no_syn h = h
-  same_receiver (a_syn (syn p (SelfParam ByShared)) rest) h = refl
-  same_receiver (a_syn (syn p (SelfParam ByUnique)) rest) h = refl
-  same_receiver (a_syn (syn p (SelfParam ByValue)) rest) h = h
+  same_receiver (a_syn (syn p (AParam (SelfParam ByShared))) rest) h = refl
+  same_receiver (a_syn (syn p (AParam (SelfParam ByUnique))) rest) h = refl
+  same_receiver (a_syn (syn p (AParam (SelfParam ByValue))) rest) h = h
   same_receiver (a_syn (syn p _) rest) h = absurd (false≢true h)
 
   abbrev IsMethodTyped : Sig → Type 0
@@ -502,7 +502,7 @@ module _ (items : ItemTable) (all : AreReady items) (around : types.WrittenScope
   methods_typed earlier [] [] are kept shape = (tt, tt)
   methods_typed earlier [] (sig ∷ sigs) are kept shape = absurd are
   methods_typed earlier (x ∷ xs) [] are kept shape = absurd are
-  methods_typed earlier (syn at (FnItem name params answer block) ∷ xs) (sig ∷ sigs) are kept shape =
+  methods_typed earlier (syn at (AnItem (FnItem name params answer block)) ∷ xs) (sig ∷ sigs) are kept shape =
       let k = and_parts (checks.takes_reference params) _ kept.1 in
       let has = same_receiver params k.0 in
       let m = are.0 has in
@@ -577,7 +577,7 @@ module _ (parts : Parts Pos) (items : ItemTable) (p : ProgramTree) (h : IsAccept
       by t.0 (subst (λ m. IsTraitOf around p.items m t.0 def) (omega arith) t.1) t.2
     where
       by : (i : Syn) → IsTraitOf around p.items n i def → TraitIs i → IsTraitTyped p.items n def
-      by (syn place (TraitItem name heads)) is so =
+      by (syn place (AnItem (TraitItem name heads))) is so =
           let m = methods_typed p.items are_ready around is.0 n is.1 [] (list_of heads) def.methods is.2 so.0 so.1 in
           record {
             methods = λ k sig at_k. all_at (IsMethodTyped p.items are_ready around is.0 n is.1) def.methods k sig m.0 at_k

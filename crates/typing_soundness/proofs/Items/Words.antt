@@ -21,7 +21,7 @@ use Rattle.typing_rules.specs.Collected.{starting_with, item_name, known_of}
 use Rattle.typing_rules.specs.Items.{ItemSyn, items_of, item_syns, adt_names, trait_names, closure_name}
 use Rattle.typing_rules.specs.Program as checks
 use Rattle.typing_rules.specs.Promises.{Extends}
-use Rattle.src_ast.specs.Syntax.{number_word, Word, Named, Syn, syn, StructItem, EnumItem, TraitItem, ImplItem, FnItem, list_of}
+use Rattle.src_ast.specs.Syntax.{Word, Named, number_word, Syn, syn, AnItem, StructItem, EnumItem, TraitItem, ImplItem, FnItem, list_of}
 use Rattle.typing_soundness.specs.Items.{is_item_name, item_names, NamesOfItems, NamesDiffer}
 use Rattle.typing_soundness.specs.Named.{is_own_name, head_named, item_named}
 use Rattle.typing_soundness.specs.Program.{IsAccepted}
@@ -47,27 +47,27 @@ plain is = map (λ (n : Named). n.1) (filter_map item_name is)
 module _ (P : Word → Type 0) where
   each_adt : (is : List Syn) → Each P (plain is) → Each P (adt_names is)
   each_adt [] h = tt
-  each_adt (syn at (StructItem ds name kind fields) ∷ is) h = (h.0, each_adt is h.1)
-  each_adt (syn at (EnumItem ds name variants) ∷ is) h = (h.0, each_adt is h.1)
-  each_adt (syn at (TraitItem name heads) ∷ is) h = each_adt is h.1
-  each_adt (syn at (FnItem name params answer block) ∷ is) h = each_adt is h.1
+  each_adt (syn at (AnItem (StructItem ds name kind fields)) ∷ is) h = (h.0, each_adt is h.1)
+  each_adt (syn at (AnItem (EnumItem ds name variants)) ∷ is) h = (h.0, each_adt is h.1)
+  each_adt (syn at (AnItem (TraitItem name heads)) ∷ is) h = each_adt is h.1
+  each_adt (syn at (AnItem (FnItem name params answer block)) ∷ is) h = each_adt is h.1
   each_adt (syn at _ ∷ is) h = each_adt is h
 
   each_trait : (is : List Syn) → Each P (plain is) → Each P (trait_names is)
   each_trait [] h = tt
-  each_trait (syn at (StructItem ds name kind fields) ∷ is) h = each_trait is h.1
-  each_trait (syn at (EnumItem ds name variants) ∷ is) h = each_trait is h.1
-  each_trait (syn at (TraitItem name heads) ∷ is) h = (h.0, each_trait is h.1)
-  each_trait (syn at (FnItem name params answer block) ∷ is) h = each_trait is h.1
+  each_trait (syn at (AnItem (StructItem ds name kind fields)) ∷ is) h = each_trait is h.1
+  each_trait (syn at (AnItem (EnumItem ds name variants)) ∷ is) h = each_trait is h.1
+  each_trait (syn at (AnItem (TraitItem name heads)) ∷ is) h = (h.0, each_trait is h.1)
+  each_trait (syn at (AnItem (FnItem name params answer block)) ∷ is) h = each_trait is h.1
   each_trait (syn at _ ∷ is) h = each_trait is h
 
   each_function : (is : List Syn) → Each P (plain is) → Each P (all_methods is) → Each P (all_functions is)
   each_function [] h k = tt
-  each_function (syn at (StructItem ds name kind fields) ∷ is) h k = each_function is h.1 k
-  each_function (syn at (EnumItem ds name variants) ∷ is) h k = each_function is h.1 k
-  each_function (syn at (TraitItem name heads) ∷ is) h k = each_function is h.1 k
-  each_function (syn at (FnItem name params answer block) ∷ is) h k = (h.0, each_function is h.1 k)
-  each_function (syn at (ImplItem trait_ name methods) ∷ is) h k =
+  each_function (syn at (AnItem (StructItem ds name kind fields)) ∷ is) h k = each_function is h.1 k
+  each_function (syn at (AnItem (EnumItem ds name variants)) ∷ is) h k = each_function is h.1 k
+  each_function (syn at (AnItem (TraitItem name heads)) ∷ is) h k = each_function is h.1 k
+  each_function (syn at (AnItem (FnItem name params answer block)) ∷ is) h k = (h.0, each_function is h.1 k)
+  each_function (syn at (AnItem (ImplItem trait_ name methods)) ∷ is) h k =
       let ms = map pair_name (pairs_of name.1 (list_of methods)) in
       each_both P ms (all_functions is) (each_first P ms (all_methods is) k) (each_function is h (each_second P ms (all_methods
       is) k))
@@ -103,19 +103,19 @@ apart_written w is h k =
 written_differ : (is : List Syn) → Differ (plain is) → Differ (all_methods is) → Each NoColon (plain is) → Each HasColon
     (all_methods is) → Differ (written is)
 written_differ [] d m n c = tt
-written_differ (syn at (StructItem ds name kind fields) ∷ is) d m n c =
+written_differ (syn at (AnItem (StructItem ds name kind fields)) ∷ is) d m n c =
     (apart_written name.1 is d.0 (plain_apart name.1 n.0 (all_methods is) c), written_differ is d.1 m n.1 c)
-written_differ (syn at (EnumItem ds name variants) ∷ is) d m n c =
+written_differ (syn at (AnItem (EnumItem ds name variants)) ∷ is) d m n c =
     (apart_written name.1 is d.0 (plain_apart name.1 n.0 (all_methods is) c), written_differ is d.1 m n.1 c)
-written_differ (syn at (TraitItem name heads) ∷ is) d m n c =
+written_differ (syn at (AnItem (TraitItem name heads)) ∷ is) d m n c =
     let assoc = append_assoc (adt_names is) (trait_names is) (all_functions is) in
     subst Differ (sym (append_assoc (adt_names is) (name.1 ∷ trait_names is) (all_functions is))) (insert name.1 (adt_names is)
     (trait_names is ++ all_functions is) (subst Differ assoc (written_differ is d.1 m n.1 c)) (subst (Apart name.1) assoc
     (apart_written name.1 is d.0 (plain_apart name.1 n.0 (all_methods is) c))))
-written_differ (syn at (FnItem name params answer block) ∷ is) d m n c =
+written_differ (syn at (AnItem (FnItem name params answer block)) ∷ is) d m n c =
     insert name.1 (adt_names is ++ trait_names is) (all_functions is) (written_differ is d.1 m n.1 c) (apart_written name.1 is
     d.0 (plain_apart name.1 n.0 (all_methods is) c))
-written_differ (syn at (ImplItem trait_ name methods) ∷ is) d m n c =
+written_differ (syn at (AnItem (ImplItem trait_ name methods)) ∷ is) d m n c =
     let ms = map pair_name (pairs_of name.1 (list_of methods)) in
     insert_all (adt_names is ++ trait_names is) ms (all_functions is) (written_differ is d (differ_second ms (all_methods is) m) n
     (each_second HasColon ms (all_methods is) c)) (both ms (each_first HasColon ms (all_methods is) c) (each_apart ms
@@ -235,21 +235,21 @@ bodies_named outer n (None ∷ fs) l h =
 
 plain_own : (is : List Syn) → Holds (each item_named is) → Each IsOwn (plain is)
 plain_own [] h = tt
-plain_own (syn at (StructItem ds name kind fields) ∷ is) h = (h.0.1.0, plain_own is h.1)
-plain_own (syn at (EnumItem ds name variants) ∷ is) h = (h.0.1.0, plain_own is h.1)
-plain_own (syn at (TraitItem name heads) ∷ is) h = (h.0.0, plain_own is h.1)
-plain_own (syn at (FnItem name params answer block) ∷ is) h = (h.0, plain_own is h.1)
+plain_own (syn at (AnItem (StructItem ds name kind fields)) ∷ is) h = (h.0.1.0, plain_own is h.1)
+plain_own (syn at (AnItem (EnumItem ds name variants)) ∷ is) h = (h.0.1.0, plain_own is h.1)
+plain_own (syn at (AnItem (TraitItem name heads)) ∷ is) h = (h.0.0, plain_own is h.1)
+plain_own (syn at (AnItem (FnItem name params answer block)) ∷ is) h = (h.0, plain_own is h.1)
 plain_own (syn at _ ∷ is) h = plain_own is h.1
 
 pairs_own : (owner : Word) → IsOwn owner → (ms : List Syn) → Holds (each head_named ms) → All (λ (p : Pair). IsOwn p.0 × IsOwn
     p.1) (pairs_of owner ms)
 pairs_own owner o [] h = tt
-pairs_own owner o (syn at (FnItem name params answer block) ∷ ms) h = ((o, h.0), pairs_own owner o ms h.1)
+pairs_own owner o (syn at (AnItem (FnItem name params answer block)) ∷ ms) h = ((o, h.0), pairs_own owner o ms h.1)
 pairs_own owner o (syn at _ ∷ ms) h = pairs_own owner o ms h.1
 
 all_own : (is : List Syn) → Holds (each item_named is) → All (λ (p : Pair). IsOwn p.0 × IsOwn p.1) (all_pairs is)
 all_own [] h = tt
-all_own (syn at (ImplItem trait_ name methods) ∷ is) h =
+all_own (syn at (AnItem (ImplItem trait_ name methods)) ∷ is) h =
     joined (pairs_of name.1 (list_of methods)) (pairs_own name.1 h.0.0 (list_of methods) h.0.1) (all_own is h.1)
   where
     joined : (ps : List Pair) → All (λ (p : Pair). IsOwn p.0 × IsOwn p.1) ps → All (λ (p : Pair). IsOwn p.0 × IsOwn p.1)
@@ -263,13 +263,13 @@ module _ (P : Word → Type 0) (so : (p : Pair) → IsOwn p.0 × IsOwn p.1 → P
   each_of : (owner : Word) → IsOwn owner → (ms : List Syn) → Holds (each head_named ms) → Each P (map pair_name (pairs_of owner
       ms))
   each_of owner o [] h = tt
-  each_of owner o (syn at (FnItem name params answer block) ∷ ms) h =
+  each_of owner o (syn at (AnItem (FnItem name params answer block)) ∷ ms) h =
       (so (owner, name.1) (o, h.0), each_of owner o ms h.1)
   each_of owner o (syn at _ ∷ ms) h = each_of owner o ms h.1
 
   each_method : (is : List Syn) → Holds (each item_named is) → Each P (all_methods is)
   each_method [] h = tt
-  each_method (syn at (ImplItem trait_ name methods) ∷ is) h =
+  each_method (syn at (AnItem (ImplItem trait_ name methods)) ∷ is) h =
       each_both P (map pair_name (pairs_of name.1 (list_of methods))) (all_methods is) (each_of name.1 h.0.0 (list_of methods)
       h.0.1) (each_method is h.1)
   each_method (syn at _ ∷ is) h = each_method is h.1
@@ -328,7 +328,7 @@ traits_are (i ∷ is) = with_item i.item (traits_are is)
   where
     with_item : (i : Syn) → all_traits_called is ≡ trait_names (item_syns is) → traits_called i ++ all_traits_called is ≡
         trait_names (i ∷ item_syns is)
-    with_item (syn at (TraitItem name heads)) e = ap (λ ws. name.1 ∷ ws) e
+    with_item (syn at (AnItem (TraitItem name heads))) e = ap (λ ws. name.1 ∷ ws) e
     with_item (syn at _) e = e
 
 all_listed : (ws : List Word) → Each IsItemName ws → IsTrue (list_all is_item_name ws)

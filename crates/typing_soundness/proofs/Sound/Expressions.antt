@@ -19,7 +19,7 @@ use Rattle.well_typed.specs.Patterns as well
 use Rattle.well_typed.specs.Places.{Context, Taken, Wanted, Passed, ty_of, is_taken, is_borrow}
 use Rattle.well_typed.specs.Types.{fits, is_same, is_never, is_reference, reference_of, reference_in}
 use Rattle.typing_rules.specs.Bodies as bodies
-use Rattle.typing_rules.specs.Check.{Check, TypingState, Broken, and_then, breaks, interned, ◌>>=◌, ◌<$>◌}
+use Rattle.typing_rules.specs.Check.{Check, TypingState, Broken, and_then, breaks, interned, ◌>>=◌}
 use Rattle.typing_rules.specs.Named.{PathValue, Makes, IsBroken, path_value, Callee, Function, Constructor, Prints, Asks, Drops, Forgets, Boxes, AValue, Unnamed, NoCallee, callee_of, method_named}
 use Rattle.typing_rules.specs.Patterns.{pattern, count_of, target_of}
 use Rattle.typing_rules.specs.Places.{bool, struct_field, numbered_part, variable_place}
@@ -30,7 +30,7 @@ use Rattle.typing_rules.specs.Rows.{Typer, Referrer, PatternContext, Given, take
 use Rattle.typing_rules.specs.Scope.{Env, NamedEntry, LabelledLoop, with_variables, within_loop, jumps_to, in_guard, field_named, labelled, innermost}
 use Rattle.typing_rules.specs.Typed as typing
 use Rattle.typing_rules.specs.Typed.{is_one_name}
-use Rattle.src_ast.specs.Syntax.{Word, Syn, syn, Shape, Literal, TruthLiteral, Path, Minus, Bang, Star, Ampersand, Calculate, Compare, Both, Either, Store, CallOf, MethodOf, FieldOf, PartOf, ElementOf, StructOf, FieldInit, Parens, TupleOf, ArrayOf, Braces, IfElse, IfLetElse, MatchOn, ArmOf, LoopOf, WhileOf, WhileLetOf, BreakOf, ContinueOf, ReturnOf, MoveOf, PanicOf, LetOf, Semi, SelfParam, Syns, no_syn, a_syn, MaybeSyn, nothing, just}
+use Rattle.src_ast.specs.Syntax.{Word, Syn, syn, AnExpression, AStatement, AParam, AnInit, AnArm, Expression, Literal, TruthLiteral, Path, Minus, Bang, Star, Ampersand, Calculate, Compare, Both, Either, Store, CallOf, MethodOf, FieldOf, PartOf, ElementOf, StructOf, Parens, TupleOf, ArrayOf, Braces, IfElse, IfLetElse, MatchOn, LoopOf, WhileOf, WhileLetOf, BreakOf, ContinueOf, ReturnOf, MoveOf, PanicOf, Statement, LetOf, Empty, Semi, SelfParam, Syns, no_syn, a_syn, MaybeSyn, nothing, just}
 use Rattle.typing_rules.proofs.Sound.AllPatterns.{matcher_sound}
 use Rattle.typing_rules.proofs.Sound.Arguments.{element_sound, store_sound, argument_sound}
 use Rattle.typing_rules.proofs.Sound.Blocks.{block_sound, evaluate_sound}
@@ -53,7 +53,7 @@ use Rattle.typing_rules.proofs.Sound.Places.{not_true, variable_sound, deref_sou
 use Rattle.typing_rules.proofs.Sound.References.{borrow_sound, passed_on_sound}
 use Rattle.typing_rules.proofs.Sound.Structs.{struct_sound}
 use Rattle.typing_rules.proofs.Sound.Written.{written_sound}
-use Rattle.typing_soundness.specs.Shapes.{shaped, shaped_form, all_shaped, maybe_shaped, is_block, no_self, self_first}
+use Rattle.typing_soundness.specs.Shapes.{shaped, shaped_form, shaped_expression, all_shaped, maybe_shaped, is_block, no_self, self_first}
 use Rattle.typing_soundness.proofs.Numbers.Rows.{found_in}
 use Rattle.typing_rules.specs.Bodies.{all_rules}
 use Rattle.typing_soundness.specs.Closures.{closures_of}
@@ -296,7 +296,7 @@ minus_sound env at None operand good = negate_sound env at operand good
 -- where `self` stands nowhere, it stands nowhere but first
 first_if_none : (params : Syns) → IsTrue (no_self params) → IsTrue (self_first params)
 first_if_none no_syn h = refl
-first_if_none (a_syn (syn at (SelfParam receiver)) rest) h = absurd (false≢true h)
+first_if_none (a_syn (syn at (AParam (SelfParam receiver))) rest) h = absurd (false≢true h)
 first_if_none (a_syn (syn at _) rest) h = h
 
 module _ (closures : (env : Env) (at : Pos) (captures params : Syns) (answer : MaybeSyn) (body : Syn) → IsTrue (is_block
@@ -304,18 +304,20 @@ module _ (closures : (env : Env) (at : Pos) (captures params : Syns) (answer : M
     params answer (λ inner. typing.typed inner body))) where
   mutual
     pub typed_sound : (env : Env) (e : Syn) → Holds (shaped e) → Sound env (typing.typed env e)
-    typed_sound env (syn at form) h expected s k =
+    typed_sound env (syn at (AnExpression form)) h expected s k =
         gives_if (typing.is_place env form) (typing.place env at form >>= taken env expected) (typing.value env at form
         expected) (λ e. bind (place_sound env at form h e s k) λ n t g d. taken_sound env expected n t (d t (grows_refl t)) d) (λ
         e. weaker (IsValue env expected) (value_sound env at form h e expected s k) λ n w all g v. v.value)
+    typed_sound env (syn at _) h expected s k = gives_nothing Rule.T20 at
 
     base_sound : (env : Env) (e : Syn) → Holds (shaped e) → SoundBase env (typing.base_of env e)
-    base_sound env (syn at form) h s k =
+    base_sound env (syn at (AnExpression form)) h s k =
         gives_if (typing.is_place env form) (typing.place env at form) (typing.value env at form None) (λ e. weaker
         (IsBase env) (place_sound env at form h e s k) λ n w all g v. v.base) (λ e. weaker (IsBase env) (value_sound env
         at form h e None s k) λ n w all g v. temporary_base env None w n v)
+    base_sound env (syn at _) h s k = gives_nothing Rule.T20 at
 
-    place_sound : (env : Env) (at : Pos) (form : Shape) → Holds (shaped_form form) → typing.is_place env form ≡ true →
+    place_sound : (env : Env) (at : Pos) (form : Expression) → Holds (shaped_expression form) → typing.is_place env form ≡ true →
         SoundPlace env (typing.place env at form)
     place_sound env at (Path first second) h e s k =
         base_place env at first second (typing.variable_of env first second) e (in_scope env first second) s k
@@ -328,17 +330,18 @@ module _ (closures : (env : Env) (at : Pos) (captures params : Syns) (answer : M
         element_sound env at (typing.base_of env base) (typing.typed env index) (base_sound env base h.0) (typed_sound
         env index h.1) s k
     place_sound env at (Star base) h e s k = deref_sound env at (typing.base_of env base) (base_sound env base h) s k
-    place_sound env at (Parens (syn inner form)) h e s k =
+    place_sound env at (Parens (syn inner (AnExpression form))) h e s k =
         gives_if (typing.is_place env form) (typing.place env inner form) (typing.value env inner form None) (λ f.
         place_sound env inner form h f s k) (λ f. absurd (true≢false (sym e ∙ f)))
     place_sound env at _ h e s k = absurd (false≢true e)
 
-    value_sound : (env : Env) (at : Pos) (form : Shape) → Holds (shaped_form form) → typing.is_place env form ≡ false →
+    value_sound : (env : Env) (at : Pos) (form : Expression) → Holds (shaped_expression form) → typing.is_place env form ≡ false →
         SoundTemporary env (typing.value env at form)
     value_sound env at (Path first second) h e expected s k = path_alone_sound env at first second expected s k
-    value_sound env at (Parens (syn inner form)) h e expected s k =
+    value_sound env at (Parens (syn inner (AnExpression form))) h e expected s k =
         gives_if (typing.is_place env form) (typing.place env inner form >>= taken env expected) (typing.value env inner
         form expected) (λ f. absurd (true≢false (sym f ∙ e))) (λ f. value_sound env inner form h f expected s k)
+    value_sound env at (Parens (syn inner _)) h e expected s k = gives_nothing Rule.T20 inner
     value_sound env at (Literal n suffix) h e expected s k = literal_sound env at false n suffix expected s k
     value_sound env at (TruthLiteral b) h e expected s k = truth_sound env at b expected s k
     value_sound env at (Minus operand) h e expected s k =
@@ -447,18 +450,17 @@ module _ (closures : (env : Env) (at : Pos) (captures params : Syns) (answer : M
 
     statement_sound : (env : Env) (e : Syn) → Holds (shaped e) → (s : TypingState) → Knows env s → Gives s (λ w done. IsPart
         env w done × Knows done.2 w) (typing.statement env e s)
-    statement_sound env (syn at form) h s k =
-        gives_if (typing.is_expression form) (typing.a_statement <$> rows.evaluate at env false (λ expected. if
-        typing.is_place env form then (typing.place env at form >>= taken env expected) else typing.value env at form expected))
-        (typing.other_statement env at form) (λ e. bind (evaluate_sound env at false (λ expected. if typing.is_place env
+    statement_sound env (syn at (AnExpression form)) h s k =
+        bind (evaluate_sound env at false (λ expected. if typing.is_place env
         form then (typing.place env at form >>= taken env expected) else typing.value env at form expected) (λ expected t kt.
         gives_if (typing.is_place env form) (typing.place env at form >>= taken env expected) (typing.value env at form
         expected) (λ f. bind (place_sound env at form h f t kt) λ n u g d. taken_sound env expected n u (d u (grows_refl u)) d)
         (λ f. weaker (IsValue env expected) (value_sound env at form h f expected t kt) λ n w all g v. v.value)) s k) λ done t g
-        d. given (typing.a_statement done) λ ready w l. (as_part env w done (d w l).0, (d w l).1)) (λ e. other_sound env
-        at form h s k)
+        d. given (typing.a_statement done) λ ready w l. (as_part env w done (d w l).0, (d w l).1)
+    statement_sound env (syn at (AStatement form)) h s k = other_sound env at form h s k
+    statement_sound env (syn at _) h s k = gives_nothing Rule.T20 at
 
-    other_sound : (env : Env) (at : Pos) (form : Shape) → Holds (shaped_form form) → (s : TypingState) → Knows env s → Gives s
+    other_sound : (env : Env) (at : Pos) (form : Statement) → Holds (shaped_form (AStatement form)) → (s : TypingState) → Knows env s → Gives s
         (λ w done. IsPart env w done × Knows done.2 w) (typing.other_statement env at form s)
     other_sound env at (LetOf p ty initialiser) h s k =
         bind (let_sound env at (is_one_name s.items p) (typing.declared env ty) (typing.initialised env (is_one_name
@@ -468,7 +470,7 @@ module _ (closures : (env : Env) (at : Pos) (captures params : Syns) (answer : M
     other_sound env at (Semi e) h s k =
         bind (evaluate_sound env at true (typing.typed env e) (typed_sound env e h) s k) λ done t g d. given
         (typing.a_statement done) λ ready w l. (as_part env w done (d w l).0, (d w l).1)
-    other_sound env at _ h s k =
+    other_sound env at Empty h s k =
         given (None, false, env) λ ready w g. (
           record { holds = λ p stands rest behind on. on p stands; ends = λ rest. refl; answer = refl },
           knows_later env g k,
@@ -484,7 +486,7 @@ module _ (closures : (env : Env) (at : Pos) (captures params : Syns) (answer : M
 
     for_parts_sound : (env : Env) (e : Syn) → Holds (shaped e) → (expected : Option TyId) (s : TypingState) → Knows env s → Gives
         s (IsInParts env expected) (typing.for_parts env expected e s)
-    for_parts_sound env (syn at form) h expected s k =
+    for_parts_sound env (syn at (AnExpression form)) h expected s k =
         gives_if (typing.is_place env form) (typing.place env at form >>= rows.place_for_parts env expected) (typing.value
         env at form expected) (λ e. bind (place_sound env at form h e s k) λ n t g d. in_parts_sound env expected n t (d t
         (grows_refl t)) d) (λ e. weaker (IsInParts env expected) (value_sound env at form h e expected s k) λ n w all g v.
@@ -494,6 +496,7 @@ module _ (closures : (env : Env) (at : Pos) (captures params : Syns) (answer : M
           no_reference = alone_no_reference w.items (ty_of n) v.value.alone;
           own = no_place_own expected n v.is_no_place;
         })
+    for_parts_sound env (syn at _) h expected s k = gives_nothing Rule.T20 at
 
     args_sound : (env : Env) (args : Syns) → Holds (all_shaped args) → (params : List TyId) (s : TypingState) → Knows env s →
         ((ty : TyId) → Contains params ty → IsKnown s.items ty) → Gives s (IsGiven env params (count_of args))
@@ -518,7 +521,7 @@ module _ (closures : (env : Env) (at : Pos) (captures params : Syns) (answer : M
         }
 
     by_reference_sound : (env : Env) (e : Syn) → Holds (shaped e) → SoundReferrer env (typing.by_reference env e)
-    by_reference_sound env (syn at form) h param to unique s k is =
+    by_reference_sound env (syn at (AnExpression form)) h param to unique s k is =
         gives_if (typing.may_refer form) (typing.reference_form env at form param unique to) (if typing.is_place env
         form then (typing.place env at form >>= taken env (Some param)) else typing.value env at form (Some param)) (λ
         e. reference_sound env at form h param to unique s k is) (λ e. weaker (IsArgument env param) (gives_if {Q =
@@ -526,8 +529,9 @@ module _ (closures : (env : Env) (at : Pos) (captures params : Syns) (answer : M
         (typing.value env at form (Some param)) (λ f. bind (place_sound env at form h f s k) λ n t g d. taken_sound env
         (Some param) n t (d t (grows_refl t)) d) (λ f. weaker (IsValue env (Some param)) (value_sound env at form h f
         (Some param) s k) λ n w all g v. v.value)) λ n w all g v. value_argument env param unique to s w n g is v)
+    by_reference_sound env (syn at _) h param to unique s k is = gives_nothing Rule.T20 at
 
-    reference_sound : (env : Env) (at : Pos) (form : Shape) → Holds (shaped_form form) → SoundReferrer env
+    reference_sound : (env : Env) (at : Pos) (form : Expression) → Holds (shaped_expression form) → SoundReferrer env
         (typing.reference_form env at form)
     reference_sound env at (Ampersand unique base) h param to is_unique s k is =
         borrow_sound env at unique (typing.base_of env base) (base_sound env base h) param to is_unique s k is
@@ -541,7 +545,7 @@ module _ (closures : (env : Env) (at : Pos) (captures params : Syns) (answer : M
     inits_sound : (env : Env) (v : Variant) (inits : Syns) → Holds (all_shaped inits) → length v.field_names ≡ length
         v.fields → SoundInits env v (typing.typed_inits env v inits)
     inits_sound env v no_syn h same s k = given (no_field, []) λ ready w g. tt
-    inits_sound env v (a_syn (syn at (FieldInit name init)) rest) h same s k =
+    inits_sound env v (a_syn (syn at (AnInit name init)) rest) h same s k =
         bind (init_sound env at name init h.0 (typing.field_want v (field_named v name)) s k) λ n t g d. bind
         (inits_sound env v rest h.1 same t (knows_later env g k)) λ fs u i e. given (
           a_field (typing.or_zero
@@ -583,7 +587,7 @@ module _ (closures : (env : Env) (at : Pos) (captures params : Syns) (answer : M
         : TypingState) → Knows env s → IsReady s.items ty → Gives s (λ w ns. AreArms env e ty expected w ns.0 ns.1 ×
         (well.count_of ns.0 ≡ count_of arms)) (typing.typed_arms env e ty expected arms s)
     arms_sound env no_syn h e ty expected s k ready = given (no_node, []) λ all w g. (tt, refl)
-    arms_sound env (a_syn (syn at (ArmOf p guard body)) rest) h e ty expected s k ready =
+    arms_sound env (a_syn (syn at (AnArm p guard body)) rest) h e ty expected s k ready =
         bind (arm_sound env e ty (pattern env e ty p []) (λ xs. typing.typed_maybe (with_variables (in_guard xs) env)
         guard (Some bool)) (λ xs. typing.typed (with_variables xs env) body) (λ t r. matcher_sound env p e ty t r) (λ xs
         t. maybe_sound (with_variables (in_guard xs) env) guard h.0.0 (Some bool) t) (λ xs. typed_sound (with_variables

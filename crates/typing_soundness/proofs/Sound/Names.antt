@@ -25,10 +25,10 @@ use Rattle.typing_rules.specs.Promises.{KnowsItems, is_plain_name}
 use Rattle.typing_rules.specs.RowPromises.{IsFunction}
 use Rattle.typing_rules.specs.Scope.{Env, NamedEntry, variable, adt_named, body_named, method_of, method_word, variant_named, kind_at, adt_at_head}
 use Rattle.typing_rules.specs.Typed.{no_variant, variant_of}
-use Rattle.src_ast.specs.Syntax.{Word, Syn, syn, Shape, Path, Parens}
+use Rattle.src_ast.specs.Syntax.{Word, Syn, syn, AnExpression, Expression, Path, Parens}
 use Rattle.typing_rules.proofs.Sound.Later.{some_got, is_some_got}
 use Rattle.typing_rules.specs.Written.{is_box}
-use Rattle.typing_soundness.specs.Shapes.{shaped, shaped_form}
+use Rattle.typing_soundness.specs.Shapes.{shaped, shaped_expression}
 
 -- ---- tables
 
@@ -308,9 +308,10 @@ module _ (s : TypingState) (env : Env) (k : KnowsItems env.kinds env.self_adt s.
 
   mutual
     pub callee_is : (e : Syn) → Holds (shaped e) → IsCallee (looks.callee_of s.items env e)
-    callee_is (syn at form) h = callee_form_is form h
+    callee_is (syn at (AnExpression e)) h = callee_form_is e h
+    callee_is _ h = tt
 
-    callee_form_is : (form : Shape) → Holds (shaped_form form) → IsCallee (looks.callee_by s.items env form)
+    callee_form_is : (form : Expression) → Holds (shaped_expression form) → IsCallee (looks.callee_by s.items env form)
     callee_form_is (Parens inside) h = callee_is inside h
     callee_form_is (Path (Some name) None) h = variable_is name h.0 (variable env.variables name)
     callee_form_is (Path None None) h = self_is env.self_adt refl

@@ -15,7 +15,7 @@ use Rattle.typed_tree.specs.Tree.{Node, node, Form, Nodes, no_node, a_node, Fiel
 use Rattle.well_typed.specs.Patterns as well
 use Rattle.well_typed.specs.Types.{is_reference}
 use Rattle.typing_rules.specs.Bodies as bodies
-use Rattle.typing_rules.specs.Check.{Check, TypingState, Broken, pure, ◌>>=◌, ◌<$>◌, with_body, in_new_body, put_before, within_body}
+use Rattle.typing_rules.specs.Check.{Check, TypingState, Broken, pure, ◌>>=◌, with_body, in_new_body, put_before, within_body}
 use Rattle.typing_rules.specs.Named.{PathValue, Makes, IsBroken, path_value, Callee, Function, Constructor, Prints, Asks, Drops, Forgets, Boxes, AValue, Unnamed, NoCallee, callee_of, callee_by, method_named}
 use Rattle.typing_rules.specs.Patterns.{pattern, count_of, target_of}
 use Rattle.typing_rules.specs.Places.{unit, bool, never, int, struct_field, numbered_part}
@@ -23,7 +23,7 @@ use Rattle.typing_rules.specs.Rows as rows
 use Rattle.typing_rules.specs.Rows.{Typer, Referrer, PatternContext, Given, taken}
 use Rattle.typing_rules.specs.Scope.{Env, NamedEntry, Capture, variable, with_variables, within_loop, jumps_to, in_guard, field_named}
 use Rattle.typing_rules.specs.Typed as typing
-use Rattle.src_ast.specs.Syntax.{Word, Syn, syn, Shape, Empty, Literal, TruthLiteral, Path, Minus, Bang, Star, Ampersand, Calculate, Compare, Both, Either, Store, CallOf, MethodOf, FieldOf, PartOf, ElementOf, StructOf, FieldInit, Ident, Parens, TupleOf, ArrayOf, Braces, IfElse, IfLetElse, MatchOn, ArmOf, LoopOf, WhileOf, WhileLetOf, BreakOf, ContinueOf, ReturnOf, MoveOf, PanicOf, LetOf, Semi, Syns, no_syn, a_syn, MaybeSyn, nothing, just}
+use Rattle.src_ast.specs.Syntax.{Word, Syn, syn, AName, AnExpression, AStatement, AnInit, AnArm, Expression, Literal, TruthLiteral, Path, Minus, Bang, Star, Ampersand, Calculate, Compare, Both, Either, Store, CallOf, MethodOf, FieldOf, PartOf, ElementOf, StructOf, Parens, TupleOf, ArrayOf, Braces, IfElse, IfLetElse, MatchOn, LoopOf, WhileOf, WhileLetOf, BreakOf, ContinueOf, ReturnOf, MoveOf, PanicOf, Statement, LetOf, Empty, Semi, Syns, no_syn, a_syn, MaybeSyn, nothing, just}
 use Rattle.typing_rules.specs.Written as types
 use Rattle.typing_rules.proofs.Sound.Gives.{numbered}
 use Rattle.std.proofs.lemmas.List.{map-append, length-append}
@@ -36,7 +36,7 @@ use Rattle.typed_tree.specs.Tree.{ParamTree}
 use Rattle.well_typed.specs.Types.{is_dyn}
 use Rattle.typing_rules.specs.Places.{used, a_node_of, meaning_form, is_fixed, in_own_guard}
 use Rattle.typing_soundness.proofs.Walking.Params.{Still, still, written_still, params_walk, answer_still, in_closure}
-use Rattle.typing_soundness.specs.Closures.{BodySyn, Closure, WrittenHead, Tape, closures_of, closures_in, closures_among, closures_if_any}
+use Rattle.typing_soundness.specs.Closures.{BodySyn, Closure, WrittenHead, Tape, closures_of, closures_in, closures_in_expression, closures_among, closures_if_any}
 use Rattle.typing_soundness.specs.Met.{HasTypes, AreTypesOf, HaveClosures, HasBody, IsBodyOf, AreMade, Met, types_of}
 use Rattle.typing_soundness.specs.Types.{HaveTypes}
 use Rattle.typing_soundness.specs.Walks.{counted, numbers_of_bodies, Ordered, Walks, Walked, WalksNode}
@@ -139,7 +139,7 @@ declared_still env (just ty) s = walk (written_still (bodies.all_rules env) ty s
 
 capture_walks : (env : Env) (k : ℕ) (e : Syn) (earlier : List NamedEntry) (s : TypingState) → Walked (λ c t. Walks no_closure s t (nodes_of
     c.0)) (bodies.capture env k e earlier s)
-capture_walks env k (syn at (Ident name)) earlier s =
+capture_walks env k (syn at (AName name)) earlier s =
     walk_obeyed Rule.T01 at (bodies.is_captured name env.variables) _ λ _. walk_obeyed Rule.T02 at (not
     (bodies.is_captured name earlier)) _ λ _. walk_found Rule.T01 at (variable env.variables name) _ λ x is. walk
     (on.variable_walks at x s) λ p t w. walk {f = λ n. pure (n, earlier ++ named name x.ty k ∷ [])}
@@ -151,7 +151,7 @@ capture_walks env k (syn at _) earlier s = record { so = tt }
 
 capture_stays : (env : Env) (k : ℕ) (e : Syn) (earlier : List NamedEntry) (s : TypingState) → Walked (λ c t. Stays s t)
     (bodies.capture env k e earlier s)
-capture_stays env k (syn at (Ident name)) earlier s =
+capture_stays env k (syn at (AName name)) earlier s =
     walk_obeyed Rule.T01 at (bodies.is_captured name env.variables) _ λ _. walk_obeyed Rule.T02 at (not
     (bodies.is_captured name earlier)) _ λ _. walk_found Rule.T01 at (variable env.variables name) _ λ x is. walk {f = λ
     n. pure (n, earlier ++ named name x.ty k ∷ [])} (taken_stays x) λ n u e. walk_ends e
@@ -444,11 +444,6 @@ either : {A : Type 0} {R : A → TypingState → Type 0} (b : Bool) (p q : Check
 either true p q s h k = h
 either false p q s h k = k
 
-either_so : {A : Type 0} {R : A → TypingState → Type 0} (b : Bool) (p q : Check A) (s : TypingState) → Walked R (p s) → (b ≡ false →
-    Walked R (q s)) → Walked R ((if b then p else q) s)
-either_so true p q s h k = h
-either_so false p q s h k = k refl
-
 abbrev nodes_in_statement : Option Node → List Node
 nodes_in_statement None = []
 nodes_in_statement (Some n) = nodes_of n
@@ -461,17 +456,18 @@ with_statement_nodes (Some n) ns = refl
 -- ---- what has no closures
 
 literal_alone : (around : types.WrittenScope) (e : Syn) → IsTrue (is_some (typing.literal_in e)) → closures_of around e ≡ no_closure
-literal_alone around (syn at (Literal value suffix)) h = refl
+literal_alone around (syn at (AnExpression (Literal value suffix))) h = refl
 literal_alone around (syn at _) h = absurd (false≢true h)
 
 mutual
   plain_alone : (around : types.WrittenScope) (e : Syn) → IsTrue (typing.is_plain e) → closures_of around e ≡ no_closure
-  plain_alone around (syn at form) h = plain_form_alone around form h
+  plain_alone around (syn at (AnExpression e)) h = plain_form_alone around e h
+  plain_alone around _ h = absurd (false≢true h)
 
-  plain_form_alone : (around : types.WrittenScope) (form : Shape) → IsTrue (typing.is_plain_form form) → closures_in around form ≡
+  plain_form_alone : (around : types.WrittenScope) (form : Expression) → IsTrue (typing.is_plain_form form) → closures_in_expression around form ≡
       no_closure
   plain_form_alone around (Parens inside) h = plain_alone around inside h
-  plain_form_alone around (Minus (syn at (Literal value suffix))) h = refl
+  plain_form_alone around (Minus (syn at (AnExpression (Literal value suffix)))) h = refl
   plain_form_alone around (Minus (syn at _)) h = absurd (false≢true h)
   plain_form_alone around (Literal value suffix) h = refl
   plain_form_alone around _ h = absurd (false≢true h)
@@ -479,10 +475,11 @@ mutual
 mutual
   named_alone : (around : types.WrittenScope) (items : ItemTable) (env : Env) (e : Syn) → is_value (callee_of items env e) ≡ false →
       closures_of around e ≡ no_closure
-  named_alone around items env (syn at form) h = named_form_alone around items env form h
+  named_alone around items env (syn at (AnExpression e)) h = named_form_alone around items env e h
+  named_alone around items env _ h = absurd (false≢true (sym h))
 
-  named_form_alone : (around : types.WrittenScope) (items : ItemTable) (env : Env) (form : Shape) → is_value (callee_by items env
-      form) ≡ false → closures_in around form ≡ no_closure
+  named_form_alone : (around : types.WrittenScope) (items : ItemTable) (env : Env) (form : Expression) → is_value (callee_by items env
+      form) ≡ false → closures_in_expression around form ≡ no_closure
   named_form_alone around items env (Parens inside) h = named_alone around items env inside h
   named_form_alone around items env (Path first second) h = refl
   named_form_alone around items env _ h = absurd (false≢true (sym h))
@@ -493,16 +490,18 @@ Around env inner = bodies.all_rules inner ≡ bodies.all_rules env
 
 mutual
   pub typed_walks : (env : Env) (e : Syn) → WalksTyper (closures_of (bodies.all_rules env) e) (typing.typed env e)
-  typed_walks env (syn at form) expected s =
-      either (typing.is_place env form) (typing.place env at form >>= taken env expected) (typing.value env at form expected) s
-      (walk (place_walks env at form s) λ p t w. on.taken_walks env expected p w) (value_walks env at form expected s)
+  typed_walks env (syn at (AnExpression e)) expected s =
+      either (typing.is_place env e) (typing.place env at e >>= taken env expected) (typing.value env at e expected) s
+      (walk (place_walks env at e s) λ p t w. on.taken_walks env expected p w) (value_walks env at e expected s)
+  typed_walks env (syn at _) expected s = record { so = tt }
 
   base_of_walks : (env : Env) (e : Syn) → WalksNode (closures_of (bodies.all_rules env) e) (typing.base_of env e)
-  base_of_walks env (syn at form) s =
-      either (typing.is_place env form) (typing.place env at form) (typing.value env at form None) s (place_walks env at
-      form s) (value_walks env at form None s)
+  base_of_walks env (syn at (AnExpression e)) s =
+      either (typing.is_place env e) (typing.place env at e) (typing.value env at e None) s (place_walks env at e s)
+      (value_walks env at e None s)
+  base_of_walks env (syn at _) s = record { so = tt }
 
-  place_walks : (env : Env) (at : Pos) (form : Shape) → WalksNode (closures_in (bodies.all_rules env) form) (typing.place
+  place_walks : (env : Env) (at : Pos) (form : Expression) → WalksNode (closures_in_expression (bodies.all_rules env) form) (typing.place
       env at form)
   place_walks env at (Path first second) s = base_walks env at first second (typing.variable_of env first second) s
   place_walks env at (FieldOf base name) s = on.field_walks at (struct_field name) (typing.base_of env base)
@@ -515,7 +514,7 @@ mutual
   place_walks env at (Parens inside) s = base_of_walks env inside s
   place_walks env at _ s = record { so = tt }
 
-  value_walks : (env : Env) (at : Pos) (form : Shape) → WalksTyper (closures_in (bodies.all_rules env) form) (typing.value
+  value_walks : (env : Env) (at : Pos) (form : Expression) → WalksTyper (closures_in_expression (bodies.all_rules env) form) (typing.value
       env at form)
   value_walks env at (Path first second) expected s = path_alone_walks env at first second expected s
   value_walks env at (Parens inside) expected s = typed_walks env inside expected s
@@ -610,27 +609,26 @@ mutual
 
   statement_walks : (env : Env) (e : Syn) (s : TypingState) → Walked (λ done t. Walks (closures_of (bodies.all_rules env) e) s t
       (nodes_in_statement done.0) × Around env done.2) (typing.statement env e s)
-  statement_walks env (syn at form) s =
-      either_so (typing.is_expression form) (typing.a_statement <$> rows.evaluate at env false (λ expected. if
-      typing.is_place env form then (typing.place env at form >>= taken env expected) else typing.value env at form expected))
-      (typing.other_statement env at form) s (walk (on.evaluate_walks (Around env) at env false _ refl (λ expected t.
-      either (typing.is_place env form) (typing.place env at form >>= taken env expected) (typing.value env at form expected) t
-      (walk (place_walks env at form t) λ p u w. on.taken_walks env expected p w) (value_walks env at form expected t)) s) λ n t
-      w. walk_ends w) (λ other. other_walks env at form other s)
+  statement_walks env (syn at (AnExpression e)) s =
+      walk (on.evaluate_walks (Around env) at env false _ refl (λ expected t.
+      either (typing.is_place env e) (typing.place env at e >>= taken env expected) (typing.value env at e expected) t
+      (walk (place_walks env at e t) λ p u w. on.taken_walks env expected p w) (value_walks env at e expected t)) s) λ n t
+      w. walk_ends w
+  statement_walks env (syn at (AStatement a)) s = other_walks env at a s
+  statement_walks env (syn at _) s = record { so = tt }
 
-  other_walks : (env : Env) (at : Pos) (form : Shape) → typing.is_expression form ≡ false → (s : TypingState) → Walked (λ done
-      t. Walks (closures_in (bodies.all_rules env) form) s t (nodes_in_statement done.0) × Around env done.2)
+  other_walks : (env : Env) (at : Pos) (form : Statement) (s : TypingState) → Walked (λ done
+      t. Walks (closures_in (bodies.all_rules env) (AStatement form)) s t (nodes_in_statement done.0) × Around env done.2)
       (typing.other_statement env at form s)
-  other_walks env at (LetOf p ty initialiser) other s =
+  other_walks env at (LetOf p ty initialiser) s =
       walk (on.let_walks (Around env) at env (typing.is_one_name s.items p) (typing.declared env ty)
       (typing.initialised env (typing.is_one_name s.items p) initialiser) (typing.matcher env p) (λ xs. with_variables
       xs env) (λ xs. refl) (declared_still env ty) (λ expected t. initialised_walks env (typing.is_one_name s.items p)
       initialiser expected t) (λ e ty t. pattern_walks env e ty p [] t) s) λ n t w. walk_ends w
-  other_walks env at (Semi e) other s =
+  other_walks env at (Semi e) s =
       walk (on.evaluate_walks (Around env) at env true (typing.typed env e) refl (typed_walks env e) s) λ n t w.
       walk_ends w
-  other_walks env at Empty other s = walk_ends (walks_none s, refl)
-  other_walks env at _ other s = absurd (false≢true (sym other))
+  other_walks env at Empty s = walk_ends (walks_none s, refl)
 
   initialised_walks : (env : Env) (one : Bool) (e : MaybeSyn) → WalksMaybe (closures_if_any (bodies.all_rules env) e) (typing.initialised env one e)
   initialised_walks env one nothing expected s = walk_ends (walks_none s)
@@ -638,10 +636,11 @@ mutual
   initialised_walks env false (just e) expected s = walk (for_parts_walks env expected e s) λ n t w. walk_ends w
 
   for_parts_walks : (env : Env) (expected : Option TyId) (e : Syn) → WalksNode (closures_of (bodies.all_rules env) e) (typing.for_parts env expected e)
-  for_parts_walks env expected (syn at form) s =
-      either (typing.is_place env form) (typing.place env at form >>= rows.place_for_parts env expected) (typing.value env
-      at form expected) s (walk (place_walks env at form s) λ p t w. on.in_parts_walks env expected p w) (value_walks env at
-      form expected s)
+  for_parts_walks env expected (syn at (AnExpression e)) s =
+      either (typing.is_place env e) (typing.place env at e >>= rows.place_for_parts env expected) (typing.value env
+      at e expected) s (walk (place_walks env at e s) λ p t w. on.in_parts_walks env expected p w) (value_walks env at
+      e expected s)
+  for_parts_walks env expected (syn at _) s = record { so = tt }
 
   args_walk : (env : Env) (params : List TyId) (args : Syns) (s : TypingState) → Walked (λ ns t. Walks (closures_among
       (bodies.all_rules env) args) s t (nodes_among ns) ×
@@ -662,14 +661,15 @@ mutual
       )
 
   by_reference_walks : (env : Env) (e : Syn) → WalksReferrer (closures_of (bodies.all_rules env) e) (typing.by_reference env e)
-  by_reference_walks env (syn at form) expected unique to s =
-      either (typing.may_refer form) (typing.reference_form env at form expected unique to) (if typing.is_place env form
-      then (typing.place env at form >>= taken env (Some expected)) else typing.value env at form (Some expected)) s
-      (reference_walks env at form expected unique to s) (either (typing.is_place env form) (typing.place env at form >>=
-      taken env (Some expected)) (typing.value env at form (Some expected)) s (walk (place_walks env at form s) λ p t w.
-      on.taken_walks env (Some expected) p w) (value_walks env at form (Some expected) s))
+  by_reference_walks env (syn at (AnExpression e)) expected unique to s =
+      either (typing.may_refer e) (typing.reference_form env at e expected unique to) (if typing.is_place env e
+      then (typing.place env at e >>= taken env (Some expected)) else typing.value env at e (Some expected)) s
+      (reference_walks env at e expected unique to s) (either (typing.is_place env e) (typing.place env at e >>=
+      taken env (Some expected)) (typing.value env at e (Some expected)) s (walk (place_walks env at e s) λ p t w.
+      on.taken_walks env (Some expected) p w) (value_walks env at e (Some expected) s))
+  by_reference_walks env (syn at _) expected unique to s = record { so = tt }
 
-  reference_walks : (env : Env) (at : Pos) (form : Shape) → WalksReferrer (closures_in (bodies.all_rules env) form) (typing.reference_form env at form)
+  reference_walks : (env : Env) (at : Pos) (form : Expression) → WalksReferrer (closures_in_expression (bodies.all_rules env) form) (typing.reference_form env at form)
   reference_walks env at (Ampersand unique base) expected is_unique to s = on.borrow_walks at unique (typing.base_of env
       base) (base_of_walks env base) expected is_unique to s
   reference_walks env at (Path first second) expected unique to s = passed_walks at (typing.path env at first second)
@@ -681,7 +681,7 @@ mutual
       (bodies.all_rules env) inits) s t (nodes_of_fields fs.0))
       (typing.typed_inits env v inits s)
   inits_walk env v no_syn s = walk_ends (walks_none s)
-  inits_walk env v (a_syn (syn at (FieldInit name init)) rest) s =
+  inits_walk env v (a_syn (syn at (AnInit name init)) rest) s =
       walk (init_walks env at name init (typing.field_want v (field_named v name)) s) λ n t w. walk (inits_walk env v
       rest t) λ fs u x. walk_ends (walks_both w x)
   inits_walk env v (a_syn (syn at _) rest) s = record { so = tt }
@@ -709,7 +709,7 @@ mutual
   arms_walk : (env : Env) (e : PatternContext) (ty : TyId) (expected : Option TyId) (arms : Syns) (s : TypingState) → Walked
       (λ ps t. Walks (closures_among (bodies.all_rules env) arms) s t (nodes_among ps.0)) (typing.typed_arms env e ty expected arms s)
   arms_walk env e ty expected no_syn s = walk_ends (walks_none s)
-  arms_walk env e ty expected (a_syn (syn at (ArmOf p guard body)) rest) s =
+  arms_walk env e ty expected (a_syn (syn at (AnArm p guard body)) rest) s =
       walk (on.arm_walks (pattern env e ty p []) (λ xs. typing.typed_maybe (with_variables (in_guard xs) env) guard
       (Some bool)) (λ xs. typing.typed (with_variables xs env) body) (λ t. pattern_walks env e ty p [] t) (λ xs t.
       maybe_walks (with_variables (in_guard xs) env) guard (Some bool) t) (λ xs. typed_walks (with_variables xs env)

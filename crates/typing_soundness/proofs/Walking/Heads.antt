@@ -12,7 +12,7 @@ use Rattle.typing_rules.specs.Bodies.{param_pattern_context, is_name_or_wildcard
 use Rattle.typing_rules.specs.Check.{Check, TypingState}
 use Rattle.typing_rules.specs.Numbered.{param_renumbered}
 use Rattle.typing_rules.specs.Scope.{Env, NamedEntry}
-use Rattle.src_ast.specs.Syntax.{Receiver, ByValue, ByShared, ByUnique, Syn, syn, ParamOf, SelfParam, Syns, no_syn, a_syn, MaybeSyn, nothing, just}
+use Rattle.src_ast.specs.Syntax.{Receiver, ByValue, ByShared, ByUnique, Syn, syn, AParam, ParamOf, SelfParam, Syns, no_syn, a_syn, MaybeSyn, nothing, just}
 use Rattle.typing_soundness.specs.Met.{IsReceiver, MeansParam, MeanParams, MeansAnswer}
 use Rattle.typing_soundness.specs.Types.{HaveTypes, Means}
 use Rattle.typing_soundness.specs.Walks.{Walked}
@@ -57,13 +57,13 @@ module _ (env : Env) where
       t.items × Means (bodies.all_rules env) t.items ty id) (ty_of_param ty s)) where
     param_given : (p : Syn) (earlier : List NamedEntry) (s : TypingState) → Walked (λ x t. HaveTypes s.items t.items × MeansParam
         (bodies.all_rules env) t.items p x.0.ty) (bodies.param env ty_of_param p earlier s)
-    param_given (syn at (ParamOf p ty)) earlier s =
+    param_given (syn at (AParam (ParamOf p ty))) earlier s =
         walk (good ty s) λ t u g. walk_obeyed Rule.T08 at (is_name_or_wildcard p || not (is_reference u.items t)) _ λ
         _. walk (pattern_walks env param_pattern_context t p earlier u) λ n v w. walk_ends (
           have_both s.items u.items v.items g.0 w.met.types,
           means_later (bodies.all_rules env) u.items v.items w.met.types ty t g.1,
         )
-    param_given (syn at (SelfParam receiver)) earlier s =
+    param_given (syn at (AParam (SelfParam receiver))) earlier s =
         walk (receiver_given at receiver s) λ ty t g. walk_ends (g.0, g.1)
     param_given (syn at _) earlier s = record { so = tt }
 

@@ -8,7 +8,7 @@ use Rattle.typed_tree.specs.Tree.{BodyTree}
 use Rattle.typing_rules.specs.Check.{TypingState}
 use Rattle.typing_rules.specs.Written as rules
 use Rattle.typing_rules.specs.Written.{WrittenScope}
-use Rattle.src_ast.specs.Syntax.{Receiver, ByValue, ByShared, ByUnique, Syn, syn, Shape, NamedType, GenericType, DynType, SelfType, ParensType, TupleType, ArrayType, NeverType, RefType, ParamOf, SelfParam, Syns, no_syn, a_syn, MaybeSyn, nothing, just}
+use Rattle.src_ast.specs.Syntax.{Receiver, ByValue, ByShared, ByUnique, Syn, syn, AType, AParam, WrittenType, NamedType, GenericType, DynType, SelfType, ParensType, TupleType, ArrayType, NeverType, RefType, ParamOf, SelfParam, Syns, no_syn, a_syn, MaybeSyn, nothing, just}
 use Rattle.typing_soundness.specs.Closures.{BodySyn, Function, Closure, WrittenHead, Tape}
 use Rattle.typing_soundness.specs.Met.{IsReceiver, MeansParam, MeanParams, MeansAnswer, HasTypes, AreTypesOf, HaveClosures, HasBody, IsBodyOf, AreMade, Met, types_of, behind}
 use Rattle.typing_soundness.specs.Types.{HaveTypes, NamesTy, IsTupleOf, Means, MeansForm, MeanAll}
@@ -30,9 +30,10 @@ module _ (around : WrittenScope) where
   module _ (old new : ItemTable) (e : HaveTypes old new) where
     mutual
       pub means_later : (x : Syn) (ty : TyId) → Means around old x ty → Means around new x ty
-      means_later (syn at form) ty h = form_later form ty h
+      means_later (syn at (AType t)) ty h = form_later t ty h
+      means_later _ ty h = absurd h
 
-      pub form_later : (form : Shape) (ty : TyId) → MeansForm around old form ty → MeansForm around new form ty
+      pub form_later : (form : WrittenType) (ty : TyId) → MeansForm around old form ty → MeansForm around new form ty
       form_later (NamedType name) ty h =
           named_later old new e (rules.number_of around.adts name) (rules.scalar_named name) ty h
       form_later (GenericType name content) ty h =
@@ -47,7 +48,6 @@ module _ (around : WrittenScope) where
       form_later NeverType ty h = h
       form_later (RefType unique to) ty h =
           (h.0, means_later to h.0 h.1, e ty.0 (rules.reference_to unique h.0) h.2)
-      form_later _ ty h = absurd h
 
       pub all_later : (xs : Syns) (tys : List TyId) → MeanAll around old xs tys → MeanAll around new xs tys
       all_later no_syn [] h = h
@@ -65,8 +65,8 @@ module _ (old new : ItemTable) (e : HaveTypes old new) where
 
   module _ (around : WrittenScope) where
     pub param_later : (x : Syn) (ty : TyId) → MeansParam around old x ty → MeansParam around new x ty
-    param_later (syn at (ParamOf p written)) ty h = means_later around old new e written ty h
-    param_later (syn at (SelfParam receiver)) ty h =
+    param_later (syn at (AParam (ParamOf p written))) ty h = means_later around old new e written ty h
+    param_later (syn at (AParam (SelfParam receiver))) ty h =
         (h.0, h.1, h.2, e h.1.0 (Ty.Adt h.0) h.3, receiver_later receiver h.1 ty h.4)
     param_later (syn at _) ty h = absurd h
 

@@ -9,7 +9,7 @@ use Rattle.typing_rules.specs.Bodies.{param_pattern_context, is_name_or_wildcard
 use Rattle.typing_rules.specs.Check.{Check, TypingState, Broken}
 use Rattle.typing_rules.specs.Scope.{Env, NamedEntry}
 use Rattle.typing_rules.specs.Written as types
-use Rattle.src_ast.specs.Syntax.{Syn, syn, Shape, NamedType, GenericType, DynType, SelfType, ParensType, TupleType, ArrayType, NeverType, RefType, ParamOf, SelfParam, Syns, no_syn, a_syn, list_of, MaybeSyn, nothing, just}
+use Rattle.src_ast.specs.Syntax.{Syn, syn, AType, AParam, WrittenType, NamedType, GenericType, DynType, SelfType, ParensType, TupleType, ArrayType, NeverType, RefType, ParamOf, SelfParam, Syns, no_syn, a_syn, list_of, MaybeSyn, nothing, just}
 use Rattle.typing_soundness.specs.Legal.{legal, legal_form, all_legal, legal_param, legal_param_form, param_legal, params_legal, answer_legal}
 use Rattle.typing_soundness.specs.Walks.{Walked}
 use Rattle.typing_soundness.proofs.Walking.Steps.{walk, walk_obeyed, walk_ends}
@@ -31,9 +31,10 @@ module _ (around : types.WrittenScope) where
 
   mutual
     pub written_legal : (e : Syn) (s : TypingState) → Walked (λ ty t. IsTrue (legal e)) (types.written full e s)
-    written_legal (syn at form) s = form_is_legal at form s
+    written_legal (syn at (AType t)) s = form_is_legal at t s
+    written_legal _ s = record { so = tt }
 
-    form_is_legal : (at : Pos) (form : Shape) (s : TypingState) → Walked (λ ty t. IsTrue (legal_form form)) (types.written_form
+    form_is_legal : (at : Pos) (form : WrittenType) (s : TypingState) → Walked (λ ty t. IsTrue (legal_form form)) (types.written_form
         full at form s)
     form_is_legal at (NamedType name) s = whatever _ refl
     form_is_legal at (GenericType name content) s =
@@ -52,7 +53,6 @@ module _ (around : types.WrittenScope) where
     form_is_legal at NeverType s = walk_ends refl
     form_is_legal at (RefType unique to) s =
         walk (whatever {P = Unit {0}} (types.written full to s) tt) λ ty t _. record { so = tt }
-    form_is_legal at _ s = record { so = tt }
 
     pub all_are_legal : (xs : Syns) (s : TypingState) → Walked (λ tys t. IsTrue (all_legal xs) × (length tys ≡ length (list_of xs)))
         (types.all_written full xs s)
@@ -66,9 +66,10 @@ module _ (around : types.WrittenScope) where
   mutual
     pub written_param_legal : (e : Syn) (s : TypingState) → Walked (λ ty t. IsTrue (legal_param e)) (types.written_param full e
         s)
-    written_param_legal (syn at form) s = param_form_is_legal at form s
+    written_param_legal (syn at (AType t)) s = param_form_is_legal at t s
+    written_param_legal _ s = record { so = tt }
 
-    param_form_is_legal : (at : Pos) (form : Shape) (s : TypingState) → Walked (λ ty t. IsTrue (legal_param_form form))
+    param_form_is_legal : (at : Pos) (form : WrittenType) (s : TypingState) → Walked (λ ty t. IsTrue (legal_param_form form))
         (types.written_param_form full at form s)
     param_form_is_legal at (ParensType inside) s = written_param_legal inside s
     param_form_is_legal at (RefType unique to) s = walk (written_legal to s) λ ty t h. whatever _ h
@@ -80,8 +81,8 @@ module _ (env : Env) (test : Syn → Bool) (ty_of_param : Syn → Check TyId) (g
     IsTrue (test ty)) (ty_of_param ty s)) where
   param_is_legal : (p : Syn) (earlier : List NamedEntry) (s : TypingState) → Walked (λ x t. IsTrue (param_legal test p)) (bodies.param
       env ty_of_param p earlier s)
-  param_is_legal (syn at (ParamOf p ty)) earlier s = walk (good ty s) λ t u h. whatever _ h
-  param_is_legal (syn at (SelfParam receiver)) earlier s = whatever _ refl
+  param_is_legal (syn at (AParam (ParamOf p ty))) earlier s = walk (good ty s) λ t u h. whatever _ h
+  param_is_legal (syn at (AParam (SelfParam receiver))) earlier s = whatever _ refl
   param_is_legal (syn at _) earlier s = record { so = tt }
 
   pub params_are_legal : (params : Syns) (earlier : List NamedEntry) (s : TypingState) → Walked (λ ps t. IsTrue (params_legal test

@@ -14,7 +14,7 @@ use Rattle.typing_rules.specs.Check.{Check, TypingState, interned, ◌>>=◌}
 use Rattle.typing_rules.specs.Rows.{Typer}
 use Rattle.typing_rules.specs.Scope.{Env, NamedEntry}
 use Rattle.typing_rules.specs.Written as types
-use Rattle.src_ast.specs.Syntax.{Syn, syn, Shape, NamedType, GenericType, DynType, SelfType, ParensType, TupleType, ArrayType, NeverType, RefType, ParamOf, SelfParam, Receiver, ByValue, ByShared, ByUnique, Syns, no_syn, a_syn, MaybeSyn, nothing, just}
+use Rattle.src_ast.specs.Syntax.{Receiver, ByValue, ByShared, ByUnique, Syn, syn, AType, AParam, WrittenType, NamedType, GenericType, DynType, SelfType, ParensType, TupleType, ArrayType, NeverType, RefType, ParamOf, SelfParam, Syns, no_syn, a_syn, MaybeSyn, nothing, just}
 use Rattle.src_ast.specs.View.{self_name}
 use Rattle.typing_rules.proofs.Sound.Gives.{numbered}
 use Rattle.typing_soundness.specs.Closures.{Tape}
@@ -55,9 +55,10 @@ module _ (around : types.WrittenScope) where
 
   mutual
     pub written_still : (ty : Syn) (s : TypingState) → Walked (Still s) (types.written around ty s)
-    written_still (syn at form) s = written_form_still at form s
+    written_still (syn at (AType t)) s = written_form_still at t s
+    written_still _ s = record { so = tt }
 
-    written_form_still : (at : Pos) (form : Shape) (s : TypingState) → Walked (Still s) (types.written_form around at form s)
+    written_form_still : (at : Pos) (form : WrittenType) (s : TypingState) → Walked (Still s) (types.written_form around at form s)
     written_form_still at (NamedType name) s = named_still at (types.number_of around.adts name) (types.scalar_named
         name) s
     written_form_still at (GenericType name content) s =
@@ -80,7 +81,6 @@ module _ (around : types.WrittenScope) where
     written_form_still at (RefType unique to) s =
         walk (written_still to s) λ ty t e. walk_obeyed Rule.T08 at (not around.has_limits) _ λ _. interned_still
         (types.reference_to unique ty) t e
-    written_form_still at _ s = record { so = tt }
 
     all_written_still : (parts : Syns) (s : TypingState) → Walked (Still s) (types.all_written around parts s)
     all_written_still no_syn s = walk_ends (still s)
@@ -100,14 +100,15 @@ module _ (around : types.WrittenScope) where
 
   mutual
     pub written_param_still : (ty : Syn) (s : TypingState) → Walked (Still s) (types.written_param around ty s)
-    written_param_still (syn at form) s = written_param_form_still at form s
+    written_param_still (syn at (AType t)) s = written_param_form_still at t s
+    written_param_still _ s = record { so = tt }
 
-    written_param_form_still : (at : Pos) (form : Shape) (s : TypingState) → Walked (Still s) (types.written_param_form around
+    written_param_form_still : (at : Pos) (form : WrittenType) (s : TypingState) → Walked (Still s) (types.written_param_form around
         at form s)
     written_param_form_still at (ParensType inside) s = written_param_still inside s
     written_param_form_still at (RefType unique to) s =
         walk (written_still around to s) λ ty t e. param_interned unique ty t e
-    written_param_form_still at form s = written_still around (syn at form) s
+    written_param_form_still at t s = written_still around (syn at (AType t)) s
 
 receiver_still : (env : Env) (at : Pos) (receiver : Receiver) (s : TypingState) → Walked (Still s) (bodies.receiver_ty env at
     receiver s)
@@ -123,10 +124,10 @@ module _ (env : Env) (ty_of_param : Syn → Check TyId) (good : (ty : Syn) (s : 
     s)) where
   param_walks : (p : Syn) (earlier : List NamedEntry) (s : TypingState) → Walked (λ x t. Walks s t (nodes_of x.0.pattern))
       (bodies.param env ty_of_param p earlier s)
-  param_walks (syn at (ParamOf p ty)) earlier s =
+  param_walks (syn at (AParam (ParamOf p ty))) earlier s =
       walk (good ty s) λ t u e. walk_obeyed Rule.T08 at (is_name_or_wildcard p || not (is_reference u.items t)) _ λ _.
       walk (pattern_walks env param_pattern_context t p earlier u) λ n v w. walk_ends (from_same e w)
-  param_walks (syn at (SelfParam receiver)) earlier s =
+  param_walks (syn at (AParam (SelfParam receiver))) earlier s =
       walk (receiver_still env at receiver s) λ ty t e. walk_ends (from_same e (walks_node at ty _ (tree.Binding
       self_name) (walks_none (numbered t))))
   param_walks (syn at _) earlier s = record { so = tt }

@@ -20,7 +20,7 @@ use Rattle.typing_rules.specs.Patterns as rules
 use Rattle.typing_rules.specs.Places.{a_node_of}
 use Rattle.typing_rules.specs.Rows.{PatternContext, is_signed_kind, most, literal_value, all_given, are_known}
 use Rattle.typing_rules.specs.Scope.{Env, NamedEntry, adt_named, kind_at, variable, field_named}
-use Rattle.src_ast.specs.Syntax.{Word, Syn, syn, Shape, AnyPattern, BindPattern, LiteralPattern, TruthPattern, PathPattern, PartsPattern, FieldsPattern, FieldPattern, ParensPattern, TuplePattern, ArrayPattern, Alternatives, Syns, no_syn, a_syn, nothing, just}
+use Rattle.src_ast.specs.Syntax.{Word, Syn, syn, APattern, AFieldPattern, Pattern, AnyPattern, BindPattern, LiteralPattern, TruthPattern, PathPattern, PartsPattern, FieldsPattern, ParensPattern, TuplePattern, ArrayPattern, Alternatives, Syns, no_syn, a_syn, nothing, just}
 use Rattle.typing_rules.proofs.Sound.Gives.{numbered}
 use Rattle.typing_soundness.specs.Walks.{Walked}
 use Rattle.typing_soundness.specs.Walks as walking
@@ -147,9 +147,10 @@ module _ (env : Env) where
   mutual
     pub pattern_walks : (e : PatternContext) (ty : TyId) (p : Syn) (earlier : List NamedEntry) (s : TypingState) → Walked (OfBound s)
         (rules.pattern env e ty p earlier s)
-    pattern_walks e ty (syn at form) earlier s = form_walks e ty at form earlier s
+    pattern_walks e ty (syn at (APattern p)) earlier s = form_walks e ty at p earlier s
+    pattern_walks e ty _ earlier s = record { so = tt }
 
-    form_walks : (e : PatternContext) (ty : TyId) (at : Pos) (form : Shape) (earlier : List NamedEntry) (s : TypingState) → Walked
+    form_walks : (e : PatternContext) (ty : TyId) (at : Pos) (form : Pattern) (earlier : List NamedEntry) (s : TypingState) → Walked
         (OfBound s) (rules.pattern_form env e ty at form earlier s)
     form_walks e ty at AnyPattern earlier s = walk_ends (walks_node at ty None tree.Wildcard (walks_none (numbered s)))
     form_walks e ty at (BindPattern name) earlier s = lone_name_walks env at e ty name earlier s
@@ -190,7 +191,6 @@ module _ (env : Env) where
         walk_obeyed Rule.T20 at (nat_lt 1 (rules.count_of patterns)) _ λ _. walk (each_walks e ty patterns earlier
         (numbered s)) λ ps t w. walk_obeyed Rule.T18 at (not (rules.has_names earlier ps.1)) _ λ _. walk_ends
         (walks_node at ty None (tree.OrPattern ps.0) w)
-    form_walks e ty at _ earlier s = record { so = tt }
 
     parts_walk : (e : PatternContext) (tys : List TyId) (parts : Syns) (earlier : List NamedEntry) (s : TypingState) → Walked (λ ps t.
         Walks s t (nodes_among ps.0)) (rules.part_patterns env e tys parts earlier s)
@@ -216,10 +216,10 @@ module _ (env : Env) where
 
     field_walks : (e : PatternContext) (v : Variant) (field : Syn) (earlier : List NamedEntry) (s : TypingState) → Walked (λ f t. Walks s
         t (nodes_in_field f.0)) (rules.field_pattern env e v field earlier s)
-    field_walks e v (syn at (FieldPattern name nothing)) earlier s =
+    field_walks e v (syn at (AFieldPattern name nothing)) earlier s =
         field_by_walks v name earlier (λ ty. rules.bind at e ty name earlier) s (λ ty. bind_walks at e ty name earlier
         s)
-    field_walks e v (syn at (FieldPattern name (just inside))) earlier s =
+    field_walks e v (syn at (AFieldPattern name (just inside))) earlier s =
         field_by_walks v name earlier (λ ty. rules.pattern env e ty inside earlier) s (λ ty. pattern_walks e ty inside
         earlier s)
     field_walks e v (syn at _) earlier s = record { so = tt }

@@ -4,12 +4,12 @@ use Rattle.src_tree.specs.declared.node.NodePiece.{NodePiece}
 use Rattle.src_tree.specs.declared.row.GrammarRow.{GrammarRow}
 use Rattle.src_ast.specs.Seen.{made_of, syn_of}
 use Rattle.src_ast.specs.Sorts.{expression_part}
-use Rattle.src_ast.specs.Syntax.{Shape, shape_of}
+use Rattle.src_ast.specs.Syntax.{shape_of, Expression}
 use Rattle.src_ast.proofs.Named.{seen_as}
 use Rattle.src_ast.proofs.expression.expression_form.Goals as goal
 
 -- what is read of the parts of a row is read of its node
-by_row : (node : SyntaxNode) {row : GrammarRow} {pieces : List NodePiece} {answer : Option Shape} → node.row ≡ row → pieces ≡ node.parts → answer ≡ expression_part (made_of row pieces)
+by_row : (node : SyntaxNode) {row : GrammarRow} {pieces : List NodePiece} {answer : Option Expression} → node.row ≡ row → pieces ≡ node.parts → answer ≡ expression_part (made_of row pieces)
     → answer ≡ expression_part (shape_of (syn_of node))
 by_row node row parts read =
     read ∙ ap₂ (λ row pieces. expression_part (made_of row pieces)) (sym row) parts ∙ ap (λ n. expression_part (shape_of n)) (sym (seen_as node))

@@ -1,6 +1,6 @@
 use Rattle.std.proofs.Common.{ap, subst, sym, ◌∙◌}
 use Rattle.src_ast.specs.Seen.{nodes_of}
-use Rattle.src_ast.specs.Syntax.{Named, Word, list_of}
+use Rattle.src_ast.specs.Syntax.{Word, Named, list_of}
 use Rattle.typeck_checker.specs.Stand.{GivesValue, env, state}
 use Rattle.typing_rules.specs.Program.{all_fn_rules, in_impl}
 use Rattle.typing_rules.specs.Scope.{adt_named}

@@ -2,7 +2,7 @@ use Rattle.std.proofs.Common.{rules, ◌≡◌, ℕ, Result, Err, ap, reverse, s
 use Rattle.typeck_heads.specs.Answers.{Refuses}
 use Rattle.mir_base.specs.declared.rule.RuleError.{RuleError}
 use Rattle.src_ast.specs.Seen.{nodes_of}
-use Rattle.src_ast.specs.Syntax.{Ident, syn}
+use Rattle.src_ast.specs.Syntax.{syn, AName}
 use Rattle.src_ast.specs.View.{idents, syns_of}
 use Rattle.typeck_checker.specs.Stand.{env, stack, state}
 use Rattle.typing_rules.specs.Bodies as bodies
@@ -20,7 +20,7 @@ loop-first-preserved c =
     let name = c.in-Some.first in
     let xs = reverse c.loop-first.bound in
     let s = state c.loop-first.checker in
-    let here = ap (λ (z : Env). bodies.capture z k (syn name.at (Ident name.name.now)) xs s) (sym before.place.0) ∙ put.gives in
+    let here = ap (λ (z : Env). bodies.capture z k (syn name.at (AName name.name.now)) xs s) (sym before.place.0) ∙ put.gives in
     record {
       gives = capture_step w _ k c.in_ok-count.count (stack c.loop-first.checker) (stack c.capture.new.checker) (idents (nodes_of c.loop-first.rest)) (idents (nodes_of name.rest)) (name.at, name.name.now)
           xs (reverse c.capture.new.bound) s (state c.capture.new.checker) before.gives c.in-Some.ensures here put.kept.0 c.in_ok-count.ensures.more;
@@ -41,4 +41,4 @@ returns-in_err-capture-clause-gives c =
     let whole = bodies.captured w 0 (syns_of (idents (nodes_of c.args.captures))) (reverse c.args.bound.now) (state c.args.checker.now) in
     subst (λ (r : Result ℕ RuleError). GivesCaptures whole r c.capture.new.bound c.capture.new.checker) (sym is)
     (capture_stop w whole k (stack c.loop-first.checker) (idents (nodes_of c.loop-first.rest)) (idents (nodes_of name.rest)) (name.at, name.name.now) xs s err before.gives c.in-Some.ensures
-    (subst (λ (z : Env). Refuses (bodies.capture z k (syn name.at (Ident name.name.now)) xs s) err) before.place.0 c.in_err-capture.ensures.gives))
+    (subst (λ (z : Env). Refuses (bodies.capture z k (syn name.at (AName name.name.now)) xs s) err) before.place.0 c.in_err-capture.ensures.gives))

@@ -3,8 +3,9 @@ use Rattle.src_ast.specs.Seen.{syn_of}
 use Rattle.typeck_checker.specs.Stand.{env, state}
 use Rattle.typeck_patterns.proofs.Units.{then_given}
 use Rattle.typeck_bodies.specs.ParamAnswers.{GivesParam}
-use Rattle.typeck_bodies.specs.ParamRests.{pattern_rest, type_by}
+use Rattle.typeck_bodies.specs.ParamRests.{type_by}
 use Rattle.typeck_bodies.proofs.patterns.typed_param.Goals as goal
+use Rattle.typing_rules.specs.Bodies.{pattern_param_end}
 
 pub returns-clause-gives : goal.returns-clause-gives
 returns-clause-gives c =
@@ -14,7 +15,7 @@ returns-clause-gives c =
     let p = syn_of c.args.pattern.now in
     let after = state c.param_ty.new.checker in
     subst (λ o. GivesParam o c.pattern_param.result c.pattern_param.new.bound c.pattern_param.new.checker)
-    (sym (then_given (type_by w c.args.may_refer (syn_of c.args.ty.now)) (λ t. pattern_rest w c.args.at t p xs) (state before) c.in_ok-ty.ty after c.in_ok-ty.ensures.gives))
-    (subst (λ v. GivesParam (pattern_rest v c.args.at c.in_ok-ty.ty p xs after) c.pattern_param.result c.pattern_param.new.bound c.pattern_param.new.checker)
+    (sym (then_given (type_by w c.args.may_refer (syn_of c.args.ty.now)) (λ t. pattern_param_end w c.args.at t p xs) (state before) c.in_ok-ty.ty after c.in_ok-ty.ensures.gives))
+    (subst (λ v. GivesParam (pattern_param_end v c.args.at c.in_ok-ty.ty p xs after) c.pattern_param.result c.pattern_param.new.bound c.pattern_param.new.checker)
     c.in_ok-ty.ensures.same.1.0
     c.pattern_param.ensures.gives)

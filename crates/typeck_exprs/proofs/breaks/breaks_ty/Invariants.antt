@@ -1,6 +1,6 @@
 use Rattle.std.proofs.Common.{◌≡◌, map, drop}
 use Rattle.typing_rules.specs.Rows as rows
-use Rattle.typeck_exprs.specs.BranchRests.{carried_by}
+use Rattle.typeck_exprs.specs.Breaks.{carried_by}
 use Rattle.typeck_env.specs.Walked.{break_of}
 use Rattle.typeck_exprs.proofs.breaks.breaks_ty.Given as goal
 

@@ -3,7 +3,7 @@ use Rattle.typeck_heads.specs.Answers.{Refuses}
 use Rattle.src_ast.specs.ItemForms.{name_seen}
 use Rattle.src_ast.specs.Seen.{nodes_of, syn_of}
 use Rattle.src_ast.specs.Sorts.{item_part}
-use Rattle.src_ast.specs.Syntax.{list_of, shape_of}
+use Rattle.src_ast.specs.Syntax.{shape_of, list_of}
 use Rattle.typeck_checker.specs.Stand.{env, state}
 use Rattle.typing_rules.specs.Program as rules
 use Rattle.typing_rules.specs.Scope.{Env}

@@ -8,7 +8,7 @@ use Rattle.mir_ty.specs.declared.ty.TyId.{TyId}
 use Rattle.typeck_patterns.specs.PatternContext.{GivesBound, pattern_context_of}
 use Rattle.typeck_patterns.specs.Fields.{below_given}
 use Rattle.typeck_patterns.specs.Members.{part_of, variant_of}
-use Rattle.typeck_patterns.specs.Rests.{target_tail, wildcard_rest}
+use Rattle.typeck_patterns.specs.Rests.{wildcard_rest}
 use Rattle.typeck_patterns.specs.Targets.{target_of}
 use Rattle.typeck_patterns.proofs.Units.{beside}
 use Rattle.src_ast.specs.Seen.{nodes_of, syn_of}
@@ -22,6 +22,7 @@ use Rattle.typeck_patterns.proofs.Closings.{array_is, fields_close, first_if, fi
 use Rattle.typeck_patterns.proofs.PartLists.{drop_next, each_step, fields_behind, none_before, nothing_before, one_under, part_step, part_stop}
 use Rattle.typeck_patterns.proofs.Shapes.{field_none, field_some, pattern_falls, seen_by}
 use Rattle.typeck_patterns.proofs.patterns.+patterns.Goals as goal
+use Rattle.typing_rules.specs.Patterns.{target_end}
 
 pub pattern-returns-in-Wild-clause-gives : goal.pattern-returns-in-Wild-clause-gives
 pattern-returns-in-Wild-clause-gives t c =
@@ -161,7 +162,7 @@ fields_of_target-returns-clause-gives t c =
     let v = variant_of before.walk.items c.args.target in
     subst (λ o. GivesBound o c.named_parts.result c.named_parts.new.bound c.named_parts.new.checker)
     (sym (target_begun (env before) c.in_ok-id.id.0 c.args.at (pattern_context_of c.args.e) c.args.ty (target_of c.args.target) (parts_by_name (env before) v (nodes_of c.args.fields) c.args.dots xs) (state before) (state c.target_begin.new.checker) c.in_ok-id.ensures.gives))
-    (subst (λ w. GivesBound (target_tail c.in_ok-id.id.0 c.args.at (pattern_context_of c.args.e) c.args.ty (target_of c.args.target) (parts_by_name w v (nodes_of c.args.fields) c.args.dots xs) (state c.target_begin.new.checker)) c.named_parts.result c.named_parts.new.bound c.named_parts.new.checker)
+    (subst (λ w. GivesBound (target_end c.in_ok-id.id.0 c.args.at (pattern_context_of c.args.e) c.args.ty (target_of c.args.target) (parts_by_name w v (nodes_of c.args.fields) c.args.dots xs) (state c.target_begin.new.checker)) c.named_parts.result c.named_parts.new.bound c.named_parts.new.checker)
     c.in_ok-id.ensures.same.1.0
     (c.named_parts.ensures.gives v (ap (map (option_map part_of)) c.as_slice.ensures ∙ c.in_ok-parts.ensures.named)))
 
@@ -171,7 +172,7 @@ parts_of_target-returns-clause-gives t c =
     let xs = reverse c.args.bound.now in
     subst (λ o. GivesBound o c.parts_behind.result c.parts_behind.new.bound c.parts_behind.new.checker)
     (sym (target_begun (env before) c.in_ok-id.id.0 c.args.at (pattern_context_of c.args.e) c.args.ty (target_of c.args.target) (parts_in_order (env before) (target_of c.args.target) (nodes_of c.args.parts) c.args.dots xs) (state before) (state c.target_begin.new.checker) c.in_ok-id.ensures.gives))
-    (subst (λ w. GivesBound (target_tail c.in_ok-id.id.0 c.args.at (pattern_context_of c.args.e) c.args.ty (target_of c.args.target) (parts_in_order w (target_of c.args.target) (nodes_of c.args.parts) c.args.dots xs) (state c.target_begin.new.checker)) c.parts_behind.result c.parts_behind.new.bound c.parts_behind.new.checker)
+    (subst (λ w. GivesBound (target_end c.in_ok-id.id.0 c.args.at (pattern_context_of c.args.e) c.args.ty (target_of c.args.target) (parts_in_order w (target_of c.args.target) (nodes_of c.args.parts) c.args.dots xs) (state c.target_begin.new.checker)) c.parts_behind.result c.parts_behind.new.bound c.parts_behind.new.checker)
     c.in_ok-id.ensures.same.1.0
     c.parts_behind.ensures.gives)
 

@@ -18,7 +18,7 @@ use Rattle.typing_rules.specs.Items.{ItemSyn, item_syns, trait_name, adt_names, 
 use Rattle.typing_rules.specs.Places.{scalars}
 use Rattle.typing_rules.specs.Program.{behind_self}
 use Rattle.typing_rules.specs.Written as types
-use Rattle.src_ast.specs.Syntax.{Word, Named, Receiver, ByValue, ByShared, ByUnique, Syn, syn, StructItem, EnumItem, FieldDecl, VariantDecl, TraitItem, ImplItem, FnItem, MoveOf, ParamOf, SelfParam, Syns, list_of, MaybeSyn, nothing, just}
+use Rattle.src_ast.specs.Syntax.{Word, Named, Receiver, ByValue, ByShared, ByUnique, Syn, syn, AnExpression, AnItem, AParam, AField, AVariant, MoveOf, StructItem, EnumItem, TraitItem, ImplItem, FnItem, ParamOf, SelfParam, Syns, list_of, MaybeSyn, nothing, just}
 use Rattle.typing_soundness.specs.Closures.{BodySyn, Tape}
 use Rattle.typing_soundness.specs.Heads.{body_text, bodies_text}
 use Rattle.typing_soundness.specs.Legal.{legal, legal_param, param_legal, params_legal, answer_legal, field_legal, fields_legal, variant_legal, trait_head_legal, body_legal, item_legal}
@@ -101,8 +101,8 @@ module _ (b : Bounds) (n : ℕ) where
 
     head_param_kept : (self : Check TyId) → Stays b n self → (p : Syn) → IsTrue (param_legal legal_param p) → Stays b n
         (rules.param_ty (alone around) self p)
-    head_param_kept self good (syn at (ParamOf p ty)) l s h = written_param_kept ty l s h
-    head_param_kept self good (syn at (SelfParam receiver)) l s h = walk (good s h) λ own t k. receiver_kept own receiver t k
+    head_param_kept self good (syn at (AParam (ParamOf p ty))) l s h = written_param_kept ty l s h
+    head_param_kept self good (syn at (AParam (SelfParam receiver))) l s h = walk (good s h) λ own t k. receiver_kept own receiver t k
     head_param_kept self good (syn at _) l s h = absurd (false≢true l)
 
     answer_kept : (answer : MaybeSyn) → IsTrue (answer_legal answer) → Stays b n (rules.answer_ty (alone around) answer)
@@ -118,7 +118,7 @@ module _ (b : Bounds) (n : ℕ) where
         walk_ends q
 
     trait_head_kept : (own : TyId) (x : Syn) → IsTrue (trait_head_legal x) → Stays b n (rules.trait_head (alone around) own x)
-    trait_head_kept own (syn at (FnItem name params answer block)) l s h = by (rules.has_receiver params)
+    trait_head_kept own (syn at (AnItem (FnItem name params answer block))) l s h = by (rules.has_receiver params)
       where
         legal_params : IsTrue (params_legal legal_param (behind_self params))
         legal_params = true_left (params_legal legal_param (behind_self params)) _ l
@@ -154,14 +154,14 @@ module _ (b : Bounds) (n : ℕ) where
         by (Err e) k = walk_ends h
 
     closure_param_kept : (p : Syn) → IsTrue (param_legal legal p) → Stays b n (rules.closure_param (alone around) p)
-    closure_param_kept (syn at (ParamOf p ty)) l s h =
+    closure_param_kept (syn at (AParam (ParamOf p ty))) l s h =
         or_unit_kept (types.written (alone around) ty) (written_kept ty l) s h
     closure_param_kept (syn at _) l s h = walk_ends h
 
     -- ---- fields
 
     field_kept : (f : Syn) → IsTrue (field_legal f) → Stays b n (types.written (alone around) (rules.field_type f))
-    field_kept (syn at (FieldDecl name ty)) l = written_kept ty l
+    field_kept (syn at (AField name ty)) l = written_kept ty l
     field_kept (syn at form) l = written_kept (syn at form) l
 
     variant_kept : (name : Word) (fields : Syns) → IsTrue (fields_legal (list_of fields)) → Stays b n (rules.variant_of (alone
@@ -171,7 +171,7 @@ module _ (b : Bounds) (n : ℕ) where
         (list_of fields) (fields_all (list_of fields) l) s h) λ tys t k. walk_ends k
 
     declared_kept : (v : Syn) → IsTrue (variant_legal v) → Stays b n (rules.declared_variant (alone around) v)
-    declared_kept (syn at (VariantDecl name kind fields)) l s h = variant_kept name fields l s h
+    declared_kept (syn at (AVariant name kind fields)) l s h = variant_kept name fields l s h
     declared_kept (syn at _) l s h = record { so = tt }
 
   derives_kept : (ds : List Named) → Stays b n (rules.derives_known ds)
@@ -186,7 +186,7 @@ module _ (b : Bounds) (n : ℕ) where
       (earlier ++ m.1 ∷ []) t k
 
   impl_kept : (k : rules.Known) (i : Syn) → Stays b n (rules.impl_of k i)
-  impl_kept k (syn at (ImplItem (Some trait_) name methods)) s h = by (rules.is_drop trait_.1)
+  impl_kept k (syn at (AnItem (ImplItem (Some trait_) name methods))) s h = by (rules.is_drop trait_.1)
     where
       added : Check (Unit {0})
       added t =
@@ -198,7 +198,7 @@ module _ (b : Bounds) (n : ℕ) where
       by false =
           walk_found Rule.T01 trait_.0 (types.number_of k.traits trait_.1) _ λ m is. walk_found Rule.T01 name.0
           (types.number_of k.adts name.1) _ λ adt is. walk_ends (record { traits = h.traits; types = h.types })
-  impl_kept k (syn at (ImplItem None name methods)) s h = walk_ends h
+  impl_kept k (syn at (AnItem (ImplItem None name methods))) s h = walk_ends h
   impl_kept k (syn at _) s h = walk_ends h
 
   impls_kept : (k : rules.Known) (is : List Syn) → Stays b n (each_checked (rules.impl_of k) is)
@@ -257,7 +257,7 @@ module _ (adts traits : ℕ) where
     body_kept : (owner : Option Word) (c : rules.Count) (x : Syn) (count : ℕ) → IsTrue (body_legal x) → (s : TypingState) →
         IsCollected (bounds c.closures) count s.items → Walked (λ d t. IsCollected (bounds d.closures) count t.items × IsBehind
         (body_text (all_names k owner) x) c.closures d.closures) (rules.body_sig k owner c x s)
-    body_kept owner c (syn at (FnItem name params answer block)) count l s h =
+    body_kept owner c (syn at (AnItem (FnItem name params answer block))) count l s h =
         walk (sig_kept (bounds c.closures) count (known_around k owner) (named_in c.closures owner) (rules.own_ty at
         (option_and_then (types.number_of k.adts) owner)) (own_kept (bounds c.closures) count (known_around k owner) (named_in
         c.closures owner) at) (full_name owner name.1) params answer (true_left (params_legal legal_param params) _ l)
@@ -265,7 +265,7 @@ module _ (adts traits : ℕ) where
           record { traits = g.traits; types = g.types },
           λ rest. refl,
         )
-    body_kept owner c (syn at (MoveOf captures params answer body)) count l s h =
+    body_kept owner c (syn at (AnExpression (MoveOf captures params answer body))) count l s h =
         walk closure_kept λ _ t g. walk_ends (g, λ rest. ap (behind_all rest) (omega arith))
       where
         around : types.WrittenScope
@@ -307,18 +307,18 @@ module _ (adts traits : ℕ) where
 
     head_kept : (n count : ℕ) (i : Syn) → IsTrue (item_legal i) → count + traits_of i ≤ traits → (s : TypingState) → IsCollected
         (bounds n) count s.items → Walked (λ _ t. IsCollected (bounds n) (count + traits_of i) t.items) (rules.item_head k i s)
-    head_kept n count (syn at (StructItem ds name kind fields)) l few s h =
+    head_kept n count (syn at (AnItem (StructItem ds name kind fields))) l few s h =
         walk (derives_kept (bounds n) count ds s h) λ _ t g. walk (variant_kept (bounds n) count (known_around k (Some
         name.1)) (named_in n (Some name.1)) name.1 fields l t g) λ v u e. walk_ends (record {
           traits = e.traits ∙ omega arith;
           types = e.types;
         })
-    head_kept n count (syn at (EnumItem ds name variants)) l few s h =
+    head_kept n count (syn at (AnItem (EnumItem ds name variants))) l few s h =
         walk (derives_kept (bounds n) count ds s h) λ _ t g. walk (each_kept (bounds n) count (rules.declared_variant
         (alone (known_around k (Some name.1)))) (λ v. IsTrue (variant_legal v)) (declared_kept (bounds n) count (known_around k (Some
         name.1)) (named_in n (Some name.1))) (list_of variants) (variants_all (list_of variants) l) t g) λ vs u e. walk_ends
         (record { traits = e.traits ∙ omega arith; types = e.types })
-    head_kept n count (syn at (TraitItem name heads)) l few s h =
+    head_kept n count (syn at (AnItem (TraitItem name heads))) l few s h =
         walk (interned_kept (bounds n) count (Ty.Dyn (length s.items.traits)) (λ closures. let e = h.traits in omega (
           arith,
           e,
@@ -329,12 +329,12 @@ module _ (adts traits : ℕ) where
           traits = length-append u.items.traits (record { name = name.1; methods = sigs } ∷ []) ∙ ap (λ m. m + 1) e.traits;
           types = e.types;
         })
-    head_kept n count (syn at (ImplItem None name methods)) l few s h =
+    head_kept n count (syn at (AnItem (ImplItem None name methods))) l few s h =
         walk_map (obeyed_kept (bounds n) count Rule.T01 name.0 (is_some (types.number_of k.adts name.1)) s h) λ _ t e. record {
           traits = e.traits ∙ omega arith;
           types = e.types;
         }
-    head_kept n count (syn at (ImplItem (Some trait_) name methods)) l few s h =
+    head_kept n count (syn at (AnItem (ImplItem (Some trait_) name methods))) l few s h =
         walk_obeyed Rule.T01 trait_.0 (rules.is_drop trait_.1 || is_some (types.number_of k.traits trait_.1)) _ λ _. walk_map
         (obeyed_kept (bounds n) count Rule.T01 name.0 (is_some (types.number_of k.adts name.1)) s h) λ _ t e. record {
           traits = e.traits ∙ omega arith;
@@ -388,8 +388,8 @@ as_many (i ∷ is) = by i (as_many is)
   where
     by : (j : Syn) → length (filter_map rules.adt_item is) ≡ length (adt_names is) → length (filter_map rules.adt_item (j ∷
         is)) ≡ length (adt_names (j ∷ is))
-    by (syn at (StructItem ds name kind fields)) e = ap suc e
-    by (syn at (EnumItem ds name variants)) e = ap suc e
+    by (syn at (AnItem (StructItem ds name kind fields))) e = ap suc e
+    by (syn at (AnItem (EnumItem ds name variants))) e = ap suc e
     by (syn at _) e = e
 
 pub collecting_kept : (is : List ItemSyn) (end : Pos) → All ItemKeeps is → Walked (λ _ t. (n : ℕ) × IsCollected (bounds (length

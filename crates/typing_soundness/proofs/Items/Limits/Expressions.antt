@@ -19,7 +19,7 @@ use Rattle.typed_tree.specs.Tree as tree
 use Rattle.typed_tree.specs.Tree.{Node, Nodes, no_field, BodyTree, ParamTree}
 use Rattle.well_typed.specs.Types.{is_enum, is_reference, variant_at}
 use Rattle.typing_rules.specs.Bodies as bodies
-use Rattle.typing_rules.specs.Check.{Check, TypingState, Broken, pure, ◌>>=◌, ◌<$>◌, with_body, in_new_body, put_before, within_body}
+use Rattle.typing_rules.specs.Check.{Check, TypingState, Broken, pure, ◌>>=◌, with_body, in_new_body, put_before, within_body}
 use Rattle.typing_rules.specs.Named as names
 use Rattle.typing_rules.specs.Named.{PathValue, Makes, IsBroken, path_value, Callee, Function, Constructor, Prints, Asks, Drops, Forgets, Boxes, AValue, Unnamed, NoCallee, callee_of, callee_by, method_named}
 use Rattle.typing_rules.specs.Patterns.{pattern, count_of, target_of}
@@ -29,7 +29,7 @@ use Rattle.typing_rules.specs.Rows.{Typer, Referrer, PatternContext, taken}
 use Rattle.typing_rules.specs.Scope.{Env, NamedEntry, Capture, variable, with_variables, within_loop, jumps_to, in_guard, field_named, adt_named, adt_at_head, body_named, method_of, kind_at}
 use Rattle.typing_rules.specs.Typed as typing
 use Rattle.typing_rules.specs.Written as types
-use Rattle.src_ast.specs.Syntax.{Word, Syn, syn, Shape, Literal, TruthLiteral, Path, Minus, Bang, Star, Ampersand, Calculate, Compare, Both, Either, Store, CallOf, MethodOf, FieldOf, PartOf, ElementOf, StructOf, FieldInit, Ident, Parens, TupleOf, ArrayOf, Braces, IfElse, IfLetElse, MatchOn, ArmOf, LoopOf, WhileOf, WhileLetOf, BreakOf, ContinueOf, ReturnOf, MoveOf, PanicOf, LetOf, Semi, Syns, no_syn, a_syn, MaybeSyn, nothing, just}
+use Rattle.src_ast.specs.Syntax.{Word, Syn, syn, AName, AnExpression, AStatement, AnInit, AnArm, Expression, Literal, TruthLiteral, Path, Minus, Bang, Star, Ampersand, Calculate, Compare, Both, Either, Store, CallOf, MethodOf, FieldOf, PartOf, ElementOf, StructOf, Parens, TupleOf, ArrayOf, Braces, IfElse, IfLetElse, MatchOn, LoopOf, WhileOf, WhileLetOf, BreakOf, ContinueOf, ReturnOf, MoveOf, PanicOf, Statement, LetOf, Empty, Semi, Syns, no_syn, a_syn, MaybeSyn, nothing, just}
 use Rattle.typing_rules.proofs.Sound.Gives.{numbered}
 use Rattle.typing_soundness.specs.Walks.{Walked}
 use Rattle.typing_soundness.proofs.Items.Limits.Patterns.{target_below, pattern_kept, type_kept, answer_kept, params_kept}
@@ -179,9 +179,10 @@ module _ (b : Bounds) where
 
     mutual
       callee_is : (e : Syn) → IsCallee (callee_of items env e)
-      callee_is (syn at form) = form_is form
+      callee_is (syn at (AnExpression e)) = form_is e
+      callee_is _ = tt
 
-      form_is : (form : Shape) → IsCallee (callee_by items env form)
+      form_is : (form : Expression) → IsCallee (callee_by items env form)
       form_is (Parens inside) = callee_is inside
       form_is (Path (Some name) None) = variable_is name (variable env.variables name)
       form_is (Path None None) = self_is env.self_adt refl
@@ -262,7 +263,7 @@ module _ (b : Bounds) where
   -- ---- closures
 
   capture_kept : (env : Env) (k : ℕ) (e : Syn) (earlier : List NamedEntry) → Keeps b (bodies.capture env k e earlier)
-  capture_kept env k (syn at (Ident name)) earlier s h =
+  capture_kept env k (syn at (AName name)) earlier s h =
       walk_obeyed Rule.T01 at (bodies.is_captured name env.variables) _ λ _. walk_obeyed Rule.T02 at (not
       (bodies.is_captured name earlier)) _ λ _. walk_found Rule.T01 at (variable env.variables name) _ λ x is. walk
       (on.variable_kept b at x s h) λ p t l. walk {f = λ n. pure (n, earlier ++ named name x.ty k ∷ [])} (on.taken_kept b env None
@@ -347,16 +348,18 @@ module _ (b : Bounds) where
 
   mutual
     pub typed_kept : (env : Env) → IsNamed b env → (e : Syn) → KeepsTyper b (typing.typed env e)
-    typed_kept env named (syn at form) expected s h =
+    typed_kept env named (syn at (AnExpression form)) expected s h =
         either (typing.is_place env form) (typing.place env at form >>= taken env expected) (typing.value env at form expected) s
         (walk (place_kept env named at form s h) λ p t k. on.taken_kept b env expected p t k) (value_kept env named at form expected s h)
+    typed_kept env named (syn at _) expected s h = record { so = tt }
 
     base_of_kept : (env : Env) → IsNamed b env → (e : Syn) → Keeps b (typing.base_of env e)
-    base_of_kept env named (syn at form) s h =
+    base_of_kept env named (syn at (AnExpression form)) s h =
         either (typing.is_place env form) (typing.place env at form) (typing.value env at form None) s (place_kept env named at
         form s h) (value_kept env named at form None s h)
+    base_of_kept env named (syn at _) s h = record { so = tt }
 
-    place_kept : (env : Env) → IsNamed b env → (at : Pos) (form : Shape) → Keeps b (typing.place env at form)
+    place_kept : (env : Env) → IsNamed b env → (at : Pos) (form : Expression) → Keeps b (typing.place env at form)
     place_kept env named at (Path first second) s h =
         base_kept env named at first second (typing.variable_of env first second) s h
     place_kept env named at (FieldOf base name) s h =
@@ -370,7 +373,7 @@ module _ (b : Bounds) where
     place_kept env named at (Parens inside) s h = base_of_kept env named inside s h
     place_kept env named at _ s h = record { so = tt }
 
-    value_kept : (env : Env) → IsNamed b env → (at : Pos) (form : Shape) → KeepsTyper b (typing.value env at form)
+    value_kept : (env : Env) → IsNamed b env → (at : Pos) (form : Expression) → KeepsTyper b (typing.value env at form)
     value_kept env named at (Path first second) expected s h = path_alone_kept env named at first second expected s h
     value_kept env named at (Parens inside) expected s h = typed_kept env named inside expected s h
     value_kept env named at (Literal n suffix) expected s h = on.literal_kept b at false n suffix expected s h
@@ -469,15 +472,14 @@ module _ (b : Bounds) where
 
     statement_kept : (env : Env) → IsNamed b env → (e : Syn) (s : TypingState) → Inside b s.items → Walked (λ done t. Inside b
         t.items × IsNamed b done.2) (typing.statement env e s)
-    statement_kept env named (syn at form) s h =
-        either (typing.is_expression form) (typing.a_statement <$> rows.evaluate at env false (λ expected. if typing.is_place env
-        form then (typing.place env at form >>= taken env expected) else typing.value env at form expected)) (typing.other_statement
-        env at form) s (walk (on.evaluate_kept b (IsNamed b) at env false _ named (λ expected t k. either (typing.is_place env form)
+    statement_kept env named (syn at (AnExpression form)) s h =
+        walk (on.evaluate_kept b (IsNamed b) at env false _ named (λ expected t k. either (typing.is_place env form)
         (typing.place env at form >>= taken env expected) (typing.value env at form expected) t (walk (place_kept env named at form t k)
-        λ p u l. on.taken_kept b env expected p u l) (value_kept env named at form expected t k)) s h) λ n t k. walk_ends k) (other_kept env
-        named at form s h)
+        λ p u l. on.taken_kept b env expected p u l) (value_kept env named at form expected t k)) s h) λ n t k. walk_ends k
+    statement_kept env named (syn at (AStatement form)) s h = other_kept env named at form s h
+    statement_kept env named (syn at _) s h = record { so = tt }
 
-    other_kept : (env : Env) → IsNamed b env → (at : Pos) (form : Shape) (s : TypingState) → Inside b s.items → Walked (λ done t.
+    other_kept : (env : Env) → IsNamed b env → (at : Pos) (form : Statement) (s : TypingState) → Inside b s.items → Walked (λ done t.
         Inside b t.items × IsNamed b done.2) (typing.other_statement env at form s)
     other_kept env named at (LetOf p ty initialiser) s h =
         walk (on.let_kept b (IsNamed b) at env (typing.is_one_name s.items p) (typing.declared env ty) (typing.initialised env
@@ -487,7 +489,7 @@ module _ (b : Bounds) where
     other_kept env named at (Semi e) s h =
         walk (on.evaluate_kept b (IsNamed b) at env true (typing.typed env e) named (typed_kept env named e) s h) λ n t k.
         walk_ends k
-    other_kept env named at _ s h = walk_ends (h, named)
+    other_kept env named at Empty s h = walk_ends (h, named)
 
     initialised_kept : (env : Env) → IsNamed b env → (one : Bool) (e : MaybeSyn) (expected : Option TyId) → Keeps b
         (typing.initialised env one e expected)
@@ -496,10 +498,11 @@ module _ (b : Bounds) where
     initialised_kept env named false (just e) expected s h = walk (for_parts_kept env named expected e s h) λ n t k. walk_ends k
 
     for_parts_kept : (env : Env) → IsNamed b env → (expected : Option TyId) (e : Syn) → Keeps b (typing.for_parts env expected e)
-    for_parts_kept env named expected (syn at form) s h =
+    for_parts_kept env named expected (syn at (AnExpression form)) s h =
         either (typing.is_place env form) (typing.place env at form >>= rows.place_for_parts env expected) (typing.value env at
         form expected) s (walk (place_kept env named at form s h) λ p t k. on.in_parts_kept b env expected p t k) (value_kept env named at
         form expected s h)
+    for_parts_kept env named expected (syn at _) s h = record { so = tt }
 
     args_kept : (env : Env) → IsNamed b env → (params : List TyId) (args : Syns) → Keeps b (typing.typed_args env params args)
     args_kept env named params no_syn s h = walk_ends h
@@ -510,14 +513,15 @@ module _ (b : Bounds) where
         env named e) s h) λ n t k. walk (args_kept env named params es t k) λ ns u l. walk_ends l
 
     by_reference_kept : (env : Env) → IsNamed b env → (e : Syn) → KeepsReferrer b (typing.by_reference env e)
-    by_reference_kept env named (syn at form) expected unique to s h =
+    by_reference_kept env named (syn at (AnExpression form)) expected unique to s h =
         either (typing.may_refer form) (typing.reference_form env at form expected unique to) (if typing.is_place env form then
         (typing.place env at form >>= taken env (Some expected)) else typing.value env at form (Some expected)) s (reference_kept env
         named at form expected unique to s h) (either (typing.is_place env form) (typing.place env at form >>= taken env (Some
         expected)) (typing.value env at form (Some expected)) s (walk (place_kept env named at form s h) λ p t k. on.taken_kept b env
         (Some expected) p t k) (value_kept env named at form (Some expected) s h))
+    by_reference_kept env named (syn at _) expected unique to s h = record { so = tt }
 
-    reference_kept : (env : Env) → IsNamed b env → (at : Pos) (form : Shape) → KeepsReferrer b (typing.reference_form env at
+    reference_kept : (env : Env) → IsNamed b env → (at : Pos) (form : Expression) → KeepsReferrer b (typing.reference_form env at
         form)
     reference_kept env named at (Ampersand unique base) expected is_unique to s h =
         on.borrow_kept b at unique (typing.base_of env base) (base_of_kept env named base) expected is_unique to s h
@@ -529,7 +533,7 @@ module _ (b : Bounds) where
 
     inits_kept : (env : Env) → IsNamed b env → (v : Variant) (inits : Syns) → Keeps b (typing.typed_inits env v inits)
     inits_kept env named v no_syn s h = walk_ends h
-    inits_kept env named v (a_syn (syn at (FieldInit name init)) rest) s h =
+    inits_kept env named v (a_syn (syn at (AnInit name init)) rest) s h =
         walk (init_kept env named at name init (typing.field_want v (field_named v name)) s h) λ n t k. walk (inits_kept env named
         v rest t k) λ fs u l. walk_ends l
     inits_kept env named v (a_syn (syn at _) rest) s h = record { so = tt }
@@ -555,7 +559,7 @@ module _ (b : Bounds) where
     arms_kept : (env : Env) → IsNamed b env → (e : PatternContext) (ty : TyId) (expected : Option TyId) (arms : Syns) → Keeps b
         (typing.typed_arms env e ty expected arms)
     arms_kept env named e ty expected no_syn s h = walk_ends h
-    arms_kept env named e ty expected (a_syn (syn at (ArmOf p guard body)) rest) s h =
+    arms_kept env named e ty expected (a_syn (syn at (AnArm p guard body)) rest) s h =
         walk (on.arm_kept b (pattern env e ty p []) (λ xs. typing.typed_maybe (with_variables (in_guard xs) env) guard (Some
         bool)) (λ xs. typing.typed (with_variables xs env) body) (pattern_kept b env named e ty p []) (λ xs. maybe_kept
         (with_variables (in_guard xs) env) named guard (Some bool)) (λ xs. typed_kept (with_variables xs env) named body) expected s

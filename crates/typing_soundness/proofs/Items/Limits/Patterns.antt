@@ -19,7 +19,7 @@ use Rattle.typing_rules.specs.Patterns as rules
 use Rattle.typing_rules.specs.Rows.{PatternContext, is_signed_kind, most, all_given, are_known}
 use Rattle.typing_rules.specs.Scope.{Env, NamedEntry, adt_named, adt_at_head, kind_at, variable, variant_named, field_named}
 use Rattle.typing_rules.specs.Written as types
-use Rattle.src_ast.specs.Syntax.{Word, Receiver, ByValue, ByShared, ByUnique, Syn, syn, Shape, AnyPattern, BindPattern, LiteralPattern, TruthPattern, PathPattern, PartsPattern, FieldsPattern, FieldPattern, ParensPattern, TuplePattern, ArrayPattern, Alternatives, ParamOf, SelfParam, Syns, no_syn, a_syn, MaybeSyn, nothing, just}
+use Rattle.src_ast.specs.Syntax.{Word, Receiver, ByValue, ByShared, ByUnique, Syn, syn, APattern, AParam, AFieldPattern, Pattern, AnyPattern, BindPattern, LiteralPattern, TruthPattern, PathPattern, PartsPattern, FieldsPattern, ParensPattern, TuplePattern, ArrayPattern, Alternatives, ParamOf, SelfParam, Syns, no_syn, a_syn, MaybeSyn, nothing, just}
 use Rattle.typing_rules.proofs.Sound.Gives.{numbered}
 use Rattle.typing_soundness.specs.Walks.{Walked}
 use Rattle.typing_soundness.proofs.Items.Limits.Rows.{Inside, Keeps, still_kept, IsNamed, named_below, head_below, intern_kept}
@@ -136,9 +136,10 @@ module _ (b : Bounds) where
   module _ (env : Env) (named : IsNamed b env) where
     mutual
       pub pattern_kept : (e : PatternContext) (ty : TyId) (p : Syn) (earlier : List NamedEntry) → Keeps b (rules.pattern env e ty p earlier)
-      pattern_kept e ty (syn at form) earlier s h = form_kept e ty at form earlier s h
+      pattern_kept e ty (syn at (APattern p)) earlier s h = form_kept e ty at p earlier s h
+      pattern_kept e ty _ earlier s h = record { so = tt }
 
-      form_kept : (e : PatternContext) (ty : TyId) (at : Pos) (form : Shape) (earlier : List NamedEntry) → Keeps b (rules.pattern_form env
+      form_kept : (e : PatternContext) (ty : TyId) (at : Pos) (form : Pattern) (earlier : List NamedEntry) → Keeps b (rules.pattern_form env
           e ty at form earlier)
       form_kept e ty at AnyPattern earlier s h = walk_ends h
       form_kept e ty at (BindPattern name) earlier s h = lone_name_kept env at e ty name earlier s h
@@ -177,7 +178,6 @@ module _ (b : Bounds) where
       form_kept e ty at (Alternatives patterns) earlier s h =
           walk_obeyed Rule.T20 at (nat_lt 1 (rules.count_of patterns)) _ λ _. walk (each_kept e ty patterns earlier (numbered s)
           h) λ ps t k. walk_obeyed Rule.T18 at (not (rules.has_names earlier ps.1)) _ λ _. walk_ends k
-      form_kept e ty at _ earlier s h = record { so = tt }
 
       parts_kept : (e : PatternContext) (tys : List TyId) (parts : Syns) (earlier : List NamedEntry) → Keeps b (rules.part_patterns env e
           tys parts earlier)
@@ -200,9 +200,9 @@ module _ (b : Bounds) where
 
       field_kept : (e : PatternContext) (v : Variant) (field : Syn) (earlier : List NamedEntry) → Keeps b (rules.field_pattern env e v field
           earlier)
-      field_kept e v (syn at (FieldPattern name nothing)) earlier s h =
+      field_kept e v (syn at (AFieldPattern name nothing)) earlier s h =
           field_by_kept v name earlier (λ ty. rules.bind at e ty name earlier) (λ ty. bind_kept at e ty name earlier) s h
-      field_kept e v (syn at (FieldPattern name (just inside))) earlier s h =
+      field_kept e v (syn at (AFieldPattern name (just inside))) earlier s h =
           field_by_kept v name earlier (λ ty. rules.pattern env e ty inside earlier) (λ ty. pattern_kept e ty inside earlier) s h
       field_kept e v (syn at _) earlier s h = record { so = tt }
 
@@ -235,10 +235,10 @@ module _ (b : Bounds) where
 
     module _ (ty_of_param : Syn → Check TyId) (good : (ty : Syn) → Keeps b (ty_of_param ty)) where
       param_kept : (p : Syn) (earlier : List NamedEntry) → Keeps b (bodies.param env ty_of_param p earlier)
-      param_kept (syn at (ParamOf p ty)) earlier s h =
+      param_kept (syn at (AParam (ParamOf p ty))) earlier s h =
           walk (good ty s h) λ t u k. walk_obeyed Rule.T08 at (is_name_or_wildcard p || not (is_reference u.items t)) _ λ _.
           walk (pattern_kept param_pattern_context t p earlier u k) λ n v l. walk_ends l
-      param_kept (syn at (SelfParam receiver)) earlier s h = walk (receiver_kept at receiver s h) λ ty t k. walk_ends k
+      param_kept (syn at (AParam (SelfParam receiver))) earlier s h = walk (receiver_kept at receiver s h) λ ty t k. walk_ends k
       param_kept (syn at _) earlier s h = record { so = tt }
 
       pub params_kept : (params : Syns) (earlier : List NamedEntry) → Keeps b (bodies.params_of env ty_of_param params earlier)

@@ -24,7 +24,7 @@ use Rattle.typing_rules.specs.Program as rules
 use Rattle.typing_rules.specs.Promises.{Extends}
 use Rattle.typing_rules.specs.Scope.{Env, adt_named, body_named}
 use Rattle.typing_rules.specs.Written as types
-use Rattle.src_ast.specs.Syntax.{Word, Named, Syn, syn, StructItem, EnumItem, FieldDecl, VariantDecl, TraitItem, ImplItem, FnItem, Syns, list_of, MaybeSyn, nothing, just}
+use Rattle.src_ast.specs.Syntax.{Word, Named, Syn, syn, AnItem, AField, AVariant, StructItem, EnumItem, TraitItem, ImplItem, FnItem, Syns, list_of, MaybeSyn, nothing, just}
 use Rattle.typing_soundness.specs.Closures.{BodySyn, Tape, program_text}
 use Rattle.typing_soundness.specs.Items.{is_within_limits}
 use Rattle.typing_soundness.specs.Met.{IsBodyOf, AreMade, behind}
@@ -64,7 +64,7 @@ module _ (b : Bounds) where
 
   module _ (env : Env) (named : IsNamed b env) where
     field_kept : (earlier : List Word) (f : Syn) → Keeps b (rules.field env earlier f)
-    field_kept earlier (syn at (FieldDecl name ty)) s h =
+    field_kept earlier (syn at (AField name ty)) s h =
         walk (type_kept b env named ty s h) λ _ t k. walk_obeyed Rule.T02 at (not (is_among name earlier)) _ λ _. walk_ends k
     field_kept earlier (syn at form) s h =
         walk (type_kept b env named (syn at form) s h) λ _ t k. walk_ends {a = earlier} {t = t} k
@@ -75,7 +75,7 @@ module _ (b : Bounds) where
 
     variants_kept : (earlier : List Word) (vs : List Syn) → Keeps b (rules.variants env earlier vs)
     variants_kept earlier [] s h = walk_ends h
-    variants_kept earlier (syn at (VariantDecl name kind fs) ∷ vs) s h =
+    variants_kept earlier (syn at (AVariant name kind fs) ∷ vs) s h =
         walk (fields_kept [] (list_of fs) s h) λ _ t k. walk_obeyed Rule.T02 at (not (is_among name earlier)) _ λ _.
         walk_obeyed Rule.T19 at (nat_le (rules.count_of fs) 32) _ λ _. variants_kept (name ∷ earlier) vs t k
     variants_kept earlier (syn at _ ∷ vs) s h = record { so = tt }
@@ -90,7 +90,7 @@ module _ (b : Bounds) where
 
     trait_heads_kept : (earlier : List Word) (hs : List Syn) → Keeps b (rules.trait_heads env earlier hs)
     trait_heads_kept earlier [] s h = walk_ends h
-    trait_heads_kept earlier (syn at (FnItem name params answer block) ∷ hs) s h =
+    trait_heads_kept earlier (syn at (AnItem (FnItem name params answer block)) ∷ hs) s h =
         walk (head_kept (rules.behind_self params) answer s h) λ _ t k. walk_obeyed Rule.T02 name.0 (not (is_among name.1
         earlier)) _ λ _. walk_obeyed Rule.T11 at (rules.takes_reference params && not (bytes_eq name.1 (codes "drop"))) _ λ
         _. trait_heads_kept (name.1 ∷ earlier) hs t k
@@ -99,7 +99,7 @@ module _ (b : Bounds) where
     method_heads_kept : (trait_ : Option Named) (owner : Word) (seen : rules.Seen) (ms : List Syn) → Keeps b
         (rules.method_heads env trait_ owner seen ms)
     method_heads_kept trait_ owner seen [] s h = walk_ends h
-    method_heads_kept trait_ owner seen (syn at (FnItem name params answer block) ∷ ms) s h =
+    method_heads_kept trait_ owner seen (syn at (AnItem (FnItem name params answer block)) ∷ ms) s h =
         walk (head_kept params answer s h) λ _ t k. walk_obeyed Rule.T02 name.0 (not (rules.is_seen owner name.1 seen)) _ λ _.
         walk_obeyed Rule.T11 at (rules.has_head t.items trait_ owner name.1 params) _ λ _. method_heads_kept trait_ owner
         ((owner, name.1) ∷ seen) ms t k
@@ -119,7 +119,7 @@ module _ (b : Bounds) where
         ps t k. walk (answer_kept b env named answer t k) λ a u l. record { so = tt }
 
     fn_kept : (f : Syn) → Keeps b (rules.fn_rules env f)
-    fn_kept (syn at (FnItem name params answer block)) s h =
+    fn_kept (syn at (AnItem (FnItem name params answer block))) s h =
         walk (body_kept b (in_function env at s.next_body params answer (rules.block_of block at)) s' (function_kept at
         s.next_body params answer block (record s' { bodies = []; next_node = 0; breaks = [] }) h)) λ _ t k. walk_ends k
       where
@@ -147,27 +147,27 @@ module _ (b : Bounds) where
     }
 
     item_kept : (before : rules.Before) (i : Syn) → Keeps b (rules.item_rules env before i)
-    item_kept before (syn at (StructItem ds name kind fs)) s h =
+    item_kept before (syn at (AnItem (StructItem ds name kind fs))) s h =
         walk (fields_kept (rules.in_impl env (adt_named s.items name.1)) (impl_named name.1 s.items h) [] (list_of fs) s h) λ _
         t k. walk_obeyed Rule.T19 at (nat_le (rules.count_of fs) 32) _ λ _. walk_ends k
-    item_kept before (syn at (EnumItem ds name vs)) s h =
+    item_kept before (syn at (AnItem (EnumItem ds name vs))) s h =
         walk (variants_kept (rules.in_impl env (adt_named s.items name.1)) (impl_named name.1 s.items h) [] (list_of vs) s h) λ
         _ t k. walk_obeyed Rule.T19 at (nat_le (rules.count_of vs) 64) _ λ _. walk_ends k
-    item_kept before (syn at (TraitItem name heads)) s h =
+    item_kept before (syn at (AnItem (TraitItem name heads))) s h =
         walk (trait_heads_kept env named [] (list_of heads) s h) λ _ t k. walk_ends k
-    item_kept before (syn at (ImplItem trait_ name methods)) s h =
+    item_kept before (syn at (AnItem (ImplItem trait_ name methods))) s h =
         walk (method_heads_kept (rules.in_impl env (adt_named s.items name.1)) (impl_named name.1 s.items h) trait_ name.1
         before.methods (list_of methods) s h) λ seen t k. walk_obeyed Rule.T11 at (not (rules.is_repeated trait_ name.1
         before.impls) && rules.has_all (rules.asked_for s.items trait_) (rules.method_names methods)) _ λ _. walk_ends k
-    item_kept before (syn at (FnItem name params answer block)) s h =
+    item_kept before (syn at (AnItem (FnItem name params answer block))) s h =
         walk (head_kept env named params answer s h) λ _ t k. walk (main_kept at name.1 params (option_and_then (slice_get
         t.items.bodies) (body_named t.items name.1)) t k) λ _ u l. walk_ends l
     item_kept before (syn at _) s h = record { so = tt }
 
     bodies_kept : (i : Syn) → Keeps b (rules.bodies_of env i)
-    bodies_kept (syn at (ImplItem trait_ name methods)) s h =
+    bodies_kept (syn at (AnItem (ImplItem trait_ name methods))) s h =
         all_fn_kept (rules.in_impl env (adt_named s.items name.1)) (impl_named name.1 s.items h) (list_of methods) s h
-    bodies_kept (syn at (FnItem name params answer block)) s h = fn_kept env named (syn at (FnItem name params answer block)) s h
+    bodies_kept (syn at (AnItem (FnItem name params answer block))) s h = fn_kept env named (syn at (AnItem (FnItem name params answer block))) s h
     bodies_kept (syn at _) s h = walk_ends h
 
     all_kept : (before : rules.Before) (is : List Syn) → Keeps b (rules.all_items env before is)

@@ -14,7 +14,7 @@ use Rattle.mir_ty.proofs.ListLemmas.{slice_get-push_cases}
 use Rattle.well_typed.specs.Items.{is_equal}
 use Rattle.typing_rules.specs.Check.{TypingState, interned, interned_at}
 use Rattle.typing_rules.specs.Written as types
-use Rattle.src_ast.specs.Syntax.{Syn, syn, Shape, NamedType, GenericType, DynType, SelfType, ParensType, TupleType, ArrayType, NeverType, RefType, Syns, no_syn, a_syn}
+use Rattle.src_ast.specs.Syntax.{Syn, syn, AType, WrittenType, NamedType, GenericType, DynType, SelfType, ParensType, TupleType, ArrayType, NeverType, RefType, Syns, no_syn, a_syn}
 use Rattle.typing_soundness.specs.Walks.{Walked}
 use Rattle.typing_soundness.proofs.Walking.Steps.{walk, walk_map, walk_obeyed, walk_found, walk_ends}
 
@@ -99,9 +99,10 @@ module _ (b : Bounds) where
 
     mutual
       pub written_in : (e : Syn) (s : TypingState) → AreIn b s.items → Walked (λ ty t. AreIn b t.items) (types.written full e s)
-      written_in (syn at form) s h = form_in at form s h
+      written_in (syn at (AType t)) s h = form_in at t s h
+      written_in _ s h = record { so = tt }
 
-      form_in : (at : Pos) (form : Shape) (s : TypingState) → AreIn b s.items → Walked (λ ty t. AreIn b t.items)
+      form_in : (at : Pos) (form : WrittenType) (s : TypingState) → AreIn b s.items → Walked (λ ty t. AreIn b t.items)
           (types.written_form full at form s)
       form_in at (NamedType name) s h =
           named_in at (types.number_of around.adts name) (types.scalar_named name) s (λ n is. let e = position_below _
@@ -125,7 +126,6 @@ module _ (b : Bounds) where
           few)
       form_in at NeverType s h = walk_ends h
       form_in at (RefType unique to) s h = walk (written_in to s h) λ ty t k. record { so = tt }
-      form_in at _ s h = record { so = tt }
 
       all_in : (xs : Syns) (s : TypingState) → AreIn b s.items → Walked (λ tys t. AreIn b t.items) (types.all_written full xs s)
       all_in no_syn s h = walk_ends h
@@ -135,9 +135,10 @@ module _ (b : Bounds) where
     mutual
       pub written_param_in : (e : Syn) (s : TypingState) → AreIn b s.items → Walked (λ ty t. AreIn b t.items) (types.written_param
           full e s)
-      written_param_in (syn at form) s h = param_form_in at form s h
+      written_param_in (syn at (AType t)) s h = param_form_in at t s h
+      written_param_in _ s h = record { so = tt }
 
-      param_form_in : (at : Pos) (form : Shape) (s : TypingState) → AreIn b s.items → Walked (λ ty t. AreIn b t.items)
+      param_form_in : (at : Pos) (form : WrittenType) (s : TypingState) → AreIn b s.items → Walked (λ ty t. AreIn b t.items)
           (types.written_param_form full at form s)
       param_form_in at (ParensType inside) s h = written_param_in inside s h
       param_form_in at (RefType unique to) s h =
