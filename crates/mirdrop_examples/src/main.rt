@@ -2,11 +2,13 @@
 //! example of the table in `data/README.md`, one for each file of rows, and one for each check that is code.
 #![tactic(auto)]
 
+mod bits;
 mod calls;
 mod deep;
 mod edges;
 mod examples;
 mod faults;
+mod looks;
 mod rows;
 mod runs;
 mod trees;
@@ -62,6 +64,7 @@ fn layers_told(rt: &(impl Print + AllocGlobal)) -> io::Result<()> {
         Ok(deep::walk_deep_values(alloc)),
     )?;
     tell(rt, "long and deep graphs", Ok(deep::graphs(alloc)))?;
+    tell(rt, "rows of bits", Ok(bits::rows_of_bits(alloc)))?;
     tell(
         rt,
         "calls that no run makes",
@@ -72,6 +75,7 @@ fn layers_told(rt: &(impl Print + AllocGlobal)) -> io::Result<()> {
 fn main(rt: HostRuntime) -> io::Result<()> {
     examples::write_examples(&rt)?;
     rows::write_rows(&rt)?;
+    looks::write_looks(&rt)?;
     faults_told(&rt)?;
     trees_told(&rt)?;
     layers_told(&rt)

@@ -80,7 +80,8 @@ pub fn refused_answer(alloc: Global, refusal: &Refusal) -> Result<Answer, NoMemo
     })
 }
 
-fn put_error(out: &mut String, error: ListingError) -> Result<(), AllocError>
+/// Puts the line of a refusal of a listing behind a text.
+pub fn put_listing_refusal(out: &mut String, error: ListingError) -> Result<(), AllocError>
     ensures { OnOk result (string_bytes out.new ≡ string_bytes out.old ++ refusals.error_line error) }
 {
     match error {
@@ -100,7 +101,7 @@ pub fn refused_listing(alloc: Global, error: ListingError) -> Result<Answer, NoM
         return Err(NoMemory);
     }
     let mut text = String::new(alloc);
-    put_error(&mut text, error)?;
+    put_listing_refusal(&mut text, error)?;
     Ok(Answer {
         status: 1,
         text: text.into_bytes(),

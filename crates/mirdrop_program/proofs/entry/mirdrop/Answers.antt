@@ -1,7 +1,7 @@
 use Rattle.std.proofs.Common.{refl, map, string_bytes}
 use Rattle.mirdrop_program.specs.TopCall.{wrong_words}
 use Rattle.mirdrop_program.proofs.TopCall.{delivers, wants_memory, completes}
-use Rattle.mirdrop_program.proofs.top.mirdrop.Goals as goal
+use Rattle.mirdrop_program.proofs.entry.mirdrop.Goals as goal
 
 pub returns-in-Ok-clause-complete : goal.returns-in-Ok-clause-complete
 returns-in-Ok-clause-complete g c = completes _ _ _ _ _ _ c.with_request.result (c.with_request.ensures.answer _ c.in-Ok.ensures.request)

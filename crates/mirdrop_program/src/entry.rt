@@ -1,4 +1,4 @@
-//! The top call.
+//! The entry of the program: words, a source and a sink to a status.
 ghost use Rattle.std.specs.Prelude.{◌≡◌, ◌≤◌, ◌<◌, ◌⊎◌, ℕ, List, [], length, map, string_bytes, Some, None, true};
 ghost use Rattle.mir_edge.specs.Faults.{HasRisen};
 ghost use Rattle.mir_edge.specs.Told.{WhereTold};

@@ -1,7 +1,7 @@
 use Rattle.std.proofs.Common.{refl}
 use Rattle.mirdrop_program.specs.TopCall.{not_read, too_long}
 use Rattle.mirdrop_program.proofs.TopCall.{delivers, wants_memory, answers_text, response, fault_is_no_answer}
-use Rattle.mirdrop_program.proofs.top.with_request.Goals as goal
+use Rattle.mirdrop_program.proofs.entry.with_request.Goals as goal
 
 pub returns-in-Ok-clause-read_fault : goal.returns-in-Ok-clause-read_fault
 returns-in-Ok-clause-read_fault g c e = absurd ((response _ _ _ _ _ c.respond.result c.respond.ensures.done).no_read_fault e)

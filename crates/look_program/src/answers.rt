@@ -1,0 +1,166 @@
+//! What a text is answered.
+ghost use Rattle.std.specs.Prelude.{◌≡◌, ◌≤◌, IfOk, length};
+ghost use Rattle.listing_write.specs.Listing.{IsShortGraph};
+ghost use Rattle.mirdrop_program.specs.Owed.{accepted_line};
+ghost use Rattle.mirdrop_program.specs.Refusals.{IsTold, IsToldError};
+ghost use Rattle.look_program.specs.Answered.{graph_text, is_listing, Owed, OwedToListing, OwedToProgram};
+ghost use Rattle.look_program.specs.Drawings.{drawing};
+ghost use Rattle.look_program.specs.Explanations as explanations;
+ghost use Rattle.look_program.specs.declared.look.Look.{Look as a_look};
+
+use crate::Look;
+use crate::drawings::draw;
+use crate::explanations::{explanation, listing_explanation};
+use cfg_graph::Graph;
+use mir_base::NoMemory;
+use mir_pipeline::{Refusal, build_raw, checked};
+use mir_text::{ListingError, read_listing};
+use std::alloc::Global;
+
+/// An answer that is made whole before its first byte is written.
+#[derive(Drop)]
+pub struct Answer {
+    pub status: u8,
+    pub text: Vec<u8>,
+}
+
+fn accepted_answer(alloc: Global) -> Result<Answer, NoMemory>
+    ensures status { IfOk result (λ answer. answer.status ≡ 0) }
+    ensures text { IfOk result (λ answer. answer.text.items ≡ accepted_line) }
+{
+    let text = String::from_str(alloc, "accepted\n")?;
+    Ok(Answer {
+        status: 0,
+        text: text.into_bytes(),
+    })
+}
+
+/// The answer to a program that is refused so.
+fn refused_answer(alloc: Global, text: &[u8], refusal: &Refusal) -> Result<Answer, NoMemory>
+    ensures told { IfOk result (λ answer. IsTold refusal.now) }
+    ensures status { IfOk result (λ answer. answer.status ≡ 1) }
+    ensures text { IfOk result (λ answer. answer.text.items ≡ explanations.explanation text.now refusal.now) }
+{
+    if matches!(refusal, Refusal::Memory) {
+        return Err(NoMemory);
+    }
+    Ok(Answer {
+        status: 1,
+        text: explanation(alloc, text, refusal)?,
+    })
+}
+
+/// The answer to a listing that is refused so.
+fn refused_listing(alloc: Global, text: &[u8], error: ListingError) -> Result<Answer, NoMemory>
+    ensures told { IfOk result (λ answer. IsToldError error) }
+    ensures status { IfOk result (λ answer. answer.status ≡ 1) }
+    ensures text { IfOk result (λ answer. answer.text.items ≡ explanations.listing_explanation text.now error) }
+{
+    if matches!(error, ListingError::Memory) {
+        return Err(NoMemory);
+    }
+    Ok(Answer {
+        status: 1,
+        text: listing_explanation(alloc, text, error)?,
+    })
+}
+
+/// The drawing of a graph, as an answer.
+fn drawn_answer(alloc: Global, graph: &Graph) -> Result<Answer, NoMemory>
+    requires { IsShortGraph graph.now }
+    ensures status { IfOk result (λ answer. answer.status ≡ 0) }
+    ensures text { IfOk result (λ answer. answer.text.items ≡ drawing graph.now) }
+{
+    Ok(Answer {
+        status: 0,
+        text: draw(alloc, graph)?,
+    })
+}
+
+fn explain_program(alloc: Global, text: &[u8]) -> Result<Answer, NoMemory>
+    requires { length text.now ≤ 131072 }
+    ensures { IfOk result (λ answer. OwedToProgram text.now a_look.Explain answer.status answer.text.items) }
+{
+    match checked(alloc, text) {
+        Ok(lowered) => {
+            lowered.discard();
+            accepted_answer(alloc)
+        }
+        Err(refusal) => refused_answer(alloc, text, &refusal),
+    }
+}
+
+fn draw_program(alloc: Global, text: &[u8]) -> Result<Answer, NoMemory>
+    requires { length text.now ≤ 131072 }
+    ensures { IfOk result (λ answer. OwedToProgram text.now a_look.Dot answer.status answer.text.items) }
+{
+    match build_raw(alloc, text) {
+        Ok(lowered) => {
+            let answer = drawn_answer(alloc, &lowered.graph);
+            lowered.discard();
+            answer
+        }
+        Err(refusal) => refused_answer(alloc, text, &refusal),
+    }
+}
+
+fn program_answer(alloc: Global, look: Look, text: &[u8]) -> Result<Answer, NoMemory>
+    requires { length text.now ≤ 131072 }
+    ensures { IfOk result (λ answer. OwedToProgram text.now look answer.status answer.text.items) }
+{
+    match look {
+        Look::Explain => explain_program(alloc, text),
+        Look::Dot => draw_program(alloc, text),
+    }
+}
+
+/// The answer to a listing of this graph.
+fn graph_answer(alloc: Global, look: Look, graph: &Graph) -> Result<Answer, NoMemory>
+    requires { IsShortGraph graph.now }
+    ensures status { IfOk result (λ answer. answer.status ≡ 0) }
+    ensures text { IfOk result (λ answer. answer.text.items ≡ graph_text look graph.now) }
+{
+    match look {
+        Look::Explain => accepted_answer(alloc),
+        Look::Dot => drawn_answer(alloc, graph),
+    }
+}
+
+fn listing_answer(alloc: Global, look: Look, text: &[u8]) -> Result<Answer, NoMemory>
+    requires { length text.now ≤ 131072 }
+    ensures { IfOk result (λ answer. OwedToListing text.now look answer.status answer.text.items) }
+{
+    match read_listing(alloc, text) {
+        Ok(graph) => {
+            let answer = graph_answer(alloc, look, &graph);
+            graph.discard();
+            answer
+        }
+        Err(error) => refused_listing(alloc, text, error),
+    }
+}
+
+fn begins_as_listing(text: &[u8]) -> bool
+    ensures { result ≡ is_listing text.now }
+{
+    text.starts_with(b"mirdrop ")
+}
+
+/// What a text of at most 131,072 bytes is answered. A text that begins with `mirdrop ` is read as a listing, any other as
+/// a program.
+///
+/// The status is 0 where the text is accepted (`explain`) or has a graph (`dot`), and 1 where it is refused.
+///
+/// # Errors
+///
+/// [`NoMemory`] where memory is wanted.
+pub fn answer_text(alloc: Global, look: Look, text: &[u8]) -> Result<Answer, NoMemory>
+    requires { length text.now ≤ 131072 }
+    ensures { IfOk result (λ answer. Owed text.now look answer.status answer.text.items) }
+{
+    if begins_as_listing(text) {
+        listing_answer(alloc, look, text)
+    } else {
+        program_answer(alloc, look, text)
+    }
+}
