@@ -1,14 +1,14 @@
 -- What is taken lies apart from what a reference names that the action spares: the addresses of both take different
 -- parts of some value.
-use Rattle.std.proofs.Common.{◌≡◌, ◌≢◌, ◌⊎◌, inl, inr, ℕ, zero, suc, ◌==◌, ◌&&◌, ◌||◌, not, Bool, true, false, List, [], ◌∷◌, ◌++◌, length, Option, Some, None, if◌then◌else◌, slice_get, refl, ap, sym, ◌∙◌, subst}
-use Rattle.std.specs.List.{list_any, list_all}
+use Rattle.std.proofs.Common.{◌≡◌, ◌≢◌, ◌⊎◌, inl, inr, ℕ, zero, suc, ◌==◌, ◌&&◌, ◌||◌, not, Bool, true, false, List, [], ◌∷◌, length, Some, None, slice_get, refl, ap, sym, ◌∙◌, subst}
+use Rattle.std.specs.List.{list_any}
 use Rattle.std.specs.Option.{option_map_or}
 use Rattle.std.proofs.lemmas.Bool.{false≢true}
 use Rattle.std.proofs.lemmas.Bool.Decides.{Decides-eqb, eqb_tells}
 use Rattle.std.proofs.lemmas.Option.{none-some}
 use Rattle.mir_ty.specs.ItemTable.{ItemTable}
 use Rattle.cfg_graph.specs.declared.graph.Body.{Body}
-use Rattle.cfg_graph.specs.Moves.Gone.{PathAction, are_first, leaves_gone}
+use Rattle.cfg_graph.specs.Moves.Gone.{PathAction, are_first}
 use Rattle.cfg_graph.specs.NamedPlaces.{as_laid_out, one_goes_on, overlaps, behind, follow, named_by, references_made, followed, named_places, takes, goes_through, overlap, spares}
 use Rattle.store_model.specs.declared.address.Addr.{Addr}
 use Rattle.store_model.specs.declared.address.At.{At}
@@ -17,7 +17,7 @@ use Rattle.store_model.specs.Concrete.Location.{DynamicType}
 use Rattle.store_model.specs.Places.Place.{Step, ToPart, ToField, ToContent, ToElement, Place, before_element}
 use Rattle.store_model.specs.Values.Datum.{Datum}
 use Rattle.drop_values.proofs.Staying.{Diverge}
-use Rattle.drop_values.proofs.TypedSteps.{GoesOnAs, RunsAlong}
+use Rattle.drop_values.proofs.TypedSteps.{RunsAlong}
 use Rattle.drop_values.proofs.Ways.{Way, ends, to_part, to_field, to_content}
 
 -- the path of a way runs along its steps

@@ -1,7 +1,7 @@
 -- From the beginning of each block the elaborated body does as the raw one up to the beginnings of the next blocks,
 -- turns and the first block too, given what its drops do.
-use Rattle.std.proofs.Common.{◌≡◌, ℕ, zero, suc, ◌≤◌, ◌<◌, ◌==◌, nat_eq, ◌||◌, Bool, true, false, List, [], ◌∷◌, ◌++◌, length, Option, Some, None, if◌then◌else◌, slice_get, Contains, refl, ap, sym, ◌∙◌, subst, arith}
-use Rattle.std.specs.List.{list_any, list_all}
+use Rattle.std.proofs.Common.{◌≡◌, ◌⊎◌, inl, inr, ℕ, zero, suc, ◌≤◌, ◌<◌, ◌==◌, nat_eq, ◌||◌, Bool, true, false, List, [], ◌∷◌, ◌++◌, length, Option, Some, None, if◌then◌else◌, slice_get, Contains, refl, ap, sym, ◌∙◌, subst, arith}
+use Rattle.std.specs.List.{list_any}
 use Rattle.std.proofs.lemmas.Bool.{false≢true}
 use Rattle.std.proofs.lemmas.Bool.Decides.{Decides-eqb}
 use Rattle.std.proofs.lemmas.Option.{none-some}
@@ -12,10 +12,9 @@ use Rattle.mir_ty.specs.declared.ty.TyId.{TyId}
 use Rattle.mir_ty.specs.ItemTable.{ItemTable, type_at}
 use Rattle.cfg_graph.specs.declared.graph.Block.{Block}
 use Rattle.cfg_graph.specs.declared.graph.Body.{Body}
-use Rattle.cfg_graph.specs.declared.graph.Kind.{Kind}
 use Rattle.cfg_graph.specs.declared.statement.Stmt.{Stmt}
 use Rattle.cfg_graph.specs.declared.terminator.Term.{Term}
-use Rattle.cfg_graph.specs.Edges.{IsRanked, is_turn, is_turn_kind, targets}
+use Rattle.cfg_graph.specs.Edges.{IsRanked, targets}
 use Rattle.cfg_graph.specs.Moves.Actions.{stmt_actions, actions_on}
 use Rattle.cfg_graph.specs.Moves.BadUses.{bad_uses_on}
 use Rattle.cfg_graph.specs.Moves.Gone.{PathAction}
@@ -33,17 +32,21 @@ use Rattle.store_model.specs.Places.Place.{Place, whole_local}
 use Rattle.store_model.specs.Values.Datum.{Datum}
 use Rattle.store_model.specs.Values.Wholeness.{is_whole}
 use Rattle.drop_values.specs.Like.{held, held_by, body_at, Flags, Like, SameBodies, IsStuck, raw_setting, strict_setting, Extends}
-use Rattle.drop_values.proofs.Actions.{Both, Stays, used_there}
-use Rattle.drop_values.proofs.Touched.{AllNameFull, KeepsOlder, SameCells}
-use Rattle.drop_elaborate.proofs.BlockEnds.{entered, enters, turns, block-Rest, first-Rest}
+use Rattle.drop_values.proofs.Actions.{Stays}
+use Rattle.drop_values.proofs.Operands.{Both, used_there}
+use Rattle.drop_values.proofs.Touched.{SameCells, AllNameFull, KeepsOlder}
+use Rattle.drop_elaborate.proofs.BlockEnds.{BlockOwed, entered, enters, turns, block-Rest, first-Rest}
 use Rattle.drop_elaborate.proofs.Blocks.{BlocksDo}
 use Rattle.drop_elaborate.proofs.BlocksOwed.{Left, block-Owed}
 use Rattle.drop_elaborate.proofs.CalledBodies.{CalleesOk}
+use Rattle.drop_elaborate.proofs.Dropped.{Emptied, emptied-same}
 use Rattle.drop_elaborate.proofs.Entered.{Enters}
 use Rattle.drop_elaborate.proofs.Held.{Held}
 use Rattle.drop_elaborate.proofs.PathGrows.{OnPath, at-start}
 use Rattle.drop_elaborate.proofs.ReadyBody.{BodyIsReady}
-use Rattle.drop_elaborate.proofs.Statements.{At, Tell}
+use Rattle.drop_elaborate.proofs.RefilledBlocks.{refilled-Rest}
+use Rattle.drop_elaborate.proofs.Statements.{At}
+use Rattle.drop_elaborate.proofs.FlagStores.{Tell}
 use Rattle.drop_elaborate.proofs.StatementsHeld.{same-Held}
 use Rattle.drop_elaborate.proofs.Walks.{unplaced, Walks}
 use Rattle.drop_elaborate.specs.Elaborated.{flag_at, is_drop, kind_after, Ends, BlockDone}
@@ -51,7 +54,7 @@ use Rattle.drop_elaborate.specs.Elaborated.{flag_at, is_drop, kind_after, Ends, 
 -- ---- the result of a body
 
 -- what the youngest activation's first local holds, where it is used
-value-of : (setting : Setting) (w : State) (depth : ℕ) (acts : List Activation) (s : Located) →
+pub value-of : (setting : Setting) (w : State) (depth : ℕ) (acts : List Activation) (s : Located) →
     length acts ≡ suc depth → on_reached (in_youngest setting w (whole_local 0) acts) (whole setting) None None
     ≡ Some s → held_by 0 (at_depth depth acts) ≡ s.value
 value-of setting w depth [] s d e = absurd (none-some s e)
@@ -128,12 +131,22 @@ module _ (items : ItemTable) (local_ty local_ty' : (body local : ℕ) → Option
   pub tie-less : (t : ℕ) → t ≤ most → SameBodies local_ty (Enters items local_ty) t run run'
   tie-less t le flags event b args w w' g l few = tie flags event b args w w' g l (omega (arith, few, le))
 
-  walks-less : (t : ℕ) → t ≤ most → Walks q ticks_of t body' (λ block line. 0) WalkE
+  pub walks-less : (t : ℕ) → t ≤ most → Walks q ticks_of t body' (λ block line. 0) WalkE
   walks-less t le = record {
     plain = λ n b e k w l. walks'.plain n b e k w (omega (arith, l, le));
     turn = λ n b e k w l. walks'.turn n b e k w (omega (arith, l, le));
     nowhere = λ n e w l. walks'.nowhere n e w (omega (arith, l, le));
   }
+
+  -- what is known where a path comes to a block
+  abbrev pub EmptiedNow : ℕ → List PathAction → State → Type 0
+  EmptiedNow m actions w =
+      Emptied items local_ty number depth bodies body addresses before given locals_are ready m actions w
+
+  abbrev pub AtNext : (t : ℕ) → t ≤ most → ℕ → List PathAction → State → State → Type 0
+  AtNext t le m acts w w' =
+      At items local_ty local_ty' extends number depth outer body flagged flag_ty flag_is added run' bound run t
+      (Enters items local_ty) (tie-less t le) stays (λ acts w. HeldNow acts w ⊎ EmptiedNow m acts w) acts w w'
 
   abbrev pub AtMost : (t : ℕ) → t ≤ most → List PathAction → State → State → Type 0
   AtMost t le acts w w' =
@@ -160,7 +173,7 @@ module _ (items : ItemTable) (local_ty local_ty' : (body local : ℕ) → Option
     pub tell : TellHere flags acts
     pub deep : length w.activations ≡ suc depth
     pub number_is : body_at depth w ≡ Some number
-    pub known : HeldNow acts w
+    pub known : HeldNow acts w ⊎ EmptiedNow n acts w
 
   abbrev pub Entry : ℕ → State → State → Type 0
   Entry zero w w' = Start w w'
@@ -180,11 +193,14 @@ module _ (items : ItemTable) (local_ty local_ty' : (body local : ℕ) → Option
     flags_are = l.flags_are;
   }
 
+  spent-same : (t : ℕ) (w : State) → suc t ≡ w.ticks → SameCells w (record w { ticks = t })
+  spent-same t w e = record { less = omega (arith, e); count = refl; bodies = λ d. refl; cells = λ d k. refl }
+
   spent-held : (t : ℕ) (acts : List PathAction) (w : State) → suc t ≡ w.ticks → HeldNow acts w →
       HeldNow acts (record w { ticks = t })
   spent-held t acts w e h =
       same-Held items local_ty number depth body addresses before given locals_are acts w (record w { ticks = t })
-      (record { less = omega (arith, e); count = refl; bodies = λ d. refl; cells = λ d k. refl }) h
+      (spent-same t w e) h
 
   spent : (n t : ℕ) (w w' : State) → suc t ≡ w.ticks → Entry n w w' →
       Entry n (record w { ticks = t }) (record w' { ticks = t })
@@ -204,14 +220,32 @@ module _ (items : ItemTable) (local_ty local_ty' : (body local : ℕ) → Option
     tell = x.tell;
     deep = x.deep;
     number_is = x.number_is;
-    known = spent-held t x.acts w e x.known;
+    known = elim x.known [
+      | inl h ↦ inl (spent-held t x.acts w e h)
+      | inr h ↦ inr (emptied-same items local_ty number depth bodies body addresses before given locals_are ready (suc
+          n)
+          x.acts w (record w { ticks = t }) (spent-same t w e) h)
+    ];
   }
 
   -- ---- what is left of a block
 
   abbrev pub NextOk : (t : ℕ) → t ≤ most → Block → Next State → Type 0
   NextOk t le block nextR = (m : ℕ) (done : List PathAction) → Contains (targets block.term) m →
-      OnPath items body m done → (v v' : State) → AtMost t le done v v' → P (nextR m v) (WalkE m v')
+      OnPath items body m done → (v v' : State) → AtNext t le m done v v' → P (nextR m v) (WalkE m v')
+
+  -- nothing is to be refilled there
+  pub to-next : (t : ℕ) (le : t ≤ most) (m : ℕ) (acts : List PathAction) (v v' : State) → AtMost t le acts v v' →
+      AtNext t le m acts v v'
+  to-next t le m acts v v' a = record {
+    flags = a.flags;
+    like = a.like;
+    tell = a.tell;
+    deep = a.deep;
+    number_is = a.number_is;
+    few = a.few;
+    known = inl a.known;
+  }
 
   abbrev NextDoes : Block → ℕ → Next State → Type 0
   NextDoes block ticks next = (m : ℕ) → Contains (targets block.term) m → (v v' : State) → v.ticks ≤ ticks →
@@ -272,7 +306,7 @@ module _ (items : ItemTable) (local_ty local_ty' : (body local : ℕ) → Option
   DropsDo = (t : ℕ) (le : t ≤ most) (n : ℕ) (block : Block) → slice_get body.blocks n ≡ Some block →
       (acts : List PathAction) → OnPath items body n acts → (nextR : Next State) → NextOk t le block nextR →
       (ending : List Stmt) (term' : Term) (line' : ℕ) (v v' : State) →
-      is_drop items body flagged body' block.term ≡ true → Ends items body flagged body'
+      is_drop block.term ≡ true → Ends items body flagged body' n
       (kind_after items body flagged body' block.kind) block.term ending term' →
       AtMost t le (acts ++ stmt_actions n 0 block.stmts) v v' → P (term_does p 0 block.term nextR v)
       (stmts_do q (λ line. 0) line' ending (term_does q 0 term' WalkE) v')
@@ -288,7 +322,7 @@ module _ (items : ItemTable) (local_ty local_ty' : (body local : ℕ) → Option
         WalkE
         (walks-less t le) P stuck halts n block at acts here next
     left n block at t le acts here next ok = record {
-      next = ok;
+      next = λ m done c o v v' a. ok m done c o v v' (to-next t le m done v v' a);
       resumes = λ done v v' a. resumes a.flags v v' a.like a.tell.others a.deep;
       gives = λ v v' a. result-given t le (acts ++ stmt_actions n 0 block.stmts) v v' a;
       drops = λ ending term' line' v v' d e a. drops t le n block at acts here next ok ending term' line' v v' d e a;
@@ -312,27 +346,40 @@ module _ (items : ItemTable) (local_ty local_ty' : (body local : ℕ) → Option
         WalkE (walks-less t le) P stuck halts 0 block at [] (at-start items body) next
         (left 0 block at t le [] (at-start items body) next (next-ok 0 block at t le next does)))
         x.like x.deep x.number_is x.others few x.known
-    rest (suc n) block at t le w w' x few next does =
-        block-Rest items local_ty local_ty' extends number depth outer body flagged flag_ty flag_is added run run'
-        bound t
-        (Enters items local_ty) (tie-less t le) stays HeldNow body' WalkE (walks-less t le) P stuck halts n block
-        x.acts next
-        w w' (are_done (suc n) block at)
-        (block-Owed items local_ty local_ty' extends number depth bodies outer body flagged flag_ty flag_is added
-        addresses
-        before given locals_are ready bodies_are callees run run' thrifty keeps bound t (tie-less t le) stays fine
-        kept body'
-        WalkE (walks-less t le) P stuck halts (suc n) block at x.acts x.here next
-        (left (suc n) block at t le x.acts x.here next (next-ok (suc n) block at t le next does)))
-        (record {
-          flags = x.flags;
-          like = x.like;
-          tell = x.tell;
-          deep = x.deep;
-          number_is = x.number_is;
-          few = few;
-          known = x.known;
-        })
+    rest (suc n) block at t le w w' x few next does = by x.known
+      where
+        owed : BlockOwed items local_ty local_ty' extends number depth outer body flagged flag_ty flag_is added run run'
+            bound t (Enters items local_ty) (tie-less t le) stays HeldNow body' WalkE (walks-less t le) P stuck halts
+            (suc n) block x.acts next
+        owed =
+            block-Owed items local_ty local_ty' extends number depth bodies outer body flagged flag_ty flag_is added
+            addresses before given locals_are ready bodies_are callees run run' thrifty keeps bound t (tie-less t le)
+            stays fine kept body' WalkE (walks-less t le) P stuck halts (suc n) block at x.acts x.here next
+            (left (suc n) block at t le x.acts x.here next (next-ok (suc n) block at t le next does))
+
+        by : HeldNow x.acts w ⊎ EmptiedNow (suc n) x.acts w → P (block_does p (λ line. 0) block next w)
+            (entered items local_ty local_ty' extends number depth outer body flagged flag_ty flag_is added run run'
+            bound
+            most (Enters items local_ty) tie stays HeldNow body' WalkE walks' P stuck halts (suc n) block
+            (are_done (suc n) block at) w')
+        by (inl h) =
+            block-Rest items local_ty local_ty' extends number depth outer body flagged flag_ty flag_is added run run'
+            bound t (Enters items local_ty) (tie-less t le) stays HeldNow body' WalkE (walks-less t le) P stuck halts n
+            block x.acts next w w' (are_done (suc n) block at) owed
+            (record {
+              flags = x.flags;
+              like = x.like;
+              tell = x.tell;
+              deep = x.deep;
+              number_is = x.number_is;
+              few = few;
+              known = h;
+            })
+        by (inr h) =
+            refilled-Rest items local_ty local_ty' extends number depth bodies outer body flagged flag_ty flag_is added
+            addresses before given locals_are ready bodies_are callees run run' thrifty keeps bound t (tie-less t le)
+            stays fine kept body' WalkE (walks-less t le) P stuck halts n block at x.acts x.here next w w'
+            (are_done (suc n) block at) owed x.flags x.like x.tell x.deep x.number_is few h
 
     ticks-are : (n : ℕ) (w w' : State) → Entry n w w' → w'.ticks ≡ w.ticks
     ticks-are zero w w' x = x.like.ticks

@@ -1,17 +1,15 @@
 -- What is owed of each body of an elaborated graph, so that its run is that of the raw one, from what is known of a raw
 -- run as a body begins, from the contract of the bodies that it calls, and from what its drops do.
-use Rattle.std.proofs.Common.{◌≡◌, ℕ, zero, suc, ◌≤◌, ◌<◌, ◌+◌, ◌==◌, ℤ, nat_eq, nat_lt, not, Bool, true, false, List, [], ◌∷◌, ◌++◌, length, replicate, Option, Some, None, if◌then◌else◌, inl, inr, slice_get, Contains, refl, ap, sym, ◌∙◌, subst, arith}
+use Rattle.std.proofs.Common.{◌≡◌, ℕ, zero, suc, ◌<◌, ◌+◌, ◌==◌, ℤ, nat_eq, not, Bool, true, false, List, [], ◌∷◌, ◌++◌, length, replicate, Option, Some, None, if◌then◌else◌, inl, inr, slice_get, Contains, refl, ap, sym, ◌∙◌, arith}
 use Rattle.std.specs.List.{list_any}
 use Rattle.std.specs.Option.{option_and_then}
-use Rattle.std.proofs.lemmas.Bool.{false≢true, ltb-true}
+use Rattle.std.proofs.lemmas.Bool.{false≢true}
 use Rattle.std.proofs.lemmas.Bool.Decides.{Decides-eqb}
-use Rattle.std.proofs.lemmas.Option.{none-some, slice_get_cases}
+use Rattle.std.proofs.lemmas.Option.{none-some}
 use Rattle.mir_base.specs.declared.trace.End.{End}
 use Rattle.mir_base.specs.declared.trace.Event.{Event}
-use Rattle.mir_ty.proofs.ListLemmas.{slice_get-Contains}
 use Rattle.mir_ty.specs.AreItems.{AreItems}
 use Rattle.mir_ty.specs.declared.ty.TyId.{TyId}
-use Rattle.mir_ty.specs.ItemTable.{ItemTable}
 use Rattle.cfg_graph.specs.declared.graph.Block.{Block}
 use Rattle.cfg_graph.specs.declared.graph.Body.{Body}
 use Rattle.cfg_graph.specs.declared.graph.Graph.{Graph}
@@ -25,23 +23,21 @@ use Rattle.store_model.specs.declared.address.Addr.{Addr}
 use Rattle.store_model.proofs.Concrete.Effects.{ticks_of, Thrifty, body_thrifty}
 use Rattle.store_model.specs.Concrete.Bodies.{run_body, main_of}
 use Rattle.store_model.specs.Concrete.Effects.{concrete_effects}
-use Rattle.store_model.specs.Concrete.Location.{Setting}
 use Rattle.store_model.specs.Concrete.State.{State, Answer, Returns, Unwinds, HaltsIn, Bodies, cell, beginning, with_activation, with_event}
 use Rattle.store_model.specs.Effects as effects
 use Rattle.store_model.specs.Effects.{Out, Go, Unwind, Halts}
-use Rattle.store_model.specs.Places.Place.{Place}
 use Rattle.store_model.specs.Values.Datum.{Datum}
-use Rattle.drop_values.specs.Like.{held, body_at, Flags, Like, SameBodies, IsStuck, Extends}
+use Rattle.drop_values.specs.Like.{held, Flags, Like, SameBodies, IsStuck, Extends}
 use Rattle.drop_values.proofs.Actions.{Stays}
 use Rattle.drop_values.proofs.Bodies.{with_flags}
-use Rattle.drop_values.proofs.Touched.{Touched, untouched, stored, TouchedBy, AllNameFull, KeepsOlder, addresses_of}
+use Rattle.drop_values.proofs.Touched.{TouchedBy, touched-counts, AllNameFull, KeepsOlder, addresses_of}
 use Rattle.drop_elaborate.proofs.Blocks.{BlocksDo}
 use Rattle.drop_elaborate.proofs.BlocksDone.{Entry, DropsDo, blocks-Done}
 use Rattle.drop_elaborate.proofs.Elaborated.{elaborated, Outcome, BodyOwed, Owed, elaborated_runs, raw_laws, strict_laws}
 use Rattle.drop_elaborate.proofs.Entered.{Enters}
 use Rattle.drop_elaborate.proofs.Held.{Held}
 use Rattle.drop_elaborate.proofs.ItemsOk.{callees-ok}
-use Rattle.drop_elaborate.proofs.ReadyBody.{BodyIsReady, ready-body}
+use Rattle.drop_elaborate.proofs.ReadyBody.{BodyIsReady, ready-body, targets-there}
 use Rattle.drop_elaborate.proofs.StandAlone.{all-at}
 use Rattle.drop_elaborate.proofs.WalkOf.{Walk, walks}
 use Rattle.drop_elaborate.proofs.Walks.{unplaced, Walks}
@@ -90,22 +86,9 @@ like-outer local_ty flags outer depth w w' l others = record {
         ap (λ x. flags x k) ((Decides-eqb d depth).0 e) ∙ sym (ap (λ b. if b then flags depth k else outer d k) e)
     by d k false e = others d k e ∙ sym (ap (λ b. if b then flags depth k else outer d k) e)
 
--- what a body touches it leaves in number
-touched-counts : (items : ItemTable) (local_ty : (body local : ℕ) → Option TyId) (addresses : List Addr) (w v : State) →
-    Touched items local_ty addresses w v → (length v.activations ≡ length w.activations)
-    × ((d : ℕ) → body_at d v ≡ body_at d w) × (v.ticks ≤ w.ticks)
-touched-counts items local_ty addresses w v (untouched s) = (s.count, s.bodies, s.less)
-touched-counts items local_ty addresses w v (stored {u} a s new t c st full plain ch) =
-    let r = touched-counts items local_ty addresses w u t in (
-      ch.count ∙ r.0,
-      λ d. ch.bodies d ∙ r.1 d,
-      (let x = ch.less in let y = r.2 in omega (arith, x, y)),
-    )
-
 module _ (graph : Graph) (bodies' : List Body) (are : AreItems graph.items) (ready : IsReadyGraph graph)
-    (flagged : ℕ → List Place)
     (each : (n : ℕ) (body : Body) → slice_get graph.bodies n ≡ Some body → (body' : Body)
-    × (slice_get bodies' n ≡ Some body') × IsElaboratedBody graph.items body (flagged n) body') where
+    × (slice_get bodies' n ≡ Some body') × IsElaboratedBody graph.items body body') where
   abbrev local_ty : (body local : ℕ) → Option TyId
   local_ty = λ n local. option_and_then (λ (body : Body). slice_get body.locals local) (slice_get graph.bodies n)
 
@@ -130,25 +113,23 @@ module _ (graph : Graph) (bodies' : List Body) (are : AreItems graph.items) (rea
       by (Some body) e h =
           let x = each b body e in
           ap (option_and_then (λ (body : Body). slice_get body.locals k)) x.1
-          ∙ ap (λ l. slice_get l k) x.2.locals
-          ∙ get-first body.locals (replicate (length (flagged b)) x.2.flag_ty) k id h
+          ∙ ap (λ l. slice_get l k) x.2.done.locals
+          ∙ get-first body.locals (replicate (length x.2.flagged) x.2.done.flag_ty) k id h
 
   module _ (number : ℕ) (body : Body) (found : slice_get graph.bodies number ≡ Some body) where
-    pub there : (body' : Body) × (slice_get bodies' number ≡ Some body') × IsElaboratedBody graph.items body (flagged
-        number)
-        body'
+    pub there : (body' : Body) × (slice_get bodies' number ≡ Some body') × IsElaboratedBody graph.items body body'
     there = each number body found
 
-    pub added : (n : ℕ) → n < length (flagged number) →
-        (local_ty number (flag_at graph.items body (flagged number) n) ≡ None)
-        × (local_ty' number (flag_at graph.items body (flagged number) n) ≡ Some there.2.flag_ty)
+    pub added : (n : ℕ) → n < length there.2.flagged →
+        (local_ty number (flag_at graph.items body there.2.flagged n) ≡ None)
+        × (local_ty' number (flag_at graph.items body there.2.flagged n) ≡ Some there.2.done.flag_ty)
     added n l = (
       ap (option_and_then (λ (b : Body). slice_get b.locals (length body.locals + n))) found
           ∙ get-past body.locals n,
       ap (option_and_then (λ (b : Body). slice_get b.locals (length body.locals + n))) there.1
-          ∙ ap (λ l. slice_get l (length body.locals + n)) there.2.locals
-          ∙ get-second body.locals (replicate (length (flagged number)) there.2.flag_ty) n
-          ∙ get-flag (length (flagged number)) n there.2.flag_ty l,
+          ∙ ap (λ l. slice_get l (length body.locals + n)) there.2.done.locals
+          ∙ get-second body.locals (replicate (length there.2.flagged) there.2.done.flag_ty) n
+          ∙ get-flag (length there.2.flagged) n there.2.done.flag_ty l,
     )
 
     pub locals_are : (k : ℕ) → local_ty number k ≡ slice_get body.locals k
@@ -162,14 +143,7 @@ module _ (graph : Graph) (bodies' : List Body) (are : AreItems graph.items) (rea
 
     pub bodies_are : (n : ℕ) (block : Block) → slice_get body.blocks n ≡ Some block → (m : ℕ) →
         Contains (targets block.term) m → (next : Block) × (slice_get body.blocks m ≡ Some next)
-    bodies_are n block at m c =
-        let h = all-at (λ (n : ℕ). nat_lt n (length body.blocks)) (targets block.term) c.0 m (is_ready.exist n block at)
-        (slice_get-Contains (targets block.term) m c) in
-        elim ((slice_get_cases body.blocks m).1) [
-          | inl x ↦ (x.0, x.2)
-          | inr x ↦ (let l = ltb-true m (length body.blocks) h in let k = x.0 in absurd
-              (let never : ⊥ = omega (arith, l, k) in never))
-        ]
+    bodies_are n block at m c = targets-there graph.items (length graph.bodies) body is_ready n block at m c
 
     pub never_back : (n : ℕ) (block : Block) → slice_get body.blocks n ≡ Some block →
         list_any (nat_eq 0) (targets block.term) ≡ false
@@ -200,22 +174,25 @@ module _ (graph : Graph) (bodies' : List Body) (are : AreItems graph.items) (rea
           by (Unwinds v) t = tt
           by (HaltsIn halt v) t = tt
 
-      abbrev P : Flags → ℕ → Out State → Out State → Type 0
+      abbrev pub P : Flags → ℕ → Out State → Out State → Type 0
       P outer depth = Outcome graph bodies' good outer depth
 
       abbrev WalkR : Next State
       WalkR = Walk ticks_of (concrete_effects (setting_of false graph) (run n) (suc n)) (raw_laws graph bodies' good n)
           number (λ block line. 0) body ranked n (suc n) (omega arith)
 
-      abbrev WalkE : Next State
+      abbrev pub WalkE : Next State
       WalkE = Walk ticks_of (concrete_effects (setting_of true (elaborated graph bodies' good)) (run' n) (suc n))
-          (strict_laws graph bodies' good n) number (λ block line. 0) there.0 there.2.ranked n (suc n) (omega arith)
+          (strict_laws graph bodies' good n) number (λ block line. 0) there.0 there.2.done.ranked n (suc n) (omega
+          arith)
 
-      abbrev walksE : Walks (naming unplaced (concrete_effects (setting_of true (elaborated graph bodies' good)) (run'
+      abbrev pub walksE : Walks (naming unplaced (concrete_effects (setting_of true (elaborated graph bodies' good))
+          (run'
           n)
           (suc n))) ticks_of n there.0 (λ block line. 0) WalkE
       walksE = walks ticks_of (concrete_effects (setting_of true (elaborated graph bodies' good)) (run' n) (suc n))
-          (strict_laws graph bodies' good n) number (λ block line. 0) there.0 there.2.ranked n (suc n) (omega arith)
+          (strict_laws graph bodies' good n) number (λ block line. 0) there.0 there.2.done.ranked n (suc n) (omega
+          arith)
 
       pub stuck : (outer : Flags) (depth : ℕ) (halt : effects.Halt) (w : State) (o : Out State) → IsStuck halt →
           P outer depth (Halts halt w) o
@@ -240,18 +217,20 @@ module _ (graph : Graph) (bodies' : List Body) (are : AreItems graph.items) (rea
       abbrev EntryAt : (outer : Flags) (depth : ℕ) (addresses : List Addr) (before : State) →
           AllNameFull graph.items local_ty before addresses → ℕ → State → State → Type 0
       EntryAt outer depth addresses before given =
-          Entry graph.items local_ty local_ty' extends number depth (length graph.bodies) outer body (flagged number)
-          there.2.flag_ty there.2.flag_is added addresses before given locals_are is_ready bodies_are never_back
+          Entry graph.items local_ty local_ty' extends number depth (length graph.bodies) outer body there.2.flagged
+          there.2.done.flag_ty there.2.done.flag_is added addresses before given locals_are is_ready bodies_are
+          never_back
           (callees-ok graph ready.prepared.well_formed) (run n) (run' n) thrifty keeps (suc n) n same (stays depth)
           (λ path given is. ready.uses number body path given found is)
           (λ path given local is. prepared.named_stays path given local is) there.0 WalkE walksE (P outer depth)
           (stuck outer depth) (halts outer depth) (resumes outer depth) (gives outer depth)
 
-      abbrev DropsAt : (outer : Flags) (depth : ℕ) (addresses : List Addr) (before : State) →
+      abbrev pub DropsAt : (outer : Flags) (depth : ℕ) (addresses : List Addr) (before : State) →
           AllNameFull graph.items local_ty before addresses → Type 0
       DropsAt outer depth addresses before given =
-          DropsDo graph.items local_ty local_ty' extends number depth (length graph.bodies) outer body (flagged number)
-          there.2.flag_ty there.2.flag_is added addresses before given locals_are is_ready bodies_are never_back
+          DropsDo graph.items local_ty local_ty' extends number depth (length graph.bodies) outer body there.2.flagged
+          there.2.done.flag_ty there.2.done.flag_is added addresses before given locals_are is_ready bodies_are
+          never_back
           (callees-ok graph ready.prepared.well_formed) (run n) (run' n) thrifty keeps (suc n) n same (stays depth)
           (λ path given is. ready.uses number body path given found is)
           (λ path given local is. prepared.named_stays path given local is) there.0 WalkE walksE (P outer depth)
@@ -284,16 +263,18 @@ module _ (graph : Graph) (bodies' : List Body) (are : AreItems graph.items) (rea
               (EntryAt outer depth addresses before given) (P outer depth)
           blocks-at outer depth addresses before given =
               blocks-Done graph.items local_ty local_ty' extends number depth (length graph.bodies) outer body
-              (flagged number) there.2.flag_ty there.2.flag_is added addresses before given locals_are is_ready bodies_are
+              there.2.flagged there.2.done.flag_ty there.2.done.flag_is added addresses before given locals_are
+              is_ready bodies_are
               never_back (callees-ok graph ready.prepared.well_formed) (run n) (run' n) thrifty keeps (suc n) n same
               (stays depth) (λ path given is. ready.uses number body path given found is)
               (λ path given local is. prepared.named_stays path given local is) there.0 WalkE walksE (P outer depth)
               (stuck outer depth) (halts outer depth) (resumes outer depth) (gives outer depth)
-              (drops outer depth addresses before given) there.2.blocks ranked WalkR
-              (walks ticks_of (concrete_effects (setting_of false graph) (run n) (suc n)) (raw_laws graph bodies' good n)
+              (drops outer depth addresses before given) there.2.done.blocks ranked WalkR
+              (walks ticks_of (concrete_effects (setting_of false graph) (run n) (suc n)) (raw_laws graph bodies' good
+              n)
               number (λ block line. 0) body ranked n (suc n) (omega arith))
 
-          pub body-Owed : BodyOwed graph bodies' good n number body there.0 ranked there.2.ranked
+          pub body-Owed : BodyOwed graph bodies' good n number body there.0 ranked there.2.done.ranked
           body-Owed = record {
             entry = λ outer depth m w w'. Entering outer depth m w w';
             starts = λ outer depth args w w' like deep is few event u t may e entered_is. record {
@@ -337,7 +318,7 @@ module _ (graph : Graph) (bodies' : List Body) (are : AreItems graph.items) (rea
         (there number body found).0,
         (there number body found).1,
         ranked number body found,
-        (there number body found).2.ranked,
+        (there number body found).2.done.ranked,
         λ n same. body-Owed number body found n same (keeps n) (begins number body found n same)
             (drops number body found n same),
       );

@@ -1,19 +1,19 @@
 -- What each line of a body without a fault has: its types, rows of impls, and targets.
-use Rattle.std.proofs.Common.{◌≡◌, ℕ, ◌+◌, ◌&&◌, Bool, true, false, List, [], ◌∷◌, ◌++◌, length, Option, Some, None, slice_get, refl}
-use Rattle.std.specs.List.{list_all}
+use Rattle.std.proofs.Common.{◌≡◌, ℕ, ◌+◌, ◌&&◌, true, [], ◌++◌, length, Some, slice_get, refl, ap, sym, ◌∙◌, subst, arith}
 use Rattle.std.specs.Option.{option_map_or}
+use Rattle.mir_ty.specs.declared.def.Sig.{Sig}
+use Rattle.std.specs.List.{list_all}
 use Rattle.std.specs.Cmp.{first_so, second_so}
-use Rattle.mir_ty.specs.declared.ty.TyId.{TyId}
 use Rattle.cfg_graph.specs.declared.graph.Block.{Block}
 use Rattle.cfg_graph.specs.declared.graph.Body.{Body}
 use Rattle.cfg_graph.specs.declared.graph.Graph.{Graph}
 use Rattle.cfg_graph.specs.declared.statement.Stmt.{Stmt}
 use Rattle.cfg_graph.specs.Edges.{targets}
-use Rattle.cfg_graph.specs.Ready.{all_stmts, all_terms, moves_out_well, moves_well, IsPreparedBody}
+use Rattle.cfg_graph.specs.Ready.{all_stmts, all_terms, moves_out_well, IsPreparedBody}
 use Rattle.cfg_graph.specs.Uses.{operands_of_stmt, operands_of_term}
 use Rattle.cfg_graph.specs.WellFormed.Cleanup.{keeps_to_cleanup}
 use Rattle.cfg_graph.specs.WellFormed.Faults.{nowhere, at_line, of_each, item_faults, own_faults, locals_faults, stmts_faults, block_faults, faults_of_body, end_faults, IsWellFormed}
-use Rattle.cfg_graph.specs.WellFormed.LineFaults.{stmt_has_row, stmt_tests, stmt_faults, term_numbers_exist, blocks_exist, term_tests, term_faults, has_sig, body_tests, body_faults}
+use Rattle.cfg_graph.specs.WellFormed.LineFaults.{stmt_has_row, stmt_tests, stmt_faults, term_numbers_exist, blocks_exist, term_tests, term_faults, has_sig, has_own_name, body_tests, body_faults}
 use Rattle.cfg_graph.specs.WellFormed.Typing.{stmt_is_typed, term_is_typed}
 use Rattle.cfg_graph.proofs.NoFaults.{first_empty, second_empty, map_empty, of_each-empty, broken-holds}
 use Rattle.drop_elaborate.proofs.StandAlone.{all-at}
@@ -41,6 +41,23 @@ module _ (graph : Graph) (well : IsWellFormed graph) (number : ℕ) (body : Body
   has-sig =
       broken-holds (body_tests graph.items bodies (0 + number) body) own 2
       (3, has_sig graph.items bodies body (slice_get graph.items.bodies (0 + number))) refl
+
+  -- its name stands in a listing and is that of no earlier body
+  pub own-name : (sig : Sig) → slice_get graph.items.bodies number ≡ Some sig →
+      has_own_name graph.items bodies number sig ≡ true
+  own-name sig is =
+      let same : 0 + number ≡ number = omega arith in
+      let test : option_map_or (has_own_name graph.items bodies (0 + number)) (slice_get graph.items.bodies (0 +
+      number))
+      true ≡ true = broken-holds (body_tests graph.items bodies (0 + number) body) own 3
+      (7, option_map_or (has_own_name graph.items bodies (0 + number)) (slice_get graph.items.bodies (0 + number)) true)
+      refl in
+      let here : option_map_or (has_own_name graph.items bodies number) (slice_get graph.items.bodies number) true ≡
+      true =
+      subst (λ k. option_map_or (has_own_name graph.items bodies k) (slice_get graph.items.bodies k) true ≡ true) same
+      test
+      in
+      sym (ap (λ o. option_map_or (has_own_name graph.items bodies number) o true) is) ∙ here
 
   module _ (n : ℕ) (block : Block) (at : slice_get body.blocks n ≡ Some block) where
     in-blocks : block_faults graph (0 + number) body (0 + n) block ≡ []

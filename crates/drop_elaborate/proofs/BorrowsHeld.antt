@@ -1,7 +1,6 @@
 -- What holds of a raw run is kept where a reference is made: it names a place of the body's own all of which is
 -- there, or lies within what another reference names; and what it names is among the places to which it is followed.
-use Rattle.std.proofs.Common.{◌≡◌, ◌⊎◌, inl, inr, ℕ, zero, suc, ◌==◌, ◌&&◌, Bool, true, false, List, [], ◌∷◌, ◌++◌, length, Option, Some, None, slice_get, refl, ap, sym, ◌∙◌, subst, append_assoc}
-use Rattle.std.specs.Prelude.{option_and_then}
+use Rattle.std.proofs.Common.{◌≡◌, inl, inr, ℕ, zero, suc, ◌==◌, ◌&&◌, Bool, true, false, List, [], ◌∷◌, ◌++◌, length, Option, Some, None, slice_get, refl, ap, sym, ◌∙◌, subst, append_assoc}
 use Rattle.std.specs.Option.{option_map_or}
 use Rattle.std.proofs.lemmas.Bool.{false≢true}
 use Rattle.std.proofs.lemmas.Bool.Decides.{Decides-eqb, eqb_tells}
@@ -15,38 +14,38 @@ use Rattle.cfg_graph.specs.declared.statement.Stmt.{Stmt}
 use Rattle.cfg_graph.specs.Moves.Actions.{at_line}
 use Rattle.cfg_graph.specs.Moves.Gone.{PathAction, are_first, reaches_whole}
 use Rattle.cfg_graph.specs.Moves.Present.{present_after}
-use Rattle.cfg_graph.specs.NamedPlaces.{references_made, named_by, further, follow, followed, named_places, behind as behind_made, stores, makes}
+use Rattle.cfg_graph.specs.NamedPlaces.{references_made, named_by, further, follow, followed, behind as behind_made, stores, makes}
 use Rattle.cfg_graph.specs.Places.{named}
 use Rattle.cfg_graph.specs.Uses.{Borrows, Stores, stmt_uses}
 use Rattle.cfg_meaning.specs.Actions.{site_of}
 use Rattle.store_model.specs.declared.address.Addr.{Addr}
 use Rattle.store_model.specs.declared.address.At.{At}
-use Rattle.store_model.specs.Abstract.Presence.{Presence, is_present, presence_along, all_present}
+use Rattle.store_model.specs.Abstract.Presence.{is_present, presence_along, all_present}
 use Rattle.store_model.specs.Concrete.Effects.{or_stuck, whole_at, put, never_at, acted, act}
-use Rattle.store_model.specs.Concrete.Location.{Setting, DynamicType, OfType, Located, root_address, Reached, Reaches, CutOff, Nowhere, reach, on_reached, stored_at, named_by as type_named_by}
+use Rattle.store_model.specs.Concrete.Location.{Setting, OfType, Located, root_address, Reached, Reaches, CutOff, Nowhere, reach, on_reached, stored_at}
 use Rattle.store_model.specs.Concrete.State.{State, Bodies}
 use Rattle.store_model.specs.Effects as effects
 use Rattle.store_model.specs.Effects.{Out, Go, Halts, Stuck}
 use Rattle.store_model.specs.Places.Place.{Step, ToPart, ToField, ToContent, ToElement, Place, watched, is_reference, step_ty}
 use Rattle.store_model.specs.Places.TypeForms.{is_dyn}
-use Rattle.store_model.specs.Values.Datum.{Datum, Address}
+use Rattle.store_model.specs.Values.Datum.{Address}
 use Rattle.drop_values.specs.Like.{held, raw_setting}
-use Rattle.drop_values.specs.Typed.{a_type, IsFull}
+use Rattle.drop_values.specs.Typed.{IsFull}
 use Rattle.drop_values.proofs.Behind.{Leads}
-use Rattle.drop_values.proofs.BehindInvariant.{Opens, an_older, its_own, opens-within}
-use Rattle.drop_values.proofs.Invariant.{There, RefersTo, to_older, to_own}
+use Rattle.drop_values.proofs.BehindInvariant.{Opens, an_older, its_own}
+use Rattle.drop_values.proofs.Invariant.{RefersTo, to_older, to_own}
 use Rattle.drop_values.proofs.Knows.{PlainSteps, no_steps, to_next, IsPlainStep, present_by, Own, own_place}
 use Rattle.drop_values.proofs.Reach.{IndexOk}
-use Rattle.drop_values.proofs.References.{all-within}
 use Rattle.drop_values.proofs.Sites.{PlaceIs, a_part, an_element, behind, IsOpen, Lands, Landed, on_own, on_open, lands, way-leads, element-runs, behind-runs}
 use Rattle.drop_values.proofs.Stand.{Changed, stored-Changed, stands-known}
 use Rattle.drop_values.proofs.Touched.{same_cells, AllNameFull}
-use Rattle.drop_values.proofs.TypedSteps.{RunsAlong, SolidSteps, one_more, typed-as}
+use Rattle.drop_values.proofs.TypedSteps.{RunsAlong, SolidSteps, one_more}
+use Rattle.drop_values.proofs.TypedAs.{typed-as}
 use Rattle.drop_elaborate.proofs.Apart.{IsNamed, way-runs}
 use Rattle.drop_elaborate.proofs.Chains.{onward, NamesNone, none-follows, leads-of, leads-further, among-followed}
 use Rattle.drop_elaborate.proofs.Held.{Held, OpensAfter, plain-counts, present-changed, read-Held, read-opens, own-opens, stored-Held}
-use Rattle.drop_elaborate.proofs.OperandLists.{GivenBy}
-use Rattle.drop_elaborate.proofs.Operands.{PlaceOk, UsedAt, used-at}
+use Rattle.drop_elaborate.proofs.OperandStays.{GivenBy}
+use Rattle.drop_elaborate.proofs.Operands.{used-at}
 use Rattle.drop_elaborate.proofs.SinceMade.{IsLive}
 use Rattle.drop_elaborate.proofs.StatementsHeld.{went-on}
 use Rattle.drop_elaborate.proofs.Stores.{plain-no-element, plain-no-reference, named-reference}

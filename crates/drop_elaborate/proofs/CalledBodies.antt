@@ -1,15 +1,13 @@
 -- Which bodies are called: a body's result has the type of its signature, and the body that is found for a trait's
 -- method, by the impl of a trait object, implements it; so it may be entered.
-use Rattle.std.proofs.Common.{◌≡◌, ◌⊎◌, ℕ, nat_lt, Bool, true, false, List, [], ◌∷◌, Option, Some, None, slice_get, refl, ap, sym, ◌∙◌, subst}
+use Rattle.std.proofs.Common.{◌≡◌, ℕ, nat_lt, Bool, true, false, List, [], ◌∷◌, Option, Some, None, slice_get, refl, ap, sym, ◌∙◌, subst}
 use Rattle.std.specs.Prelude.{option_and_then}
 use Rattle.std.proofs.lemmas.Option.{none-some}
 use Rattle.mir_ty.proofs.ListLemmas.{Contains-slice_get}
 use Rattle.mir_ty.specs.declared.def.Sig.{Sig}
-use Rattle.mir_ty.specs.declared.ty.Ty.{Ty}
 use Rattle.mir_ty.specs.declared.ty.TyId.{TyId}
 use Rattle.mir_ty.specs.ItemTable.{ItemTable, type_at}
 use Rattle.cfg_graph.specs.WellFormed.Typing.{method_at}
-use Rattle.store_model.specs.declared.address.Addr.{Addr}
 use Rattle.store_model.specs.Concrete.Effects.{if_so, row_body, object_body, virtual_body}
 use Rattle.store_model.specs.Concrete.Location.{Setting, DynamicType, Located, located_at}
 use Rattle.store_model.specs.Concrete.State.{State}
@@ -96,4 +94,4 @@ module _ (items : ItemTable) (local_ty : (body local : ℕ) → Option TyId) (bo
           option_and_then (λ (s : Located). object_body raw trait_no method s.dynamic) o ≡ Some callee → Answer
       by None h e = absurd (none-some callee e)
       by (Some s) h e =
-          of-found s.dynamic e (named a (Contains-slice_get (a ∷ addresses_of vs) 0 a refl) s h).0
+          of-found s.dynamic e ((named a (Contains-slice_get (a ∷ addresses_of vs) 0 a refl)).0 s h).0

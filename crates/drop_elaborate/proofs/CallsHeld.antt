@@ -1,6 +1,6 @@
 -- What holds of a raw run is kept by its calls, on each way on, where the bodies that it calls change what is older
 -- than themselves only at places that their arguments name, and leave and give full values.
-use Rattle.std.proofs.Common.{◌≡◌, ◌⊎◌, inl, inr, ℕ, zero, suc, Bool, true, false, List, [], ◌∷◌, ◌++◌, map, flat_map, length, Option, Some, None, slice_get, Contains, refl, ap, sym, ◌∙◌, subst}
+use Rattle.std.proofs.Common.{◌≡◌, ℕ, Bool, false, List, [], ◌∷◌, Option, Some, None, slice_get, Contains, refl}
 use Rattle.mir_base.specs.declared.trace.Event.{Event}
 use Rattle.mir_ty.specs.declared.ty.TyId.{TyId}
 use Rattle.mir_ty.specs.ItemTable.{ItemTable}
@@ -8,16 +8,15 @@ use Rattle.cfg_graph.specs.declared.graph.Body.{Body}
 use Rattle.cfg_graph.specs.declared.place.Operand.{Operand}
 use Rattle.cfg_graph.specs.declared.place.Place as graph
 use Rattle.cfg_graph.specs.Moves.Gone.{PathAction}
-use Rattle.cfg_meaning.specs.Actions.{site_of, operand_of, operands_of}
+use Rattle.cfg_meaning.specs.Actions.{site_of, operands_of}
 use Rattle.store_model.specs.declared.address.Addr.{Addr}
 use Rattle.store_model.specs.Concrete.Effects.{called, answered, virtual_body, never_at, acted, act}
-use Rattle.store_model.specs.Concrete.Location.{Setting, OfType}
+use Rattle.store_model.specs.Concrete.Location.{Setting}
 use Rattle.store_model.specs.Concrete.State.{State, Answer, Returns, Unwinds, HaltsIn, Bodies}
 use Rattle.store_model.specs.Effects as effects
 use Rattle.store_model.specs.Effects.{Out, Go, Unwind, Halts, Stuck}
 use Rattle.store_model.specs.Values.Datum.{Datum}
 use Rattle.drop_values.specs.Like.{raw_setting}
-use Rattle.drop_values.specs.Typed.{IsFull}
 use Rattle.drop_values.proofs.Touched.{AllNameFull, addresses_of, TouchedBy, KeepsOlder}
 use Rattle.drop_elaborate.proofs.CheckedTerms.{all-taken-so, Used, Leaves, LeavesIf, used-Took, leaves-halting, put-leaves}
 use Rattle.drop_elaborate.proofs.Held.{Held, OpensAfter}

@@ -1,8 +1,7 @@
 -- What holds of a raw run is kept by terminators that may panic, on each way on: checked operators, bounds, asked
 -- numbers. On both ways what their operands moved is gone; their result is stored where they go on.
-use Rattle.std.proofs.Common.{◌≡◌, ◌⊎◌, inl, inr, ℕ, zero, suc, Bool, true, false, ℤ, pos, List, [], ◌∷◌, ◌++◌, map, flat_map, length, Option, Some, None, slice_get, refl, ap, sym, ◌∙◌, subst, arith}
+use Rattle.std.proofs.Common.{◌≡◌, ℕ, Bool, true, false, ℤ, pos, List, [], ◌∷◌, ◌++◌, map, flat_map, Option, Some, None, slice_get, refl, ap, sym, subst, arith}
 use Rattle.std.specs.Prelude.{int_lt, neg_ℤ}
-use Rattle.std.specs.Option.{option_map_or}
 use Rattle.mir_base.specs.declared.int_kind.IntKind.{IntKind}
 use Rattle.mir_base.specs.declared.operator.Math.{Math}
 use Rattle.mir_base.specs.declared.trace.Event.{Event}
@@ -15,7 +14,7 @@ use Rattle.cfg_graph.specs.declared.place.Operand.{Operand}
 use Rattle.cfg_graph.specs.declared.place.Place as graph
 use Rattle.cfg_graph.specs.Moves.Actions.{at_line}
 use Rattle.cfg_graph.specs.Moves.Gone.{PathAction}
-use Rattle.cfg_graph.specs.Uses.{PlaceUse, Stores, operand_uses}
+use Rattle.cfg_graph.specs.Uses.{Stores, operand_uses}
 use Rattle.cfg_meaning.specs.Actions.{site_of, operand_of, operands_of}
 use Rattle.store_model.specs.declared.address.Addr.{Addr}
 use Rattle.store_model.specs.Concrete.Effects.{or_stuck, evaluate_operand, evaluate_operands, with_operand, with_operands, put, tell_after, panics, Computed, Gives, PanicsBy, if_within, computed, put_computed, compute, negate, within_bounds, bounded, asked, ty_of_operand, never_at, acted, act}
@@ -28,7 +27,7 @@ use Rattle.store_model.specs.Values.Datum.{Datum, Gone, Number, Truth, UnitValue
 use Rattle.drop_values.specs.Like.{raw_setting}
 use Rattle.drop_values.specs.Typed.{IsFull}
 use Rattle.drop_values.proofs.Made.{number-full}
-use Rattle.drop_values.proofs.Touched.{SameCells, AllNameFull}
+use Rattle.drop_values.proofs.Touched.{AllNameFull}
 use Rattle.drop_elaborate.proofs.Held.{Held}
 use Rattle.drop_elaborate.proofs.OperandLists.{OperandsAre, TookAll, operands-Took}
 use Rattle.drop_elaborate.proofs.StatementsHeld.{one-of-list, two-of-list, told-cells, same-Held, Operated, StoreOk, store-Held}

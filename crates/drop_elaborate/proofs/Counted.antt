@@ -1,5 +1,5 @@
 -- Lists within lists: what a search through them finds, and how many of their members pass a test.
-use Rattle.std.proofs.Common.{◌≡◌, ◌⊎◌, inl, inr, ℕ, zero, suc, ◌+◌, ◌≤◌, ◌<◌, ◌&&◌, cond, Bool, true, false, List, [], ◌∷◌, ◌++◌, map, flat_map, Option, Some, None, slice_get, refl, ap, sym, ◌∙◌, subst, arith}
+use Rattle.std.proofs.Common.{◌≡◌, ℕ, zero, suc, ◌+◌, ◌≤◌, cond, Bool, true, false, List, [], ◌∷◌, ◌++◌, map, flat_map, Option, Some, None, slice_get, refl, ap, sym, ◌∙◌, subst, arith}
 use Rattle.std.specs.Prelude.{find, count_by}
 use Rattle.std.specs.List.{list_all}
 use Rattle.std.specs.Cmp.{second_so}
@@ -119,13 +119,13 @@ total-same f g (y ∷ xs) (suc k) x h t e =
     let a = h y in let b = total-less f g xs h in
     total-same f g xs k x h (let z : total f xs ≡ total g xs = omega (arith, a, b, t) in z) e
 
-in-append-left : {A : Type 0} (xs ys : List A) (k : ℕ) (x : A) → slice_get xs k ≡ Some x → slice_get (xs ++ ys) k ≡
+pub in-append-left : {A : Type 0} (xs ys : List A) (k : ℕ) (x : A) → slice_get xs k ≡ Some x → slice_get (xs ++ ys) k ≡
     Some x
 in-append-left [] ys k x e = absurd (none-some x e)
 in-append-left (y ∷ xs) ys zero x e = e
 in-append-left (y ∷ xs) ys (suc k) x e = in-append-left xs ys k x e
 
-in-append-right : {A : Type 0} (xs ys : List A) (k : ℕ) (x : A) → slice_get ys k ≡ Some x →
+pub in-append-right : {A : Type 0} (xs ys : List A) (k : ℕ) (x : A) → slice_get ys k ≡ Some x →
     (n : ℕ) × (slice_get (xs ++ ys) n ≡ Some x)
 in-append-right [] ys k x e = (k, e)
 in-append-right (y ∷ xs) ys k x e = let r = in-append-right xs ys k x e in (suc r.0, r.1)

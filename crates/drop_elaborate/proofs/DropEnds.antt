@@ -1,6 +1,6 @@
 -- A drop in the raw block, and what stands for it in the elaborated one: a ladder with its exits, or the same drop,
 -- behind which the flags at and below its place are cleared.
-use Rattle.std.proofs.Common.{◌≡◌, ◌⊎◌, inl, inr, ℕ, zero, suc, ◌≤◌, ◌<◌, Bool, true, false, List, [], ◌∷◌, ◌++◌, length, Option, Some, None, slice_get, refl, ap, sym, ◌∙◌, subst, arith}
+use Rattle.std.proofs.Common.{◌≡◌, ◌⊎◌, inl, inr, ℕ, suc, ◌≤◌, ◌<◌, false, List, [], ◌∷◌, ◌++◌, length, Option, Some, None, refl, ap, sym, ◌∙◌, subst, arith}
 use Rattle.mir_base.specs.declared.trace.Event.{Event}
 use Rattle.mir_ty.specs.declared.ty.Ty.{Ty}
 use Rattle.mir_ty.specs.declared.ty.TyId.{TyId}
@@ -8,14 +8,13 @@ use Rattle.mir_ty.specs.ItemTable.{ItemTable, type_at}
 use Rattle.cfg_graph.specs.declared.graph.Body.{Body}
 use Rattle.cfg_graph.specs.declared.graph.Kind.{Kind}
 use Rattle.cfg_graph.specs.declared.place.Place as graph
-use Rattle.cfg_graph.specs.declared.statement.Stmt.{Stmt}
-use Rattle.cfg_graph.specs.declared.terminator.Term.{Term}
 use Rattle.cfg_graph.specs.declared.terminator.Unwind.{Unwind}
 use Rattle.cfg_graph.specs.Edges.{is_turn_kind}
 use Rattle.cfg_graph.specs.Moves.Actions.{at_line}
 use Rattle.cfg_graph.specs.Moves.Gone.{PathAction}
-use Rattle.cfg_graph.specs.Uses.{PlaceUse, Drops}
-use Rattle.cfg_meaning.specs.Walk.{Next, ◌>>=◌, fork, renamed, naming, unwinding, stmts_do, acts, term_does}
+use Rattle.cfg_graph.specs.Uses.{Drops}
+use Rattle.cfg_meaning.specs.Actions.{mode_of}
+use Rattle.cfg_meaning.specs.Walk.{Next, renamed, naming, unwinding, stmts_do, acts, term_does}
 use Rattle.store_model.specs.Concrete.Effects.{concrete_effects}
 use Rattle.store_model.specs.Concrete.State.{State, Bodies}
 use Rattle.store_model.proofs.Concrete.Effects.{ticks_of}
@@ -25,22 +24,12 @@ use Rattle.store_model.specs.Values.Datum.{Datum}
 use Rattle.drop_values.specs.Like.{body_at, Flags, Like, Same, SameBodies, IsStuck, strict_setting, Extends}
 use Rattle.drop_values.specs.Plan.{Plan}
 use Rattle.drop_values.proofs.Actions.{Stays}
-use Rattle.drop_elaborate.proofs.Walks.{unplaced, Walks}
-use Rattle.drop_elaborate.proofs.Statements.{Tell, After, uses-set, At}
+use Rattle.drop_elaborate.proofs.Walks.{unplaced, stuck-unplaced, Walks}
+use Rattle.drop_elaborate.proofs.Statements.{At}
+use Rattle.drop_elaborate.proofs.FlagStores.{Tell, After, uses-set}
 use Rattle.drop_elaborate.proofs.Terminators.{edge-leads}
-use Rattle.drop_elaborate.specs.Elaborated.{flag_at, flags_of_uses, BlockIs, EdgeTo, LadderTo}
-use Rattle.drop_elaborate.specs.Ladder.{Ending, Calmly, Abruptly, LadderAt}
-
-stuck-unplaced : (halt : Halt) → IsStuck halt → IsStuck (unplaced halt)
-stuck-unplaced Stuck h = tt
-stuck-unplaced (StuckAt b n) h = tt
-stuck-unplaced Aborted h = h
-stuck-unplaced OutOfTicks h = h
-stuck-unplaced (BadUse site) h = h
-stuck-unplaced (BadStore site) h = h
-stuck-unplaced NoChoice h = h
-stuck-unplaced Infeasible h = h
-stuck-unplaced Unreachable h = h
+use Rattle.drop_elaborate.specs.Elaborated.{flag_at, flags_of_uses, LadderTo}
+use Rattle.drop_elaborate.specs.Ladder.{Ending, Calmly, Abruptly, mode_in, LadderAt}
 
 module _ (items : ItemTable) (local_ty local_ty' : (body local : ℕ) → Option TyId)
     (extends : Extends local_ty local_ty') (number depth : ℕ) (outer : Flags) (body : Body) (flagged : List Place)
@@ -107,8 +96,9 @@ module _ (items : ItemTable) (local_ty local_ty' : (body local : ℕ) → Option
         (unwind : Unwind) (nextR : Next State) (done : List PathAction) (flags : Flags) (w' : State) (o : Out State) →
         is_turn_kind kind ≡ false →
         LadderTo items body flagged body' plan kind place from next unwind →
-        ((to : ℕ) (ending : Ending) → LadderAt body' plan place from to ending → Led flags to ending o
-        (WalkE from w')) → Tell items local_ty local_ty' extends number depth outer body flagged flag_ty
+        ((to : ℕ) (ending : Ending) → LadderAt body' plan place from to ending → mode_in ending ≡ mode_of unwind →
+        Led flags to ending o (WalkE from w')) → Tell items local_ty local_ty' extends number depth outer body flagged
+        flag_ty
         flag_is added run' bound flags done →
         ((v : State) → (o ≡ Go v) ⊎ (o ≡ Unwinds v) → Leaves (at_line block line ((Drops, place) ∷ [])) done v) →
         ((v v' : State) → AtHere (done ++ at_line block line ((Drops, place) ∷ [])) v v' →
@@ -117,7 +107,7 @@ module _ (items : ItemTable) (local_ty local_ty' : (body local : ℕ) → Option
         P (unwinding unwind nextR v) (unwinding unwind WalkE v')) →
         P (acts (renamed unplaced o) nextR next unwind) (WalkE from w')
     ladder-Ends block line plan kind place from next (Unwind.Block c) nextR done flags w' o flat
-        code led tell leaves goes panics = by o refl (led code.0 (Calmly code.1) code.4)
+        code led tell leaves goes panics = by o refl (led code.0 (Calmly code.1) code.4 refl)
       where
         by : (x : Out State) → o ≡ x → Led flags code.0 (Calmly code.1) x (WalkE from w') →
             P (acts (renamed unplaced x) nextR next (Unwind.Block c)) (WalkE from w')
@@ -156,7 +146,7 @@ module _ (items : ItemTable) (local_ty local_ty' : (body local : ℕ) → Option
         by (Halts halt v) e (inl st) = stuck (unplaced halt) v _ (stuck-unplaced halt st)
         by (Halts halt v) e (inr h) = halted halt v h.0 (WalkE from w') h.1 h.2
     ladder-Ends block line plan kind place from next Unwind.Abort nextR done flags w' o flat code
-        led tell leaves goes panics = by o refl (led code.0 Abruptly code.2)
+        led tell leaves goes panics = by o refl (led code.0 Abruptly code.2 refl)
       where
         by : (x : Out State) → o ≡ x → Led flags code.0 Abruptly x (WalkE from w') →
             P (acts (renamed unplaced x) nextR next Unwind.Abort) (WalkE from w')
@@ -180,7 +170,7 @@ module _ (items : ItemTable) (local_ty local_ty' : (body local : ℕ) → Option
         by (Halts halt v) e (inl st) = stuck (unplaced halt) v _ (stuck-unplaced halt st)
         by (Halts halt v) e (inr h) = halted halt v h.0 (WalkE from w') h.1 h.2
     ladder-Ends block line plan kind place from next Unwind.Resume nextR done flags w' o flat code
-        led tell leaves goes panics = by o refl (led code.0 (Calmly code.1) code.4)
+        led tell leaves goes panics = by o refl (led code.0 (Calmly code.1) code.4 refl)
       where
         by : (x : Out State) → o ≡ x → Led flags code.0 (Calmly code.1) x (WalkE from w') →
             P (acts (renamed unplaced x) nextR next Unwind.Resume) (WalkE from w')

@@ -1,28 +1,23 @@
 -- How a body of a ready graph may be entered: with full values of the types of its signature, of which each reference
 -- names what is full. So it is by calls, by calls through a trait, and by drops.
-use Rattle.std.proofs.Common.{◌≡◌, ◌⊎◌, inl, inr, ℕ, zero, suc, ◌+◌, ◌==◌, ◌&&◌, not, Bool, true, false, List, [], ◌∷◌, ◌++◌, map, length, Option, Some, None, slice_get, Contains, refl, ap, sym, ◌∙◌, subst}
-use Rattle.std.specs.Prelude.{option_and_then}
-use Rattle.std.specs.Option.{option_map_or}
+use Rattle.std.proofs.Common.{◌≡◌, ℕ, ◌<◌, true, List, [], ◌∷◌, length, Option, Some, slice_get, refl, ap, sym, ◌∙◌, subst}
 use Rattle.std.specs.Cmp.{first_so, second_so}
 use Rattle.std.proofs.lemmas.Bool.{false≢true}
-use Rattle.std.proofs.lemmas.Bool.Decides.{Decides-eqb}
-use Rattle.std.proofs.lemmas.Option.{none-some}
 use Rattle.mir_ty.specs.declared.def.Sig.{Sig}
 use Rattle.mir_ty.specs.declared.ty.Ty.{Ty}
 use Rattle.mir_ty.specs.declared.ty.TyId.{TyId}
 use Rattle.mir_ty.specs.ItemTable.{ItemTable, type_at}
 use Rattle.store_model.specs.declared.address.Addr.{Addr}
 use Rattle.store_model.specs.Concrete.Drops.{drop_impl}
-use Rattle.store_model.specs.Concrete.Location.{Setting, DynamicType, OfType, concrete_ty, Located, located_at}
+use Rattle.store_model.specs.Concrete.Location.{Setting, concrete_ty, located_at}
 use Rattle.store_model.specs.Concrete.State.{State}
 use Rattle.store_model.specs.Places.Place.{is_reference}
 use Rattle.store_model.specs.Places.TypeForms.{same_id, same_ids}
 use Rattle.store_model.specs.Values.Datum.{Datum, Address}
-use Rattle.drop_values.specs.Like.{raw_setting, Flags, Like, MayEnter}
+use Rattle.drop_values.specs.Like.{raw_setting, MayEnter}
 use Rattle.drop_values.specs.Typed.{a_type, IsFull}
 use Rattle.drop_values.proofs.Made.{AllFull}
-use Rattle.drop_values.proofs.Named.{NamesFull}
-use Rattle.drop_values.proofs.Stand.{Stands}
+use Rattle.drop_values.proofs.Named.{standing-shallow}
 use Rattle.drop_values.proofs.Touched.{AllNameFull, addresses_of, MayDrop, only_one}
 use Rattle.drop_elaborate.proofs.OperandTypes.{same-ty}
 
@@ -61,10 +56,14 @@ module _ (items : ItemTable) (local_ty : (body local : ℕ) → Option TyId) whe
             (a_type d.2.0, (refl, d.2.2)),
             tt,
           );
-          named = λ a among t e.
-              let same : a ≡ s.address = only_one items local_ty s.address a among in
-              let one : s ≡ t = (let x : Some s ≡ Some t = sym st ∙ ap (located_at raw w) (sym same) ∙ e in cc) in
-              subst (λ x. IsFull items x.dynamic x.value) one full;
+          named = λ a among.
+              let same : a ≡ s.address = only_one items local_ty s.address a among in (
+                λ t e. let one : s ≡ t = (let x : Some s ≡ Some t = sym st ∙ ap (located_at raw w) (sym same) ∙ e in
+                    cc) in
+                    subst (λ x. IsFull items x.dynamic x.value) one full,
+                subst (λ (x : Addr). x.depth < length w.activations) (sym same)
+                    (standing-shallow items local_ty w s.address s st),
+              );
         }
 
     pub may-enter : MayEnter items local_ty Enters

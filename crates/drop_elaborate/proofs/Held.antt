@@ -1,42 +1,42 @@
 -- What holds of a raw run within a body after the actions of a path, and that it holds after one action more: a place
 -- is read, moved out of, stored into, or lies behind a reference.
-use Rattle.std.proofs.Common.{◌≡◌, ◌⊎◌, inl, inr, ℕ, zero, suc, ◌==◌, ◌&&◌, ◌||◌, not, Bool, true, false, List, [], ◌∷◌, ◌++◌, length, Option, Some, None, if◌then◌else◌, slice_get, refl, ap, sym, ◌∙◌, subst, append_assoc}
+use Rattle.std.proofs.Common.{◌≡◌, ◌⊎◌, inl, inr, ℕ, ◌==◌, ◌&&◌, Bool, true, false, List, [], ◌∷◌, ◌++◌, Option, Some, None, if◌then◌else◌, slice_get, refl, ap, sym, ◌∙◌, subst}
 use Rattle.std.proofs.Math.Path.{fun_ext}
 use Rattle.std.specs.Prelude.{option_and_then}
-use Rattle.std.specs.List.{list_all}
 use Rattle.std.specs.Option.{option_map_or}
-use Rattle.std.specs.Cmp.{first_so, second_so}
-use Rattle.std.proofs.lemmas.Bool.{false≢true}
-use Rattle.std.proofs.lemmas.Bool.Decides.{Decides-eqb, eqb_tells}
+use Rattle.std.specs.Cmp.{first_so}
 use Rattle.std.proofs.lemmas.Option.{none-some}
-use Rattle.mir_ty.specs.declared.ty.Ty.{Ty}
 use Rattle.mir_ty.specs.declared.ty.TyId.{TyId}
 use Rattle.mir_ty.specs.ItemTable.{ItemTable, type_at}
 use Rattle.cfg_graph.specs.declared.graph.Body.{Body}
-use Rattle.cfg_graph.specs.Moves.Gone.{PathAction, are_first, counts, leaves_gone, reaches_whole}
+use Rattle.cfg_graph.specs.Moves.Gone.{PathAction, below, counts, is_gone_after, leaves_gone, reaches_whole}
 use Rattle.cfg_graph.specs.Moves.Present as moves
 use Rattle.cfg_graph.specs.Moves.Present.{changed_by, present_from, present_after, present_at_start}
-use Rattle.cfg_graph.specs.NamedPlaces.{references_made, named_by, followed, named_places, takes, spares, makes}
+use Rattle.cfg_graph.proofs.AllPresent.{whole_is_all_present}
+use Rattle.cfg_graph.proofs.Present.{gone_is_not_present}
+use Rattle.cfg_graph.specs.NamedPlaces.{references_made, named_by, followed, spares, makes}
 use Rattle.store_model.specs.declared.address.Addr.{Addr}
-use Rattle.store_model.specs.Abstract.Presence.{Presence, after_action}
-use Rattle.store_model.specs.Concrete.Location.{Setting, Located, located_at}
+use Rattle.store_model.specs.Abstract.Presence.{Presence, presence_along, all_present}
+use Rattle.store_model.specs.Concrete.Location.{Setting, OfType, Located, located_at}
 use Rattle.store_model.specs.Concrete.State.{State}
 use Rattle.store_model.specs.Places.Place.{Step, ToPart, ToField, ToContent, ToElement, Place, watched, watched_content, content_of, step_ty, is_reference}
 use Rattle.store_model.specs.Values.Datum.{Datum, Gone, Address}
-use Rattle.drop_values.specs.Like.{raw_setting}
-use Rattle.drop_values.specs.Typed.{Fits, IsFull}
+use Rattle.drop_values.specs.Like.{held, raw_setting}
+use Rattle.drop_values.specs.Typed.{IsFull}
+use Rattle.drop_values.proofs.AlikePresence.{Alike, alike-Fits, other-leads}
 use Rattle.drop_values.proofs.BehindInvariant.{Opens, an_older, its_own, behind-Invariant}
-use Rattle.drop_values.proofs.Frame.{full-Sound}
-use Rattle.drop_values.proofs.Invariant.{RefersTo, Invariant, same-Invariant, fewer, own-Invariant}
+use Rattle.drop_values.proofs.Sound.{full-Sound}
+use Rattle.drop_values.proofs.Invariant.{RefersTo, to_older, to_own, Invariant, same-Invariant, fewer, own-Invariant}
 use Rattle.drop_values.proofs.Knows.{PlainSteps, no_steps, to_next, present_by, Own}
+use Rattle.drop_values.proofs.KnowsLaws.{Bodiless}
 use Rattle.drop_values.proofs.Named.{located-by}
-use Rattle.drop_values.proofs.References.{own-stays}
+use Rattle.drop_values.proofs.References.{AllThere, own-stays}
 use Rattle.drop_values.proofs.LeftGone.{BodilessSteps, taken-Invariant}
 use Rattle.drop_values.proofs.Stand.{Changed}
 use Rattle.drop_values.proofs.Staying.{Diverge}
 use Rattle.drop_values.proofs.Touched.{SameCells, NoAddress, AllNameFull}
 use Rattle.drop_elaborate.proofs.Apart.{IsNamed, LeadsItself, spared-apart, way-runs}
-use Rattle.drop_elaborate.proofs.SinceMade.{all-first, all-second, since_next, since_from, since, since_from-append, IsSpared, IsLive}
+use Rattle.drop_elaborate.proofs.SinceMade.{all-first, all-second, since, since_from-append, IsSpared, IsLive}
 
 -- a place of plain steps is watched to its end
 pub plain-counts : (items : ItemTable) (steps : List Step) (id end : TyId) → PlainSteps items steps id end →
@@ -181,6 +181,81 @@ module _ (items : ItemTable) (local_ty : (body local : ℕ) → Option TyId) (nu
       apart r b n named key (inr s) =
           spared-apart body r b action o.arrives.path s
           (ap (λ x. option_map_or (λ gone. gone) x false) g) itself n named key (way-runs o.arrives.way)
+
+  -- what stands at a place of the body's own is dropped, if no container of it has a `Drop` body
+  pub dropped-Held : (actions : List PathAction) (action : PathAction) (w v : State) (id end : TyId) (t : Located) →
+      leaves_gone action.how ≡ Some true → ((r : ℕ) → makes body r action ≡ false) →
+      local_ty number action.place.local ≡ Some id → PlainSteps items action.place.steps id end →
+      LeadsItself body action.place → (o : Own raw number depth w action.place t id end) →
+      Bodiless items o.arrives.way → Changed t.address Gone w v → Held actions w → Held (actions ++ action ∷ []) v
+  dropped-Held actions action w v id end t g m typed plain itself o bodiless c h =
+      subst (λ present. Invariant items local_ty number depth addresses before (IsNamed body)
+      (IsLive body (actions ++ action ∷ [])) present v)
+      (sym (present-changed actions action true
+      (ap (λ x. reaches_whole (watched items x action.place.steps)) (sym (locals_are action.place.local) ∙ typed)
+      ∙ plain-counts items action.place.steps id end plain) g))
+      (own-Invariant items local_ty number depth addresses before (IsNamed body) true
+      (present_after items body actions) w v action.place id end t Gone typed o c (IsLive body actions)
+      (IsLive body (actions ++ action ∷ [])) refl (inr bodiless) tt
+      (λ r b n l. let k = lives-before actions action r (m r) l in
+      (k.0, λ named key. inr (apart r b n named key k.1)))
+      (λ b e. absurd (let x : Gone ≡ Address b = e in cc)) h)
+    where
+      apart : (r : ℕ) (b : Addr) → (r == action.place.local) ≡ false → IsNamed body r b → b.key.0 ≡ action.place.local →
+          (named_by r (references_made body) ≡ None) ⊎ (spares body r action ≡ true) → Diverge o.arrives.path b.path
+      apart r b n named key (inl e) = absurd (not-named r b e named)
+      apart r b n named key (inr s) =
+          spared-apart body r b action o.arrives.path s (ap (λ x. option_map_or (λ gone. gone) x false) g) itself n
+          named
+          key (way-runs o.arrives.way)
+
+  -- by another list of actions, after which the same is gone and no more may be used
+  pub other-path : (actions others : List PathAction) (w : State) →
+      ((place : Place) → is_gone_after items body actions place ≡ is_gone_after items body others place) →
+      ((r : ℕ) → IsLive body others r → IsLive body actions r) → Held actions w → Held others w
+  other-path actions others w same live h = record {
+    knows = record {
+      deep = h.knows.deep;
+      number_is = h.knows.number_is;
+      fits = λ k id e. alike-Fits items (held depth k w) (OfType id) (present_after items body actions k)
+          (present_after items body others k) (alike k) (h.knows.fits k id e);
+    };
+    sound = h.sound;
+    older = h.older;
+    refers = λ r b e. refers r b (h.refers r b e);
+  }
+    where
+      alike : (k : ℕ) → Alike (present_after items body actions k) (present_after items body others k)
+      alike k steps =
+          gone_is_not_present items body actions (record { local = k; steps = steps })
+          ∙ same (record { local = k; steps = steps })
+          ∙ sym (gone_is_not_present items body others (record { local = k; steps = steps }))
+
+      all-there : (k : ℕ) (steps : List Step) →
+          all_present (presence_along steps (present_after items body actions k)) ≡ true →
+          all_present (presence_along steps (present_after items body others k)) ≡ true
+      all-there k steps h =
+          let place : Place = record { local = k; steps = steps } in
+          (whole_is_all_present items body others place).1
+          (λ more. sym (same (below place more)) ∙ (whole_is_all_present items body actions place).0 h more)
+
+      there : (b : Addr) → AllThere items local_ty number depth (present_after items body actions) w b →
+          AllThere items local_ty number depth (present_after items body others) w b
+      there b a = record {
+        all = λ id f p d e ty l.
+            let o = other-leads items (present_after items body actions b.key.0) l in
+            subst (λ q. all_present q ≡ true) (sym o.end_is)
+            (all-there b.key.0 o.steps (a.all id f
+            (presence_along o.steps (present_after items body actions b.key.0)) d e ty o.leads));
+      }
+
+      refers : (r : ℕ) (b : Addr) →
+          RefersTo items local_ty number depth addresses before (IsNamed body) (IsLive body actions)
+          (present_after items body actions) w r b →
+          RefersTo items local_ty number depth addresses before (IsNamed body) (IsLive body others)
+          (present_after items body others) w r b
+      refers r b (to_older far within full) = to_older far within full
+      refers r b (to_own e named found) = to_own e named (λ l. there b (found (live r l)))
 
   -- a full value is stored at a place of the body's own
   pub stored-Held : (actions : List PathAction) (action : PathAction) (w v : State) (id end : TyId) (t : Located)

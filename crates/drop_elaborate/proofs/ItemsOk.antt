@@ -1,6 +1,6 @@
 -- In a graph without a fault the bodies that are called are as they are called: the result of a body is its first
 -- local, the body that an impl has for a method implements it, and that of a `Drop` impl takes one reference.
-use Rattle.std.proofs.Common.{◌≡◌, ◌⊎◌, inl, inr, ℕ, zero, suc, ◌+◌, ◌<◌, ◌≤◌, ◌==◌, ◌&&◌, not, nat_lt, Bool, true, false, List, [], ◌∷◌, ◌++◌, map, take, length, Option, Some, None, slice_get, refl, ap, sym, ◌∙◌, subst, arith}
+use Rattle.std.proofs.Common.{◌≡◌, inl, inr, ℕ, zero, suc, ◌+◌, ◌==◌, ◌&&◌, not, nat_lt, Bool, true, false, List, [], ◌∷◌, ◌++◌, take, length, Option, Some, None, slice_get, refl, ap, sym, ◌∙◌, subst, arith}
 use Rattle.std.specs.Prelude.{option_and_then}
 use Rattle.std.specs.List.{list_all}
 use Rattle.std.specs.Option.{option_map_or}
@@ -24,10 +24,10 @@ use Rattle.cfg_graph.specs.WellFormed.LineFaults.{is_sig_of, has_sig}
 use Rattle.cfg_graph.specs.WellFormed.TypeFaults.{is_drop_body, adt_holds_itself}
 use Rattle.cfg_graph.specs.WellFormed.Typing.{method_at}
 use Rattle.cfg_graph.proofs.NoFaults.{first_empty, second_empty, map_empty, of_each-empty, broken-holds}
-use Rattle.store_model.specs.Concrete.Drops.{drop_impl, with_drop_body}
+use Rattle.store_model.specs.Concrete.Drops.{with_drop_body}
 use Rattle.store_model.specs.Concrete.Effects.{row_body}
 use Rattle.store_model.specs.Places.Place.{is_reference}
-use Rattle.store_model.specs.Places.TypeForms.{same_id, same_ids, is_adt, is_dyn_of, is_unit}
+use Rattle.store_model.specs.Places.TypeForms.{same_id, same_ids, is_dyn_of, is_unit}
 use Rattle.drop_values.specs.Like.{raw_setting}
 use Rattle.drop_values.specs.Typed.{has_impl}
 use Rattle.drop_elaborate.proofs.BodyFacts.{has-sig}

@@ -1,13 +1,11 @@
 -- The places and operands of a line without a fault, in a body that is ready: how each place is reached, and the type
 -- of the value of each operand.
-use Rattle.std.proofs.Common.{◌≡◌, ◌⊎◌, inl, inr, ℕ, zero, suc, ◌==◌, ◌&&◌, ◌||◌, not, Bool, true, false, List, [], ◌∷◌, ◌++◌, map, Option, Some, None, is_some, if◌then◌else◌, slice_get, refl, ap, sym, ◌∙◌, subst}
-use Rattle.std.proofs.Math.Path.{fun_ext}
+use Rattle.std.proofs.Common.{◌≡◌, ◌⊎◌, inl, inr, ℕ, ◌||◌, not, Bool, true, false, List, [], ◌∷◌, ◌++◌, map, Option, Some, None, is_some, slice_get, refl, ap, sym, ◌∙◌}
 use Rattle.std.specs.Prelude.{option_and_then}
 use Rattle.std.specs.List.{list_any, list_all}
 use Rattle.std.specs.Option.{option_map_or}
 use Rattle.std.specs.Cmp.{first_so, second_so}
 use Rattle.std.proofs.lemmas.Bool.{false≢true}
-use Rattle.std.proofs.lemmas.Bool.Decides.{Decides-eqb}
 use Rattle.std.proofs.lemmas.Option.{none-some}
 use Rattle.mir_base.specs.declared.int_kind.IntKind.{IntKind}
 use Rattle.mir_ty.specs.declared.ty.Ty.{Ty}
@@ -18,23 +16,18 @@ use Rattle.cfg_graph.specs.declared.place.Place as graph
 use Rattle.cfg_graph.specs.declared.place.Step as graph_step
 use Rattle.cfg_graph.specs.Moves.Gone.{has_index}
 use Rattle.cfg_graph.specs.NamedPlaces.{references_made, named_by, further, behind as behind_made}
-use Rattle.cfg_graph.specs.Places.{named_step, named, index_locals, place_id}
+use Rattle.cfg_graph.specs.Places.{named_step, named, index_locals}
 use Rattle.cfg_graph.specs.Ready.{container_tys, may_be_left_gone, references_stand_alone}
-use Rattle.cfg_graph.specs.WellFormed.Typing.{is_typed_place}
-use Rattle.store_model.specs.declared.address.Addr.{Addr}
 use Rattle.store_model.specs.Concrete.Drops.{drop_impl}
 use Rattle.store_model.specs.Concrete.Location.{named_by as type_named_by}
-use Rattle.store_model.specs.Concrete.State.{State}
-use Rattle.store_model.specs.Places.Place.{Step, ToPart, ToField, ToContent, ToElement, Place, is_reference, step_ty, content_of, ty_along, place_ty}
-use Rattle.store_model.specs.Places.TypeForms.{is_int, is_dyn}
+use Rattle.store_model.specs.Places.Place.{Step, ToPart, ToField, ToContent, ToElement, Place, is_reference, step_ty, content_of}
+use Rattle.store_model.specs.Places.TypeForms.{is_int}
 use Rattle.drop_values.proofs.Knows.{PlainSteps, no_steps, to_next}
 use Rattle.drop_values.proofs.LeftGone.{BodilessSteps, at_end, beyond}
 use Rattle.drop_values.proofs.Reach.{IndexOk}
 use Rattle.drop_values.proofs.Sites.{PlaceIs, a_part, an_element, behind}
-use Rattle.drop_values.proofs.Touched.{AllNameFull}
 use Rattle.drop_elaborate.proofs.Apart.{LeadsItself}
-use Rattle.drop_elaborate.proofs.Operands.{PlaceOk}
-use Rattle.drop_elaborate.proofs.StandAlone.{step-free, place-is}
+use Rattle.drop_elaborate.proofs.StandAlone.{step-free}
 use Rattle.drop_elaborate.proofs.Stores.{named-reference, plain-no-reference}
 use Rattle.drop_values.proofs.TypedSteps.{SolidSteps, no_more, one_more}
 
@@ -182,7 +175,7 @@ module _ (items : ItemTable) (alone : references_stand_alone items ≡ true) whe
       not-true false e = refl
       not-true true e = absurd (false≢true e)
 
-      own-itself : (place : Place) (start id : TyId) → local_ty number place.local ≡ Some start →
+      pub own-itself : (place : Place) (start id : TyId) → local_ty number place.local ≡ Some start →
           PlainSteps items place.steps start id → LeadsItself body place
       own-itself place start id typed plain = by place.steps plain
         where

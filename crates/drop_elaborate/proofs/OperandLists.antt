@@ -1,42 +1,38 @@
 -- All operands of a raw line in turn: full values of their types, and addresses at which values may come still, since
 -- no operand takes what a reference names that another operand uses.
-use Rattle.std.proofs.Common.{◌≡◌, ◌⊎◌, inl, inr, ℕ, zero, suc, ◌==◌, ◌&&◌, Bool, true, false, List, [], ◌∷◌, ◌++◌, map, flat_map, length, Option, Some, None, slice_get, Contains, refl, ap, sym, ◌∙◌, subst, append_assoc}
+use Rattle.std.proofs.Common.{◌≡◌, ◌⊎◌, inl, inr, ℕ, zero, suc, List, [], ◌∷◌, ◌++◌, map, flat_map, Option, Some, None, slice_get, Contains, refl, ap, sym, ◌∙◌, subst, append_assoc}
 use Rattle.std.specs.Prelude.{option_and_then}
 use Rattle.std.specs.Option.{option_map_or}
 use Rattle.std.proofs.lemmas.Bool.{false≢true}
-use Rattle.std.proofs.lemmas.Bool.Decides.{Decides-eqb, eqb_tells}
-use Rattle.std.proofs.lemmas.Option.{none-some, option_and_then_some}
+use Rattle.std.proofs.lemmas.Bool.Decides.{Decides-eqb}
+use Rattle.std.proofs.lemmas.Option.{none-some}
 use Rattle.mir_ty.proofs.ListLemmas.{slice_get-Contains, Contains-slice_get}
 use Rattle.mir_ty.specs.declared.ty.TyId.{TyId}
-use Rattle.mir_ty.specs.ItemTable.{ItemTable, type_at}
+use Rattle.mir_ty.specs.ItemTable.{ItemTable}
 use Rattle.cfg_graph.specs.declared.graph.Body.{Body}
 use Rattle.cfg_graph.specs.declared.place.Operand.{Operand}
 use Rattle.cfg_graph.specs.declared.place.Place as graph
 use Rattle.cfg_graph.specs.Moves.Actions.{at_line}
-use Rattle.cfg_graph.specs.Moves.Gone.{PathAction, reaches_whole}
+use Rattle.cfg_graph.specs.Moves.Gone.{PathAction}
 use Rattle.cfg_graph.specs.Moves.Present.{present_after}
-use Rattle.cfg_graph.specs.NamedPlaces.{references_made, named_by, spares}
 use Rattle.cfg_graph.specs.Places.{named}
-use Rattle.cfg_graph.specs.Uses.{PlaceUse, Copies, Moves, operand_uses}
+use Rattle.cfg_graph.specs.Uses.{PlaceUse, operand_uses}
 use Rattle.cfg_meaning.specs.Actions.{site_of, operand_of, operands_of}
 use Rattle.store_model.specs.declared.address.Addr.{Addr}
 use Rattle.store_model.specs.Concrete.Effects.{whole_at, evaluate_operand, evaluate_operands}
 use Rattle.store_model.specs.Concrete.Location.{Setting, OfType, Located, stored_at}
 use Rattle.store_model.specs.Concrete.State.{State}
-use Rattle.store_model.specs.Places.Place.{Place, watched}
 use Rattle.store_model.specs.Values.Datum.{Datum, Gone, Number, Truth, UnitValue, Aggregate, Box, Address}
 use Rattle.drop_values.specs.Like.{raw_setting}
 use Rattle.drop_values.specs.Typed.{IsFull}
-use Rattle.drop_values.proofs.Invariant.{RefersTo, to_older, to_own, Invariant}
-use Rattle.drop_values.proofs.Knows.{Own, own_place}
+use Rattle.drop_values.proofs.Invariant.{RefersTo, to_older, to_own}
 use Rattle.drop_values.proofs.Made.{AllFull}
-use Rattle.drop_values.proofs.Staying.{Diverge}
-use Rattle.drop_values.proofs.Stand.{stored-Changed, stands-known}
 use Rattle.drop_values.proofs.Touched.{AllNameFull, addresses_of}
-use Rattle.drop_elaborate.proofs.Apart.{IsNamed, spared-apart, way-runs}
-use Rattle.drop_elaborate.proofs.Held.{plain-counts, Held, OpensAfter, not-named, own-opens, read-opens}
+use Rattle.drop_elaborate.proofs.Apart.{IsNamed}
+use Rattle.drop_elaborate.proofs.Held.{Held, OpensAfter}
 use Rattle.drop_elaborate.proofs.SinceMade.{IsLive}
-use Rattle.drop_elaborate.proofs.Operands.{UsedAt, used-at, reads, OperandIs, copied, moved, a_number, a_truth, a_unit, OperandUsed, Took, operand-Took}
+use Rattle.drop_elaborate.proofs.Operands.{reads, OperandIs, copied, moved, a_number, a_truth, a_unit, OperandUsed, operand-Took}
+use Rattle.drop_elaborate.proofs.OperandStays.{GivenBy as GivenByOf, Spares, no_more, given-still}
 
 module _ (items : ItemTable) (local_ty : (body local : ℕ) → Option TyId) (number depth : ℕ) (body : Body)
     (addresses : List Addr) (before : State) (given : AllNameFull items local_ty before addresses)
@@ -53,112 +49,11 @@ module _ (items : ItemTable) (local_ty : (body local : ℕ) → Option TyId) (nu
   abbrev Is : Operand → TyId → Type 0
   Is operand id = OperandIs items local_ty number depth body addresses before given locals_are operand id
 
-  -- an address that a use of this reference gave: what an action of the line spares for it does not take it
-  pub record GivenBy (r : ℕ) (actions : List PathAction) (w : State) (b : Addr) : Type 0 where
-    pub opened : OpensNow actions w b
-    pub named_so : b.depth ≡ depth → IsNamed body r b
-
-  -- an operand spares what the references name that were used before it
-  abbrev pub Spares : ℕ → (n line : ℕ) → {operand : Operand} {id : TyId} → Is operand id → Type 0
-  Spares r n line {operand} {id} (moved place end start ok typed plain bodiless itself) =
-      (named_by r (references_made body) ≡ None)
-      ⊎ (spares body r (record { how = Moves; place = named place; block = n; line = line }) ≡ true)
-  Spares r n line {operand} {id} (copied place end ok) = Unit {0}
-  Spares r n line {operand} {id} (a_number value kind end is) = Unit {0}
-  Spares r n line {operand} {id} (a_truth value end is) = Unit {0}
-  Spares r n line {operand} {id} (a_unit end is) = Unit {0}
-
-  no_more : (actions : List PathAction) → actions ++ [] ≡ actions
-  no_more [] = refl
-  no_more (action ∷ actions) = ap (λ l. action ∷ l) (no_more actions)
+  abbrev GivenBy : ℕ → List PathAction → State → Addr → Type 0
+  GivenBy = GivenByOf items local_ty number depth body addresses before given locals_are
 
   abbrev After : ℕ → ℕ → List PathAction → Operand → List PathAction
   After n line actions operand = actions ++ at_line n line (operand_uses operand)
-
-  abbrev Gives : Type 0
-  Gives = Option (Datum × State)
-
-  constant-still : (actions : List PathAction) (d v : Datum) (w u : State) (r : ℕ) (b : Addr) →
-      ◌≡◌ {A = Option (Datum × State)} (Some (d, w)) (Some (v, u)) → GivenBy r actions w b →
-      GivenBy r (actions ++ []) u b
-  constant-still actions d v w u r b e x =
-      let both : ◌≡◌ {A = Datum × State} (d, w) (v, u) = cc in
-      subst (λ l. GivenBy r l u b) (sym (no_more actions))
-      (subst (λ u. GivenBy r actions u b) (ap (λ (x : Datum × State). x.1) both) x)
-
-  -- what another operand gave before is as open as it was
-  pub given-still : (n line : ℕ) (operand : Operand) (id : TyId) (is : Is operand id) (actions : List PathAction)
-      (w : State) (v : Datum) (u : State) → OperandUsed items local_ty number depth body addresses
-      before given locals_are
-      actions is → HeldNow actions w →
-      evaluate_operand raw (operand_of 0 operand) w ≡ Some (v, u) → (r : ℕ) → Spares r n line is → (b : Addr) →
-      GivenBy r actions w b → GivenBy r (After n line actions operand) u b
-  given-still n line _ id (copied place _ ok) actions w v u used h e r s b x =
-      by (whole_at raw w (site_of 0 place)) refl e
-    where
-      by : (o : Option Located) → whole_at raw w (site_of 0 place) ≡ o →
-          option_map_or {U = Option (Datum × State)} (λ s. Some (s.value, w)) o None ≡ Some (v, u) →
-          GivenBy r (After n line actions (Operand.Copied place)) u b
-      by None eo e = absurd (none-some (v, u) e)
-      by (Some s) eo e =
-          let both : ◌≡◌ {A = Datum × State} (s.value, w) (v, u) = cc in
-          subst (λ u. GivenBy r (After n line actions (Operand.Copied place)) u b)
-          (ap (λ (x : Datum × State). x.1) both) (record {
-            opened = read-opens items local_ty number depth body addresses before given locals_are actions
-                (record {
-                  how =
-                      Copies;
-                  place = named place;
-                  block = n;
-                  line = line;
-                }) w refl b x.opened;
-            named_so = x.named_so;
-          })
-  given-still n line _ id (moved place _ start ok typed plain bodiless itself) actions w v u used h e r spared b x =
-      by (whole_at raw w (site_of 0 place)) refl e
-    where
-      action : PathAction
-      action = record { how = Moves; place = named place; block = n; line = line }
-
-      by : (o : Option Located) → whole_at raw w (site_of 0 place) ≡ o →
-          option_map_or {U = Option (Datum × State)} (λ s. Some (s.value, stored_at s.address Gone w)) o None
-          ≡ Some (v, u) → GivenBy r (actions ++ action ∷ []) u b
-      by None eo e = absurd (none-some (v, u) e)
-      by (Some s) eo e =
-          let got = reads items local_ty number depth body addresses before given locals_are actions w 0
-          (named place) id s
-          ok used h eo in
-          let at = used-at raw w (site_of 0 place) s eo in
-          let both : ◌≡◌ {A = Datum × State} (s.value, stored_at s.address Gone w) (v, u) = cc in
-          let o = own_place raw number depth (present_after items body actions) w (named place) start id s h.knows typed
-          plain at.reached in
-          let c = stored-Changed s.address Gone w (stands-known raw w s got.lands_at.stands) in
-          subst (λ u. GivenBy r (actions ++ action ∷ []) u b) (ap (λ (x : Datum × State). x.1) both) (record {
-            opened = own-opens items local_ty number depth body addresses before given locals_are actions action w
-                (stored_at s.address Gone w) start id s Gone true (ap (λ x. reaches_whole (watched items x
-                (named place).steps)) (sym (locals_are place.local) ∙ typed) ∙ plain-counts items (named place).steps
-                start id plain) refl typed o c b
-                (λ deep key. inr (still s o deep key (r == place.local) refl)) x.opened;
-            named_so = x.named_so;
-          })
-        where
-          still : (s : Located) (o : Own raw number depth w (named place) s start id) → b.depth ≡ depth →
-              b.key.0 ≡ place.local → (y : Bool) → (r == place.local) ≡ y → Diverge o.arrives.path b.path
-          still s o deep key true n =
-              absurd (not-named items local_ty number depth body addresses before given locals_are r b
-              (ap (λ k. named_by k (references_made body)) ((Decides-eqb r place.local).0 n ∙ sym key)
-              ∙ (x.named_so deep).rooted) (x.named_so deep))
-          still s o deep key false n = elim spared [
-            | inl none ↦ absurd (not-named items local_ty number depth body addresses before given locals_are r b none
-                (x.named_so deep))
-            | inr one ↦ spared-apart body r b action o.arrives.path one refl itself n (x.named_so deep) key
-                (way-runs o.arrives.way)
-          ]
-  given-still n line _ id (a_number value kind _ is) actions w v u used h e r s b x =
-      constant-still actions (Number value) v w u r b e x
-  given-still n line _ id (a_truth value _ is) actions w v u used h e r s b x =
-      constant-still actions (Truth value) v w u r b e x
-  given-still n line _ id (a_unit _ is) actions w v u used h e r s b x = constant-still actions UnitValue v w u r b e x
 
   -- ---- a list of them
 
@@ -206,7 +101,7 @@ module _ (items : ItemTable) (local_ty : (body local : ℕ) → Option TyId) (nu
       Type 0
   AllSpare r n line {operands} {ids} none_is = Unit {0}
   AllSpare r n line {operands} {ids} (each_is operand rest id others is are) =
-      Spares r n line is × AllSpare r n line are
+      Spares items local_ty number depth body addresses before given locals_are r n line is × AllSpare r n line are
   AllSpare r n line {operands} {ids} (any_is operand rest others constant are) = AllSpare r n line are
 
   -- the local that an operand reads as a whole
@@ -315,8 +210,7 @@ module _ (items : ItemTable) (local_ty : (body local : ℕ) → Option TyId) (nu
         where
           of : (o : Option (List Datum × State)) → evaluate_operands raw (operands_of 0 operands) mid ≡ o →
               option_map_or {U = Option (List Datum × State)} (λ (rest : List Datum × State). Some (v ∷ rest.0, rest.1))
-              o
-              None ≡ Some (vs, u) → EvaluatedAll operand operands w vs u
+              o None ≡ Some (vs, u) → EvaluatedAll operand operands w vs u
           of None er e = absurd (none-some (vs, u) e)
           of (Some (rest, last)) er e =
               let both : ◌≡◌ {A = List Datum × State} (v ∷ rest, last) (vs, u) = cc in record {
@@ -377,7 +271,8 @@ module _ (items : ItemTable) (local_ty : (body local : ℕ) → Option TyId) (nu
       (w : State) (v : Datum) (u : State) → Constantly operand w v u → P actions w → P (After n line actions operand) u
   after-constant P n line actions operand w v u c p =
       subst (λ uses. P (actions ++ at_line n line uses) u) (sym c.no_use)
-      (subst (λ l. P l u) (sym (no_more actions)) (subst (P actions) c.same p))
+      (subst (λ l. P l u) (sym (no_more items local_ty number depth body addresses before given locals_are actions))
+      (subst (P actions) c.same p))
 
   all-still : (n line : ℕ) {operands : List Operand} {ids : List (Option TyId)} (are : OperandsAre operands ids)
       (actions : List PathAction) (w : State) (vs : List Datum) (u : State) → AllUsed n line actions are →
@@ -385,7 +280,8 @@ module _ (items : ItemTable) (local_ty : (body local : ℕ) → Option TyId) (nu
       AllSpare r n line are → (b : Addr) → GivenBy r actions w b → GivenBy r (actions ++ UsesOf n line operands) u b
   all-still n line none_is actions w vs u used h e r s b x =
       let both : ◌≡◌ {A = List Datum × State} ([], w) (vs, u) = cc in
-      subst (λ l. GivenBy r l u b) (sym (no_more actions))
+      subst (λ l. GivenBy r l u b) (sym (no_more items local_ty number depth body addresses before given locals_are
+      actions))
       (subst (λ u. GivenBy r actions u b) (ap (λ (x : List Datum × State). x.1) both) x)
   all-still n line (each_is operand operands id ids is are) actions w vs u used h e r s b x =
       let k = evaluated-all operand operands w vs u e in
@@ -394,7 +290,8 @@ module _ (items : ItemTable) (local_ty : (body local : ℕ) → Option TyId) (nu
       k.v k.mid used.0 h k.first in
       subst (λ l. GivenBy r l u b) (after-all n line actions operand operands)
       (all-still n line are (After n line actions operand) k.mid k.rest u used.1 t.held_now k.others r s.1 b
-      (given-still n line operand id is actions w k.v k.mid used.0 h k.first r s.0 b x))
+      (given-still items local_ty number depth body addresses before given locals_are n line operand id is actions w k.v
+      k.mid used.0 h k.first r s.0 b x))
   all-still n line (any_is operand operands ids constant are) actions w vs u used h e r s b x =
       let k = evaluated-all operand operands w vs u e in
       let c = constant-gives operand w k.v k.mid constant k.first in
@@ -426,7 +323,8 @@ module _ (items : ItemTable) (local_ty : (body local : ℕ) → Option TyId) (nu
       TookAll (actions ++ UsesOf n line operands) ids w vs u
   operands-Took n line none_is actions w vs u used s h e =
       let both : ◌≡◌ {A = List Datum × State} ([], w) (vs, u) = cc in
-      subst (λ l. TookAll l [] w vs u) (sym (no_more actions))
+      subst (λ l. TookAll l [] w vs u) (sym (no_more items local_ty number depth body addresses before given locals_are
+      actions))
       (subst (λ vs. TookAll actions [] w vs u) (ap (λ (x : List Datum × State). x.0) both)
       (subst (TookAll actions [] w []) (ap (λ (x : List Datum × State). x.1) both) (record {
         full = tt;

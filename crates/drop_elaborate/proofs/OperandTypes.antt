@@ -1,6 +1,6 @@
 -- The operands of a line without a fault, in a body that is ready: each is a constant or a place that is reached in one
 -- of its ways, of the type that the line wants, and a moved place may be left gone.
-use Rattle.std.proofs.Common.{◌≡◌, ℕ, ◌==◌, ◌&&◌, not, Bool, true, false, List, [], ◌∷◌, ◌++◌, map, flat_map, Option, Some, None, is_some, slice_get, refl, ap, sym, ◌∙◌, subst}
+use Rattle.std.proofs.Common.{◌≡◌, ℕ, ◌&&◌, not, Bool, true, false, List, [], ◌∷◌, map, flat_map, Option, Some, None, is_some, slice_get, refl, ap, sym, ◌∙◌, subst}
 use Rattle.std.proofs.Math.Path.{fun_ext}
 use Rattle.std.specs.Prelude.{option_and_then}
 use Rattle.std.specs.List.{list_all}
@@ -19,17 +19,17 @@ use Rattle.cfg_graph.specs.declared.place.Place as graph
 use Rattle.cfg_graph.specs.NamedPlaces.{references_made, named_by}
 use Rattle.cfg_graph.specs.Places.{named, index_locals, place_id}
 use Rattle.cfg_graph.specs.Places as places
-use Rattle.cfg_graph.specs.Ready.{may_be_left_gone, moves_out_well, references_stand_alone}
+use Rattle.cfg_graph.specs.Ready.{moves_out_well, references_stand_alone}
 use Rattle.cfg_graph.specs.Uses.{operand_uses, place_used}
 use Rattle.cfg_graph.specs.WellFormed.Typing.{is_typed_place, is_sized, operand_is, operands_are, operand_stands}
 use Rattle.store_model.specs.declared.address.Addr.{Addr}
 use Rattle.store_model.specs.Concrete.State.{State}
-use Rattle.store_model.specs.Places.Place.{Place, ty_along, place_ty, is_reference}
+use Rattle.store_model.specs.Places.Place.{Place, ty_along, is_reference}
 use Rattle.store_model.specs.Places.TypeForms.{same_id, same_kind, is_int, is_bool, is_unit, is_dyn, box_content}
 use Rattle.drop_values.proofs.Reach.{IndexOk}
 use Rattle.drop_values.proofs.Sites.{PlaceIs}
 use Rattle.drop_values.proofs.Touched.{AllNameFull}
-use Rattle.drop_elaborate.proofs.LinesTyped.{index-ok, is-alone, Leavable, leavable}
+use Rattle.drop_elaborate.proofs.LinesTyped.{index-ok, is-alone, leavable}
 use Rattle.drop_elaborate.proofs.OperandLists.{OperandsAre, none_is, each_is, any_is}
 use Rattle.drop_elaborate.proofs.Operands.{PlaceOk, OperandIs, copied, moved, a_number, a_truth, a_unit}
 use Rattle.drop_elaborate.proofs.StandAlone.{place-is}

@@ -1,6 +1,6 @@
 -- The operands of a raw line, one after another: each gives a full value of its type, a reference that is used names
 -- what may be stored into, and what is known holds after each.
-use Rattle.std.proofs.Common.{◌≡◌, ◌⊎◌, inl, inr, ℕ, zero, suc, ◌==◌, ◌&&◌, not, Bool, true, false, ℤ, List, [], ◌∷◌, ◌++◌, length, Option, Some, None, if◌then◌else◌, slice_get, Contains, refl, ap, sym, ◌∙◌, subst, append_assoc}
+use Rattle.std.proofs.Common.{◌≡◌, ℕ, Bool, true, false, ℤ, List, [], ◌∷◌, ◌++◌, Option, Some, None, slice_get, refl, ap, sym, ◌∙◌, subst}
 use Rattle.std.specs.Option.{option_map_or}
 use Rattle.std.proofs.lemmas.Bool.{false≢true}
 use Rattle.std.proofs.lemmas.Bool.Decides.{Decides-eqb}
@@ -28,21 +28,21 @@ use Rattle.store_model.specs.Concrete.State.{State}
 use Rattle.store_model.specs.Effects.{EffectSite}
 use Rattle.store_model.specs.Places.Place.{Step, ToContent, ToElement, Place, watched, is_reference}
 use Rattle.store_model.specs.Places.TypeForms.{is_dyn, is_bool, is_unit, int_kind}
-use Rattle.store_model.specs.Values.Datum.{Datum, Gone, Number, Truth, UnitValue, Aggregate, Box, Address}
+use Rattle.store_model.specs.Values.Datum.{Datum, Gone, Number, Truth, UnitValue, Address}
 use Rattle.store_model.specs.Values.Wholeness.{IsWhole, is_whole}
 use Rattle.store_model.proofs.Values.Wholeness.{is_whole-iff_IsWhole}
 use Rattle.drop_values.specs.Like.{held, raw_setting}
-use Rattle.drop_values.specs.Typed.{Fits, a_type, IsFull}
+use Rattle.drop_values.specs.Typed.{a_type, IsFull}
 use Rattle.drop_values.proofs.BehindInvariant.{opens}
 use Rattle.drop_values.proofs.Fits.{whole-full}
-use Rattle.drop_values.proofs.Invariant.{RefersTo, to_older, to_own, Invariant}
+use Rattle.drop_values.proofs.Invariant.{RefersTo, to_older, to_own}
 use Rattle.drop_values.proofs.Knows.{PlainSteps, Own, own_place}
 use Rattle.drop_values.proofs.LeftGone.{BodilessSteps}
 use Rattle.drop_values.proofs.Reach.{IndexOk}
 use Rattle.drop_values.proofs.Sites.{PlaceIs, a_part, an_element, behind, IsOpen, Lands, lands}
 use Rattle.drop_values.proofs.Stand.{Changed, stored-Changed, stands-known}
 use Rattle.drop_values.proofs.Touched.{same_cells, AllNameFull}
-use Rattle.drop_values.proofs.TypedSteps.{as-typed}
+use Rattle.drop_values.proofs.TypedAs.{as-typed}
 use Rattle.drop_values.proofs.Ways.{Way, ends, to_part, to_field, to_content}
 use Rattle.drop_elaborate.proofs.Apart.{IsNamed, LeadsItself}
 use Rattle.drop_elaborate.proofs.Held.{plain-counts, Held, OpensAfter, not-named, read-Held, taken-Held, own-opens, read-opens}

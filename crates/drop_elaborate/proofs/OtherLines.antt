@@ -1,6 +1,6 @@
 -- What holds of a raw run is kept by the lines that store nothing, touch and print, and by the one that makes a box
 -- of a trait; and which types the run finds for places and operands.
-use Rattle.std.proofs.Common.{◌≡◌, ◌⊎◌, inl, inr, ℕ, zero, suc, ◌==◌, ◌&&◌, Bool, true, false, ℤ, List, [], ◌∷◌, ◌++◌, flat_map, length, Option, Some, None, slice_get, refl, ap, sym, ◌∙◌, subst}
+use Rattle.std.proofs.Common.{◌≡◌, ℕ, ◌==◌, ◌&&◌, Bool, true, false, List, [], ◌∷◌, ◌++◌, flat_map, Option, Some, None, slice_get, refl, ap, sym, ◌∙◌, subst}
 use Rattle.std.specs.Prelude.{option_and_then, position}
 use Rattle.std.specs.Option.{option_map_or}
 use Rattle.std.specs.Cmp.{first_so, second_so}
@@ -22,9 +22,9 @@ use Rattle.cfg_graph.specs.Moves.Gone.{PathAction}
 use Rattle.cfg_graph.specs.Places as places
 use Rattle.cfg_graph.specs.Places.{named}
 use Rattle.cfg_graph.specs.Uses.{Touches, operand_uses, stmt_uses}
-use Rattle.cfg_meaning.specs.Actions.{site_of, operand_of, operands_of}
+use Rattle.cfg_meaning.specs.Actions.{site_of, operand_of}
 use Rattle.store_model.specs.declared.address.Addr.{Addr}
-use Rattle.store_model.specs.Concrete.Effects.{or_stuck, whole_at, put, with_impl, impl_of, impl_boxed, impl_put, printed, ty_of_place, ty_of_operand, never_at, acted, act}
+use Rattle.store_model.specs.Concrete.Effects.{or_stuck, whole_at, with_impl, impl_of, impl_boxed, impl_put, printed, ty_of_place, ty_of_operand, never_at, acted, act}
 use Rattle.store_model.specs.Concrete.Location.{Setting, OfType, Located, adt_of_impl}
 use Rattle.store_model.specs.Concrete.State.{State, Bodies, with_event}
 use Rattle.store_model.specs.Effects as effects
@@ -32,14 +32,14 @@ use Rattle.store_model.specs.Effects.{Out, Go, Halts, Stuck}
 use Rattle.store_model.specs.Places.Place.{ty_along}
 use Rattle.store_model.specs.Places.TypeForms.{adt_of, box_content, is_dyn, is_dyn_of}
 use Rattle.store_model.specs.Values.Datum.{Datum, Gone, Number, Truth, UnitValue, Aggregate, Box, Address}
-use Rattle.drop_values.specs.Like.{body_at, raw_setting}
+use Rattle.drop_values.specs.Like.{raw_setting}
 use Rattle.drop_values.specs.Typed.{has_impl, IsFull}
 use Rattle.drop_values.proofs.Actions.{youngest_is}
 use Rattle.drop_values.proofs.Made.{object-full}
 use Rattle.drop_values.proofs.Touched.{SameCells, same_cells, AllNameFull}
 use Rattle.drop_elaborate.proofs.Held.{Held, read-Held}
 use Rattle.drop_elaborate.proofs.OperandLists.{OperandsAre}
-use Rattle.drop_elaborate.proofs.StatementsHeld.{went-on, one-taken, one-of-list, told-cells, Operated, StoreOk, line-Held, quiet-Held, PutIf, put-if}
+use Rattle.drop_elaborate.proofs.StatementsHeld.{went-on, one-taken, one-of-list, told-cells, Operated, StoreOk, line-Held, quiet-Held, put-if}
 
 -- where the first that passes stands
 pub found-at : {X : Type 0} (p : X → Bool) (xs : List X) (i : ℕ) → position p xs ≡ Some i →

@@ -1,22 +1,22 @@
 -- What the raw run drops at a place that is reached: whole, the same drop does the same; with nothing numbered in it,
 -- it is not seen; and by a plan that fits, its ladder does it.
-use Rattle.std.proofs.Common.{◌≡◌, ℕ, suc, ◌≤◌, ◌<◌, Bool, true, false, ◌||◌, not, List, [], length, Option, Some, None, refl, ap, sym, ◌∙◌, subst, arith}
+use Rattle.std.proofs.Common.{◌≡◌, ℕ, suc, ◌≤◌, ◌<◌, ◌||◌, not, List, [], length, Option, Some, ap, sym, ◌∙◌, subst, arith}
 use Rattle.mir_ty.specs.declared.ty.TyId.{TyId}
 use Rattle.mir_ty.specs.ItemTable.{ItemTable}
-use Rattle.store_model.proofs.Concrete.Effects.{ticks_of, Spending}
 use Rattle.store_model.proofs.Values.Wholeness.{is_whole-iff_IsWhole}
 use Rattle.store_model.specs.Concrete.Drops.{Begins, drop_at}
 use Rattle.store_model.specs.Concrete.Effects.{dropped_if, nothing_if, drop}
-use Rattle.store_model.specs.Concrete.Location.{Setting, Located, Reached, Reaches, reach, on_reached}
+use Rattle.store_model.specs.Concrete.Location.{Setting, Located, Reaches, reach, on_reached}
 use Rattle.store_model.specs.Concrete.State.{State, Bodies}
 use Rattle.store_model.specs.Effects.{EffectSite, Mode, Stuck, Out, Go, Unwind, Halts}
 use Rattle.store_model.specs.Values.Datum.{Datum, Gone}
 use Rattle.store_model.specs.Values.Wholeness.{is_whole, serials}
-use Rattle.drop_values.specs.Like.{body_at, Flags, Like, Same, SameBodies, SameTold, MayEnter, IsStuck, raw_setting, strict_setting, Extends}
+use Rattle.drop_values.specs.Like.{body_at, Flags, Like, Same, SameBodies, MayEnter, IsStuck, raw_setting, strict_setting, Extends}
 use Rattle.drop_values.specs.Typed.{IsFull}
 use Rattle.drop_values.proofs.Fits.{full-whole}
 use Rattle.drop_values.specs.Plan.{Quiet}
-use Rattle.drop_values.proofs.Frame.{Each, Sound, Frames, drop_at-After}
+use Rattle.drop_values.proofs.Frame.{Each, Frames, drop_at-After}
+use Rattle.drop_values.proofs.Sound.{Sound}
 use Rattle.drop_values.proofs.LikeLaws.{whole-Covers, serials-Covers, there, change-Like}
 use Rattle.drop_values.proofs.Names.{ReachedThere}
 use Rattle.drop_values.proofs.Quiet.{QuietOut, drop_at-quiet}
@@ -69,7 +69,7 @@ module _ (items : ItemTable) (local_ty local_ty' : (body local : ℕ) → Option
           ((is_whole-iff_IsWhole s.value).1 (full-whole items s.value s.dynamic h))
 
   -- the raw drop, where nothing numbered stands there
-  abbrev Silent : Out State → State → Type 0
+  abbrev pub Silent : Out State → State → Type 0
   Silent (Go v) v' = L v v'
   Silent (Unwind v) v' = ⊥
   Silent (Halts halt v) v' = IsStuck halt

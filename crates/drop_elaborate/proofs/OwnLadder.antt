@@ -1,6 +1,6 @@
 -- The drop of a place of the body's own, by the ladder of the plan that the facts and the flags give: it does what the
 -- raw drop does, where what is known of the locals fits what they hold.
-use Rattle.std.proofs.Common.{◌≡◌, ℕ, suc, ◌≤◌, ◌<◌, List, length, Option, Some, None}
+use Rattle.std.proofs.Common.{◌≡◌, ℕ, ◌≤◌, ◌<◌, List, Option, Some}
 use Rattle.mir_ty.specs.declared.ty.TyId.{TyId}
 use Rattle.mir_ty.specs.ItemTable.{ItemTable}
 use Rattle.cfg_graph.specs.declared.graph.Body.{Body}
@@ -15,10 +15,11 @@ use Rattle.store_model.specs.Concrete.Location.{Setting, Located, Reaches, reach
 use Rattle.store_model.specs.Concrete.State.{State, Bodies}
 use Rattle.store_model.specs.Values.Datum.{Datum, Gone}
 use Rattle.drop_values.specs.Facts.{Tree, Facts}
-use Rattle.drop_values.specs.Like.{body_at, Flags, Like, SameBodies, MayEnter, raw_setting, strict_setting, Extends}
+use Rattle.drop_values.specs.Like.{Flags, Like, SameBodies, MayEnter, raw_setting, strict_setting, Extends}
 use Rattle.drop_values.specs.Planning.{IsTyped, plan_of}
-use Rattle.drop_values.proofs.Frame.{Sound, Frames}
-use Rattle.drop_values.proofs.Knows.{PlainSteps, Knows, Own, own_place, own_fits}
+use Rattle.drop_values.proofs.Frame.{Frames}
+use Rattle.drop_values.proofs.Sound.{Sound}
+use Rattle.drop_values.proofs.Knows.{PlainSteps, Knows, own_place, own_fits}
 use Rattle.drop_values.proofs.OwnNames.{own-names}
 use Rattle.drop_values.proofs.Told.{Told, Flagged}
 use Rattle.drop_values.proofs.PlanFits.{plan-fits}

@@ -1,25 +1,23 @@
 -- What each action of a path may rely on, where the path meets no bad use and takes nothing that a reference names
 -- which is used later: what it reads is there, and a reference through which it goes is made and lives.
-use Rattle.std.proofs.Common.{◌≡◌, ◌⊎◌, inl, inr, ℕ, zero, suc, ◌==◌, ◌&&◌, ◌||◌, not, Bool, true, false, List, [], ◌∷◌, ◌++◌, map, Option, Some, None, if◌then◌else◌, cond, refl, ap, sym, ◌∙◌, subst, append_assoc}
+use Rattle.std.proofs.Common.{◌≡◌, ◌⊎◌, inl, inr, ℕ, ◌==◌, ◌&&◌, ◌||◌, not, Bool, true, false, List, [], ◌∷◌, ◌++◌, map, Option, Some, None, if◌then◌else◌, cond, refl, ap, sym, ◌∙◌, subst, append_assoc}
 use Rattle.std.specs.Prelude.{unwrap_or}
 use Rattle.std.specs.List.{list_any, list_all}
-use Rattle.std.specs.Option.{option_map_or, option_or}
+use Rattle.std.specs.Option.{option_or}
 use Rattle.std.specs.Cmp.{first_so, second_so}
 use Rattle.std.proofs.lemmas.Bool.{false≢true}
-use Rattle.std.proofs.lemmas.Bool.Decides.{Decides-eqb}
+use Rattle.std.proofs.lemmas.List.{append-nil}
 use Rattle.std.proofs.lemmas.List.Sums.{take_while-cons}
 use Rattle.std.proofs.lemmas.Option.{none-some}
 use Rattle.mir_ty.specs.ItemTable.{ItemTable}
 use Rattle.cfg_graph.specs.declared.graph.Body.{Body}
-use Rattle.cfg_graph.specs.declared.place.Place as graph
-use Rattle.cfg_graph.specs.Moves.Actions.{at_line}
 use Rattle.cfg_graph.specs.Moves.BadUses.{UseRule, U1, U2, if_bad, may_not_read, may_not_store, checked, bad_after}
-use Rattle.cfg_graph.specs.Moves.Gone.{PathAction, leaves_gone, are_first, is_at_or_above, containers, has_index, counts, left_by, last_left, is_param, is_gone_after, is_whole_after, IsWholeAfter, container_gone_after, array_broken_after}
+use Rattle.cfg_graph.specs.Moves.Gone.{PathAction, leaves_gone, are_first, containers, has_index, counts, left_by, last_left, is_param, is_gone_after, is_whole_after, IsWholeAfter, container_gone_after, array_broken_after}
 use Rattle.cfg_graph.specs.NamedPlaces.{same_place, references_made, named_by, stores, makes, uses, of_line, spares, keeps_named}
 use Rattle.cfg_graph.specs.Uses.{PlaceUse, Copies, Moves, Borrows, Touches, Tests, Stores, Drops, Frees}
 use Rattle.cfg_graph.proofs.WholePlaces.{wholeness_is_tested}
 use Rattle.store_model.specs.Places.Place.{Step, Place, whole_local, before_element}
-use Rattle.drop_elaborate.proofs.SinceMade.{all-first, all-second, since_next, since_from, since, since_from-append, IsSpared, IsLive, spared-at-use}
+use Rattle.drop_elaborate.proofs.SinceMade.{all-first, all-second, since_from, since, IsSpared, IsLive, spared-at-use}
 
 either-no : (a b : Bool) → (a || b) ≡ false → (a ≡ false) × (b ≡ false)
 either-no false b h = (refl, h)
@@ -38,10 +36,24 @@ second-none [] ys e = e
 second-none (x ∷ xs) ys e = absurd (let n : x ∷ (xs ++ ys) ≡ [] = e in cc)
 
 module _ (items : ItemTable) (body : Body) where
-  -- these actions are done, and those are still to come
+  -- These actions are done, and those are still to come: none of them is bad, and at each use of a reference nothing
+  -- has been taken that it names since it was made.
   pub record Follows (acts rest : List PathAction) : Type 0 where
     pub fine : bad_after items body acts rest ≡ []
-    pub keeps : (r : ℕ) → keeps_named body (acts ++ rest) r ≡ true
+    pub keeps : (r : ℕ) (xs ys : List PathAction) (action : PathAction) → rest ≡ xs ++ action ∷ ys →
+        uses body r action ≡ true → (l : List PathAction) → since body r (acts ++ xs) ≡ Some l →
+        list_all (spares body r) (l ++ action ∷ of_line body action ys) ≡ true
+
+  -- so it is on a path
+  pub follows-so : (acts rest : List PathAction) → bad_after items body acts rest ≡ [] →
+      ((r : ℕ) → keeps_named body (acts ++ rest) r ≡ true) → Follows acts rest
+  follows-so acts rest fine kept = record {
+    fine = fine;
+    keeps = λ r xs ys action e u l s.
+        spared-at-use body r (acts ++ xs) ys action
+        (subst (λ k. keeps_named body k r ≡ true) (ap (λ k. acts ++ k) e ∙ sym (append_assoc acts xs (action ∷ ys)))
+        (kept r)) u l s;
+  }
 
   later-fine : (acts xs rest : List PathAction) → bad_after items body acts (xs ++ rest) ≡ [] →
       bad_after items body (acts ++ xs) rest ≡ []
@@ -59,7 +71,9 @@ module _ (items : ItemTable) (body : Body) where
   pub follows-later : (acts xs rest : List PathAction) → Follows acts (xs ++ rest) → Follows (acts ++ xs) rest
   follows-later acts xs rest f = record {
     fine = later-fine acts xs rest f.fine;
-    keeps = λ r. subst (λ l. keeps_named body l r ≡ true) (sym (append_assoc acts xs rest)) (f.keeps r);
+    keeps = λ r zs ys action e u l s.
+        f.keeps r (xs ++ zs) ys action (ap (λ k. xs ++ k) e ∙ sym (append_assoc xs zs (action ∷ ys))) u l
+        (subst (λ k. since body r k ≡ Some l) (append_assoc acts xs zs) s);
   }
 
   module _ (acts : List PathAction) (action : PathAction) (rest : List PathAction) (f : Follows acts (action ∷ rest))
@@ -264,7 +278,8 @@ module _ (items : ItemTable) (body : Body) where
       by (Some q) e (Some l) es =
           inr (subst (IsSpared body action.place.local) (sym es)
           (all-first (spares body action.place.local) l (action ∷ of_line body action rest)
-          (spared-at-use body action.place.local acts rest action (f.keeps action.place.local) used l es)))
+          (f.keeps action.place.local [] rest action refl used l
+          (subst (λ k. since body action.place.local k ≡ Some l) (sym (append-nil acts)) es))))
 
   -- and no other operand of its line takes what it names
   pub line-spares : (r : ℕ) (acts : List PathAction) (action : PathAction) (line rest : List PathAction) →
@@ -292,7 +307,8 @@ module _ (items : ItemTable) (body : Body) where
       by (inl none) s es = inl none
       by (inr spared) None es = absurd (subst (IsSpared body r) es spared)
       by (inr spared) (Some l) es =
-          let h = spared-at-use body r acts (line ++ rest) action (f.keeps r) used l es in
+          let h = f.keeps r [] (line ++ rest) action refl used l
+          (subst (λ k. since body r k ≡ Some l) (sym (append-nil acts)) es) in
           let o = of-line line same in
           inr (all-first (spares body r) line o.0
           (subst (λ x. list_all (spares body r) x ≡ true) o.1

@@ -1,27 +1,23 @@
 -- A path grows by a block, along a way out of its last one; and what is done on it, by what that way stores and by what
 -- the block does. What comes on a path follows what was done before.
-use Rattle.std.proofs.Common.{◌≡◌, ◌⊎◌, inl, inr, ℕ, zero, suc, ◌==◌, nat_eq, ◌||◌, Bool, true, false, List, [], ◌∷◌, ◌++◌, map, flat_map, length, Option, Some, None, if◌then◌else◌, slice_get, Contains, refl, ap, sym, ◌∙◌, subst, append_assoc}
+use Rattle.std.proofs.Common.{◌≡◌, ◌⊎◌, inl, inr, ℕ, zero, suc, ◌==◌, nat_eq, Bool, true, false, List, [], ◌∷◌, ◌++◌, map, flat_map, length, Some, if◌then◌else◌, slice_get, refl, ap, sym, ◌∙◌, subst, append_assoc}
 use Rattle.std.specs.List.{list_any}
 use Rattle.std.specs.Option.{option_map_or}
-use Rattle.std.proofs.lemmas.Bool.{false≢true}
 use Rattle.std.proofs.lemmas.Bool.Decides.{Decides-eqb}
 use Rattle.std.proofs.lemmas.Option.{none-some}
 use Rattle.mir_ty.proofs.ListLemmas.{slice_get-Contains, Contains-slice_get}
 use Rattle.mir_ty.specs.ItemTable.{ItemTable}
 use Rattle.cfg_graph.specs.declared.graph.Block.{Block}
 use Rattle.cfg_graph.specs.declared.graph.Body.{Body}
-use Rattle.cfg_graph.specs.declared.place.Place as graph
-use Rattle.cfg_graph.specs.declared.terminator.Term.{Term}
-use Rattle.cfg_graph.specs.declared.terminator.Unwind.{Unwind}
-use Rattle.cfg_graph.specs.Edges.{BlockExit, ToBlock, LeavesBody, onward, unwind_of, unwind_exit, ways_out}
+use Rattle.cfg_graph.specs.Edges.{ToBlock, LeavesBody, onward}
 use Rattle.cfg_graph.specs.Moves.Actions.{at_line, block_actions, result_actions, actions_in, actions_between, actions_on}
 use Rattle.cfg_graph.specs.Moves.BadUses.{bad_uses_on}
 use Rattle.cfg_graph.specs.Moves.Gone.{PathAction}
-use Rattle.cfg_graph.specs.Moves.Paths.{PathWay, each_way, ways, ways_from, entry_choices, choices_to, choices_between, choices_along, choices_of_path, IsPath}
+use Rattle.cfg_graph.specs.Moves.Paths.{PathWay, ways, ways_from, entry_choices, choices_to, choices_between, choices_along, choices_of_path, IsPath}
 use Rattle.cfg_graph.specs.NamedPlaces.{keeps_named}
 use Rattle.cfg_graph.specs.Uses.{Stores, stored_by_term}
 use Rattle.drop_elaborate.proofs.Counted.{in-flat}
-use Rattle.drop_elaborate.proofs.PathFacts.{Follows, follows-later}
+use Rattle.drop_elaborate.proofs.PathFacts.{Follows, follows-so, follows-later}
 
 -- ---- members of lists
 
@@ -32,7 +28,7 @@ pub record InFlat {A B : Type 0} (f : A → List B) (xs : List A) (y : B) : Type
   pub inner : ℕ
   pub is : slice_get (f x) inner ≡ Some y
 
-in-append : {A : Type 0} (xs ys : List A) (k : ℕ) (y : A) → slice_get (xs ++ ys) k ≡ Some y →
+pub in-append : {A : Type 0} (xs ys : List A) (k : ℕ) (y : A) → slice_get (xs ++ ys) k ≡ Some y →
     ((j : ℕ) × (slice_get xs j ≡ Some y)) ⊎ ((j : ℕ) × (slice_get ys j ≡ Some y))
 in-append [] ys k y e = inr (k, e)
 in-append (x ∷ xs) ys zero y e = inl (0, e)
@@ -41,7 +37,7 @@ in-append (x ∷ xs) ys (suc k) y e = elim (in-append xs ys k y e) [
   | inr b ↦ inr b
 ]
 
-flat-in : {A B : Type 0} (f : A → List B) (xs : List A) (k : ℕ) (y : B) → slice_get (flat_map f xs) k ≡ Some y →
+pub flat-in : {A B : Type 0} (f : A → List B) (xs : List A) (k : ℕ) (y : B) → slice_get (flat_map f xs) k ≡ Some y →
     InFlat f xs y
 flat-in f [] k y e = absurd (none-some y e)
 flat-in f (x ∷ xs) k y e = by (in-append (f x) (flat_map f xs) k y e) (λ j h. flat-in f xs j y h)
@@ -52,13 +48,13 @@ flat-in f (x ∷ xs) k y e = by (in-append (f x) (flat_map f xs) k y e) (λ j h.
     by (inr b) again =
         let r = again b.0 b.1 in record { at = suc r.at; x = r.x; there = r.there; inner = r.inner; is = r.is }
 
-map-in : {A B : Type 0} (f : A → B) (xs : List A) (k : ℕ) (y : B) → slice_get (map f xs) k ≡ Some y →
+pub map-in : {A B : Type 0} (f : A → B) (xs : List A) (k : ℕ) (y : B) → slice_get (map f xs) k ≡ Some y →
     (x : A) × (slice_get xs k ≡ Some x) × (f x ≡ y)
 map-in f [] k y e = absurd (none-some y e)
 map-in f (x ∷ xs) zero y e = (x, refl, (let z : Some (f x) ≡ Some y = e in let w : f x ≡ y = cc in w))
 map-in f (x ∷ xs) (suc k) y e = map-in f xs k y e
 
-in-map : {A B : Type 0} (f : A → B) (xs : List A) (k : ℕ) (x : A) → slice_get xs k ≡ Some x →
+pub in-map : {A B : Type 0} (f : A → B) (xs : List A) (k : ℕ) (x : A) → slice_get xs k ≡ Some x →
     slice_get (map f xs) k ≡ Some (f x)
 in-map f [] k x e = absurd (none-some x e)
 in-map f (y ∷ xs) zero x e = ap (λ z. Some (f z)) (let z : Some y ≡ Some x = e in let w : y ≡ x = cc in w)
@@ -195,10 +191,8 @@ module _ (items : ItemTable) (body : Body) where
     pub comes : (n : ℕ) (acts : List PathAction) → OnPath n acts → Follows items body acts (actions_in body n)
     comes n acts p =
         follows-later items body [] acts (actions_in body n)
-        (subst (Follows items body []) p.done (record {
-          fine = fine (p.path ++ n ∷ []) p.given p.is_path;
-          keeps = λ r. kept (p.path ++ n ∷ []) p.given r p.is_path;
-        }))
+        (subst (Follows items body []) p.done (follows-so items body [] (actions_on body (p.path ++ n ∷ []))
+        (fine (p.path ++ n ∷ []) p.given p.is_path) (λ r. kept (p.path ++ n ∷ []) p.given r p.is_path)))
 
     -- and what the way to the next block stores
     pub comes-on : (n m : ℕ) (acts : List PathAction) → OnPath m ((acts ++ actions_in body n) ++ actions_between body
@@ -207,10 +201,8 @@ module _ (items : ItemTable) (body : Body) where
     comes-on n m acts p =
         follows-later items body [] (acts ++ actions_in body n) (actions_between body n m ++ actions_in body m)
         (subst (Follows items body []) (p.done ∙ append_assoc (acts ++ actions_in body n) (actions_between body n m)
-        (actions_in body m)) (record {
-          fine = fine (p.path ++ m ∷ []) p.given p.is_path;
-          keeps = λ r. kept (p.path ++ m ∷ []) p.given r p.is_path;
-        }))
+        (actions_in body m)) (follows-so items body [] (actions_on body (p.path ++ m ∷ []))
+        (fine (p.path ++ m ∷ []) p.given p.is_path) (λ r. kept (p.path ++ m ∷ []) p.given r p.is_path)))
 
   -- ---- the ways out of a block
 

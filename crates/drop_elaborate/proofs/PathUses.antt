@@ -1,35 +1,33 @@
 -- What a line of a path may rely on: its operands may be used, one after another, and what it stores into is reached;
 -- for the path meets no bad use and keeps what references name.
-use Rattle.std.proofs.Common.{◌≡◌, ◌⊎◌, inl, inr, ℕ, zero, suc, ◌==◌, ◌&&◌, ◌||◌, not, Bool, true, false, List, [], ◌∷◌, ◌++◌, map, flat_map, Option, Some, None, slice_get, refl, ap, sym, ◌∙◌, subst, append_assoc}
+use Rattle.std.proofs.Common.{◌≡◌, ◌⊎◌, inl, inr, ℕ, ◌==◌, ◌&&◌, not, Bool, true, false, List, [], ◌∷◌, ◌++◌, flat_map, Option, Some, None, slice_get, refl, ap, sym, ◌∙◌, subst}
 use Rattle.std.specs.List.{list_all}
 use Rattle.std.specs.Cmp.{first_so, second_so}
 use Rattle.std.specs.Cmp.Derive.{both_true}
-use Rattle.std.proofs.lemmas.Bool.{false≢true}
 use Rattle.std.proofs.lemmas.Bool.Decides.{Decides-eqb}
-use Rattle.mir_ty.specs.declared.ty.Ty.{Ty}
 use Rattle.mir_ty.specs.declared.ty.TyId.{TyId}
-use Rattle.mir_ty.specs.ItemTable.{ItemTable, type_at}
+use Rattle.mir_ty.specs.ItemTable.{ItemTable}
 use Rattle.cfg_graph.specs.declared.graph.Body.{Body}
 use Rattle.cfg_graph.specs.declared.place.Operand.{Operand}
 use Rattle.cfg_graph.specs.declared.place.Place as graph
 use Rattle.cfg_graph.specs.Moves.Actions.{at_line}
 use Rattle.cfg_graph.specs.Moves.Gone.{PathAction, are_first, has_index, is_param, is_gone_after, container_gone_after, array_broken_after, IsWholeAfter}
 use Rattle.cfg_graph.specs.Moves.Present.{present_after}
-use Rattle.cfg_graph.specs.NamedPlaces.{same_place, references_made, named_by, stores, uses, makes, spares}
+use Rattle.cfg_graph.specs.NamedPlaces.{same_place, references_made, named_by, stores, uses, spares}
 use Rattle.cfg_graph.specs.Places.{named}
 use Rattle.cfg_graph.specs.Uses.{PlaceUse, Copies, Moves, Borrows, Touches, Tests, Stores, Drops, Frees, operand_uses}
 use Rattle.cfg_graph.proofs.AllPresent.{whole_is_all_present}
 use Rattle.store_model.specs.declared.address.Addr.{Addr}
-use Rattle.store_model.specs.Abstract.Presence.{Presence, presence_along, all_present}
+use Rattle.store_model.specs.Abstract.Presence.{presence_along, all_present}
 use Rattle.store_model.specs.Concrete.State.{State}
-use Rattle.store_model.specs.Places.Place.{Step, ToPart, ToField, ToContent, ToElement, Place, whole_local, before_element, is_reference}
+use Rattle.store_model.specs.Places.Place.{Step, ToPart, ToField, ToContent, ToElement, Place, whole_local, before_element}
 use Rattle.drop_values.proofs.Knows.{PlainSteps, no_steps, to_next}
 use Rattle.drop_values.proofs.Sites.{PlaceIs, a_part, an_element, behind, IsOpen}
 use Rattle.drop_values.proofs.Touched.{AllNameFull}
 use Rattle.drop_elaborate.proofs.Apart.{IsNamed}
-use Rattle.drop_elaborate.proofs.OperandLists.{IsConstant, OperandsAre, none_is, each_is, any_is, Reads, AllUsed, AllSpare, Spares, LineSpares}
+use Rattle.drop_elaborate.proofs.OperandLists.{IsConstant, OperandsAre, none_is, each_is, any_is, AllUsed, AllSpare, LineSpares}
 use Rattle.drop_elaborate.proofs.Operands.{PlaceOk, UseOk, OperandIs, copied, moved, a_number, a_truth, a_unit}
-use Rattle.drop_elaborate.proofs.PathFacts.{Follows, follows-later, IsRead, ReadsWell, reads-well, HasContainers, has-containers, local-there, array-there, live-at, line-spares}
+use Rattle.drop_elaborate.proofs.PathFacts.{Follows, follows-later, IsRead, ReadsWell, reads-well, has-containers, local-there, array-there, live-at, line-spares}
 use Rattle.drop_elaborate.proofs.SinceMade.{IsLive}
 use Rattle.drop_elaborate.proofs.StatementsHeld.{Operated}
 

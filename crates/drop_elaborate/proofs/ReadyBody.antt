@@ -1,12 +1,12 @@
 -- What a body of a ready graph has, line by line: the premises of all that is shown of its run.
-use Rattle.std.proofs.Common.{◌≡◌, ℕ, ◌+◌, Bool, true, false, List, [], ◌∷◌, length, Option, Some, None, slice_get, Contains, refl, subst, sym}
-use Rattle.std.specs.Prelude.{All}
+use Rattle.std.proofs.Common.{◌≡◌, inl, inr, ℕ, nat_lt, true, false, [], ◌∷◌, length, Some, slice_get, Contains, arith}
 use Rattle.std.specs.List.{list_all}
 use Rattle.std.proofs.lemmas.List.Elements.{All-contains}
-use Rattle.mir_ty.proofs.ListLemmas.{Contains-slice_get}
+use Rattle.std.proofs.lemmas.Bool.{ltb-true}
+use Rattle.std.proofs.lemmas.Option.{slice_get_cases}
+use Rattle.mir_ty.proofs.ListLemmas.{Contains-slice_get, slice_get-Contains}
 use Rattle.mir_ty.specs.declared.adt.Adt.{Adt}
 use Rattle.mir_ty.specs.declared.adt.Variant.{Variant}
-use Rattle.mir_ty.specs.declared.ty.TyId.{TyId}
 use Rattle.mir_ty.specs.AreItems.{IsAdt, AreItems}
 use Rattle.mir_ty.specs.ItemTable.{ItemTable}
 use Rattle.cfg_graph.specs.declared.graph.Block.{Block}
@@ -14,7 +14,7 @@ use Rattle.cfg_graph.specs.declared.graph.Body.{Body}
 use Rattle.cfg_graph.specs.declared.graph.Graph.{Graph}
 use Rattle.cfg_graph.specs.declared.statement.Stmt.{Stmt}
 use Rattle.cfg_graph.specs.Edges.{targets}
-use Rattle.cfg_graph.specs.Ready.{is_no_free, moves_out_well, references_in_locals, references_stand_alone, drops_well, refills_dropped, begins_once, IsPreparedBody, IsReadyGraph}
+use Rattle.cfg_graph.specs.Ready.{is_no_free, moves_out_well, references_in_locals, references_stand_alone, drops_well, IsPreparedBody, IsReadyGraph}
 use Rattle.cfg_graph.specs.Uses.{operands_of_stmt, operands_of_term}
 use Rattle.cfg_graph.specs.WellFormed.Cleanup.{keeps_to_cleanup}
 use Rattle.cfg_graph.specs.WellFormed.Faults.{IsWellFormed}
@@ -74,3 +74,16 @@ ready-body graph are ready number body found = record {
 
     p : IsPreparedBody graph.items body
     p = ready.prepared.prepared number body found
+
+-- each block to which a terminator leads is there
+pub targets-there : (items : ItemTable) (bodies : ℕ) (body : Body) → BodyIsReady items bodies body → (n : ℕ)
+    (block : Block) → slice_get body.blocks n ≡ Some block → (m : ℕ) → Contains (targets block.term) m →
+    (next : Block) × (slice_get body.blocks m ≡ Some next)
+targets-there items bodies body ready n block at m c =
+    let h = all-at (λ (n : ℕ). nat_lt n (length body.blocks)) (targets block.term) c.0 m (ready.exist n block at)
+    (slice_get-Contains (targets block.term) m c) in
+    elim ((slice_get_cases body.blocks m).1) [
+      | inl x ↦ (x.0, x.2)
+      | inr x ↦ (let l = ltb-true m (length body.blocks) h in let k = x.0 in absurd
+          (let never : ⊥ = omega (arith, l, k) in never))
+    ]

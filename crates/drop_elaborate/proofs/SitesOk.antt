@@ -1,6 +1,6 @@
 -- The places, operands and actions of the lines of a ready body are places of the body, with types: what the lemmas on
 -- single actions of both runs ask for.
-use Rattle.std.proofs.Common.{◌≡◌, ℕ, ◌≤◌, ◌&&◌, Bool, true, false, List, [], ◌∷◌, ◌++◌, map, flat_map, length, Option, Some, None, slice_get, refl, ap, sym, ◌∙◌, subst}
+use Rattle.std.proofs.Common.{◌≡◌, ℕ, ◌&&◌, Bool, true, List, [], ◌∷◌, map, flat_map, Option, Some, None, slice_get, refl, ap, ◌∙◌, subst}
 use Rattle.std.specs.Prelude.{option_and_then}
 use Rattle.std.specs.List.{list_all}
 use Rattle.std.specs.Cmp.{first_so, second_so}
@@ -14,22 +14,20 @@ use Rattle.cfg_graph.specs.declared.graph.Body.{Body}
 use Rattle.cfg_graph.specs.declared.place.Operand.{Operand}
 use Rattle.cfg_graph.specs.declared.place.Place as graph
 use Rattle.cfg_graph.specs.declared.statement.Stmt.{Stmt}
-use Rattle.cfg_graph.specs.declared.terminator.Term.{Term}
 use Rattle.cfg_graph.specs.Places.{named, place_id}
 use Rattle.cfg_graph.specs.Ready.{is_no_free}
-use Rattle.cfg_graph.specs.Uses.{PlaceUse, operand_uses, operands_of_stmt, operands_of_term, stored_by_stmt, stored_by_term, other_uses, other_term_uses, place_used}
+use Rattle.cfg_graph.specs.Uses.{operand_uses, operands_of_stmt, stored_by_stmt, other_uses, place_used}
 use Rattle.cfg_graph.specs.WellFormed.Typing.{is_typed_place}
 use Rattle.cfg_meaning.specs.Actions.{site_of, operand_of, operands_of, action_of}
-use Rattle.store_model.specs.Concrete.Effects.{virtual_body}
 use Rattle.store_model.specs.Concrete.State.{State, Bodies}
 use Rattle.store_model.specs.Effects as effects
 use Rattle.store_model.specs.Effects.{EffectSite, Action, stored_by}
-use Rattle.store_model.specs.Places.Place.{Place, is_reference, ty_along}
+use Rattle.store_model.specs.Places.Place.{ty_along}
 use Rattle.store_model.specs.Values.Datum.{Datum}
 use Rattle.drop_values.specs.Like.{Flags, SameBodies, Extends}
-use Rattle.drop_values.proofs.Actions.{SiteOk, SiteTyped, OperandOk, OperandsOk, OperandTyped, Stays, ActionOk, MayCall, StoreTyped}
+use Rattle.drop_values.proofs.Actions.{SiteTyped, OperandTyped, Stays, ActionOk, MayCall, StoreTyped}
+use Rattle.drop_values.proofs.Operands.{SiteOk, OperandOk, OperandsOk}
 use Rattle.drop_values.proofs.Reach.{IndexOk}
-use Rattle.drop_elaborate.proofs.LinesTyped.{index-ok}
 use Rattle.drop_elaborate.proofs.StmtTests.{LineTested}
 
 module _ (items : ItemTable) (local_ty local_ty' : (body local : ℕ) → Option TyId)

@@ -14,13 +14,14 @@ use Rattle.mir_ty.specs.declared.ty.Ty.{Ty}
 use Rattle.mir_ty.specs.declared.ty.TyId.{TyId}
 use Rattle.mir_ty.specs.AreItems.{types_in}
 use Rattle.mir_ty.specs.ItemTable.{ItemTable, type_at}
-use Rattle.mir_ty.specs.Parts.{fields_of, variants_of, captures_of, of_one_variant, parts_of}
+use Rattle.mir_ty.specs.Parts.{fields_of, variants_of, captures_of, parts_of}
 use Rattle.cfg_graph.specs.Ready.{holds_no_reference, references_stand_alone}
 use Rattle.store_model.specs.Concrete.Location.{named_by}
 use Rattle.store_model.specs.Places.Place.{Step, ToPart, ToField, ToContent, ToElement, Place, is_enum, is_reference, unless_enum, part_if, content_of, element_of, step_ty, ty_along, place_ty}
 use Rattle.drop_values.proofs.Knows.{PlainSteps, no_steps, to_next, IsPlainStep}
 use Rattle.drop_values.proofs.Sites.{PlaceIs, a_part, an_element, behind}
-use Rattle.drop_values.proofs.TypedSteps.{SolidSteps, no_more, one_more, element-is}
+use Rattle.drop_values.proofs.TypedSteps.{SolidSteps, no_more, one_more}
+use Rattle.drop_values.proofs.TypedAs.{element-is}
 
 pub all-at : {A : Type 0} (p : A → Bool) (xs : List A) (k : ℕ) (x : A) → list_all p xs ≡ true →
     slice_get xs k ≡ Some x → p x ≡ true

@@ -1,6 +1,6 @@
 -- What holds of a raw run is kept by each statement that makes no reference: its operands give full values, and what it
 -- stores is a full value of the type of its place.
-use Rattle.std.proofs.Common.{◌≡◌, ◌⊎◌, inl, inr, ℕ, zero, suc, ◌==◌, ◌&&◌, not, Bool, true, false, List, [], ◌∷◌, ◌++◌, map, flat_map, length, Option, Some, None, if◌then◌else◌, is_some, replicate, slice_get, refl, ap, sym, ◌∙◌, subst, append_assoc, arith}
+use Rattle.std.proofs.Common.{◌≡◌, ℕ, not, Bool, true, false, List, [], ◌∷◌, ◌++◌, map, flat_map, Option, Some, None, is_some, replicate, slice_get, refl, ap, sym, ◌∙◌, subst, append_assoc, arith}
 use Rattle.std.specs.Prelude.{option_and_then}
 use Rattle.std.specs.Option.{option_map_or}
 use Rattle.std.proofs.lemmas.Option.{none-some}
@@ -29,7 +29,7 @@ use Rattle.store_model.specs.Effects as effects
 use Rattle.store_model.specs.Effects.{AggregateKind, OfTuple, OfArray, OfVariant, OfClosure, EffectSite, Halt, Out, Go, Unwind, Halts, Stuck, halting_if}
 use Rattle.store_model.specs.Places.Place.{is_reference}
 use Rattle.store_model.specs.Places.TypeForms.{is_bool, is_dyn}
-use Rattle.store_model.specs.Values.Datum.{Datum, Data, Gone, Number, Truth, UnitValue, Aggregate, Box, Address, data_from}
+use Rattle.store_model.specs.Values.Datum.{Datum, Gone, Number, Truth, UnitValue, Aggregate, Box, Address, data_from}
 use Rattle.drop_values.specs.Like.{raw_setting}
 use Rattle.drop_values.specs.Typed.{has_variant, IsFull}
 use Rattle.drop_values.proofs.Made.{AllFull, aggregate-full, box-full, truth-full, full-plain}
@@ -37,7 +37,7 @@ use Rattle.drop_values.proofs.Sites.{IsOpen}
 use Rattle.drop_values.proofs.Touched.{SameCells, same_cells, AllNameFull}
 use Rattle.drop_elaborate.proofs.Apart.{IsNamed}
 use Rattle.drop_elaborate.proofs.Held.{Held}
-use Rattle.drop_elaborate.proofs.OperandLists.{OperandsAre, FullIf, all-full, AllUsed, LineSpares, TookAll, operands-Took, at_line-append}
+use Rattle.drop_elaborate.proofs.OperandLists.{OperandsAre, FullIf, all-full, AllUsed, LineSpares, operands-Took, at_line-append}
 use Rattle.drop_elaborate.proofs.Operands.{PlaceOk}
 use Rattle.drop_elaborate.proofs.SinceMade.{IsLive}
 use Rattle.drop_elaborate.proofs.Stores.{put-Held}

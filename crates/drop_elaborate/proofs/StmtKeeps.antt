@@ -1,13 +1,12 @@
 -- Each statement of a ready body, as it comes on a path, keeps what holds of the raw run: no premise is left but that
 -- the body is ready and the path meets no bad use.
-use Rattle.std.proofs.Common.{◌≡◌, ℕ, ◌==◌, ◌&&◌, Bool, true, false, List, [], ◌∷◌, ◌++◌, map, flat_map, length, replicate, Option, Some, None, is_some, slice_get, refl, ap, sym, ◌∙◌, subst, append_assoc}
+use Rattle.std.proofs.Common.{◌≡◌, ℕ, ◌&&◌, Bool, true, false, List, [], ◌∷◌, ◌++◌, flat_map, replicate, Option, Some, None, is_some, slice_get, refl, ap, sym, ◌∙◌, subst, append_assoc}
 use Rattle.std.specs.Prelude.{option_and_then}
 use Rattle.std.specs.List.{list_all}
 use Rattle.std.specs.Option.{option_map_or}
 use Rattle.std.specs.Cmp.{first_so, second_so}
 use Rattle.std.specs.Cmp.Derive.{both_true}
 use Rattle.std.proofs.lemmas.Bool.{false≢true}
-use Rattle.std.proofs.lemmas.Option.{none-some}
 use Rattle.mir_ty.specs.declared.ty.Ty.{Ty}
 use Rattle.mir_ty.specs.declared.ty.TyId.{TyId}
 use Rattle.mir_ty.specs.ItemTable.{ItemTable, type_at}
@@ -34,7 +33,7 @@ use Rattle.store_model.specs.Concrete.State.{State, Bodies}
 use Rattle.store_model.specs.Effects as effects
 use Rattle.store_model.specs.Effects.{AggregateKind, OfTuple, OfArray, OfVariant, OfClosure, Go}
 use Rattle.store_model.specs.Places.Place.{Place, is_reference}
-use Rattle.store_model.specs.Places.TypeForms.{is_bool, is_dyn, is_dyn_of, is_adt, is_closure, tuple_parts, box_content, are_compared}
+use Rattle.store_model.specs.Places.TypeForms.{is_bool, is_dyn_of, is_adt, is_closure, tuple_parts, box_content, are_compared}
 use Rattle.drop_values.specs.Like.{raw_setting}
 use Rattle.drop_values.proofs.Knows.{PlainSteps, no_steps}
 use Rattle.drop_values.proofs.Sites.{PlaceIs, a_part, an_element, behind}
@@ -42,15 +41,17 @@ use Rattle.drop_values.proofs.Touched.{AllNameFull}
 use Rattle.drop_elaborate.proofs.BorrowsHeld.{AllOfIt, borrow-line}
 use Rattle.drop_elaborate.proofs.Counted.{map-two}
 use Rattle.drop_elaborate.proofs.Held.{Held}
-use Rattle.drop_elaborate.proofs.OperandLists.{OperandsAre, none_is, each_is, any_is}
-use Rattle.drop_elaborate.proofs.OperandTypes.{AllTested, Tested, first-tested, place-at, index-at, typed-id, place-ok, operands-at, operands-any, BoxOperand, box-operand, int-type, box-type, some-so, some-of}
+use Rattle.drop_elaborate.proofs.OperandLists.{OperandsAre, none_is, each_is}
+use Rattle.drop_elaborate.proofs.OperandTypes.{AllTested, Tested, first-tested, place-at, index-at, typed-id, place-ok, box-operand, box-type, some-so}
 use Rattle.drop_elaborate.proofs.OtherLines.{touch-line, print-line, unsize-line}
-use Rattle.drop_elaborate.proofs.PathFacts.{Follows, follows-later, ReadsWell, reads-well}
+use Rattle.drop_elaborate.proofs.PathFacts.{Follows, follows-later, reads-well}
 use Rattle.drop_elaborate.proofs.PathUses.{operated, stored-open, opened-by, borrowed-there}
 use Rattle.drop_elaborate.proofs.ReadyBody.{BodyIsReady}
-use Rattle.drop_elaborate.proofs.ReadyReferences.{BorrowTyped, borrow-typed, stmt-free, MadeHere, made-here, made-are, made-no-param, names-none}
+use Rattle.drop_elaborate.proofs.ReadyReferences.{stmt-free, made-here, names-none}
+use Rattle.drop_elaborate.proofs.ReferencesMade.{borrow-typed}
 use Rattle.drop_elaborate.proofs.StatementsHeld.{Operated, StoreOk, KindIs, a_tuple, an_array, a_closure, a_variant, build-line, put-line, not-line, compare-line, box-line, forget-line}
 use Rattle.drop_elaborate.proofs.StmtTests.{LineTested, stmt-tested, tuple-type, closure-type, adt-type, elements-are, made-variant, operand-sized}
+use Rattle.drop_elaborate.proofs.LineOperands.{made_are as made_of, no_param as no_param_of, all-tested, wanted, any-one, any-two}
 
 module _ (items : ItemTable) (local_ty : (body local : ℕ) → Option TyId) (number depth bodies : ℕ) (body : Body)
     (addresses : List Addr) (before : State) (given : AllNameFull items local_ty before addresses)
@@ -64,54 +65,16 @@ module _ (items : ItemTable) (local_ty : (body local : ℕ) → Option TyId) (nu
   abbrev Are : List Operand → List (Option TyId) → Type 0
   Are operands ids = OperandsAre items local_ty number depth body addresses before given locals_are operands ids
 
-  pub made_are : (k : ℕ) (place : Place) → named_by k (references_made body) ≡ Some place →
+  abbrev made_are : (k : ℕ) (place : Place) → named_by k (references_made body) ≡ Some place →
       (id : TyId) × (local_ty number k ≡ Some id) × (is_reference (type_at items id) ≡ true)
-  made_are k place e =
-      let m = made-are items ready.alone body ready.references ready.stmt_typed k place e in
-      (m.0, locals_are k ∙ m.1, m.2)
+  made_are = made_of items local_ty number depth bodies body addresses before given locals_are ready
 
-  pub no_param : (r : ℕ) (q : Place) → named_by r (references_made body) ≡ Some q → is_param items body r ≡ false
-  no_param r q e = made-no-param items ready.alone body ready.references ready.stmt_typed r q e
+  abbrev no_param : (r : ℕ) (q : Place) → named_by r (references_made body) ≡ Some q → is_param items body r ≡ false
+  no_param = no_param_of items local_ty number depth bodies body addresses before given locals_are ready
 
   abbrev AllT : List Operand → Type 0
   AllT operands = AllTested items ready.alone local_ty number depth body addresses before given locals_are made_are
       operands
-
-  all-tested : (operands : List Operand) (stored : List graph.Place) (others : List (PlaceUse × graph.Place)) →
-      LineTested items body operands stored others → AllT operands
-  all-tested operands stored others t =
-      record { typed = t.operands_typed; stand = t.operands_stand; move = t.operands_move }
-
-  -- the operands of a line, of the types that it wants, or of any
-  pub wanted : (ids : List TyId) (operands : List Operand) → operands_are items body.locals ids operands ≡ true →
-      AllT operands → Are operands (map Some ids)
-  wanted ids operands is t =
-      operands-at items ready.alone local_ty number depth body addresses before given locals_are made_are ids operands
-      is t
-
-  pub any-one : (operand : Operand) → AllT (operand ∷ []) → (id : Option TyId) × Are (operand ∷ []) (id ∷ [])
-  any-one operand t = by (operands-any items ready.alone local_ty number depth body addresses before given locals_are
-      made_are (operand ∷ []) t)
-    where
-      by : (ids : List (Option TyId)) × Are (operand ∷ []) ids → (id : Option TyId) × Are (operand ∷ []) (id ∷ [])
-      by (_, each_is _ operands id ids is none_is) = (Some id, each_is operand [] id [] is none_is)
-      by (_, any_is _ operands ids constant none_is) = (None, any_is operand [] [] constant none_is)
-
-  pub any-two : (left right : Operand) → AllT (left ∷ right ∷ []) →
-      (of : Option TyId) × (other : Option TyId) × Are (left ∷ right ∷ []) (of ∷ other ∷ [])
-  any-two left right t = by (operands-any items ready.alone local_ty number depth body addresses before given locals_are
-      made_are (left ∷ right ∷ []) t)
-    where
-      by : (ids : List (Option TyId)) × Are (left ∷ right ∷ []) ids →
-          (of : Option TyId) × (other : Option TyId) × Are (left ∷ right ∷ []) (of ∷ other ∷ [])
-      by (_, each_is _ operands id ids is (each_is _ more id' ids' is' none_is)) =
-          (Some id, Some id', each_is left (right ∷ []) id (Some id' ∷ []) is (each_is right [] id' [] is' none_is))
-      by (_, each_is _ operands id ids is (any_is _ more ids' constant none_is)) =
-          (Some id, None, each_is left (right ∷ []) id (None ∷ []) is (any_is right [] [] constant none_is))
-      by (_, any_is _ operands ids constant (each_is _ more id' ids' is' none_is)) =
-          (None, Some id', any_is left (right ∷ []) (Some id' ∷ []) constant (each_is right [] id' [] is' none_is))
-      by (_, any_is _ operands ids constant (any_is _ more ids' constant' none_is)) =
-          (None, None, any_is left (right ∷ []) (None ∷ []) constant (any_is right [] [] constant' none_is))
 
   nil : {A : Type 0} (l : List A) → l ++ [] ≡ l
   nil [] = refl
@@ -169,8 +132,7 @@ module _ (items : ItemTable) (local_ty : (body local : ℕ) → Option TyId) (nu
         (acts ++ at_line n line (flat_map operand_uses operands)) to id
     stores operands to id f e typed sized free =
         let ok = place-ok items ready.alone local_ty number depth body addresses before given locals_are made_are to
-        id e
-        typed sized in record {
+        id e typed sized in record {
           ok = ok;
           reachable = stored-open items local_ty number depth body addresses before given locals_are no_param n line
               (acts ++ at_line n line (flat_map operand_uses operands)) rest to id
@@ -201,16 +163,14 @@ module _ (items : ItemTable) (local_ty : (body local : ℕ) → Option TyId) (nu
         let typed = only (is_typed_place items body.locals to)
         (ap (list_all (is_typed_place items body.locals)) (sym s) ∙ f.stored_typed) in
         let i = typed-id items ready.alone local_ty number depth body addresses before given locals_are made_are to
-        typed
-        in record {
+        typed in record {
           id = i.0;
           is = i.1;
           typed = typed;
           sized = only (is_sized items body.locals to) (ap (list_all (is_sized items body.locals)) (sym s)
               ∙ f.stored_sized);
           free = stmt-free items ready.alone body ready.references ready.stmt_typed n line block stmt to i.0 at here s
-              none
-              i.1;
+              none i.1;
           ty_is = ap (option_and_then (type_at items)) i.1;
         }
 
@@ -219,9 +179,11 @@ module _ (items : ItemTable) (local_ty : (body local : ℕ) → Option TyId) (nu
         let stmt = Stmt.Put to from in
         let t = facts stmt here in
         let s = stored-to stmt to here refl refl in
-        let a = wanted (s.id ∷ []) (from ∷ []) (ap (λ o. option_map_or (λ id. operand_is items body.locals id from) o
+        let a = wanted items local_ty number depth bodies body addresses before given locals_are ready (s.id ∷ [])
+        (from ∷ []) (ap (λ o. option_map_or (λ id. operand_is items body.locals id from) o
         false
-        && true) (sym s.is) ∙ both_true t.1 refl) (all-tested (from ∷ []) (to ∷ []) [] t.0) in
+        && true) (sym s.is) ∙ both_true t.1 refl) (all-tested items local_ty number depth bodies body addresses before
+        given locals_are ready (from ∷ []) (to ∷ []) [] t.0) in
         put-line items local_ty number depth body addresses before given locals_are run n line acts w x h to from s.id a
         (used a ((Stores, to) ∷ []) f) (stores (from ∷ []) to s.id f s.is s.typed s.sized s.free) e
 
@@ -230,7 +192,9 @@ module _ (items : ItemTable) (local_ty : (body local : ℕ) → Option TyId) (nu
         let stmt = Stmt.Compare to op left right in
         let t = facts stmt here in
         let s = stored-to stmt to here refl refl in
-        let a = any-two left right (all-tested (left ∷ right ∷ []) (to ∷ []) [] t.0) in
+        let a = any-two items local_ty number depth bodies body addresses before given locals_are ready left right
+        (all-tested items local_ty number depth bodies body addresses before given locals_are ready (left ∷ right ∷ [])
+        (to ∷ []) [] t.0) in
         compare-line items local_ty number depth body addresses before given locals_are run n line acts w x h to op left
         right s.id a.0 a.1 a.2 (used a.2 ((Stores, to) ∷ []) f)
         (stores (left ∷ right ∷ []) to s.id f s.is s.typed s.sized s.free)
@@ -242,7 +206,9 @@ module _ (items : ItemTable) (local_ty : (body local : ℕ) → Option TyId) (nu
         let stmt = Stmt.Not to operand in
         let t = facts stmt here in
         let s = stored-to stmt to here refl refl in
-        let a = any-one operand (all-tested (operand ∷ []) (to ∷ []) [] t.0) in
+        let a = any-one items local_ty number depth bodies body addresses before given locals_are ready operand
+        (all-tested items local_ty number depth bodies body addresses before given locals_are ready (operand ∷ [])
+        (to ∷ []) [] t.0) in
         not-line items local_ty number depth body addresses before given locals_are run n line acts w x h to operand
         s.id
         a.0 a.1 (used a.1 ((Stores, to) ∷ []) f) (stores (operand ∷ []) to s.id f s.is s.typed s.sized s.free)
@@ -259,10 +225,9 @@ module _ (items : ItemTable) (local_ty : (body local : ℕ) → Option TyId) (nu
         act raw run (effects.Build (site_of 0 to) kind (operands_of 0 parts)) w ≡ Go x →
         HeldNow (acts ++ at_line n line ((flat_map operand_uses parts ++ []) ++ (Stores, to) ∷ [])) x
     build-keeps to kind parts id ids e typed sized free t is k f does =
-        let a = wanted ids parts is t in
+        let a = wanted items local_ty number depth bodies body addresses before given locals_are ready ids parts is t in
         build-line items local_ty number depth body addresses before given locals_are run n line acts w x to kind
-        parts id
-        ids a (used a ((Stores, to) ∷ []) f) (stores parts to id f e typed sized free) k h does
+        parts id ids a (used a ((Stores, to) ∷ []) f) (stores parts to id f e typed sized free) k h does
 
     tuple-keeps : (to : graph.Place) (parts : List Operand) → Keeps (Stmt.Tuple to parts)
     tuple-keeps to parts here f e =
@@ -271,7 +236,9 @@ module _ (items : ItemTable) (local_ty : (body local : ℕ) → Option TyId) (nu
         let s = stored-to stmt to here refl refl in
         let k = some-so (λ types. operands_are items body.locals types parts)
         (tuple_parts (ty_of_place items body.locals to)) t.1 in
-        build-keeps to OfTuple parts s.id k.0 s.is s.typed s.sized s.free (all-tested parts (to ∷ []) [] t.0) k.2
+        build-keeps to OfTuple parts s.id k.0 s.is s.typed s.sized s.free
+        (all-tested items local_ty number depth bodies body addresses before given locals_are ready parts
+        (to ∷ []) [] t.0) k.2
         (a_tuple s.id k.0 (tuple-type (type_at items s.id) k.0 (ap tuple_parts (sym s.ty_is) ∙ k.1))) f e
 
     array-keeps : (to : graph.Place) (parts : List Operand) → Keeps (Stmt.Array to parts)
@@ -286,7 +253,8 @@ module _ (items : ItemTable) (local_ty : (body local : ℕ) → Option TyId) (nu
             HeldNow (acts ++ at_line n line (stmt_uses (Stmt.Array to parts))) x
         by s t (Some (Ty.Array element count)) te h =
             build-keeps to OfArray parts s.id (replicate count element) s.is s.typed s.sized s.free
-            (all-tested parts (to ∷ []) [] t) (elements-are items body element count parts h)
+            (all-tested items local_ty number depth bodies body addresses before given locals_are ready parts
+            (to ∷ []) [] t) (elements-are items body element count parts h)
             (an_array s.id element count te) f e
         by s t None te h = absurd (false≢true h)
         by s t (Some (Ty.Int kind)) te h = absurd (false≢true h)
@@ -313,7 +281,8 @@ module _ (items : ItemTable) (local_ty : (body local : ℕ) → Option TyId) (nu
         let v = made-variant items body ready.one_variant adt variant m.0 m.1 in
         build-keeps to (OfVariant adt variant) parts s.id
         (fields_of (slice_get (variants_of (slice_get items.adts adt)) variant)) s.is s.typed s.sized s.free
-        (all-tested parts (to ∷ []) [] t.0)
+        (all-tested items local_ty number depth bodies body addresses before given locals_are ready parts
+        (to ∷ []) [] t.0)
         (ap (λ ids. operands_are items body.locals ids parts) (sym v.1) ∙ m.2)
         (a_variant s.id adt variant (adt-type adt (type_at items s.id) (ap (is_adt adt) (sym s.ty_is)
         ∙ first_so (is_adt adt (ty_of_place items body.locals to))
@@ -326,7 +295,8 @@ module _ (items : ItemTable) (local_ty : (body local : ℕ) → Option TyId) (nu
         let t = facts stmt here in
         let s = stored-to stmt to here refl refl in
         let ids = captures_of (slice_get items.closures closure) in
-        build-keeps to (OfClosure closure) parts s.id ids s.is s.typed s.sized s.free (all-tested parts (to ∷ []) []
+        build-keeps to (OfClosure closure) parts s.id ids s.is s.typed s.sized s.free
+        (all-tested items local_ty number depth bodies body addresses before given locals_are ready parts (to ∷ []) []
         t.0)
         (second_so (is_closure closure (ty_of_place items body.locals to)) (operands_are items body.locals ids parts)
         t.1)
@@ -341,7 +311,9 @@ module _ (items : ItemTable) (local_ty : (body local : ℕ) → Option TyId) (nu
         let s = stored-to stmt to here refl refl in
         let c = some-so (λ id. operand_is items body.locals id operand) (box_content (ty_of_place items body.locals to))
         t.1 in
-        let a = wanted (c.0 ∷ []) (operand ∷ []) (both_true c.2 refl) (all-tested (operand ∷ []) (to ∷ []) [] t.0) in
+        let a = wanted items local_ty number depth bodies body addresses before given locals_are ready (c.0 ∷ [])
+        (operand ∷ []) (both_true c.2 refl) (all-tested items local_ty number depth bodies body addresses before given
+        locals_are ready (operand ∷ []) (to ∷ []) [] t.0) in
         box-line items local_ty number depth body addresses before given locals_are run n line acts w x h to operand
         s.id
         c.0 a (used a ((Stores, to) ∷ []) f) (stores (operand ∷ []) to s.id f s.is s.typed s.sized s.free)
@@ -361,7 +333,8 @@ module _ (items : ItemTable) (local_ty : (body local : ℕ) → Option TyId) (nu
         let stmt = Stmt.Unsize to trait_no from in
         let t = facts stmt here in
         let s = stored-to stmt to here refl refl in
-        let all = all-tested (from ∷ []) (to ∷ []) [] t.0 in
+        let all = all-tested items local_ty number depth bodies body addresses before given locals_are ready (from ∷ [])
+        (to ∷ []) [] t.0 in
         let d = first_so (is_dyn_of trait_no (option_and_then (type_at items)
         (box_content (ty_of_place items body.locals to)))) (is_some (box_content (ty_of_operand items body.locals
         from)))
@@ -410,8 +383,7 @@ module _ (items : ItemTable) (local_ty : (body local : ℕ) → Option TyId) (nu
         (opened-by items local_ty number depth body addresses before given locals_are no_param acts borrow more f
         r.containers r.array t.target is)
         (there is (borrowed-there items local_ty number depth body addresses before given locals_are no_param acts
-        borrow
-        more f tt)) t.free m.named_so e
+        borrow more f tt)) t.free m.named_so e
       where
         there : {target : TyId} (is : PlaceIs items local_ty number (named of) target) →
             all_present (presence_along (named of).steps (present_after items body acts (named of).local)) ≡ true →
@@ -423,14 +395,18 @@ module _ (items : ItemTable) (local_ty : (body local : ℕ) → Option TyId) (nu
 
     print-keeps : (operand : Operand) → Keeps (Stmt.Print operand)
     print-keeps operand here f e =
-        let a = any-one operand (all-tested (operand ∷ []) [] [] (facts (Stmt.Print operand) here).0) in
+        let a = any-one items local_ty number depth bodies body addresses before given locals_are ready operand
+        (all-tested items local_ty number depth bodies body addresses before given locals_are ready (operand ∷ []) [] []
+        (facts (Stmt.Print operand) here).0) in
         print-line items local_ty number depth body addresses before given locals_are run n line acts w x h operand
         a.0 a.1
         (used a.1 [] f) e
 
     forget-keeps : (operand : Operand) → Keeps (Stmt.Forget operand)
     forget-keeps operand here f e =
-        let a = any-one operand (all-tested (operand ∷ []) [] [] (facts (Stmt.Forget operand) here).0) in
+        let a = any-one items local_ty number depth bodies body addresses before given locals_are ready operand
+        (all-tested items local_ty number depth bodies body addresses before given locals_are ready (operand ∷ []) [] []
+        (facts (Stmt.Forget operand) here).0) in
         forget-line items local_ty number depth body addresses before given locals_are run n line acts w x h operand
         a.0 a.1
         (used a.1 [] f) e

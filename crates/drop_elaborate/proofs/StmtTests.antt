@@ -1,5 +1,5 @@
 -- What is tested of each line of a ready body: its operands, the place into which it stores, and its types.
-use Rattle.std.proofs.Common.{◌≡◌, ℕ, ◌==◌, ◌&&◌, not, Bool, true, false, List, [], ◌∷◌, ◌++◌, map, flat_map, length, replicate, Option, Some, None, is_some, slice_get, refl, ap, sym, ◌∙◌, subst, zero, suc, arith}
+use Rattle.std.proofs.Common.{◌≡◌, ℕ, ◌==◌, ◌&&◌, Bool, true, false, List, [], ◌∷◌, ◌++◌, map, flat_map, length, replicate, Option, Some, None, is_some, slice_get, refl, ap, sym, ◌∙◌, subst, zero, suc}
 use Rattle.std.specs.Prelude.{option_and_then}
 use Rattle.std.specs.List.{list_all}
 use Rattle.std.specs.Option.{option_map_or}
@@ -21,10 +21,9 @@ use Rattle.cfg_graph.specs.declared.statement.Stmt.{Stmt}
 use Rattle.cfg_graph.specs.declared.terminator.Term.{Term}
 use Rattle.cfg_graph.specs.Places.{place_id, ty_of_place}
 use Rattle.cfg_graph.specs.Ready.{moves_out_well}
-use Rattle.cfg_graph.specs.Uses.{PlaceUse, Stores, operand_uses, operands_of_stmt, operands_of_term, stored_by_stmt, stored_by_term, other_uses, other_term_uses, stmt_uses, term_uses, place_used, places_of_stmt, places_of_term}
+use Rattle.cfg_graph.specs.Uses.{PlaceUse, Stores, operand_uses, operands_of_stmt, operands_of_term, stored_by_stmt, stored_by_term, other_uses, other_term_uses, place_used, places_of_stmt, places_of_term}
 use Rattle.cfg_graph.specs.WellFormed.Typing.{is_typed_place, is_sized, operand_is, operands_are, operand_stands, places_have_types, stmt_has_types, term_has_types, stmt_is_typed, term_is_typed, variant_at}
-use Rattle.store_model.specs.Places.Place.{is_enum}
-use Rattle.store_model.specs.Places.TypeForms.{tuple_parts, is_adt, is_closure, same_int, is_int, is_dyn, same_id}
+use Rattle.store_model.specs.Places.TypeForms.{tuple_parts, is_adt, is_closure, same_int, is_dyn, same_id}
 use Rattle.drop_values.specs.Typed.{variant_if, has_variant}
 use Rattle.drop_elaborate.proofs.Counted.{list_all-later, map-two}
 use Rattle.drop_elaborate.proofs.OperandTypes.{int-type, bool-type, unit-type, same-ty, some-so, not-so}

@@ -1,6 +1,6 @@
--- What holds of a raw run is kept by a store of a full value of the place's type, by a drop at a place that may be left
--- gone, and by a body that is called with references that may be stored through.
-use Rattle.std.proofs.Common.{◌≡◌, ◌⊎◌, inl, inr, ℕ, zero, suc, ◌==◌, ◌&&◌, not, Bool, true, false, List, [], ◌∷◌, ◌++◌, length, Option, Some, None, if◌then◌else◌, slice_get, Contains, refl, ap, sym, ◌∙◌, subst}
+-- What holds of a raw run is kept by a store of a full value of the place's type, and by a body that is called with
+-- references that may be stored through.
+use Rattle.std.proofs.Common.{◌≡◌, ◌⊎◌, inl, inr, ℕ, ◌==◌, ◌&&◌, Bool, true, false, List, [], ◌∷◌, ◌++◌, Option, Some, None, slice_get, Contains, refl, ap, sym, ◌∙◌, subst}
 use Rattle.std.specs.Prelude.{option_and_then}
 use Rattle.std.proofs.lemmas.Bool.{false≢true}
 use Rattle.std.proofs.lemmas.Bool.Decides.{Decides-eqb, eqb_tells}
@@ -12,34 +12,25 @@ use Rattle.cfg_graph.specs.declared.graph.Body.{Body}
 use Rattle.cfg_graph.specs.Moves.Gone.{PathAction, are_first, counts, leaves_gone, reaches_whole}
 use Rattle.cfg_graph.specs.Moves.Present.{present_after}
 use Rattle.cfg_graph.specs.NamedPlaces.{makes, stores}
-use Rattle.cfg_graph.specs.Uses.{PlaceUse, Stores, Drops}
+use Rattle.cfg_graph.specs.Uses.{Stores}
 use Rattle.store_model.specs.declared.address.Addr.{Addr}
-use Rattle.store_model.specs.declared.address.At.{At}
 use Rattle.store_model.specs.Abstract.Presence.{is_present}
-use Rattle.store_model.specs.Concrete.Drops.{Stage, drop_at}
 use Rattle.store_model.specs.Concrete.Effects.{put}
-use Rattle.store_model.specs.Concrete.Location.{Setting, DynamicType, OfType, concrete_ty, type_in_box, type_of_field, named_by, Located, Reached, Reaches, CutOff, Nowhere, reach, on_reached, stored_at}
-use Rattle.store_model.specs.Concrete.State.{State, Bodies}
-use Rattle.store_model.specs.Effects.{EffectSite, Mode, Out, Go, Unwind, Halts, Stuck}
+use Rattle.store_model.specs.Concrete.Location.{Setting, OfType, named_by, Located, Reached, Reaches, CutOff, Nowhere, reach, on_reached, stored_at}
+use Rattle.store_model.specs.Concrete.State.{State}
+use Rattle.store_model.specs.Effects.{EffectSite, Go, Halts, Stuck}
 use Rattle.store_model.specs.Places.Place.{Step, ToPart, ToField, ToContent, ToElement, Place, watched, watched_content, content_of, step_ty, is_reference}
-use Rattle.store_model.specs.Values.Access.{part_at}
-use Rattle.store_model.specs.Values.Datum.{Datum, Data, Gone, Aggregate, Box, Address, no_part, a_part as another_part}
+use Rattle.store_model.specs.Values.Datum.{Datum}
 use Rattle.drop_values.specs.Like.{raw_setting}
-use Rattle.drop_values.specs.Plan.{IfFound}
 use Rattle.drop_values.specs.Typed.{IsFull}
-use Rattle.drop_values.proofs.BehindInvariant.{Opens, Afterwards, touched-Invariant}
-use Rattle.drop_values.proofs.Counting.{after, after-zero}
-use Rattle.drop_values.proofs.Frame.{Each, Sound, SoundParts, Frames, drop_at-After}
-use Rattle.drop_values.proofs.Invariant.{Invariant}
+use Rattle.drop_values.proofs.BehindInvariant.{touched-Invariant}
 use Rattle.drop_values.proofs.Knows.{PlainSteps, no_steps, to_next, Own, own_place}
-use Rattle.drop_values.proofs.LeftGone.{BodilessSteps}
-use Rattle.drop_values.proofs.Sites.{PlaceIs, a_part, an_element, behind, IsOpen, Lands, Landed, on_own, on_open, lands}
-use Rattle.drop_values.proofs.Stand.{Changed, stored-Changed, stands-known, with_value, Stands}
+use Rattle.drop_values.proofs.Sites.{PlaceIs, a_part, an_element, behind, IsOpen, Landed, on_own, on_open, lands}
+use Rattle.drop_values.proofs.Stand.{stored-Changed, stands-known, Stands}
 use Rattle.drop_values.proofs.Touched.{NoAddress, Touched, AllNameFull}
-use Rattle.drop_values.proofs.TypedSteps.{As, typed-as}
-use Rattle.drop_values.proofs.Ways.{Way, ends, to_part, to_field, to_content}
-use Rattle.drop_elaborate.proofs.Apart.{IsNamed, LeadsItself}
-use Rattle.drop_elaborate.proofs.Held.{Held, OpensAfter, taken-Held, stored-Held, opened-Held}
+use Rattle.drop_values.proofs.TypedAs.{typed-as}
+use Rattle.drop_elaborate.proofs.Apart.{IsNamed}
+use Rattle.drop_elaborate.proofs.Held.{Held, OpensAfter, stored-Held, opened-Held}
 use Rattle.drop_elaborate.proofs.Operands.{PlaceOk}
 use Rattle.drop_elaborate.proofs.SinceMade.{IsLive}
 
@@ -56,7 +47,7 @@ plain-no-element [] rest index id end (to_next _ _ _ next _ ty is step_is plain 
 plain-no-element (step ∷ upper) rest index id end (to_next _ _ _ next _ ty is step_is plain more) =
     plain-no-element upper rest index next end more
 
-element-not-watched : (items : ItemTable) (upper rest : List Step) (index : ℕ) (id array : TyId) →
+pub element-not-watched : (items : ItemTable) (upper rest : List Step) (index : ℕ) (id array : TyId) →
     PlainSteps items upper id array → reaches_whole (watched items (Some id) (upper ++ ToElement index ∷ rest)) ≡ false
 element-not-watched items _ rest index _ _ (no_steps id) = refl
 element-not-watched items _ rest index _ array (to_next (ToPart n) steps id next _ ty is step_is plain more) =
@@ -95,33 +86,6 @@ pub plain-no-reference : {items : ItemTable} (rest : List Step) (id end : TyId) 
     PlainSteps items (ToContent ∷ rest) id end → is_reference (type_at items id) ≡ true → ⊥
 plain-no-reference rest id end (to_next _ _ _ next _ ty is step_is plain more) r =
     false≢true (sym plain ∙ sym (ap is_reference is) ∙ r)
-
--- ---- what lies at the end of a way, where each value with a `Drop` body is full
-
-module _ (items : ItemTable) where
-  sound-part : (parts : Data) (found_at : ℕ → Option DynamicType) (k n : ℕ) (inner : Datum) (f : DynamicType) →
-      part_at n parts ≡ Some inner → found_at (after k n) ≡ Some f → SoundParts items parts found_at k →
-      Sound items inner f
-  sound-part no_part found_at k n inner f e is s = absurd (none-some inner e)
-  sound-part (another_part first rest) found_at k zero inner f e is s =
-      subst (λ d. Sound items d f) (let x : first ≡ inner = cc in x)
-      (subst (λ o. IfFound o (Sound items first)) is s.0)
-  sound-part (another_part first rest) found_at k (suc n) inner f e is s =
-      sound-part rest found_at (suc k) n inner f e is s.1
-
-  pub sound-at-end : {steps : List Step} {path : List At} {found f' : DynamicType} {d d' : Datum} →
-      Way items steps path found d f' d' → Sound items d found → Sound items d' f'
-  sound-at-end (ends found d) s = s
-  sound-at-end (to_part steps path found variant serial parts n inner f f' d' not_enum is_part is_found way) s =
-      sound-at-end way (sound-part parts (λ m. type_of_field items variant m (concrete_ty items found))
-      0 n inner f is_part
-      (ap (λ m. type_of_field items variant m (concrete_ty items found)) (after-zero n) ∙ is_found) s.1)
-  sound-at-end (to_field steps path found variant serial parts n inner f f' d' enum is_part is_found way) s =
-      sound-at-end way (sound-part parts (λ m. type_of_field items variant m (concrete_ty items found))
-      0 n inner f is_part
-      (ap (λ m. type_of_field items variant m (concrete_ty items found)) (after-zero n) ∙ is_found) s.1)
-  sound-at-end (to_content steps path found serial impl_no inside f f' d' is_found way) s =
-      sound-at-end way (subst (λ o. IfFound o (Sound items inside)) is_found s)
 
 module _ (items : ItemTable) (local_ty : (body local : ℕ) → Option TyId) (number depth : ℕ) (body : Body)
     (addresses : List Addr) (before : State) (given : AllNameFull items local_ty before addresses)
@@ -243,33 +207,6 @@ module _ (items : ItemTable) (local_ty : (body local : ℕ) → Option TyId) (nu
           ∙ ap (λ b. reaches_whole (watched_content b (watched items (option_and_then content_of (type_at items start))
           rest))) (named-reference (type_at items start) to named_it))
           (more-not-first [] ToContent rest action.place.steps steps_are) o
-
-  -- what stands at a place that may be left gone is dropped, on each way on
-  pub dropped-Held : (run : Bodies) → Frames raw run → (action : PathAction) (actions : List PathAction)
-      (start id : TyId) (w : State) (s : Located) (bound : ℕ) (stage : Stage) (mode : Mode) → action.how ≡ Drops →
-      local_ty number action.place.local ≡ Some start → PlainSteps items action.place.steps start id →
-      BodilessSteps items action.place.steps start → LeadsItself body action.place → HeldNow actions w →
-      Stands raw w s → reach raw w action.place ≡ Reaches s →
-      Each (HeldNow (actions ++ action ∷ [])) (drop_at raw run bound stage s mode w)
-  dropped-Held run frames action actions start id w s bound stage mode how typed plain bodiless itself h st e =
-      go (drop_at raw run bound stage s mode w)
-      (drop_at-After raw run frames bound stage s s.value mode w st
-      (sound-at-end items o.arrives.way (h.sound action.place.local start typed)))
-    where
-      o : Own raw number depth w action.place s start id
-      o = own_place raw number depth (present_after items body actions) w action.place start id s h.knows typed plain e
-
-      taken : (v : State) → Changed s.address Gone w v → HeldNow (actions ++ action ∷ []) v
-      taken v c =
-          taken-Held items local_ty number depth body addresses before given locals_are actions action w v start id s
-          (ap leaves_gone how)
-          (λ r. ap (λ how. stores body how && ((action.place.local == r) && are_first action.place.steps []
-          && are_first [] action.place.steps)) how) typed plain bodiless itself o c h
-
-      go : (out : Out State) → Each (Changed s.address Gone w) out → Each (HeldNow (actions ++ action ∷ [])) out
-      go (Go v) c = taken v c
-      go (Unwind v) c = taken v c
-      go (Halts halt v) c = tt
 
   -- a body was called with addresses at which it may store
   pub called-Held : (actions : List PathAction) (inner : List Addr) {w v : State} →

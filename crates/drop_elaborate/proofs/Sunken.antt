@@ -2,7 +2,6 @@
 use Rattle.std.proofs.Common.{◌≡◌, ℕ, ◌==◌, ◌&&◌, ◌||◌, Bool, true, false, List, [], ◌∷◌, ◌++◌, map, Option, Some, None, if◌then◌else◌, refl, ap, sym, ◌∙◌, subst, append_assoc}
 use Rattle.std.specs.List.{list_any}
 use Rattle.std.specs.Cmp.{first_so, second_so}
-use Rattle.std.specs.Cmp.Derive.{both_true}
 use Rattle.std.proofs.lemmas.Bool.{false≢true}
 use Rattle.std.proofs.lemmas.Bool.Decides.{Decides-eqb}
 use Rattle.mir_ty.specs.ItemTable.{ItemTable}
@@ -10,11 +9,11 @@ use Rattle.store_model.specs.Places.Place.{Step, same_step, Place}
 use Rattle.cfg_graph.specs.declared.graph.Body.{Body}
 use Rattle.cfg_graph.specs.Moves.Actions.{actions_on}
 use Rattle.cfg_graph.specs.Moves.BadUses.{UseRule, U2, if_bad, checked, bad_after, bad_uses_on}
-use Rattle.cfg_graph.specs.Moves.Gone.{PathAction, leaves_gone, are_first, is_at_or_above, below, containers, counts, left_by, is_gone_after, container_gone_after, array_broken_after}
+use Rattle.cfg_graph.specs.Moves.Gone.{PathAction, leaves_gone, are_first, below, containers, counts, left_by, is_gone_after, container_gone_after, array_broken_after}
 use Rattle.cfg_graph.specs.Moves.Paths.{IsPath}
 use Rattle.cfg_graph.specs.Uses.{PlaceUse, Copies, Moves, Borrows, Touches, Tests, Stores, Drops, Frees}
 use Rattle.drop_values.proofs.Steps.{same_step-sound}
-use Rattle.drop_elaborate.proofs.Statements.{gone-kept, gone-left}
+use Rattle.drop_elaborate.proofs.FlagStores.{gone-kept, gone-left}
 use Rattle.drop_elaborate.proofs.Telling.{wider}
 use Rattle.drop_elaborate.specs.Kinds.{before_last, Comes}
 

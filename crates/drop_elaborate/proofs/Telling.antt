@@ -1,6 +1,6 @@
 -- What the actions of a path tell along the tree of the body's paths: of each path whether it is gone, as the facts
 -- allow and as its flag says; and what is no path is as its container.
-use Rattle.std.proofs.Common.{◌≡◌, ◌⊎◌, inl, inr, ℕ, suc, ◌==◌, ◌&&◌, not, Bool, true, false, List, [], ◌∷◌, ◌++◌, Option, Some, None, if◌then◌else◌, refl, ap, sym, ◌∙◌, subst, append_assoc}
+use Rattle.std.proofs.Common.{◌≡◌, ◌⊎◌, inl, inr, ℕ, ◌==◌, ◌&&◌, not, Bool, true, false, List, [], ◌∷◌, ◌++◌, Option, Some, None, if◌then◌else◌, refl, ap, sym, ◌∙◌, subst, append_assoc}
 use Rattle.std.specs.Prelude.{unwrap_or}
 use Rattle.std.specs.Option.{option_or}
 use Rattle.std.specs.Cmp.{first_so, second_so}
@@ -18,7 +18,7 @@ use Rattle.cfg_graph.proofs.AllPresent.{whole_is_all_present}
 use Rattle.cfg_graph.proofs.Present.{gone_is_not_present}
 use Rattle.drop_values.specs.Facts.{Tree, at_path, Branches, no_branch, a_branch, Facts, possible}
 use Rattle.drop_values.specs.Planning.{branch_by}
-use Rattle.drop_values.proofs.Told.{IsTold, Told, ToldBelow, Else, Sunk}
+use Rattle.drop_values.proofs.Told.{IsTold, Told, ToldBelow, Sunk}
 use Rattle.drop_values.proofs.Steps.{same_step-sound, same_step-refl}
 
 -- what begins with the first of these steps begins with more of them too

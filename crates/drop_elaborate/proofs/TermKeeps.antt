@@ -1,17 +1,13 @@
 -- Each terminator of a ready body that may panic, as it comes on a path, keeps what holds of the raw run on each way
 -- on; and the bodies that it calls may be entered.
-use Rattle.std.proofs.Common.{◌≡◌, ◌⊎◌, inl, inr, ℕ, ◌==◌, ◌&&◌, not, Bool, true, false, nat_lt, List, [], ◌∷◌, ◌++◌, map, flat_map, length, Option, Some, None, is_some, slice_get, Contains, refl, ap, sym, ◌∙◌, subst, append_assoc}
+use Rattle.std.proofs.Common.{◌≡◌, ℕ, ◌&&◌, not, Bool, true, false, List, [], ◌∷◌, ◌++◌, map, flat_map, Option, Some, slice_get, refl, ap, sym, ◌∙◌, subst}
 use Rattle.std.specs.Prelude.{option_and_then}
 use Rattle.std.specs.List.{list_all}
 use Rattle.std.specs.Option.{option_map_or}
 use Rattle.std.specs.Cmp.{first_so, second_so}
-use Rattle.std.proofs.lemmas.Bool.{false≢true}
-use Rattle.std.proofs.lemmas.Option.{none-some}
 use Rattle.mir_base.specs.declared.int_kind.IntKind.{IntKind}
 use Rattle.mir_base.specs.declared.operator.Math.{Math}
-use Rattle.mir_ty.proofs.ListLemmas.{Contains-slice_get}
 use Rattle.mir_ty.specs.declared.def.Sig.{Sig}
-use Rattle.mir_ty.specs.declared.ty.Ty.{Ty}
 use Rattle.mir_ty.specs.declared.ty.TyId.{TyId}
 use Rattle.mir_ty.specs.ItemTable.{ItemTable, type_at}
 use Rattle.cfg_graph.specs.declared.graph.Block.{Block}
@@ -21,45 +17,41 @@ use Rattle.cfg_graph.specs.declared.place.Place as graph
 use Rattle.cfg_graph.specs.declared.terminator.Term.{Term}
 use Rattle.cfg_graph.specs.declared.terminator.Unwind.{Unwind}
 use Rattle.cfg_graph.specs.Moves.Actions.{at_line}
-use Rattle.cfg_graph.specs.Moves.Gone.{PathAction, is_param}
+use Rattle.cfg_graph.specs.Moves.Gone.{PathAction}
 use Rattle.cfg_graph.specs.Moves.Present.{present_after}
-use Rattle.cfg_graph.specs.NamedPlaces.{references_made, named_by}
-use Rattle.cfg_graph.specs.Places.{named, place_id, ty_of_place, ty_of_operand}
-use Rattle.cfg_graph.specs.Uses.{PlaceUse, Stores, operand_uses, operands_of_term, stored_by_term, other_term_uses, term_uses}
+use Rattle.cfg_graph.specs.Places.{place_id, ty_of_place, ty_of_operand}
+use Rattle.cfg_graph.specs.Uses.{Stores, operand_uses, operands_of_term, stored_by_term, other_term_uses}
 use Rattle.cfg_graph.specs.WellFormed.LineFaults.{term_numbers_exist}
 use Rattle.cfg_graph.specs.WellFormed.TypeFaults.{is_drop_body}
 use Rattle.cfg_graph.specs.WellFormed.Typing.{is_typed_place, is_sized, operands_are, calls, method_at, term_has_types}
 use Rattle.cfg_meaning.specs.Actions.{site_of, operand_of, operands_of}
 use Rattle.store_model.specs.declared.address.Addr.{Addr}
-use Rattle.store_model.specs.Concrete.Effects.{if_so, evaluate_operands, row_body, object_body, virtual_body, never_at, act}
-use Rattle.store_model.specs.Concrete.Location.{Setting, DynamicType, Located, located_at}
+use Rattle.store_model.specs.Concrete.Effects.{evaluate_operands, virtual_body, never_at, act}
+use Rattle.store_model.specs.Concrete.Location.{Setting}
 use Rattle.store_model.specs.Concrete.State.{State, Bodies}
 use Rattle.store_model.specs.Effects as effects
 use Rattle.store_model.specs.Effects.{Out}
-use Rattle.store_model.specs.Places.Place.{Place, is_reference}
-use Rattle.store_model.specs.Places.TypeForms.{same_id, same_int, is_signed, is_int, is_never, is_dyn_of}
-use Rattle.store_model.specs.Values.Datum.{Datum, Gone, Number, Truth, UnitValue, Aggregate, Box, Address}
+use Rattle.store_model.specs.Places.TypeForms.{same_id, same_int, is_signed, is_never}
+use Rattle.store_model.specs.Values.Datum.{Datum}
 use Rattle.drop_values.specs.Like.{raw_setting}
-use Rattle.drop_values.specs.Typed.{has_impl, Proper, a_type, an_object}
-use Rattle.drop_values.proofs.BehindInvariant.{opens-full}
-use Rattle.drop_values.proofs.Made.{AllFull}
+use Rattle.drop_values.proofs.BehindInvariant.{opens-full, opens-shallow}
 use Rattle.drop_values.proofs.Touched.{AllNameFull, addresses_of, KeepsOlder}
 use Rattle.drop_elaborate.proofs.Apart.{IsNamed}
 use Rattle.drop_elaborate.proofs.CalledBodies.{CalleesOk, virtual-enters}
 use Rattle.drop_elaborate.proofs.CallsHeld.{call-term, virtual-term}
 use Rattle.drop_elaborate.proofs.CheckedTerms.{Used, Leaves, used-Took, compute-term, negate-term, bounds-term, ask-term}
-use Rattle.drop_elaborate.proofs.Counted.{map-two}
 use Rattle.drop_elaborate.proofs.Entered.{Enters}
 use Rattle.drop_elaborate.proofs.Held.{Held}
 use Rattle.drop_elaborate.proofs.OperandLists.{OperandsAre, TookAll, all-full}
 use Rattle.drop_elaborate.proofs.OperandTypes.{AllTested, typed-id, place-ok, int-type, same-ty, some-so}
 use Rattle.drop_elaborate.proofs.OtherLines.{place-type}
-use Rattle.drop_elaborate.proofs.PathFacts.{Follows, follows-later}
+use Rattle.drop_elaborate.proofs.PathFacts.{Follows}
 use Rattle.drop_elaborate.proofs.PathUses.{operated, stored-open}
 use Rattle.drop_elaborate.proofs.ReadyBody.{BodyIsReady}
 use Rattle.drop_elaborate.proofs.ReadyReferences.{term-free}
+use Rattle.drop_elaborate.proofs.SinceMade.{IsLive}
 use Rattle.drop_elaborate.proofs.StatementsHeld.{Operated, StoreOk}
-use Rattle.drop_elaborate.proofs.StmtKeeps.{made_are, no_param, wanted, any-one, any-two}
+use Rattle.drop_elaborate.proofs.LineOperands.{made_are, no_param, wanted, any-one, any-two}
 use Rattle.drop_elaborate.proofs.StmtTests.{LineTested, term-tested, same-int-type}
 
 module _ (items : ItemTable) (local_ty : (body local : ℕ) → Option TyId) (number depth bodies : ℕ) (body : Body)
@@ -89,10 +81,12 @@ module _ (items : ItemTable) (local_ty : (body local : ℕ) → Option TyId) (nu
   took-named : (actions : List PathAction) (ids : List (Option TyId)) (w : State) (vs : List Datum) (u : State) →
       TookAll items local_ty number depth body addresses before given locals_are actions ids w vs u →
       AllNameFull items local_ty u (addresses_of vs)
-  took-named actions ids w vs u t a among =
-      opens-full items local_ty number depth addresses before (IsNamed body) given (present_after items body actions)
-      u a
-      t.held_now.knows (t.opened a among)
+  took-named actions ids w vs u t a among = (
+    opens-full items local_ty number depth addresses before (IsNamed body) given (present_after items body actions)
+        u a t.held_now.knows (t.opened a among),
+    opens-shallow items local_ty number depth addresses before (IsNamed body) given (IsLive body actions)
+        (present_after items body actions) u a t.held_now (t.opened a among),
+  )
 
   module _ (n line : ℕ) (block : Block) (at : slice_get body.blocks n ≡ Some block) (acts rest : List PathAction)
       (w : State) (h : HeldNow acts w) where

@@ -1,26 +1,25 @@
 -- A terminator that may panic, and its result, in the raw block and in the elaborated one: flags of moved operands are
 -- cleared before it, and those of its result are set on the way on.
-use Rattle.std.proofs.Common.{◌≡◌, ◌⊎◌, inl, inr, ℕ, zero, suc, ◌≤◌, ◌<◌, Bool, true, false, List, [], ◌∷◌, ◌++◌, map, length, Option, Some, None, slice_get, Contains, refl, ap, sym, ◌∙◌, subst, append_assoc, arith}
+use Rattle.std.proofs.Common.{◌≡◌, ◌⊎◌, inl, inr, ℕ, suc, ◌≤◌, ◌<◌, Bool, true, false, List, [], ◌∷◌, ◌++◌, map, length, Option, Some, None, Contains, refl, ap, sym, ◌∙◌, subst, arith}
 use Rattle.mir_base.specs.declared.trace.Event.{Event}
 use Rattle.mir_ty.proofs.ListLemmas.{Contains-slice_get}
 use Rattle.mir_ty.specs.declared.ty.Ty.{Ty}
 use Rattle.mir_ty.specs.declared.ty.TyId.{TyId}
 use Rattle.mir_ty.specs.ItemTable.{ItemTable, type_at}
-use Rattle.cfg_graph.specs.declared.graph.Block.{Block}
 use Rattle.cfg_graph.specs.declared.graph.Body.{Body}
 use Rattle.cfg_graph.specs.declared.graph.Kind.{Kind}
 use Rattle.cfg_graph.specs.declared.place.Place as graph
 use Rattle.cfg_graph.specs.declared.statement.Stmt.{Stmt}
 use Rattle.cfg_graph.specs.declared.terminator.Term.{Term}
 use Rattle.cfg_graph.specs.declared.terminator.Unwind.{Unwind}
-use Rattle.cfg_graph.specs.Edges.{is_turn, is_turn_kind, onward, unwind_of}
+use Rattle.cfg_graph.specs.Edges.{is_turn_kind, onward, unwind_of}
 use Rattle.cfg_graph.specs.Moves.Actions.{at_line}
 use Rattle.cfg_graph.specs.Moves.Gone.{PathAction}
 use Rattle.cfg_graph.specs.Uses.{PlaceUse, Stores, stored_by_term, term_uses}
 use Rattle.cfg_meaning.specs.Actions.{site_of, operand_of, operands_of}
 use Rattle.mir_base.specs.declared.trace.Why.{Why}
 use Rattle.store_model.specs.Effects as effects
-use Rattle.cfg_meaning.specs.Walk.{Next, ◌>>=◌, fork, branch, renamed, renamed_choice, naming, unwinding, stmts_do, acts, term_does, block_does}
+use Rattle.cfg_meaning.specs.Walk.{Next, branch, renamed, renamed_choice, naming, unwinding, stmts_do, acts, term_does}
 use Rattle.store_model.specs.Concrete.Effects.{never_at, acted, act, choose, concrete_effects}
 use Rattle.store_model.specs.Concrete.Location.{Setting}
 use Rattle.store_model.specs.Concrete.State.{State, Bodies}
@@ -29,21 +28,12 @@ use Rattle.store_model.specs.Effects.{Action, Test, Choice, Yes, No, Neither, Ha
 use Rattle.store_model.specs.Places.Place.{Place, whole_local}
 use Rattle.store_model.specs.Values.Datum.{Datum}
 use Rattle.drop_values.specs.Like.{body_at, Flags, Like, Same, SameBodies, IsStuck, raw_setting, strict_setting, Extends}
-use Rattle.drop_values.proofs.Actions.{ActionOk, MayCall, StoreTyped, Stays, ChoiceWay, act-Same}
-use Rattle.drop_elaborate.proofs.Walks.{unplaced, Walks}
-use Rattle.drop_elaborate.proofs.Statements.{Tell, After, uses-set, At}
-use Rattle.drop_elaborate.specs.Elaborated.{flag_at, flags_of_uses, BlockIs, EdgeTo, next_of, onward_to, result_flags}
-
-stuck-unplaced : (halt : Halt) → IsStuck halt → IsStuck (unplaced halt)
-stuck-unplaced Stuck h = tt
-stuck-unplaced (StuckAt b n) h = tt
-stuck-unplaced Aborted h = h
-stuck-unplaced OutOfTicks h = h
-stuck-unplaced (BadUse site) h = h
-stuck-unplaced (BadStore site) h = h
-stuck-unplaced NoChoice h = h
-stuck-unplaced Infeasible h = h
-stuck-unplaced Unreachable h = h
+use Rattle.drop_values.proofs.Actions.{ActionOk, MayCall, StoreTyped, Stays, act-Same}
+use Rattle.drop_values.proofs.Choices.{ChoiceWay}
+use Rattle.drop_elaborate.proofs.Walks.{unplaced, stuck-unplaced, Walks}
+use Rattle.drop_elaborate.proofs.Statements.{At}
+use Rattle.drop_elaborate.proofs.FlagStores.{Tell, After, uses-set}
+use Rattle.drop_elaborate.specs.Elaborated.{flag_at, flags_of_uses, EdgeTo, next_of, onward_to, result_flags}
 
 module _ (items : ItemTable) (local_ty local_ty' : (body local : ℕ) → Option TyId)
     (extends : Extends local_ty local_ty') (number depth : ℕ) (outer : Flags) (body : Body) (flagged : List Place)

@@ -5,6 +5,7 @@ use Rattle.cfg_graph.specs.declared.graph.Body.{Body}
 use Rattle.cfg_graph.specs.declared.graph.Kind.{Kind}
 use Rattle.cfg_graph.specs.Edges.{is_turn}
 use Rattle.cfg_meaning.specs.Walk.{Next, block_does, ◌>>=◌}
+use Rattle.drop_values.specs.Like.{IsStuck}
 use Rattle.store_model.specs.Effects.{Halt, Aborted, OutOfTicks, Stuck, StuckAt, BadUse, BadStore, NoChoice, Infeasible, Unreachable, Halts, Effects}
 
 -- a missing step, wherever it is
@@ -18,6 +19,18 @@ unplaced (BadStore site) = BadStore site
 unplaced NoChoice = NoChoice
 unplaced Infeasible = Infeasible
 unplaced Unreachable = Unreachable
+
+-- which is stuck as it was
+pub stuck-unplaced : (halt : Halt) → IsStuck halt → IsStuck (unplaced halt)
+stuck-unplaced Stuck h = tt
+stuck-unplaced (StuckAt b n) h = tt
+stuck-unplaced Aborted h = h
+stuck-unplaced OutOfTicks h = h
+stuck-unplaced (BadUse site) h = h
+stuck-unplaced (BadStore site) h = h
+stuck-unplaced NoChoice h = h
+stuck-unplaced Infeasible h = h
+stuck-unplaced Unreachable h = h
 
 -- what the walk of a body does from a block on, by what its block does
 pub record Walks {W : Type 0} (q : Effects W) (size : W → ℕ) (bound : ℕ) (body : Body) (node : ℕ → ℕ → ℕ)

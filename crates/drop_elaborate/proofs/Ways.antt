@@ -1,12 +1,11 @@
 -- Along which edges a path goes on from a block, and what is done before the next one: on each edge that a run may
 -- take.
-use Rattle.std.proofs.Common.{◌≡◌, ◌⊎◌, inl, inr, ℕ, zero, suc, ◌==◌, nat_eq, ◌&&◌, ◌||◌, not, Bool, true, false, List, [], ◌∷◌, ◌++◌, map, flat_map, length, Option, Some, None, if◌then◌else◌, slice_get, Contains, refl, ap, sym, ◌∙◌, subst}
-use Rattle.std.specs.List.{list_any, list_all}
+use Rattle.std.proofs.Common.{◌≡◌, ◌⊎◌, inl, inr, ℕ, ◌==◌, nat_eq, ◌&&◌, ◌||◌, not, Bool, true, false, List, [], ◌∷◌, ◌++◌, map, flat_map, length, Some, if◌then◌else◌, slice_get, Contains, refl, ap, sym, ◌∙◌, subst}
+use Rattle.std.specs.List.{list_any}
 use Rattle.std.specs.Option.{option_map_or}
 use Rattle.std.specs.Cmp.{first_so, second_so}
 use Rattle.std.proofs.lemmas.Bool.{false≢true}
 use Rattle.std.proofs.lemmas.Bool.Decides.{Decides-eqb}
-use Rattle.std.proofs.lemmas.Option.{none-some}
 use Rattle.mir_base.specs.declared.operator.Math.{Math}
 use Rattle.mir_base.specs.declared.trace.Why.{Why}
 use Rattle.mir_ty.proofs.ListLemmas.{Contains-slice_get}
@@ -17,10 +16,10 @@ use Rattle.cfg_graph.specs.declared.place.Operand.{Operand}
 use Rattle.cfg_graph.specs.declared.place.Place as graph
 use Rattle.cfg_graph.specs.declared.terminator.Term.{Term}
 use Rattle.cfg_graph.specs.declared.terminator.Unwind.{Unwind}
-use Rattle.cfg_graph.specs.Edges.{BlockExit, ToBlock, LeavesBody, onward, unwind_of, unwind_exit, unwind_block, unwind_targets, targets, is_cleanup, ways_out}
-use Rattle.cfg_graph.specs.Moves.Actions.{at_line, block_actions, actions_in, actions_between}
+use Rattle.cfg_graph.specs.Edges.{ToBlock, onward, unwind_of, unwind_exit, unwind_block, unwind_targets, targets, is_cleanup}
+use Rattle.cfg_graph.specs.Moves.Actions.{at_line, block_actions, actions_between}
 use Rattle.cfg_graph.specs.Moves.Gone.{PathAction}
-use Rattle.cfg_graph.specs.Moves.Paths.{PathWay, each_way, first_alone, second_alone, needs_dropping, ways_of_call, ways_of_drop, ways, choices_between}
+use Rattle.cfg_graph.specs.Moves.Paths.{PathWay, each_way, first_alone, second_alone, needs_dropping, ways}
 use Rattle.cfg_graph.specs.Places.{place_id, ty_of_place}
 use Rattle.cfg_graph.specs.Uses.{Stores, stored_by_term}
 use Rattle.cfg_graph.specs.WellFormed.Cleanup.{are_cleanup, are_no_cleanup, keeps_cleanup, keeps_to_cleanup, is_resume, cleans_up}

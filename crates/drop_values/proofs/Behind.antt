@@ -1,10 +1,9 @@
 -- A whole value comes to a place that a reference names: what is known of the body's own locals is kept, where
 -- all of the place is known as present; and it is known so still after such a store, wherever it was.
-use Rattle.std.proofs.Common.{◌≡◌, ◌⊎◌, inl, inr, ℕ, zero, suc, ◌==◌, ◌&&◌, Bool, true, false, List, [], ◌∷◌, ◌++◌, length, Option, Some, None, if◌then◌else◌, refl, ap, sym, ◌∙◌, subst}
+use Rattle.std.proofs.Common.{◌≡◌, ℕ, ◌==◌, ◌&&◌, Bool, true, false, List, [], ◌∷◌, Option, Some, None, refl, ap, sym, ◌∙◌, subst}
 use Rattle.std.specs.Prelude.{option_and_then}
 use Rattle.std.specs.Cmp.{first_so, second_so}
 use Rattle.std.specs.Option.{option_map_or}
-use Rattle.std.proofs.lemmas.Bool.{false≢true}
 use Rattle.std.proofs.lemmas.Bool.Decides.{Decides-eqb}
 use Rattle.std.proofs.lemmas.Option.{none-some, option_and_then_some}
 use Rattle.mir_ty.specs.declared.ty.TyId.{TyId}
@@ -17,11 +16,11 @@ use Rattle.store_model.specs.Abstract.Presence.{Presence, is_present, presence_a
 use Rattle.store_model.specs.Concrete.Location.{Setting, DynamicType, OfType, type_of_part, Located, into, into_all, located_at, root_address}
 use Rattle.store_model.specs.Concrete.State.{State}
 use Rattle.store_model.specs.Places.Place.{ToContent}
-use Rattle.store_model.specs.Values.Access.{part, part_at, replaced}
-use Rattle.store_model.specs.Values.Datum.{Datum, Data, Gone, Number, Truth, UnitValue, Aggregate, Box, Address, no_part, a_part}
+use Rattle.store_model.specs.Values.Access.{part_at, replaced}
+use Rattle.store_model.specs.Values.Datum.{Datum, Data, Gone, Number, Truth, UnitValue, Aggregate, Box, Address, no_part}
 use Rattle.drop_values.specs.Like.{held, body_at}
-use Rattle.drop_values.specs.Typed.{is_enum_found, part_step, step_if, Fits, PartsFit}
-use Rattle.drop_values.proofs.Fits.{part_fits, present_below}
+use Rattle.drop_values.specs.Typed.{is_enum_found, part_step, Fits}
+use Rattle.drop_values.proofs.Fits.{part_fits}
 use Rattle.drop_values.proofs.Kept.{part_kept, present_anyhow}
 use Rattle.drop_values.proofs.Knows.{Knows}
 use Rattle.drop_values.proofs.Stand.{Changed, Into, into-parts, rooted, standing-held}

@@ -1,6 +1,6 @@
 -- What is known of a raw run within a body stays so as full values come to places behind references: by a store of its
 -- own, or by a body that it calls with references.
-use Rattle.std.proofs.Common.{◌≡◌, ◌⊎◌, inl, inr, ℕ, zero, suc, ◌==◌, ◌&&◌, Bool, true, false, List, [], ◌∷◌, ◌++◌, length, Option, Some, None, if◌then◌else◌, Contains, refl, ap, sym, ◌∙◌, subst, append_assoc, arith}
+use Rattle.std.proofs.Common.{◌≡◌, inl, ℕ, suc, ◌<◌, ◌==◌, ◌&&◌, Bool, true, false, List, [], ◌∷◌, ◌++◌, length, Option, Some, Contains, refl, ap, sym, ◌∙◌, subst, append_assoc, arith}
 use Rattle.std.specs.Cmp.{first_so, second_so}
 use Rattle.std.proofs.lemmas.Bool.{false≢true}
 use Rattle.std.proofs.lemmas.Bool.Decides.{Decides-eqb}
@@ -14,23 +14,23 @@ use Rattle.store_model.specs.declared.address.At.TheVariants.{Part, Inside}
 use Rattle.store_model.specs.Abstract.Presence.{Presence}
 use Rattle.store_model.specs.Concrete.Drops.{drop_impl}
 use Rattle.store_model.specs.Concrete.Location.{Setting, DynamicType, OfType, concrete_ty, type_of_part, type_of_field, Located, into, into_all, located_at, root_address}
-use Rattle.store_model.specs.Concrete.State.{State, without_activation}
+use Rattle.store_model.specs.Concrete.State.{State, older_of, without_activation}
 use Rattle.store_model.specs.Values.Access.{part, with_part, with_part_at, replaced}
-use Rattle.store_model.specs.Values.Datum.{Datum, Data, Gone, Number, Truth, UnitValue, Aggregate, Box, Address}
+use Rattle.store_model.specs.Values.Datum.{Datum, Gone, Number, Truth, UnitValue, Aggregate, Box, Address}
 use Rattle.drop_values.specs.Like.{held, body_at, raw_setting}
 use Rattle.drop_values.specs.Plan.{IfFound}
 use Rattle.drop_values.specs.Typed.{IsFull}
-use Rattle.drop_values.proofs.Behind.{AllPresentAt, behind-Knows}
+use Rattle.drop_values.proofs.Behind.{behind-Knows}
 use Rattle.drop_values.proofs.Counting.{after-zero}
-use Rattle.drop_values.proofs.Frame.{Sound, full-Sound}
+use Rattle.drop_values.proofs.Sound.{Sound, full-Sound}
 use Rattle.drop_values.proofs.Invariant.{There, RefersTo, to_older, to_own, Invariant, same-Invariant}
 use Rattle.drop_values.proofs.KnowsLaws.{sound-with, body-with}
 use Rattle.drop_values.proofs.Knows.{Knows}
 use Rattle.drop_values.proofs.Named.{RootOf, root-of, full-within, full-with, NamesFull, named-kept}
-use Rattle.drop_values.proofs.Older.{own-older, older-located, older-Changed}
+use Rattle.drop_values.proofs.Older.{older-length, own-older, older-located, older-Changed}
 use Rattle.drop_values.proofs.References.{own-named, all-within, behind-kept, same-kept}
 use Rattle.drop_values.proofs.Stand.{Changed, Into, into-parts}
-use Rattle.drop_values.proofs.Touched.{SameCells, same_cells, NoAddress, no-address, Touched, untouched, stored, AllNameFull, same-named, touched-named, touched-again, IsWithin, Above, stands-above, touched-within, only_one}
+use Rattle.drop_values.proofs.Touched.{same_cells, NoAddress, no-address, Touched, untouched, stored, AllNameFull, same-named, touched-named, touched-counts, touched-again, IsWithin, stands-above, touched-within, only_one}
 
 module _ (items : ItemTable) where
   sound-step : (at : At) (found f : DynamicType) (d inner new : Datum) → part at d ≡ Some inner →
@@ -108,6 +108,18 @@ module _ (items : ItemTable) (local_ty : (body local : ℕ) → Option TyId) (nu
   opens-full present w b k (an_older far within full) = full
   opens-full present w b k (its_own e there) = own-named items local_ty number depth present w b k e there
 
+  -- it lies in an activation that runs
+  pub opens-shallow : (live : ℕ → Type 0) (present : ℕ → Presence) (w : State) (b : Addr) → Held live present w →
+      Opens present w b → b.depth < length w.activations
+  opens-shallow live present w b i (its_own e there) = let d = i.knows.deep in omega (arith, e, d)
+  opens-shallow live present w b i (an_older far within full) =
+      let is : b.depth ≡ within.above.depth = ap (λ (x : Addr). x.depth) within.is in
+      let l = (given within.above within.among).1 in
+      let c : length (older_of w.activations) ≡ length before.activations =
+      (touched-counts items local_ty addresses before (without_activation w) i.older).0 in
+      let o = older-length depth w.activations i.knows.deep in
+      let d = i.knows.deep in omega (arith, is, l, c, o, d)
+
   -- what lies within what it names
   pub opens-within : (present : ℕ → Presence) (w : State) (b : Addr) (path : List At) → Opens present w b →
       Opens present w (record b { path = b.path ++ path })
@@ -155,7 +167,7 @@ module _ (items : ItemTable) (local_ty : (body local : ℕ) → Option TyId) (nu
         older (its_own is there) = untouched (own-older depth w v b new c is deep)
         older (an_older far within h) =
             touched-within items local_ty addresses (b ∷ [])
-            (λ a among. touched-named items local_ty addresses i.older a (given a among))
+            (λ a among. touched-named items local_ty addresses i.older a ((given a among).0))
             (λ x among. subst (IsWithin items local_ty addresses) (sym (only_one items local_ty b x among)) within)
             (stored b s new (untouched (same_cells (without_activation w))) (0, omega arith, refl)
             (older-located depth items local_ty w b far deep ∙ e) full plain (older-Changed depth w v b new c far deep))

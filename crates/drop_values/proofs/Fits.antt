@@ -1,30 +1,18 @@
 -- Values that fit what is known of them: each datum is one of its type, and what is gone is known as gone. What is
 -- known as wholly present is whole; and a value from which something is taken, or into which something is stored, fits
 -- what is known then.
-use Rattle.std.proofs.Common.{◌≡◌, ◌≢◌, ℕ, zero, suc, ◌==◌, ◌&&◌, ◌||◌, not, Bool, true, false, List, [], ◌∷◌, ◌++◌, Option, Some, None, is_some, if◌then◌else◌, refl, ap, sym, ◌∙◌, subst}
-use Rattle.std.specs.Prelude.{slice_get, option_and_then}
+use Rattle.std.proofs.Common.{◌≡◌, ◌≢◌, ℕ, zero, suc, ◌==◌, ◌&&◌, not, Bool, true, false, Option, Some, if◌then◌else◌, refl, ap, sym, ◌∙◌, subst}
 use Rattle.std.specs.Cmp.{first_so, second_so}
 use Rattle.std.specs.Cmp.Derive.{both_true}
-use Rattle.std.specs.Option.{option_map_or}
 use Rattle.std.proofs.lemmas.Bool.{false≢true}
 use Rattle.std.proofs.lemmas.Bool.Decides.{Decides-eqb}
 use Rattle.std.proofs.lemmas.Option.{none-some}
-use Rattle.mir_base.specs.declared.int_kind.IntKind.{IntKind}
-use Rattle.mir_ty.specs.declared.adt.Adt.{Adt}
-use Rattle.mir_ty.specs.declared.ty.Ty.{Ty}
-use Rattle.mir_ty.specs.declared.ty.TyId.{TyId}
-use Rattle.mir_ty.specs.ItemTable.{ItemTable, type_at}
-use Rattle.mir_ty.specs.Parts.{variants_of}
-use Rattle.store_model.specs.declared.address.At.{At}
-use Rattle.store_model.specs.declared.address.At.TheVariants.{Part, Inside}
-use Rattle.store_model.specs.Concrete.Effects.{fits}
+use Rattle.mir_ty.specs.ItemTable.{ItemTable}
 use Rattle.store_model.specs.Values.Datum.{Datum, Data, Gone, Number, Truth, UnitValue, Aggregate, Box, Address, no_part, a_part}
-use Rattle.store_model.specs.Concrete.Drops.{drop_impl}
-use Rattle.store_model.specs.Places.Place.{Step, ToPart, ToField, ToContent, ToElement, same_step, is_enum, is_reference}
-use Rattle.store_model.specs.Values.Access.{part, with_part, part_at, with_part_at, value_at, replaced}
-use Rattle.store_model.specs.Abstract.Presence.{Presence, Parts, known, none_named, named, is_present, is_gone, itself_gone, part_among, presence_at, presence_along, changed_among, changed_at, after_action, all_present, all_parts_present, containers_present, is_whole_at}
-use Rattle.store_model.specs.Concrete.Location.{DynamicType, OfType, OfObject, adt_of_impl, concrete_ty, type_of_part}
-use Rattle.store_model.specs.Places.TypeForms.{int_kind, is_bool, is_unit, is_dyn, box_content}
+use Rattle.store_model.specs.Places.Place.{Step, ToPart, ToField, ToContent, ToElement, same_step}
+use Rattle.store_model.specs.Values.Access.{part, part_at, with_part_at}
+use Rattle.store_model.specs.Abstract.Presence.{Presence, Parts, known, none_named, named, is_present, itself_gone, part_among, presence_at, changed_among, changed_at, all_present, all_parts_present}
+use Rattle.store_model.specs.Concrete.Location.{DynamicType}
 use Rattle.store_model.specs.Values.Wholeness.{IsWhole, is_whole, are_whole}
 use Rattle.store_model.proofs.Values.Wholeness.{is_whole-iff_IsWhole}
 use Rattle.drop_values.specs.Typed.{step_if, part_step, Fits, PartsFit, Proper, IsFull}

@@ -14,7 +14,8 @@ use Rattle.store_model.specs.Concrete.Location.{Setting, DynamicType, OfType, co
 use Rattle.store_model.specs.Concrete.State.{State, Bodies}
 use Rattle.store_model.proofs.Concrete.Effects.{Spending, drop_at_same}
 use Rattle.drop_values.proofs.Stand.{Changed, with_value, into-parts, Stands, stands-into, standing-address}
-use Rattle.drop_values.proofs.Frame.{tail, Each, same_in_mode, Sound, SoundParts, Frames, Rest, Next, next_part, if_found_is, drop_at-After, weaken}
+use Rattle.drop_values.proofs.Frame.{tail, Each, same_in_mode, Frames, Rest, Next, next_part, if_found_is, drop_at-After, weaken}
+use Rattle.drop_values.proofs.Sound.{Sound, SoundParts}
 
 -- a type that is no trait object's is found again as itself
 pub steady : (items : ItemTable) (id : TyId) → still_of items (OfType id) (OfType id) ≡ true

@@ -1,43 +1,21 @@
 -- The plan of what is gone does nothing: all its flags are false, and what has none of its own needs no dropping.
-use Rattle.std.proofs.Common.{◌≡◌, ◌≢◌, ◌⊎◌, inl, inr, ℕ, zero, suc, ◌+◌, ◌==◌, ◌&&◌, ◌||◌, not, Bool, true, false, List, [], ◌∷◌, ◌++◌, Option, Some, None, is_some, if◌then◌else◌, refl, ap, sym, ◌∙◌, subst, slice_get, length, arith}
-use Rattle.std.specs.Prelude.{option_and_then, unwrap_or}
-use Rattle.std.specs.Cmp.{first_so, second_so}
-use Rattle.std.specs.Option.{option_map_or, option_to_list}
+use Rattle.std.proofs.Common.{◌≡◌, ℕ, suc, ◌&&◌, ◌||◌, not, Bool, true, false, List, [], ◌∷◌, Option, Some, None, if◌then◌else◌, refl, ap, sym, ◌∙◌, subst, slice_get}
+use Rattle.std.specs.Cmp.{first_so}
+use Rattle.std.specs.Option.{option_map_or}
 use Rattle.std.proofs.lemmas.Bool.{false≢true}
-use Rattle.std.proofs.lemmas.Bool.Decides.{Decides-eqb}
 use Rattle.std.proofs.lemmas.Option.{none-some}
-use Rattle.mir_ty.specs.declared.adt.Adt.{Adt}
-use Rattle.mir_ty.specs.declared.adt.Variant.{Variant}
-use Rattle.mir_ty.specs.declared.def.ImplDef.{ImplDef}
 use Rattle.mir_ty.specs.declared.ty.Ty.{Ty}
 use Rattle.mir_ty.specs.declared.ty.TyId.{TyId}
-use Rattle.mir_ty.specs.Facts.{needs_drop, drop_rule, is_scalar, has_drop_impl, ty_has_drop_impl, adt_has_drop_impl, NeedsDrop, a_box, a_dyn, an_impl, a_part}
+use Rattle.mir_ty.specs.Facts.{needs_drop, has_drop_impl}
 use Rattle.mir_ty.specs.ItemTable.{ItemTable, type_at}
-use Rattle.mir_ty.specs.Parts.{parts_of, variants_of, fields_of}
-use Rattle.mir_base.specs.declared.int_kind.IntKind.{IntKind}
-use Rattle.mir_ty.proofs.ItemFacts.{needs_drop-at}
-use Rattle.mir_ty.proofs.LeastRelations.{needs_drop_from, needs_drop-rules}
-use Rattle.store_model.specs.declared.address.At.TheVariants.{Part, Inside}
-use Rattle.store_model.specs.Abstract.Presence.{Presence, known, itself_gone, presence_at, all_present}
-use Rattle.store_model.specs.Concrete.Drops.{drop_impl, with_drop_body, still_of}
-use Rattle.store_model.specs.Concrete.Location.{DynamicType, OfType, OfObject, adt_of_impl, adt_ty, concrete_ty, is_of_type, content_type, type_in_box, type_of_field, type_of_part}
-use Rattle.store_model.specs.Places.Place.{Step, ToPart, ToField, ToContent, ToElement, same_step, is_enum, is_reference, step_ty, unless_enum, part_if, content_of}
-use Rattle.store_model.specs.Places.TypeForms.{is_adt, is_dyn, is_dyn_of, is_bool, is_unit, box_content, int_kind}
-use Rattle.store_model.specs.Values.Datum.{Datum, Data, Gone, Number, Truth, UnitValue, Aggregate, Box, Address, no_part, a_part}
-use Rattle.store_model.specs.Values.Wholeness.{IsWhole, AreWhole, is_whole, are_whole, serials, serials_of_all}
-use Rattle.store_model.proofs.Values.Wholeness.{is_whole-iff_IsWhole}
+use Rattle.mir_ty.specs.Parts.{parts_of, variants_of}
+use Rattle.store_model.specs.Abstract.Presence.{Presence, itself_gone, presence_at}
+use Rattle.store_model.specs.Places.Place.{Step, ToPart, ToContent, same_step, is_enum}
+use Rattle.store_model.specs.Values.Datum.{Datum, Truth}
 use Rattle.drop_values.specs.Facts.{Tree, at_path, Branches, no_branch, a_branch, Facts, possible}
-use Rattle.drop_values.specs.Plan as plan
-use Rattle.drop_values.specs.Plan.{Plan, Nothing, Entire, ByFlag, InParts, OfBox, ByVariant, Plans, no_plan, a_plan, Cases, no_case, a_case, IfFound, Quiet, QuietParts, TakenApart, BoxAround, FitsAll, FitsCase, Open, Shut, Idle, AllIdle}
-use Rattle.drop_values.specs.Planning.{branch_by, plan_by, guarded, whole_plan, decided, part_plan, part_plans, variant_plans, taken_apart, stepped, IsTyped, AreTyped, IsBranch, sure, sure_below, unless_impl, inner_plan, is_none_tree, is_bare, any_bare, apart_reads, unless_reads, reads_flag, plan_of, plans_below}
-use Rattle.drop_values.proofs.Found.{field_at, dyn-is}
-use Rattle.drop_values.proofs.Counting.{after, after-sum, after-zero}
-use Rattle.drop_values.specs.Typed.{is_enum_found, variant_if, has_variant, has_impl, step_if, part_step, Fits, PartsFit, Proper, a_type, an_object, IsFull}
-use Rattle.drop_values.proofs.Fits.{whole_if_present, present_if_whole, parts_whole}
-use Rattle.drop_values.proofs.Frame.{BodyFull, Sound, SoundParts}
-use Rattle.drop_values.proofs.Steps.{same_step-sound, same_step-refl}
-use Rattle.drop_values.proofs.FoundAs.{no_and_yes, IsOf, itself, object, content-of, quiet, unneeded, dyn_needs, has_impl_of, HasImpl, no_impl, impl_or_none, scalar_rule, number_scalar, truth_scalar, unit_scalar, reference_scalar, not_scalar}
-use Rattle.drop_values.proofs.Told.{IsTold, Else, Sunk, Told, ToldBelow, Flagged, BelowFlagged, sure_at, sure_under, Branched, branched, flagged-branch, plan_found, typed-stepped, gone_or_not, sure-whole}
+use Rattle.drop_values.specs.Plan.{Plan, Entire, ByVariant, Shut, Idle, AllIdle}
+use Rattle.drop_values.specs.Planning.{branch_by, plan_by, guarded, whole_plan, decided, part_plan, part_plans, variant_plans, taken_apart, stepped, unless_impl, inner_plan, is_none_tree, is_bare, any_bare, apart_reads, unless_reads, reads_flag, plan_of, plans_below}
+use Rattle.drop_values.proofs.Told.{Sunk, Told, ToldBelow, Flagged, BelowFlagged, sure_at, sure_under, plan_found}
 
 module _ (items : ItemTable) (facts : Facts) (flag_of : ℕ → Option ℕ) (IsFlag : ℕ → Type 0) (holds : ℕ → Datum) where
   abbrev under : Branches → TyId → List (Step × Plan)

@@ -1,31 +1,31 @@
 -- What is known of a raw run within a body at each point of a path: its locals fit what is present after the path;
 -- what is older was changed at places alone that the arguments name; and each reference in a local names what is full,
 -- if nothing has taken it. So it stays, as places of the body's own are taken and stored into.
-use Rattle.std.proofs.Common.{◌≡◌, ◌⊎◌, inl, inr, ℕ, zero, suc, ◌==◌, ◌&&◌, Bool, true, false, List, [], ◌∷◌, ◌++◌, length, Option, Some, None, if◌then◌else◌, Contains, refl, ap, sym, ◌∙◌, subst, arith}
-use Rattle.std.proofs.lemmas.Bool.Decides.{Decides-eqb, eqb_tells}
+use Rattle.std.proofs.Common.{◌≡◌, ◌⊎◌, ℕ, ◌==◌, ◌&&◌, Bool, true, false, List, Option, Some, refl, ap, sym, ◌∙◌, subst}
+use Rattle.std.proofs.lemmas.Bool.Decides.{Decides-eqb}
 use Rattle.mir_ty.specs.declared.ty.TyId.{TyId}
 use Rattle.mir_ty.specs.ItemTable.{ItemTable}
 use Rattle.store_model.proofs.Values.Access.{replaced-step}
 use Rattle.store_model.specs.declared.address.Addr.{Addr}
 use Rattle.store_model.specs.declared.address.At.{At}
-use Rattle.store_model.specs.declared.address.At.TheVariants.{Part, Inside}
-use Rattle.store_model.specs.Abstract.Presence.{Presence, known, none_named, after_action}
-use Rattle.store_model.specs.Concrete.Location.{Setting, DynamicType, OfType, Located, located_at, root_address}
+use Rattle.store_model.specs.declared.address.At.TheVariants.{Part}
+use Rattle.store_model.specs.Abstract.Presence.{Presence, known, none_named}
+use Rattle.store_model.specs.Concrete.Location.{Setting, DynamicType, OfType, Located, root_address}
 use Rattle.store_model.specs.Concrete.State.{State, without_activation}
 use Rattle.store_model.specs.Places.Place.{Step, Place}
 use Rattle.store_model.specs.Values.Access.{with_part_at, replaced}
-use Rattle.store_model.specs.Values.Datum.{Datum, Data, Gone, Aggregate, Box, Address}
-use Rattle.drop_values.specs.Like.{held, body_at, raw_setting}
+use Rattle.store_model.specs.Values.Datum.{Datum, Aggregate, Box, Address}
+use Rattle.drop_values.specs.Like.{held, raw_setting}
 use Rattle.drop_values.specs.Typed.{Fits, IsFull}
-use Rattle.drop_values.proofs.Frame.{Sound, full-Sound}
-use Rattle.drop_values.proofs.Knows.{Knows, present_by, root, Own, changed-Knows}
+use Rattle.drop_values.proofs.Sound.{Sound}
+use Rattle.drop_values.proofs.Knows.{Knows, present_by, Own, changed-Knows}
 use Rattle.drop_values.proofs.KnowsLaws.{Bodiless, sound-changed}
 use Rattle.drop_values.proofs.Named.{located-by, NamesFull}
 use Rattle.drop_values.proofs.Older.{own-older, same-older}
 use Rattle.drop_values.proofs.References.{AllThere, own-stays, same-kept}
 use Rattle.drop_values.proofs.Stand.{Changed}
 use Rattle.drop_values.proofs.Staying.{Diverge}
-use Rattle.drop_values.proofs.Touched.{SameCells, Touched, untouched, AllNameFull, same-named, touched-again, IsWithin}
+use Rattle.drop_values.proofs.Touched.{SameCells, Touched, untouched, same-named, touched-again, IsWithin}
 use Rattle.drop_values.proofs.Ways.{Way, ends, to_part, to_field, to_content}
 
 -- an address stands at the end of a way alone

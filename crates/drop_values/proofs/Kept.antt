@@ -1,21 +1,19 @@
 -- What is known of a local stands as it was, where a whole value of its type came to a place that is known as
 -- whole: so it is after a call to which a reference to the place was passed. And a place behind a reference is
 -- reached.
-use Rattle.std.proofs.Common.{◌≡◌, ◌≢◌, ℕ, zero, suc, ◌==◌, ◌&&◌, ◌||◌, not, Bool, true, false, List, [], ◌∷◌, ◌++◌, Option, Some, None, is_some, if◌then◌else◌, refl, ap, sym, ◌∙◌, subst}
-use Rattle.std.specs.Cmp.{first_so, second_so}
-use Rattle.std.specs.Option.{option_map_or}
+use Rattle.std.proofs.Common.{◌≡◌, ℕ, suc, Bool, true, false, List, ◌∷◌, Option, Some, refl, ap, sym, ◌∙◌, subst}
 use Rattle.mir_ty.specs.declared.ty.Ty.{Ty}
 use Rattle.mir_ty.specs.declared.ty.TyId.{TyId}
-use Rattle.mir_ty.specs.ItemTable.{ItemTable, type_at}
+use Rattle.mir_ty.specs.ItemTable.{ItemTable}
 use Rattle.store_model.proofs.Values.Access.{replaced-step}
 use Rattle.store_model.specs.declared.address.Addr.{Addr}
 use Rattle.store_model.specs.declared.address.At.{At}
-use Rattle.store_model.specs.declared.address.At.TheVariants.{Part, Inside}
+use Rattle.store_model.specs.declared.address.At.TheVariants.{Part}
 use Rattle.store_model.specs.Values.Datum.{Datum, Data, Gone, Number, Truth, UnitValue, Aggregate, Box, Address, no_part, a_part}
-use Rattle.store_model.specs.Places.Place.{Step, ToPart, ToField, ToContent, ToElement}
+use Rattle.store_model.specs.Places.Place.{Step, ToPart, ToField, ToContent}
 use Rattle.store_model.specs.Values.Access.{part_at, with_part_at, replaced}
-use Rattle.store_model.specs.Abstract.Presence.{Presence, known, none_named, is_present, itself_gone, presence_at, presence_along, all_present, all_parts_present}
-use Rattle.store_model.specs.Concrete.Location.{Setting, DynamicType, OfType, concrete_ty, type_of_part, is_of_type, Located, Reached, Reaches, CutOff, Nowhere, on_reached, along, located_at}
+use Rattle.store_model.specs.Abstract.Presence.{Presence, known, is_present, itself_gone, presence_at, presence_along, all_present}
+use Rattle.store_model.specs.Concrete.Location.{Setting, DynamicType, concrete_ty, type_of_part, is_of_type, Located, along, located_at}
 use Rattle.store_model.specs.Concrete.State.{State, Cells}
 use Rattle.drop_values.specs.Typed.{is_enum_found, part_step, step_if, Fits, PartsFit}
 use Rattle.drop_values.proofs.Fits.{present_below, part_fits, with_part_fits}

@@ -1,7 +1,6 @@
 -- What is known of the locals of the body that runs fits what they hold; and it still does after a place of its own was
 -- stored into, moved out of or dropped, where what is known is changed as a path changes it.
-use Rattle.std.proofs.Common.{◌≡◌, ◌≢◌, inl, inr, ℕ, zero, suc, ◌==◌, ◌&&◌, Bool, true, false, List, [], ◌∷◌, ◌++◌, length, slice_get, Option, Some, None, if◌then◌else◌, refl, ap, sym, ◌∙◌, subst, append_assoc, arith}
-use Rattle.std.specs.Prelude.{option_and_then}
+use Rattle.std.proofs.Common.{◌≡◌, inl, inr, ℕ, suc, ◌==◌, ◌&&◌, Bool, true, false, List, [], ◌∷◌, ◌++◌, length, slice_get, Option, Some, None, if◌then◌else◌, refl, ap, sym, ◌∙◌, subst, append_assoc, arith}
 use Rattle.std.specs.Option.{option_map_or}
 use Rattle.std.proofs.lemmas.Bool.{false≢true}
 use Rattle.std.proofs.lemmas.Bool.Decides.{Decides-eqb, eqb_tells}
@@ -14,15 +13,15 @@ use Rattle.mir_ty.specs.Parts.{parts_of}
 use Rattle.store_model.specs.declared.address.Addr.{Addr}
 use Rattle.store_model.specs.declared.address.At.{At}
 use Rattle.store_model.specs.declared.address.At.TheVariants.{Part, Inside}
-use Rattle.store_model.specs.Abstract.Presence.{Presence, known, none_named, is_present, itself_gone, presence_at, presence_along, after_action}
-use Rattle.store_model.specs.Concrete.Location.{Setting, DynamicType, OfType, OfObject, concrete_ty, content_type, type_in_box, type_of_field, type_of_part, Located, into, root_address, located_root, Reached, Reaches, CutOff, Nowhere, reach_of, reach_if, on_reached, follow, follow_from, through, into_field, along, in_youngest, reach}
+use Rattle.store_model.specs.Abstract.Presence.{Presence, known, none_named, presence_at, presence_along, after_action}
+use Rattle.store_model.specs.Concrete.Location.{Setting, DynamicType, OfType, content_type, type_in_box, type_of_field, Located, into, root_address, located_root, Reached, Reaches, CutOff, Nowhere, reach_of, reach_if, on_reached, follow, follow_from, through, into_field, along, in_youngest, reach}
 use Rattle.store_model.specs.Concrete.State.{State, Activation, Cells, cell, at_depth}
 use Rattle.store_model.specs.Places.Place.{Step, ToPart, ToField, ToContent, ToElement, Place, is_enum, is_reference, step_ty, unless_enum, part_if, content_of}
-use Rattle.store_model.specs.Places.TypeForms.{box_content, is_dyn}
-use Rattle.store_model.specs.Values.Access.{part, part_at, replaced}
-use Rattle.store_model.specs.Values.Datum.{Datum, Data, Gone, Number, Truth, UnitValue, Aggregate, Box, Address, no_part, a_part}
+use Rattle.store_model.specs.Places.TypeForms.{box_content}
+use Rattle.store_model.specs.Values.Access.{part, replaced}
+use Rattle.store_model.specs.Values.Datum.{Datum, Gone, Number, Truth, UnitValue, Aggregate, Box, Address}
 use Rattle.drop_values.specs.Like.{held, held_by, body_at, body_of}
-use Rattle.drop_values.specs.Typed.{is_enum_found, variant_if, has_variant, Fits}
+use Rattle.drop_values.specs.Typed.{variant_if, has_variant, Fits}
 use Rattle.drop_values.proofs.FoundAs.{no_and_yes, IsOf, itself, object, content-of}
 use Rattle.drop_values.proofs.Stand.{Changed, Into, into-parts}
 use Rattle.drop_values.proofs.Ways.{Way, ends, to_part, to_field, to_content, fits_at_end, fits_changed}

@@ -1,34 +1,32 @@
 -- What is known is kept as a value is copied, moved, stored and dropped at places of the body's own; and each value
 -- with a `Drop` body stays full, but where something within it is taken.
-use Rattle.std.proofs.Common.{◌≡◌, ◌⊎◌, inl, inr, ℕ, zero, suc, ◌==◌, Bool, true, false, List, [], ◌∷◌, ◌++◌, length, Option, Some, None, refl, ap, sym, ◌∙◌, subst}
-use Rattle.std.specs.Option.{option_map_or}
+use Rattle.std.proofs.Common.{◌≡◌, ◌⊎◌, inl, inr, ℕ, zero, suc, Bool, true, false, List, [], ◌∷◌, Option, Some, None, refl, ap, sym, ◌∙◌, subst}
 use Rattle.std.proofs.lemmas.Option.{none-some}
 use Rattle.mir_ty.specs.declared.ty.TyId.{TyId}
 use Rattle.mir_ty.specs.ItemTable.{ItemTable}
 use Rattle.store_model.proofs.Values.Access.{replaced-step}
 use Rattle.store_model.proofs.Values.Wholeness.{is_whole-iff_IsWhole}
 use Rattle.store_model.specs.declared.address.At.{At}
-use Rattle.store_model.specs.declared.address.At.TheVariants.{Part, Inside}
-use Rattle.store_model.specs.Abstract.Presence.{Presence, known, none_named, is_present, presence_along, all_present}
+use Rattle.store_model.specs.declared.address.At.TheVariants.{Part}
+use Rattle.store_model.specs.Abstract.Presence.{Presence, is_present, presence_along, all_present}
 use Rattle.store_model.specs.Concrete.Drops.{drop_impl, Stage, drop_at}
-use Rattle.store_model.specs.Concrete.Effects.{or_stuck, if_so, whole, whole_at, evaluate_operand, put}
-use Rattle.store_model.specs.Concrete.Location.{Setting, DynamicType, OfType, concrete_ty, type_in_box, type_of_field, type_of_part, Located, Reached, Reaches, CutOff, Nowhere, reach, on_reached, stored_at, located_at}
+use Rattle.store_model.specs.Concrete.Effects.{if_so, whole, whole_at}
+use Rattle.store_model.specs.Concrete.Location.{Setting, DynamicType, concrete_ty, type_of_field, Located, Reached, Reaches, CutOff, Nowhere, reach, on_reached, stored_at}
 use Rattle.store_model.specs.Concrete.State.{State, Bodies}
-use Rattle.store_model.specs.Effects as effects
-use Rattle.store_model.specs.Effects.{EffectSite, Mode, Stuck, Out, Go, Unwind, Halts}
-use Rattle.store_model.specs.Places.Place.{Step, ToPart, ToField, ToContent, Place}
-use Rattle.store_model.specs.Values.Access.{part, part_at, with_part_at, replaced}
-use Rattle.store_model.specs.Values.Datum.{Datum, Data, Gone, Number, Truth, UnitValue, Aggregate, Box, Address, no_part, a_part}
-use Rattle.store_model.specs.Values.Wholeness.{IsWhole, AreWhole, is_whole}
-use Rattle.drop_values.specs.Like.{held, body_at}
+use Rattle.store_model.specs.Effects.{EffectSite, Mode, Out, Go, Unwind, Halts}
+use Rattle.store_model.specs.Places.Place.{Step}
+use Rattle.store_model.specs.Values.Access.{part_at, with_part_at, replaced}
+use Rattle.store_model.specs.Values.Datum.{Datum, Data, Gone, Aggregate, no_part, a_part}
+use Rattle.store_model.specs.Values.Wholeness.{IsWhole, is_whole}
 use Rattle.drop_values.specs.Plan.{IfFound}
 use Rattle.drop_values.specs.Typed.{Fits, IsFull}
 use Rattle.drop_values.proofs.Kept.{fits_kept}
 use Rattle.drop_values.proofs.Fits.{present_if_whole}
-use Rattle.drop_values.proofs.Frame.{Each, BodyFull, Sound, SoundParts, Frames, After, drop_at-After}
-use Rattle.drop_values.proofs.Knows.{PlainSteps, Arrived, Knows, present_by, Own, own_place, own_fits, changed-Knows}
+use Rattle.drop_values.proofs.Frame.{Each, Frames, drop_at-After}
+use Rattle.drop_values.proofs.Sound.{BodyFull, Sound, SoundParts}
+use Rattle.drop_values.proofs.Knows.{PlainSteps, Knows, present_by, Own, own_place, own_fits, changed-Knows}
 use Rattle.drop_values.proofs.Counting.{after, after-zero}
-use Rattle.drop_values.proofs.Stand.{Changed, Known, stored-Changed, with_value, Stands, stands-known}
+use Rattle.drop_values.proofs.Stand.{Changed, Known, stored-Changed, Stands}
 use Rattle.drop_values.proofs.Ways.{Way, ends, to_part, to_field, to_content}
 
 module _ (items : ItemTable) where

@@ -1,28 +1,29 @@
 -- A place of the body's own that may be left gone, since no container of it has a `Drop` body: what is known is kept as
 -- its value is moved out of it or dropped there.
-use Rattle.std.proofs.Common.{◌≡◌, ◌⊎◌, inl, inr, ℕ, ◌==◌, Bool, true, false, List, [], ◌∷◌, Option, Some, None, refl, ap, sym, ◌∙◌, subst}
+use Rattle.std.proofs.Common.{◌≡◌, inr, ℕ, ◌==◌, true, false, List, [], ◌∷◌, Option, Some, None, refl, ap, sym, ◌∙◌, subst}
 use Rattle.mir_ty.specs.declared.ty.Ty.{Ty}
 use Rattle.mir_ty.specs.declared.ty.TyId.{TyId}
 use Rattle.mir_ty.specs.ItemTable.{ItemTable, type_at}
 use Rattle.store_model.specs.declared.address.Addr.{Addr}
 use Rattle.store_model.specs.declared.address.At.{At}
 use Rattle.store_model.specs.declared.address.At.TheVariants.{Part, Inside}
-use Rattle.store_model.specs.Abstract.Presence.{Presence, presence_at}
+use Rattle.store_model.specs.Abstract.Presence.{Presence}
 use Rattle.store_model.specs.Concrete.Drops.{drop_impl}
-use Rattle.store_model.specs.Concrete.Location.{DynamicType, concrete_ty, Located, below, into, reach_of}
+use Rattle.store_model.specs.Concrete.Location.{DynamicType, Located, below, reach_of}
 use Rattle.store_model.specs.Concrete.State.{State, Cells}
-use Rattle.store_model.specs.Places.Place.{Step, ToPart, ToField, ToContent, ToElement, is_enum, is_reference, step_ty, Place}
-use Rattle.store_model.specs.Values.Datum.{Datum, Data, Gone, Aggregate, Box, Address, no_part}
+use Rattle.store_model.specs.Places.Place.{Step, ToPart, ToField, ToContent, is_enum, step_ty, Place}
+use Rattle.store_model.specs.Values.Datum.{Datum, Gone, Aggregate, Box, Address}
 use Rattle.drop_values.specs.Like.{raw_setting}
-use Rattle.drop_values.specs.Typed.{Fits, IsTypedAs}
-use Rattle.drop_values.proofs.Invariant.{RefersTo, Invariant, own-Invariant}
-use Rattle.drop_values.proofs.Knows.{PlainSteps, no_steps, to_next, present_by, Own}
+use Rattle.drop_values.specs.Typed.{IsTypedAs}
+use Rattle.drop_values.proofs.Invariant.{Invariant, own-Invariant}
+use Rattle.drop_values.proofs.Knows.{PlainSteps, to_next, present_by, Own}
 use Rattle.drop_values.proofs.KnowsLaws.{Bodiless}
 use Rattle.drop_values.proofs.FoundAs.{itself}
 use Rattle.drop_values.proofs.Sites.{of-as}
 use Rattle.drop_values.proofs.Stand.{Changed, Into, into-is}
 use Rattle.drop_values.proofs.Staying.{Diverge}
-use Rattle.drop_values.proofs.TypedSteps.{As, as-concrete, Reached-As, part-as, typed-part, typed-content, variant_is, of_variant}
+use Rattle.drop_values.proofs.TypedSteps.{part-as, typed-part, typed-content, variant_is, of_variant}
+use Rattle.drop_values.proofs.TypedAs.{As, as-concrete}
 use Rattle.drop_values.proofs.Ways.{Way, ends, to_part, to_field, to_content}
 use Rattle.mir_ty.specs.Parts.{parts_of}
 use Rattle.std.specs.Prelude.{slice_get}

@@ -1,7 +1,11 @@
+pub mod Operands
+pub mod Results
+pub mod Choices
 pub mod Actions
 pub mod Bodies
 pub mod Fits
 pub mod Flags
+pub mod Sound
 pub mod Frame
 pub mod Fresh
 pub mod Kept
@@ -10,6 +14,7 @@ pub mod Names
 pub mod FoundAs
 pub mod Told
 pub mod IdlePlans
+pub mod PlanParts
 pub mod PlanFits
 pub mod Quiet
 pub mod Reach
@@ -24,6 +29,7 @@ pub mod Behind
 pub mod Staying
 pub mod Setting
 pub mod Named
+pub mod TypedAs
 pub mod TypedSteps
 pub mod OwnNames
 pub mod PlanExamples
@@ -36,3 +42,10 @@ pub mod BehindInvariant
 pub mod Sites
 pub mod LeftGone
 pub mod Made
+pub mod SameReach
+pub mod Hole
+pub mod Refill
+pub mod Cut
+pub mod Within
+pub mod AlikePresence
+pub mod WholeParts

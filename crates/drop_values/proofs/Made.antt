@@ -1,24 +1,21 @@
 -- Values that are made of full ones are full: aggregates, boxes, boxes of a trait, numbers.
-use Rattle.std.proofs.Common.{◌≡◌, ℕ, zero, suc, ◌==◌, Bool, true, false, ℤ, List, [], ◌∷◌, Option, Some, None, is_some, if◌then◌else◌, slice_get, refl, ap, sym, ◌∙◌, subst}
-use Rattle.std.specs.Prelude.{option_and_then}
+use Rattle.std.proofs.Common.{◌≡◌, ℕ, Bool, true, false, ℤ, List, [], ◌∷◌, Option, Some, None, is_some, slice_get, refl, ap, sym, ◌∙◌, subst}
 use Rattle.std.specs.Option.{option_map_or}
 use Rattle.std.proofs.lemmas.Bool.{false≢true}
-use Rattle.std.proofs.lemmas.Option.{none-some}
 use Rattle.mir_base.specs.declared.int_kind.IntKind.{IntKind}
 use Rattle.mir_ty.specs.declared.ty.Ty.{Ty}
 use Rattle.mir_ty.specs.declared.ty.TyId.{TyId}
 use Rattle.mir_ty.specs.ItemTable.{ItemTable, type_at}
 use Rattle.mir_ty.specs.Parts.{parts_of}
-use Rattle.store_model.specs.declared.address.At.TheVariants.{Part, Inside}
 use Rattle.store_model.specs.Abstract.Presence.{is_present}
 use Rattle.store_model.specs.Concrete.Drops.{drop_impl}
-use Rattle.store_model.specs.Concrete.Location.{DynamicType, OfType, OfObject, adt_of_impl, adt_ty, concrete_ty, type_in_box, type_of_field}
-use Rattle.store_model.specs.Places.TypeForms.{int_kind, is_bool, is_unit, is_dyn, box_content}
-use Rattle.store_model.specs.Values.Datum.{Datum, Data, Gone, Number, Truth, UnitValue, Aggregate, Box, Address, no_part, a_part, data_from}
-use Rattle.drop_values.specs.Typed.{has_variant, has_impl, Fits, PartsFit, a_type, an_object, IsFull}
+use Rattle.store_model.specs.Concrete.Location.{DynamicType, OfType, OfObject, adt_of_impl, adt_ty, type_in_box, type_of_field}
+use Rattle.store_model.specs.Places.TypeForms.{int_kind, is_bool, is_dyn, box_content}
+use Rattle.store_model.specs.Values.Datum.{Datum, Number, Truth, Aggregate, Box, data_from}
+use Rattle.drop_values.specs.Typed.{has_variant, has_impl, Fits, PartsFit, a_type, IsFull}
 use Rattle.store_model.specs.Places.Place.{is_reference}
 use Rattle.drop_values.proofs.Touched.{NoAddress}
-use Rattle.drop_values.proofs.TypedSteps.{fits-concrete}
+use Rattle.drop_values.proofs.TypedAs.{fits-concrete}
 
 module _ (items : ItemTable) where
   -- as many full values as types, each of its type

@@ -1,6 +1,6 @@
 -- What an address names, if it has not lost its place, is full; and so it stays, where full values come to other
 -- addresses, above it, below it or beside it.
-use Rattle.std.proofs.Common.{◌≡◌, ◌≢◌, ◌⊎◌, inl, inr, ℕ, suc, ◌==◌, ◌&&◌, Bool, true, false, List, [], ◌∷◌, ◌++◌, length, Option, Some, None, refl, ap, sym, ◌∙◌, subst}
+use Rattle.std.proofs.Common.{◌≡◌, ◌≢◌, ◌⊎◌, inl, inr, ℕ, suc, ◌<◌, ◌==◌, ◌&&◌, Bool, true, false, List, [], ◌∷◌, length, Option, Some, None, if◌then◌else◌, refl, ap, sym, ◌∙◌, subst, arith}
 use Rattle.std.specs.Prelude.{option_and_then}
 use Rattle.std.specs.Cmp.{first_so, second_so}
 use Rattle.std.specs.Option.{option_map_or}
@@ -14,20 +14,20 @@ use Rattle.store_model.specs.declared.address.Addr.{Addr}
 use Rattle.store_model.specs.declared.address.At.{At}
 use Rattle.store_model.specs.declared.address.At.TheVariants.{Part, Inside}
 use Rattle.store_model.specs.Abstract.Presence.{is_present}
-use Rattle.store_model.specs.Concrete.Location.{Setting, DynamicType, OfType, type_of_part, Located, below, located_part, into, into_all, located_at, root_address, Reached, Reaches, reach}
-use Rattle.store_model.specs.Concrete.State.{State}
+use Rattle.store_model.specs.Concrete.Location.{Setting, DynamicType, OfType, type_of_part, Located, below, located_part, into, into_all, located_at, root_address, Reaches, reach}
+use Rattle.store_model.specs.Concrete.State.{State, Activation, at_depth}
 use Rattle.store_model.specs.Places.Place.{Place}
 use Rattle.store_model.specs.Values.Access.{part, with_part, replaced}
-use Rattle.store_model.specs.Values.Datum.{Datum, Data, Gone, Number, Truth, UnitValue, Aggregate, Box, Address}
-use Rattle.drop_values.specs.Like.{held, body_at, Like, raw_setting}
-use Rattle.drop_values.specs.Typed.{Fits, IsFull}
-use Rattle.drop_values.proofs.Behind.{Leads, leads-fits, leads-kept, Led, into-led}
+use Rattle.store_model.specs.Values.Datum.{Datum, Gone, Number, Truth, UnitValue, Aggregate, Box, Address}
+use Rattle.drop_values.specs.Like.{held, body_at, raw_setting}
+use Rattle.drop_values.specs.Typed.{IsFull}
+use Rattle.drop_values.proofs.Behind.{leads-fits, leads-kept, into-led}
 use Rattle.drop_values.proofs.Fits.{present_if_whole, whole_if_present}
 use Rattle.drop_values.proofs.LikeLaws.{Covers-same}
 use Rattle.drop_values.proofs.Reach.{IndexOk, reach_there}
-use Rattle.drop_values.proofs.Stand.{Changed, Changed-above, Into, into-parts, into-is, into-with_part, with_value, Stands, stands-into, standing-address, rooted, standing-held}
+use Rattle.drop_values.proofs.Stand.{Changed, Changed-above, Into, into-parts, into-is, into-with_part, with_value, Stands, stands-into, standing-address, rooted, standing-held, to_root}
 use Rattle.drop_values.proofs.Staying.{leads-present}
-use Rattle.drop_values.proofs.TypedSteps.{leads-proper}
+use Rattle.drop_values.proofs.TypedAs.{leads-proper}
 
 -- a step is another one, or the same
 at_tells : (a b : At) → (a ≡ b) ⊎ (a ≢ b)
@@ -38,6 +38,15 @@ at_tells (Part n) (Part m) = elim (eqb_tells n m) [
 at_tells (Part n) Inside = inr (λ e. absurd (let x : Part n ≡ Inside = e in cc))
 at_tells Inside (Part m) = inr (λ e. absurd (let x : Inside ≡ Part m = e in cc))
 at_tells Inside Inside = inl refl
+
+at-depth-within : (d : ℕ) (acts : List Activation) (a : Activation) → at_depth d acts ≡ Some a → d < length acts
+at-depth-within d [] a e = absurd (none-some a e)
+at-depth-within d (b ∷ older) a e = by (d == length older) refl e (λ e. at-depth-within d older a e)
+  where
+    by : (x : Bool) → (d == length older) ≡ x → (if x then Some b else at_depth d older) ≡ Some a →
+        (at_depth d older ≡ Some a → d < length older) → d < suc (length older)
+    by true n e again = let same = (Decides-eqb d (length older)).0 n in omega (arith, same)
+    by false n e again = let l = again e in omega (arith, l)
 
 module _ (items : ItemTable) where
   -- wherever the path leads
@@ -195,6 +204,12 @@ module _ (items : ItemTable) (local_ty : (body local : ℕ) → Option TyId) whe
       (sym body)
       ∙ ap (λ d. option_and_then (into_all items c.path) (rooted raw c.depth c.key.0 (body_at c.depth v) d)) (sym cells)
       ∙ sym (standing-held raw v c)
+
+  -- what stands somewhere stands in an activation that runs
+  pub standing-shallow : (w : State) (a : Addr) (s : Located) → located_at raw w a ≡ Some s →
+      a.depth < length w.activations
+  standing-shallow w a s e =
+      let k = (to_root raw w a s e).known in at-depth-within a.depth w.activations k.0 k.1
 
   -- what an address names, if it has not lost its place, is full
   abbrev pub NamesFull : State → Addr → Type 0

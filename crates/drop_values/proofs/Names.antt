@@ -13,10 +13,10 @@ use Rattle.store_model.specs.Values.Access.{part, with_part, replaced}
 use Rattle.store_model.specs.Concrete.Location.{Setting, OfType, Located, into, root_address, located_root, Reached, Reaches, CutOff, Nowhere, reach_of, reach_if, on_reached, follow, follow_from, along as walk_along, reach, in_youngest}
 use Rattle.store_model.specs.Concrete.State.{State, Activation, Cells, cell, at_depth}
 use Rattle.store_model.proofs.Values.Access.{replaced-step}
-use Rattle.drop_values.specs.Covers.{Covers}
+use Rattle.drop_values.specs.Covers.{CoversBy, Unnumbered, Covers}
 use Rattle.drop_values.specs.Like.{held, held_by, body_at, body_of, Flags, Like, raw_setting, strict_setting, Extends}
 use Rattle.drop_values.proofs.Stand.{Changed, with_value, Into, into-is, into-with_part, rooted}
-use Rattle.drop_values.proofs.LikeLaws.{part-Covers, of_raw, extended}
+use Rattle.drop_values.proofs.LikeLaws.{part-by, of_raw, extended}
 
 -- a step of a place is taken from a value to a part of it
 abbrev pub Takes : ItemTable → Step → At → Located → Located → Type 0
@@ -117,16 +117,17 @@ module _ (items : ItemTable) (local_ty local_ty' : (body local : ℕ) → Option
     pub reaches : walk_along strict w' cells steps (with_value s other) ≡ Reaches (with_value t other')
     pub covers : Covers t.value other'
 
-  pub take_step : (w' : State) (cells : Cells) (step : Step) (at : At) (s m : Located) (other : Datum) →
-      Takes items step at s m → Covers s.value other →
+  pub take_step : (Spare : Datum → Type 0) (w' : State) (cells : Cells) (step : Step) (at : At) (s m : Located) (other
+      : Datum) →
+      Takes items step at s m → CoversBy Spare s.value other →
       (inner : Datum) × (follow_from strict w' cells step other (with_value s other) ≡ Reaches (with_value m inner))
-      × Covers m.value inner
-  take_step w' cells step at s m other h c = go step h
+      × CoversBy Spare m.value inner
+  take_step Spare w' cells step at s m other h c = go step h
     where
       shape : (at : At) → Into items at s m → (inner : Datum)
-          × (into items at (with_value s other) ≡ Some (with_value m inner)) × Covers m.value inner
+          × (into items at (with_value s other) ≡ Some (with_value m inner)) × CoversBy Spare m.value inner
       shape at i =
-          let p = part-Covers items at s.value other i.value c i.value_is in (
+          let p = part-by Spare items at s.value other i.value c i.value_is in (
             p.inner',
             into-is items at (with_value s other) (with_value m p.inner')
                 (record {
@@ -137,7 +138,7 @@ module _ (items : ItemTable) (local_ty local_ty' : (body local : ℕ) → Option
                       p.found_is s.dynamic ∙ i.found_is;
                   is = ap (λ x. with_value x p.inner') i.is;
                 }),
-            subst (λ x. Covers x.value p.inner') (sym i.is) p.covers,
+            subst (λ x. CoversBy Spare x.value p.inner') (sym i.is) p.covers,
           )
 
       -- a value with such a part
@@ -170,13 +171,13 @@ module _ (items : ItemTable) (local_ty local_ty' : (body local : ℕ) → Option
 
       go : (step : Step) → Takes items step at s m → (inner : Datum)
           × (follow_from strict w' cells step other (with_value s other) ≡ Reaches (with_value m inner))
-          × Covers m.value inner
+          × CoversBy Spare m.value inner
       go (ToPart n) h =
-          let i = shape (Part n) h.1 in let p = part-Covers items (Part n) s.value other h.1.value c h.1.value_is in
+          let i = shape (Part n) h.1 in let p = part-by Spare items (Part n) s.value other h.1.value c h.1.value_is in
           (i.0, by_part n other p.inner' p.part_is (Reaches (with_value m i.0)) (ap reach_of i.1), i.2)
       go (ToField v n) h =
           let i = shape (Part n) h.2 in
-          let cov = subst (λ d. Covers d other) h.1.2 c in (
+          let cov = subst (λ d. CoversBy Spare d other) h.1.2 c in (
             i.0,
             ap (λ d. follow_from strict w' cells (ToField v n) d (with_value s d)) cov.1
                 ∙ ap (λ b. reach_if b (into items (Part n) (with_value s (Aggregate v h.1.0 cov.0)))) (same_variant v)
@@ -184,7 +185,7 @@ module _ (items : ItemTable) (local_ty local_ty' : (body local : ℕ) → Option
             i.2,
           )
       go ToContent h =
-          let i = shape Inside h.1 in let p = part-Covers items Inside s.value other h.1.value c h.1.value_is in
+          let i = shape Inside h.1 in let p = part-by Spare items Inside s.value other h.1.value c h.1.value_is in
           (i.0, by_content other p.inner' p.part_is refl (Reaches (with_value m i.0)) (ap reach_of i.1), i.2)
       go (ToElement index) h = absurd h
 
@@ -197,7 +198,7 @@ module _ (items : ItemTable) (local_ty local_ty' : (body local : ℕ) → Option
     covers = subst (λ x. Covers x.value other) n.1 c;
   }
   names-reach w' cells (step ∷ steps) path s t other n c =
-      let one = take_step w' cells step n.0 s n.2 other n.4 c in
+      let one = take_step Unnumbered w' cells step n.0 s n.2 other n.4 c in
       let rest = names-reach w' cells steps n.1 n.2 t one.0 n.5 one.2 in record {
         other' = rest.other';
         reaches = ap (λ r. on_reached r (walk_along strict w' cells steps) CutOff Nowhere) one.1 ∙ rest.reaches;
@@ -237,10 +238,13 @@ module _ (items : ItemTable) (local_ty local_ty' : (body local : ℕ) → Option
       }
 
   -- such a place is reached in the elaborated run
-  pub record ReachedThere (w' : State) (place : Place) (s : Located) : Type 0 where
+  pub record ReachedBy (Spare : Datum → Type 0) (w' : State) (place : Place) (s : Located) : Type 0 where
     pub other : Datum
     pub reaches : reach strict w' place ≡ Reaches (with_value s other)
-    pub covers : Covers s.value other
+    pub covers : CoversBy Spare s.value other
+
+  abbrev pub ReachedThere : State → Place → Located → Type 0
+  ReachedThere w' place s = ReachedBy Unnumbered w' place s
 
   pub reached_there : (flags : Flags) (w w' : State) (place : Place) (s : Located) → Like local_ty flags w w' →
       Names w place s → ReachedThere w' place s

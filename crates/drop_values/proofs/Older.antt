@@ -1,6 +1,6 @@
 -- What is older than the body that runs: changes of the body's own locals leave it as it was, and what comes to older
 -- places does so whether the body still runs or has ended.
-use Rattle.std.proofs.Common.{◌≡◌, ℕ, zero, suc, ◌≤◌, ◌<◌, ◌==◌, ◌&&◌, Bool, true, false, List, [], ◌∷◌, length, Option, Some, None, if◌then◌else◌, Contains, refl, ap, sym, ◌∙◌, subst, arith}
+use Rattle.std.proofs.Common.{◌≡◌, ℕ, suc, ◌≤◌, ◌==◌, ◌&&◌, Bool, true, false, List, [], ◌∷◌, length, Option, Some, None, if◌then◌else◌, Contains, refl, ap, sym, ◌∙◌, subst, arith}
 use Rattle.std.proofs.lemmas.Bool.Decides.{Decides-eqb}
 use Rattle.mir_ty.specs.declared.ty.TyId.{TyId}
 use Rattle.mir_ty.specs.ItemTable.{ItemTable}
@@ -12,9 +12,9 @@ use Rattle.store_model.specs.Concrete.State.{State, Activation, at_depth, older_
 use Rattle.drop_values.specs.Like.{held, held_by, body_at, body_of, raw_setting}
 use Rattle.drop_values.specs.Typed.{IsFull}
 use Rattle.drop_values.proofs.Bodies.{too_deep}
-use Rattle.drop_values.proofs.Named.{located-by, NamesFull}
+use Rattle.drop_values.proofs.Named.{located-by}
 use Rattle.drop_values.proofs.Stand.{Changed}
-use Rattle.drop_values.proofs.Touched.{SameCells, NoAddress, Touched, untouched, stored}
+use Rattle.drop_values.proofs.Touched.{SameCells, NoAddress, Touched, stored}
 
 older-at : (depth d : ℕ) (acts : List Activation) → length acts ≡ suc depth → (d == depth) ≡ false →
     at_depth d (older_of acts) ≡ at_depth d acts

@@ -1,5 +1,5 @@
 -- A place of the body's own that is reached names where its value stands, as the ladder of its drop wants it.
-use Rattle.std.proofs.Common.{◌≡◌, ℕ, suc, ◌==◌, Bool, true, false, List, [], ◌∷◌, ◌++◌, length, Option, Some, None, refl, ap, sym, ◌∙◌, subst, append_assoc}
+use Rattle.std.proofs.Common.{◌≡◌, ℕ, suc, ◌==◌, false, List, [], ◌∷◌, ◌++◌, Option, Some, None, refl, ap, sym, ◌∙◌, subst, append_assoc}
 use Rattle.std.specs.Option.{option_map_or}
 use Rattle.std.proofs.lemmas.Bool.Decides.{Decides-eqb}
 use Rattle.std.proofs.lemmas.List.{append-nil}
@@ -11,17 +11,17 @@ use Rattle.store_model.specs.declared.address.Addr.{Addr}
 use Rattle.store_model.specs.declared.address.At.{At}
 use Rattle.store_model.specs.declared.address.At.TheVariants.{Part, Inside}
 use Rattle.store_model.specs.Abstract.Presence.{Presence, presence_at}
-use Rattle.store_model.specs.Concrete.Location.{Setting, DynamicType, OfType, concrete_ty, Located, into, root_address, Reached, Reaches, CutOff, Nowhere, follow, follow_from, through, into_field, along, reach}
+use Rattle.store_model.specs.Concrete.Location.{Setting, DynamicType, OfType, concrete_ty, Located, into, root_address, Reaches, Nowhere, follow, follow_from, through, into_field, along, reach}
 use Rattle.store_model.specs.Concrete.State.{State, Cells}
 use Rattle.store_model.specs.Places.Place.{Step, ToPart, ToField, ToContent, ToElement, Place, is_reference, step_ty}
-use Rattle.store_model.specs.Values.Datum.{Datum, Data, Gone, Number, Truth, UnitValue, Aggregate, Box, Address}
+use Rattle.store_model.specs.Values.Datum.{Datum, Gone, Number, Truth, UnitValue, Aggregate, Box, Address}
 use Rattle.drop_values.specs.Like.{held, body_at, raw_setting, Extends}
 use Rattle.drop_values.specs.Typed.{Fits}
-use Rattle.drop_values.proofs.Knows.{IsPlainStep, PlainSteps, no_steps, to_next, by_way_of, reaches_some, reaches_if, one_step, followed, Arrived, arrived, Knows, root, reach_from_root}
+use Rattle.drop_values.proofs.Knows.{IsPlainStep, PlainSteps, no_steps, to_next, by_way_of, reaches_some, reaches_if, one_step, followed, Knows, root, reach_from_root}
 use Rattle.drop_values.proofs.Names.{Takes, takes-into, NamesAlong, Names}
 use Rattle.drop_values.proofs.FoundAs.{no_and_yes, IsOf, itself, object}
-use Rattle.drop_values.proofs.Stand.{Into, into-parts, rooted, with_value}
-use Rattle.drop_values.proofs.Ways.{Way, ends, fits_at_end}
+use Rattle.drop_values.proofs.Stand.{into-parts, rooted}
+use Rattle.drop_values.proofs.Ways.{ends, fits_at_end}
 
 module _ (setting : Setting) (w : State) (cells : Cells) where
   abbrev items : ItemTable

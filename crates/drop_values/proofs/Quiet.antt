@@ -15,7 +15,8 @@ use Rattle.store_model.specs.Concrete.State.{State, Answer, Returns, Unwinds, Ha
 use Rattle.drop_values.specs.Like.{IsStuck, SameTold}
 use Rattle.drop_values.specs.Plan.{Plan, Nothing, Entire, ByFlag, InParts, OfBox, ByVariant, Plans, no_plan, a_plan, Cases, no_case, a_case, IfFound, Quiet, QuietParts, TakenApart, Fits, FitsAll, FitsCase}
 use Rattle.drop_values.proofs.Stand.{into-parts, Stands}
-use Rattle.drop_values.proofs.Frame.{tail, tail-first, BodyFull, Sound, SoundParts, full-Sound}
+use Rattle.drop_values.proofs.Frame.{tail, tail-first}
+use Rattle.drop_values.proofs.Sound.{BodyFull, Sound, SoundParts, full-Sound}
 
 no_items_left : {A : Type 0} (a b : List A) → a ++ b ≡ [] → (a ≡ []) × (b ≡ [])
 no_items_left [] b e = (refl, e)
@@ -131,17 +132,21 @@ module _ (setting : Setting) (run : Bodies) where
               ∙ ap (part (Part k)) is ∙ tail-first k parts first rest tails in ap (λ x. x.value) i.is ∙ cc) in
               f tt (found_in (Quiet setting.items first) _ t.dynamic found_is q.0) v_is
 
-  -- the drop of a value in which nothing is numbered tells nothing
-  pub drop_at-quiet : (b : ℕ) (s : Located) (mode : Mode) (w : State) → Stands setting w s → serials s.value ≡ [] →
-      Quiet setting.items s.value s.dynamic → w.ticks < b → QuietOut w (drop_at setting run b Begins s mode w)
-  drop_at-quiet zero s mode w st none q l = absurd (let never : ⊥ = omega arith in never)
-  drop_at-quiet (suc n) s mode w st none q l =
+  -- the drop of a value in which nothing is numbered tells nothing, with any fuel at all
+  pub drop_at-silent : (n : ℕ) (s : Located) (mode : Mode) (w : State) → Stands setting w s → serials s.value ≡ [] →
+      Quiet setting.items s.value s.dynamic → QuietOut w (drop_at setting run (suc n) Begins s mode w)
+  drop_at-silent n s mode w st none q =
       subst (λ o. QuietOut w (if_still_typed setting.items s.dynamic o
       (dropped_there setting run (drop_at setting run n) Begins mode) w)) (sym st) (go _)
     where
       go : (b : Bool) → QuietOut w (same_if b (dropped_there setting run (drop_at setting run n) Begins mode s) w)
       go true = value-quiet (drop_at setting run n) w.ticks s.value s mode w refl none q refl
       go false = tt
+
+  pub drop_at-quiet : (b : ℕ) (s : Located) (mode : Mode) (w : State) → Stands setting w s → serials s.value ≡ [] →
+      Quiet setting.items s.value s.dynamic → w.ticks < b → QuietOut w (drop_at setting run b Begins s mode w)
+  drop_at-quiet zero s mode w st none q l = absurd (let never : ⊥ = omega arith in never)
+  drop_at-quiet (suc n) s mode w st none q l = drop_at-silent n s mode w st none q
 
   -- no panic
   abbrev pub NoPanic : Out State → Type 0

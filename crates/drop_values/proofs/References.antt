@@ -1,29 +1,28 @@
 -- What an address names within the body's own locals, where all of it is known as present: it is full, and it is known
 -- so still after changes at places of the body's own that do not take it, and after full values came to it or
 -- elsewhere.
-use Rattle.std.proofs.Common.{◌≡◌, inl, inr, ℕ, suc, ◌==◌, ◌&&◌, Bool, true, false, List, [], ◌∷◌, ◌++◌, length, Option, Some, None, if◌then◌else◌, refl, ap, sym, ◌∙◌, subst}
+use Rattle.std.proofs.Common.{◌≡◌, inl, inr, ℕ, ◌==◌, ◌&&◌, Bool, true, false, List, [], ◌∷◌, ◌++◌, Option, Some, if◌then◌else◌, refl, ap, sym, ◌∙◌, subst}
 use Rattle.std.specs.Cmp.{first_so, second_so}
-use Rattle.std.specs.Cmp.Derive.{both_true}
 use Rattle.std.proofs.lemmas.Bool.Decides.{Decides-eqb, eqb_tells}
 use Rattle.mir_ty.specs.declared.ty.TyId.{TyId}
 use Rattle.mir_ty.specs.ItemTable.{ItemTable}
 use Rattle.store_model.specs.declared.address.Addr.{Addr}
 use Rattle.store_model.specs.declared.address.At.{At}
-use Rattle.store_model.specs.Abstract.Presence.{Presence, known, none_named, after_action, all_present}
+use Rattle.store_model.specs.Abstract.Presence.{Presence, after_action, all_present}
 use Rattle.store_model.specs.Concrete.Location.{Setting, DynamicType, OfType, Located, located_at, root_address}
 use Rattle.store_model.specs.Concrete.State.{State}
 use Rattle.store_model.specs.Places.Place.{Place}
 use Rattle.store_model.specs.Values.Access.{replaced}
 use Rattle.store_model.specs.Values.Datum.{Datum}
 use Rattle.drop_values.specs.Like.{held, body_at, raw_setting}
-use Rattle.drop_values.specs.Typed.{Fits, a_type, IsFull}
-use Rattle.drop_values.proofs.Behind.{Leads, stops, by_part, by_content, leads-fits, Led, into-led, AllPresentAt}
+use Rattle.drop_values.specs.Typed.{Fits, a_type}
+use Rattle.drop_values.proofs.Behind.{Leads, stops, by_part, by_content, leads-fits, into-led, AllPresentAt}
 use Rattle.drop_values.proofs.Fits.{present_if_whole, whole_if_present}
-use Rattle.drop_values.proofs.Knows.{Knows, present_by, root, Own}
-use Rattle.drop_values.proofs.Named.{RootOf, root-of, NamesFull}
+use Rattle.drop_values.proofs.Knows.{Knows, present_by, Own}
+use Rattle.drop_values.proofs.Named.{root-of, NamesFull}
 use Rattle.drop_values.proofs.Stand.{Changed}
-use Rattle.drop_values.proofs.Staying.{AllLed, leads-present, MayTake, stays, behind-stays}
-use Rattle.drop_values.proofs.TypedSteps.{leads-proper}
+use Rattle.drop_values.proofs.Staying.{leads-present, MayTake, stays, behind-stays}
+use Rattle.drop_values.proofs.TypedAs.{leads-proper}
 
 -- where a longer path leads, by where the shorter one does
 pub record LedThrough (items : ItemTable) (path further : List At) (found : DynamicType) (p : Presence)

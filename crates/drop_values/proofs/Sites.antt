@@ -1,26 +1,24 @@
 -- Where a place of a body leads in a raw run: to a part of one of its own locals, to an element of an array of its own,
 -- or behind a reference; and that what stands there is of the place's type.
-use Rattle.std.proofs.Common.{◌≡◌, ◌⊎◌, inl, inr, ℕ, zero, suc, ◌==◌, Bool, true, false, List, [], ◌∷◌, ◌++◌, length, Option, Some, None, refl, ap, sym, ◌∙◌, subst}
-use Rattle.std.proofs.lemmas.Bool.{false≢true}
+use Rattle.std.proofs.Common.{◌≡◌, ℕ, Bool, true, false, List, [], ◌∷◌, ◌++◌, Option, Some, None, refl, ap, sym, ◌∙◌, subst}
 use Rattle.std.proofs.lemmas.Option.{none-some}
 use Rattle.mir_ty.specs.declared.ty.Ty.{Ty}
 use Rattle.mir_ty.specs.declared.ty.TyId.{TyId}
 use Rattle.mir_ty.specs.ItemTable.{ItemTable, type_at}
 use Rattle.store_model.specs.declared.address.Addr.{Addr}
 use Rattle.store_model.specs.declared.address.At.{At}
-use Rattle.store_model.specs.declared.address.At.TheVariants.{Part, Inside}
 use Rattle.store_model.specs.Abstract.Presence.{Presence, is_present, presence_at, presence_along, all_present}
-use Rattle.store_model.specs.Concrete.Location.{Setting, DynamicType, OfType, concrete_ty, is_of_type, Located, into_all, located_at, root_address, Reached, Reaches, CutOff, Nowhere, reach_of, reach_if, on_reached, named_by, by_reference, through, follow_from, reach, along}
+use Rattle.store_model.specs.Concrete.Location.{Setting, DynamicType, OfType, is_of_type, Located, located_at, root_address, Reaches, CutOff, Nowhere, reach_if, on_reached, named_by, by_reference, through, follow_from, reach, along}
 use Rattle.store_model.specs.Concrete.State.{State, Cells}
-use Rattle.store_model.specs.Places.Place.{Step, ToPart, ToField, ToContent, ToElement, Place}
+use Rattle.store_model.specs.Places.Place.{Step, ToContent, ToElement, Place}
 use Rattle.store_model.specs.Places.TypeForms.{box_content}
-use Rattle.store_model.specs.Values.Datum.{Datum, Data, Gone, Number, Truth, UnitValue, Aggregate, Box, Address}
-use Rattle.drop_values.specs.Like.{held, body_at, raw_setting}
-use Rattle.drop_values.specs.Typed.{step_if, part_step, Fits, Proper, a_type, an_object, IsFull, IsTypedAs}
-use Rattle.drop_values.proofs.Behind.{Leads, stops, by_part, by_content, Led, into-led}
-use Rattle.drop_values.proofs.BehindInvariant.{Opens, an_older, its_own, opens, opens-full, opens-within}
-use Rattle.drop_values.proofs.Invariant.{RefersTo, Invariant}
-use Rattle.drop_values.proofs.Knows.{PlainSteps, by_way_of, Arrived, arrived, followed, Knows, root, reach_from_root, Own, own_place, own_fits}
+use Rattle.store_model.specs.Values.Datum.{Datum, Gone, Number, Truth, UnitValue, Aggregate, Box, Address}
+use Rattle.drop_values.specs.Like.{held, raw_setting}
+use Rattle.drop_values.specs.Typed.{step_if, part_step, Fits, Proper, a_type, an_object, IsTypedAs}
+use Rattle.drop_values.proofs.Behind.{Leads, stops, by_part, by_content, into-led}
+use Rattle.drop_values.proofs.BehindInvariant.{Opens, its_own, opens, opens-full, opens-within}
+use Rattle.drop_values.proofs.Invariant.{Invariant}
+use Rattle.drop_values.proofs.Knows.{PlainSteps, by_way_of, arrived, followed, root, reach_from_root, Own, own_place, own_fits}
 use Rattle.drop_values.proofs.Named.{full-within, reach-stands}
 use Rattle.drop_values.proofs.FoundAs.{IsOf, itself, object}
 use Rattle.drop_values.proofs.Reach.{IndexOk}
@@ -28,7 +26,8 @@ use Rattle.drop_values.proofs.References.{all-within}
 use Rattle.drop_values.proofs.Stand as stand
 use Rattle.drop_values.proofs.Stand.{standing-address}
 use Rattle.drop_values.proofs.Touched.{AllNameFull}
-use Rattle.drop_values.proofs.TypedSteps.{As, itself_as, object_as, as-of, RunsAlong, SolidSteps, Reached-As, AlongAs, typed-along, leads-proper}
+use Rattle.drop_values.proofs.TypedSteps.{RunsAlong, SolidSteps, typed-along}
+use Rattle.drop_values.proofs.TypedAs.{As, itself_as, object_as, as-of, leads-proper}
 use Rattle.drop_values.proofs.Ways.{Way, ends, to_part, to_field, to_content, fits_at_end}
 
 module _ (items : ItemTable) where
@@ -145,7 +144,7 @@ module _ (items : ItemTable) (local_ty : (body local : ℕ) → Option TyId) (nu
     pub there : located_at raw w address ≡ Some m
     pub found_is : is_of_type items to m.dynamic ≡ true
 
-  behind-it : (w : State) (cells : Cells) (id to : TyId) (p : Presence) (d : Datum) (a : Addr) (m : Located) →
+  pub behind-it : (w : State) (cells : Cells) (id to : TyId) (p : Presence) (d : Datum) (a : Addr) (m : Located) →
       named_by (type_at items id) ≡ Some to → Fits items (OfType id) p d →
       through raw w cells d (record { address = a; dynamic = OfType id; value = d }) ≡ Reaches m → Behind w to d m
   behind-it w cells id to p (Address b) a m named k e =

@@ -1,16 +1,15 @@
 -- What is known as present wherever an address leads stays so: as a value is stored, and as something is taken that
 -- lies apart from it.
-use Rattle.std.proofs.Common.{◌≡◌, ◌≢◌, ◌⊎◌, inl, inr, ℕ, zero, suc, ◌==◌, ◌&&◌, not, Bool, true, false, List, [], ◌∷◌, Option, Some, None, if◌then◌else◌, refl, ap, sym, ◌∙◌, subst}
+use Rattle.std.proofs.Common.{◌≡◌, ◌≢◌, ◌⊎◌, inl, inr, ℕ, zero, suc, ◌&&◌, not, Bool, true, false, List, [], ◌∷◌, Option, Some, if◌then◌else◌, refl, ap, sym, ◌∙◌, subst}
 use Rattle.std.specs.Cmp.{first_so, second_so}
 use Rattle.std.specs.Cmp.Derive.{both_true}
-use Rattle.std.proofs.lemmas.Bool.{false≢true}
 use Rattle.std.proofs.lemmas.Bool.Decides.{eqb_tells}
 use Rattle.std.proofs.lemmas.Option.{none-some}
 use Rattle.mir_ty.specs.ItemTable.{ItemTable}
 use Rattle.store_model.proofs.Values.Access.{replaced-step}
 use Rattle.store_model.specs.declared.address.At.{At}
 use Rattle.store_model.specs.declared.address.At.TheVariants.{Part, Inside}
-use Rattle.store_model.specs.Abstract.Presence.{Presence, Parts, known, none_named, named, presence_at, changed_among, changed_at, after_action, all_present, all_parts_present}
+use Rattle.store_model.specs.Abstract.Presence.{Presence, Parts, known, none_named, named, presence_at, changed_among, after_action, all_present, all_parts_present}
 use Rattle.store_model.specs.Concrete.Location.{DynamicType, type_of_part}
 use Rattle.store_model.specs.Places.Place.{Step, ToPart, ToField, ToContent, same_step}
 use Rattle.store_model.specs.Values.Access.{part_at, with_part_at, replaced}

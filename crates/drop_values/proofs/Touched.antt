@@ -20,7 +20,7 @@ use Rattle.drop_values.specs.Like.{held, body_at, raw_setting}
 use Rattle.drop_values.specs.Typed.{IsFull}
 use Rattle.drop_values.proofs.Frame.{Left, Leaves, Frames}
 use Rattle.drop_values.proofs.Named.{full-with, located-by, NamesFull, named-kept, changed-above}
-use Rattle.drop_values.proofs.Stand.{Changed, Changed-Changed, same-Changed, Into, into-parts, with_value, into_all-append, Stands, stands-Changed, standing-address}
+use Rattle.drop_values.proofs.Stand.{Changed, Changed-Changed, same-Changed, into-parts, with_value, into_all-append, Stands, stands-Changed, standing-address}
 
 -- nothing is changed in any activation
 pub record SameCells (w v : State) : Type 0 where
@@ -106,8 +106,10 @@ module _ (items : ItemTable) (local_ty : (body local : ℕ) → Option TyId) whe
         located_at raw u a ≡ Some s → IsFull items s.dynamic new → NoAddress new → Changed a new u v →
         Touched addresses w v
 
+  -- each names what is full, in an activation that runs
   abbrev pub AllNameFull : State → List Addr → Type 0
-  AllNameFull w addresses = (a : Addr) → Contains addresses a → NamesFull items local_ty w a
+  AllNameFull w addresses =
+      (a : Addr) → Contains addresses a → NamesFull items local_ty w a × (a.depth < length w.activations)
 
   pub same-named : (w v : State) (c : Addr) → SameCells w v → NamesFull items local_ty w c →
       NamesFull items local_ty v c
@@ -118,6 +120,17 @@ module _ (items : ItemTable) (local_ty : (body local : ℕ) → Option TyId) whe
   touched-named addresses {w} {v} (untouched same) c h = same-named w v c same h
   touched-named addresses {w} {v} (stored {u = u} a s new before among e full plain change) c h =
       named-kept items local_ty u v a c s new e full change (touched-named addresses before c h)
+
+  -- as many activations, of the same bodies, and no tick is given back
+  pub touched-counts : (addresses : List Addr) (w v : State) → Touched addresses w v →
+      (length v.activations ≡ length w.activations) × ((d : ℕ) → body_at d v ≡ body_at d w) × (v.ticks ≤ w.ticks)
+  touched-counts addresses w v (untouched s) = (s.count, s.bodies, s.less)
+  touched-counts addresses w v (stored {u} a s new t among e full plain c) =
+      let r = touched-counts addresses w u t in (
+        c.count ∙ r.0,
+        λ d. c.bodies d ∙ r.1 d,
+        (let x = c.less in let y = r.2 in omega (arith, x, y)),
+      )
 
   pub touched-again : (addresses : List Addr) {w u v : State} → Touched addresses w u → Touched addresses u v →
       Touched addresses w v
@@ -161,7 +174,8 @@ module _ (items : ItemTable) (local_ty : (body local : ℕ) → Option TyId) whe
           })
 
   -- what happens within what the addresses name happens to it
-  pub touched-within : (addresses inner : List Addr) {w v : State} → AllNameFull w addresses →
+  pub touched-within : (addresses inner : List Addr) {w v : State} →
+      ((a : Addr) → Contains addresses a → NamesFull items local_ty w a) →
       ((b : Addr) → Contains inner b → IsWithin addresses b) → Touched inner w v → Touched addresses w v
   touched-within addresses inner all within (untouched same) = untouched same
   touched-within addresses inner {w} {v} all within (stored {u = u} b s new before among e full plain change) =

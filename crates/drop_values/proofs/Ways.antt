@@ -1,28 +1,20 @@
 -- Where the steps of a place lead within a value, through parts and boxes, and what is known there; and the whole after
 -- something was taken from there or stored there.
-use Rattle.std.proofs.Common.{◌≡◌, ◌≢◌, ℕ, zero, suc, ◌==◌, ◌&&◌, ◌||◌, not, Bool, true, false, List, [], ◌∷◌, ◌++◌, Option, Some, None, is_some, if◌then◌else◌, refl, ap, sym, ◌∙◌, subst, append_assoc}
-use Rattle.std.specs.Prelude.{slice_get, option_and_then}
-use Rattle.std.specs.Cmp.{first_so, second_so}
+use Rattle.std.proofs.Common.{◌≡◌, ℕ, ◌==◌, not, Bool, true, false, List, [], ◌∷◌, ◌++◌, Option, Some, None, refl, ap, sym, ◌∙◌, subst, append_assoc}
 use Rattle.std.specs.Cmp.Derive.{both_true}
-use Rattle.std.specs.Option.{option_map_or}
-use Rattle.std.proofs.lemmas.Bool.{false≢true}
 use Rattle.std.proofs.lemmas.List.{append-nil}
-use Rattle.std.proofs.lemmas.Option.{none-some}
-use Rattle.mir_ty.specs.declared.ty.Ty.{Ty}
-use Rattle.mir_ty.specs.declared.ty.TyId.{TyId}
-use Rattle.mir_ty.specs.ItemTable.{ItemTable, type_at}
-use Rattle.mir_ty.specs.Parts.{parts_of}
+use Rattle.mir_ty.specs.ItemTable.{ItemTable}
 use Rattle.store_model.proofs.Values.Access.{replaced-step}
 use Rattle.store_model.specs.declared.address.Addr.{Addr}
 use Rattle.store_model.specs.declared.address.At.{At}
 use Rattle.store_model.specs.declared.address.At.TheVariants.{Part, Inside}
-use Rattle.store_model.specs.Values.Datum.{Datum, Data, Gone, Number, Truth, UnitValue, Aggregate, Box, Address, no_part, a_part}
-use Rattle.store_model.specs.Places.Place.{Step, ToPart, ToField, ToContent, ToElement, same_step, is_enum, step_ty, ty_along, content_of}
-use Rattle.store_model.specs.Values.Access.{part, with_part, part_at, with_part_at, value_at, replaced}
-use Rattle.store_model.specs.Abstract.Presence.{Presence, Parts, known, none_named, named, is_present, is_gone, itself_gone, presence_at, presence_along, changed_at, after_action, all_present, containers_present}
-use Rattle.store_model.specs.Concrete.Location.{Setting, DynamicType, OfType, OfObject, concrete_ty, type_of_part, Located, Reached, Reaches, CutOff, Nowhere, on_reached, into, along}
+use Rattle.store_model.specs.Values.Datum.{Datum, Data, Gone, Aggregate, Box, no_part}
+use Rattle.store_model.specs.Places.Place.{Step, ToPart, ToField, ToContent, same_step}
+use Rattle.store_model.specs.Values.Access.{part, part_at, with_part_at, replaced}
+use Rattle.store_model.specs.Abstract.Presence.{Presence, known, none_named, presence_at, presence_along, changed_at, after_action, containers_present}
+use Rattle.store_model.specs.Concrete.Location.{Setting, DynamicType, type_of_part, Located, Reached, Reaches, CutOff, Nowhere, on_reached, into, along}
 use Rattle.store_model.specs.Concrete.State.{State, Cells}
-use Rattle.drop_values.specs.Typed.{is_enum_found, part_step, Fits, PartsFit, step_if}
+use Rattle.drop_values.specs.Typed.{is_enum_found, Fits, PartsFit, step_if}
 use Rattle.drop_values.proofs.Fits.{known_same, known_other, itself_same, same_itself, step_itself, parts_apart, StepIsNot, part_fits, with_part_fits}
 
 -- the steps lead by this path to a part that is found so

@@ -8,7 +8,7 @@ use Rattle.store_model.specs.Values.Datum.{Datum, Data, Gone, Number, Truth, Uni
 use Rattle.store_model.specs.Concrete.Drops.{drop_body_out, unwinding_out, in_mode, drop_impl, still_of, same_if, if_still_typed, Stage, Begins, HasRun, still, gone_at, freed_there, freed_at, as_read, if_part, with_body, own_body, serial_or_none, drop_value, drop_parts, dropped_there, drop_at}
 use Rattle.store_model.specs.Effects.{Mode, Normal, Unwinding, Out, Go, Unwind, Halts}
 use Rattle.store_model.specs.Values.Access.{part, with_part}
-use Rattle.store_model.specs.Concrete.Location.{Setting, DynamicType, concrete_ty, type_of_part, Located, below, into, located_at, stored_at}
+use Rattle.store_model.specs.Concrete.Location.{Setting, concrete_ty, type_of_part, Located, below, into, located_at, stored_at}
 use Rattle.store_model.specs.Abstract.Presence.{is_present}
 use Rattle.store_model.specs.Concrete.State.{State, with_event, Answer, Returns, Unwinds, HaltsIn, Bodies}
 use Rattle.std.proofs.lemmas.Bool.{false≢true}
@@ -18,7 +18,8 @@ use Rattle.drop_values.proofs.Fits.{full-whole, part_fits}
 use Rattle.drop_values.proofs.Found.{field-proper, box-proper}
 use Rattle.drop_values.specs.Like.{Flags, Like, Same, SameAnswer, SameBodies, MayEnter, raw_setting, strict_setting, Extends}
 use Rattle.drop_values.proofs.Stand.{Changed, stored-Changed, Changed-Changed, with_value, Into, into-parts, Stands, stands-Changed, stands-into, standing-address, Changed-above, stands-known}
-use Rattle.drop_values.proofs.Frame.{tail, tail-first, Each, Sound, full-Sound, Left, Frames, Rest, Ended, Next, next_part, body_out, part_or_halt, weaken, parts-After, read-After, drop_at-After}
+use Rattle.drop_values.proofs.Frame.{tail, tail-first, Each, Left, Frames, Rest, Ended, Next, next_part, body_out, part_or_halt, weaken, parts-After, read-After, drop_at-After}
+use Rattle.drop_values.proofs.Sound.{Sound, full-Sound}
 use Rattle.drop_values.proofs.LikeLaws.{whole-Covers, there, change-Like}
 
 module _ (local_ty : (body local : ℕ) → Option TyId) where

@@ -10,7 +10,7 @@ use Rattle.store_model.specs.Effects.{Halt, Stuck, StuckAt, Out, Go, Unwind, Hal
 use Rattle.store_model.specs.Concrete.Location.{Setting, concrete_ty, Located, located_at}
 use Rattle.store_model.specs.Concrete.Drops.{drop_impl}
 use Rattle.store_model.specs.Concrete.State.{State, Activation, cell, at_depth, Answer, Returns, Unwinds, HaltsIn, Bodies}
-use Rattle.drop_values.specs.Covers.{Covers}
+use Rattle.drop_values.specs.Covers.{CoversBy, Unnumbered}
 use Rattle.drop_values.specs.Typed.{IsFull}
 
 abbrev pub held_by : ℕ → Option Activation → Datum
@@ -42,8 +42,9 @@ IsStuck _ = ⊥
 abbrev pub Flags : Type 0
 Flags = ℕ → ℕ → Datum
 
-module _ (local_ty : (body local : ℕ) → Option TyId) where
-  pub record Like (flags : Flags) (w w' : State) : Type 0 where
+module _ (Spare : Datum → Type 0) (local_ty : (body local : ℕ) → Option TyId) where
+  -- such values may stand where the first state holds nothing
+  pub record LikeBy (flags : Flags) (w w' : State) : Type 0 where
     pub asked : w'.asked ≡ w.asked
     pub ticks : w'.ticks ≡ w.ticks
     pub serial : w'.serial ≡ w.serial
@@ -51,8 +52,12 @@ module _ (local_ty : (body local : ℕ) → Option TyId) where
     pub count : length w'.activations ≡ length w.activations
     pub bodies : (d : ℕ) → body_at d w' ≡ body_at d w
     pub covers : (d k b : ℕ) (id : TyId) → body_at d w ≡ Some b → local_ty b k ≡ Some id →
-        Covers (held d k w) (held d k w')
+        CoversBy Spare (held d k w) (held d k w')
     pub flags_are : (d k b : ℕ) → body_at d w ≡ Some b → local_ty b k ≡ None → held d k w' ≡ flags d k
+
+module _ (local_ty : (body local : ℕ) → Option TyId) where
+  abbrev pub Like : Flags → State → State → Type 0
+  Like flags w w' = LikeBy Unnumbered local_ty flags w w'
 
   -- unless the raw run is stuck, the elaborated one goes the same way
   abbrev pub Same : (State → State → Type 0) → Out State → Out State → Type 0

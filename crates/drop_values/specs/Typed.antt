@@ -1,6 +1,6 @@
 -- When a value is one of its type, as whatever it is found, and what is gone of it is known as gone. Nothing is asked
 -- of how large a number is, since a run is given any numbers.
-use Rattle.std.specs.Prelude.{◌≡◌, ℕ, zero, suc, ◌==◌, Bool, true, false, Option, Some, None, is_some, slice_get}
+use Rattle.std.specs.Prelude.{◌≡◌, ℕ, suc, ◌==◌, Bool, true, false, Option, Some, None, is_some, slice_get}
 use Rattle.std.specs.Option.{option_map_or}
 use Rattle.mir_base.specs.declared.int_kind.IntKind.{IntKind}
 use Rattle.mir_ty.specs.declared.adt.Adt.{Adt}
