@@ -1,0 +1,4 @@
+mod Begins
+pub mod LadderLaws
+pub mod Seen
+mod Turns

@@ -1,0 +1,3 @@
+pub mod View
+pub mod Ladders
+pub mod Standing

@@ -1,0 +1,98 @@
+//! Where drops that become ladders, and all other terminators, lead.
+ghost use Rattle.std.specs.Prelude.{◌≡◌, IfOk, ℕ};
+ghost use Rattle.mir_ty.specs.ItemTable.{ItemTable};
+ghost use Rattle.cfg_graph.specs.declared.graph.Body.{Body as GraphBody};
+ghost use Rattle.drop_elaborate.specs.Elaborated as rules;
+ghost use Rattle.drop_elaborate.specs.Elaborated.{EdgeTo, LadderTo, result_flags};
+ghost use Rattle.drop_flags.specs.Flags.{AreFlags, HasRoom, paths_of};
+ghost use Rattle.drop_blocks.specs.Ladders.{made_of};
+ghost use Rattle.drop_blocks.specs.View.{plan_in};
+ghost use Rattle.drop_ends.specs.Edges.{IsMade, TwinTo};
+
+use crate::edges::edge;
+use cfg_graph::{Kind, Place, Term, Unwind};
+use drop_blocks::{Chains, NewBlocks, Plan, ladder};
+use drop_copies::{copy_term, next_of};
+use drop_flags::Flags;
+use mir_base::{List, NoMemory};
+use move_paths::Use;
+use std::alloc::Global;
+
+/// Where a panic in the ladder of a drop goes on.
+fn twin_end(
+    alloc: Global,
+    flags: &Flags,
+    place: &Place,
+    unwind: Unwind,
+    blocks: &mut NewBlocks,
+) -> Result<Option<u32>, NoMemory>
+    requires { HasRoom flags.now }
+    ensures { IfOk result (λ twin. (items : ItemTable) (body : GraphBody) → AreFlags items body flags.now →
+        IsMade (made_of blocks.old) (made_of blocks.new)
+        (λ after. TwinTo items body (paths_of flags.now) after place.now twin unwind)) }
+{
+    match unwind {
+        Unwind::Block(block) => {
+            let stmts = flags.stores_of(alloc, Use::Drops, place)?;
+            let twin = edge(blocks, Kind::Cleanup, stmts, block)?;
+            Ok(Some(twin))
+        }
+        Unwind::Resume => {
+            let twin = blocks.add(Kind::Cleanup, List::new(alloc), Term::Resume)?;
+            Ok(Some(twin))
+        }
+        Unwind::Abort => Ok(None),
+    }
+}
+
+/// Where a drop leads that becomes the ladder of a plan: it goes on as the drop did, with the flags cleared that the drop
+/// clears, in a calm chain and where it unwinds.
+///
+/// # Errors
+///
+/// [`NoMemory`] where memory is wanted, and where there are more blocks than 32 bits count.
+pub fn ladder_end(
+    alloc: Global,
+    flags: &Flags,
+    plan: &Plan,
+    kind: Kind,
+    place: &Place,
+    next: u32,
+    unwind: Unwind,
+    blocks: &mut NewBlocks,
+) -> Result<u32, NoMemory>
+    requires { HasRoom flags.now }
+    ensures { IfOk result (λ from. (items : ItemTable) (body : GraphBody) → AreFlags items body flags.now →
+        IsMade (made_of blocks.old) (made_of blocks.new)
+        (λ after. LadderTo items body (paths_of flags.now) after (plan_in plan.now) kind place.now from next unwind)) }
+{
+    let stmts = flags.stores_of(alloc, Use::Drops, place)?;
+    let calm = edge(blocks, kind, stmts, next)?;
+    let twin = twin_end(alloc, flags, place, unwind, blocks)?;
+    let begun = ladder(alloc, plan, place, Chains { calm, twin }, blocks)?;
+    Ok(begun.calm)
+}
+
+/// Any other terminator once more: its result sets flags on the way on.
+///
+/// # Errors
+///
+/// [`NoMemory`] where memory is wanted, and where there are more blocks than 32 bits count.
+pub fn term_end(
+    alloc: Global,
+    flags: &Flags,
+    kind: Kind,
+    term: &Term,
+    blocks: &mut NewBlocks,
+) -> Result<Term, NoMemory>
+    requires { HasRoom flags.now }
+    ensures { IfOk result (λ end. (from : ℕ) × ((items : ItemTable) (body : GraphBody) → AreFlags items body flags.now →
+        IsMade (made_of blocks.old) (made_of blocks.new)
+        (λ after. (end ≡ rules.onward_to items body (paths_of flags.now) after from term.now)
+        × EdgeTo items body (paths_of flags.now) after kind (result_flags items body (paths_of flags.now) after term.now)
+        from (rules.next_of items body (paths_of flags.now) after term.now)))) }
+{
+    let stmts = flags.result_stores(alloc, term)?;
+    let from = edge(blocks, kind, stmts, next_of(term))?;
+    copy_term(alloc, term, from)
+}

@@ -1,0 +1,10 @@
+//! Drop flags (the rustc development guide, "Drop elaboration"): the locals that tell which paths of a body are present,
+//! and the stores into them that its statements and terminators ask for.
+#![tactic(auto)]
+
+mod above;
+mod flags;
+mod lines;
+mod starts;
+
+pub use flags::Flags;

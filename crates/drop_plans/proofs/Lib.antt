@@ -1,0 +1,13 @@
+mod Closed
+mod Descending
+mod Fitted
+mod Knowing
+mod Listed
+mod Lowest
+mod Made
+mod Passed
+mod Reaching
+mod Solved
+mod Sureness
+mod Tabled
+mod Under
