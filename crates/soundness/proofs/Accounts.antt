@@ -64,7 +64,7 @@ module _ (size : ℕ → ℕ) where
 
   module _ (setting : Setting) (sized : (body key : ℕ) (id : TyId) → setting.local_ty body key ≡ Some id →
       key < size body) where
-    gone_accounted : (dropping : List ℕ) (w : State) (s : Located) → located_at setting w s.address ≡ Some s →
+    pub gone_accounted : (dropping : List ℕ) (w : State) (s : Located) → located_at setting w s.address ≡ Some s →
         Room size dropping w s.value → Accounted (serials s.value ++ dropping) w →
         Accounted dropping (stored_at s.address Gone w)
     gone_accounted dropping w s e m a = record {
@@ -79,7 +79,7 @@ module _ (size : ℕ → ℕ) where
       in_order = a.in_order;
     }
 
-    freed_accounted : (dropping : List ℕ) (w : State) (s : Located) (serial : ℕ) (impl_no : Option ℕ) →
+    pub freed_accounted : (dropping : List ℕ) (w : State) (s : Located) (serial : ℕ) (impl_no : Option ℕ) →
         s.value ≡ Box serial impl_no Gone → located_at setting w s.address ≡ Some s →
         Room size dropping w s.value → Accounted dropping w →
         Accounted dropping (with_event (Event.Freed serial) (stored_at s.address Gone w))

@@ -261,7 +261,7 @@ module _ (setting : Setting) (number : ℕ) (targets : List Target) (uniques : L
             here apart_names;
       }
 
-      left_known : (y : State) → Leaves setting (targets_of items 1 params ds) v y → R y cells' known
+      pub left_known : (y : State) → Leaves setting (targets_of items 1 params ds) v y → R y cells' known
       left_known y l =
           let after = after_args setting number targets uniques base is_target passed v cells' last q cells 1 params
           names ds here l.news

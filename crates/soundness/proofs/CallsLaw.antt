@@ -1,25 +1,20 @@
 -- The law of calls, from the contract of calls: a call with values of its types, whose references may be passed
 -- together, changes older activations where its `&mut` arguments name alone, and leaves whole all that is named.
-use Rattle.std.proofs.Common.{◌≡◌, ◌≢◌, ◌⊎◌, inl, inr, ℕ, zero, suc, ◌==◌, ◌||◌, Bool, true, false, List, [], ◌∷◌, ◌++◌, map, length, Option, Some, None, refl, ap, sym, ◌∙◌, subst}
+use Rattle.std.proofs.Common.{◌≡◌, ◌≢◌, ◌⊎◌, inl, inr, ℕ, zero, suc, ◌||◌, Bool, true, false, List, [], ◌∷◌, ◌++◌, Option, Some, None, refl, ap, sym, ◌∙◌, subst}
 use Rattle.std.specs.Prelude.{slice_get}
 use Rattle.std.proofs.lemmas.Bool.{false≢true}
 use Rattle.std.proofs.lemmas.Option.{none-some}
-use Rattle.mir_base.specs.declared.trace.Event.{Event}
-use Rattle.mir_ty.specs.declared.def.Sig.{Sig}
 use Rattle.mir_ty.specs.declared.ty.Ty.{Ty}
 use Rattle.mir_ty.specs.declared.ty.TyId.{TyId}
 use Rattle.mir_ty.specs.ItemTable.{ItemTable, type_at}
-use Rattle.store_model.specs.declared.address.Addr.{Addr}
 use Rattle.store_model.specs.Values.Datum.{Datum, Gone, Number, Truth, UnitValue, Aggregate, Box, Address}
-use Rattle.store_model.specs.Abstract.Presence.{is_present}
 use Rattle.store_model.specs.Effects.{Halt, Aborted, OutOfTicks, Stuck, StuckAt, BadUse, BadStore, NoChoice, Infeasible, Unreachable}
 use Rattle.store_model.specs.Concrete.Location.{Setting, OfType}
 use Rattle.store_model.specs.Concrete.State.{State, Activation, Answer}
 use Rattle.soundness.specs.Frames.{Apart, Alike, written}
 use Rattle.soundness.specs.Laws.{Names, Reference, reference, and_those, references, MayBePassed, ChangedAt, unchanged, changed, LeavesWhole, LeftBy, AreOf}
-use Rattle.soundness.proofs.Contracts.{target_if, targets_of, unique_if, uniques_of, AloneFrom, AllAlone, AreWhole, MayRun, Leaves, LeftSo, returned, unwound, halted}
+use Rattle.soundness.proofs.Contracts.{target_if, targets_of, unique_if, uniques_of, AllAlone, AreWhole, MayRun, Leaves, LeftSo, returned, unwound, halted}
 use Rattle.soundness.proofs.Entering.{each_get, each_from}
-use Rattle.soundness.proofs.Facts.{Each}
 use Rattle.soundness.proofs.Known.{Target, StandsFor}
 use Rattle.soundness.proofs.LadderEnds.{MayEnd}
 use Rattle.soundness.proofs.NamesApart.{apart_back}
@@ -27,11 +22,11 @@ use Rattle.soundness.proofs.Standings.{alike_itself, alike_after}
 use Rattle.soundness.proofs.WholeValues.{fits_of, is_of}
 
 -- a target is a reference, without its parameter
-abbrev as_reference : Target → Reference
+abbrev pub as_reference : Target → Reference
 as_reference t = record { unique = t.unique; address = t.address; to = t.to }
 
 -- the same references, one by one
-data Same : List Reference → List Target → Type 0 where
+pub data Same : List Reference → List Target → Type 0 where
   none_same : Same [] []
   one_same : (r : Reference) (t : Target) (refs : List Reference) (ts : List Target) → r ≡ as_reference t → Same refs ts
       →
@@ -65,7 +60,7 @@ same_one (Some (Ty.Boxed t)) l d refs ts h = h
 same_one (Some (Ty.Dyn n)) l d refs ts h = h
 same_one (Some (Ty.Closure n)) l d refs ts h = h
 
-same_references : (items : ItemTable) (l : ℕ) (ids : List TyId) (ds : List Datum) →
+pub same_references : (items : ItemTable) (l : ℕ) (ids : List TyId) (ds : List Datum) →
     Same (references items ids ds) (targets_of items l ids ds)
 same_references items l [] ds = none_same
 same_references items l (id ∷ ids) [] = none_same
@@ -73,7 +68,7 @@ same_references items l (id ∷ ids) (d ∷ ds) = same_one (type_at items id) l 
     (targets_of items (suc l) ids ds) (same_references items (suc l) ids ds)
 
 -- a reference under a number, and its target
-target_under : (refs : List Reference) (ts : List Target) (n : ℕ) (t : Target) → Same refs ts → slice_get ts n ≡ Some t
+pub target_under : (refs : List Reference) (ts : List Target) (n : ℕ) (t : Target) → Same refs ts → slice_get ts n ≡ Some t
     →
     slice_get refs n ≡ Some (as_reference t)
 target_under _ _ n t none_same e = absurd (none-some t e)
@@ -81,7 +76,7 @@ target_under _ _ zero t (one_same r u refs ts is h) e =
     let same : u ≡ t = cc in ap (λ (x : Reference). Some x) (is ∙ ap as_reference same)
 target_under _ _ (suc n) t (one_same r u refs ts is h) e = target_under refs ts n t h e
 
-reference_under : (refs : List Reference) (ts : List Target) (n : ℕ) (r : Reference) → Same refs ts →
+pub reference_under : (refs : List Reference) (ts : List Target) (n : ℕ) (r : Reference) → Same refs ts →
     slice_get refs n ≡ Some r → (t : Target) × ((slice_get ts n ≡ Some t) × (r ≡ as_reference t))
 reference_under _ _ n r none_same e = absurd (none-some r e)
 reference_under _ _ zero r (one_same s u refs ts is h) e = let same : s ≡ r = cc in (u, (refl, sym same ∙ is))
@@ -97,7 +92,7 @@ module _ (setting : Setting) where
   whole_of (id ∷ ids) [] h = absurd h
   whole_of (id ∷ ids) (d ∷ ds) h = (fits_of items d (OfType id) h.0, whole_of ids ds h.1)
 
-  stands_by : (w : State) (t : Target) → Names setting w t.to t.address → StandsFor setting 0 t w
+  pub stands_by : (w : State) (t : Target) → Names setting w t.to t.address → StandsFor setting 0 t w
   stands_by w t n = record {
     standing = n.standing;
     stands = n.stands;
@@ -106,7 +101,7 @@ module _ (setting : Setting) where
     whole = fits_of items n.standing.value n.standing.dynamic n.whole;
   }
 
-  named_by_it : (w : State) (t : Target) → StandsFor setting 0 t w → Names setting w t.to t.address
+  pub named_by_it : (w : State) (t : Target) → StandsFor setting 0 t w → Names setting w t.to t.address
   named_by_it w t s = record {
     standing = s.standing;
     stands = s.stands;

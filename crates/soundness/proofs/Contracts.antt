@@ -1,13 +1,12 @@
 -- The contract of a call: its values are whole and of the types of the parameters, what its references name is whole,
 -- and what a `&mut` one names is apart from all others; then older activations are changed at what `&mut` references
 -- name alone, and all that is named is whole.
-use Rattle.std.proofs.Common.{◌≡◌, ℕ, suc, ◌==◌, ◌||◌, Bool, true, false, List, [], ◌∷◌, ◌++◌, length, Option, Some, None, refl, ap, sym, ◌∙◌, subst}
-use Rattle.std.proofs.lemmas.Bool.{false≢true}
+use Rattle.std.proofs.Common.{◌≡◌, ℕ, suc, ◌||◌, Bool, true, false, List, [], ◌∷◌, ◌++◌, length, Option, Some, None, refl, ap, sym, ◌∙◌, subst}
 use Rattle.mir_ty.specs.declared.ty.Ty.{Ty}
 use Rattle.mir_ty.specs.declared.ty.TyId.{TyId}
 use Rattle.mir_ty.specs.ItemTable.{ItemTable, type_at}
 use Rattle.store_model.specs.declared.address.Addr.{Addr}
-use Rattle.store_model.specs.Values.Datum.{Datum, Gone, Number, Truth, UnitValue, Aggregate, Box, Address}
+use Rattle.store_model.specs.Values.Datum.{Datum, Address}
 use Rattle.store_model.specs.Abstract.Presence.{is_present}
 use Rattle.store_model.specs.Effects.{Halt}
 use Rattle.store_model.specs.Concrete.Location.{Setting, OfType, Located, located_at, named_by, stored_at}

@@ -50,7 +50,7 @@ abbrev pub in_cells : ℕ → ℕ → Cells → ℕ
 in_cells k zero cells = 0
 in_cells k (suc n) cells = in_cells k n cells + in_value k (cell n cells)
 
-same_below : (k n : ℕ) (a b : Cells) → ((key : ℕ) → key < n → cell key a ≡ cell key b) →
+pub same_below : (k n : ℕ) (a b : Cells) → ((key : ℕ) → key < n → cell key a ≡ cell key b) →
     in_cells k n a ≡ in_cells k n b
 same_below k zero a b h = refl
 same_below k (suc n) a b h =

@@ -83,23 +83,19 @@ module _ (size : ℕ → ℕ) where
         + times k (made_in w.trace)
     pub once : (k : ℕ) → times k (made_in w.trace) ≤ 1
     pub has_ended : (k : ℕ) → times k dropping ≤ times k (ended_in w.trace)
-    pub is_held : (k : ℕ) → times k dropping ≤ held size k w.activations
     pub fresh : (k : ℕ) → w.serial ≤ k → times k (made_in w.trace) ≡ 0
     pub in_order : EndsWhatWasMade w.trace
 
   module _ (setting : Setting) (sized : (body key : ℕ) (id : TyId) → setting.local_ty body key ≡ Some id →
       key < size body) where
-    -- a value is taken (those whose `Drop` bodies run are held elsewhere)
+    -- a value is taken
     pub taken : (flying dropping : List ℕ) (w : State) (s : Located) → located_at setting w s.address ≡ Some s →
-        ((k : ℕ) → times k dropping + in_value k s.value ≤ held size k w.activations) →
         InFlight flying dropping w → InFlight (serials s.value ++ flying) dropping (stored_at s.address Gone w)
-    taken flying dropping w s e room a = record {
+    taken flying dropping w s e a = record {
       sum = λ k. let change = held_stored size k setting sized w s.address s Gone e in let sum = a.sum k in let all =
           times_append k (serials s.value) flying in omega arith;
       once = a.once;
       has_ended = a.has_ended;
-      is_held = λ k. let change = held_stored size k setting sized w s.address s Gone e in let r = room k in
-          omega arith;
       fresh = a.fresh;
       in_order = a.in_order;
     }
@@ -113,8 +109,6 @@ module _ (size : ℕ → ℕ) where
           times_append k (serials d) flying in let none = empty k in omega arith;
       once = a.once;
       has_ended = a.has_ended;
-      is_held = λ k. let change = held_stored size k setting sized w s.address s d e in let r = a.is_held k in
-          let none = empty k in omega arith;
       fresh = a.fresh;
       in_order = a.in_order;
     }
@@ -128,7 +122,6 @@ module _ (size : ℕ → ℕ) where
         times_append k (w.serial ∷ []) flying in omega arith;
     once = λ k. made_once k;
     has_ended = λ k. let ended = ending k in let before = a.has_ended k in omega arith;
-    is_held = a.is_held;
     fresh = λ k l. none_later k l;
     in_order = a_line w.trace event a.in_order
         (λ k e. absurd (let never : [] ≡ k ∷ [] = sym n ∙ e in let no : ⊥ = cc in no));

@@ -51,8 +51,7 @@ module _ (setting : Setting) (size : ℕ → ℕ)
           located_at setting w s.address ≡ Some (record s { value = Aggregate variant (Some serial) parts }) →
           Told setting size sized kept s.dynamic → Room size dropping w (Aggregate variant (Some serial) parts) →
           (answer : Answer) → DropKeeps setting size sized kept dropping
-          (record s { value = Aggregate variant (Some serial) parts }) serial
-          w answer →
+          (record s { value = Aggregate variant (Some serial) parts }) w answer →
           Done setting size sized kept dropping w s.address mode
           (in_mode mode (drop_body_out mode answer)
           (again HasRun (record s { value = Aggregate variant (Some serial) parts })))
@@ -61,37 +60,37 @@ module _ (setting : Setting) (size : ℕ → ℕ)
           here : Located
           here = record s { value = Aggregate variant (Some serial) parts }
 
-          room_for : (v : State) (k : StandsWhole setting size sized kept dropping here serial w v) →
-              RoomOfParts size (serial ∷ dropping) v k.parts
+          room_for : (v : State) (k : StandsWhole setting size sized kept dropping here w v) →
+              RoomOfParts size (k.own ∷ dropping) v k.parts
           room_for v k n =
               let before = m n in
               let change = held_after size n setting sized w v s.address here
-              (Aggregate k.variant (Some serial) k.parts) e k.changed in
-              let own : in_value n (Aggregate k.variant (Some serial) k.parts) ≡ times n (serial ∷ []) + times n
-              (serials_of_all k.parts) = times_append n (serial ∷ []) (serials_of_all k.parts) in
-              let all : times n (serial ∷ dropping) ≡ times n (serial ∷ []) + times n dropping =
-              times_append n (serial ∷ []) dropping in
+              (Aggregate k.variant (Some k.own) k.parts) e k.changed in
+              let own : in_value n (Aggregate k.variant (Some k.own) k.parts) ≡ times n (k.own ∷ []) + times n
+              (serials_of_all k.parts) = times_append n (k.own ∷ []) (serials_of_all k.parts) in
+              let all : times n (k.own ∷ dropping) ≡ times n (k.own ∷ []) + times n dropping =
+              times_append n (k.own ∷ []) dropping in
               omega arith
 
-          rest_done : (mode : Mode) (v : State) → StandsWhole setting size sized kept dropping here serial w v →
+          rest_done : (mode : Mode) (v : State) → StandsWhole setting size sized kept dropping here w v →
               Done setting size sized kept dropping w s.address mode
               (again HasRun here mode v)
           rest_done mode v k =
               let now : located_at setting v s.address ≡ Some
-              (record s { value = Aggregate k.variant (Some serial) k.parts }) =
-              alike_located setting v (stored_at s.address (Aggregate k.variant (Some serial) k.parts) w) k.changed
-              s.address ∙ stored_located setting w s.address here (Aggregate k.variant (Some serial) k.parts) e in
-              done_from setting size sized kept dropping w v here s (Aggregate k.variant (Some serial) k.parts) mode _
+              (record s { value = Aggregate k.variant (Some k.own) k.parts }) =
+              alike_located setting v (stored_at s.address (Aggregate k.variant (Some k.own) k.parts) w) k.changed
+              s.address ∙ stored_located setting w s.address here (Aggregate k.variant (Some k.own) k.parts) e in
+              done_from setting size sized kept dropping w v here s (Aggregate k.variant (Some k.own) k.parts) mode _
               refl e k.changed
-              (again_run dropping v here k.variant serial k.parts mode now k.fit k.whole h (room_for v k) k.good)
+              (again_run dropping v here k.variant k.own k.parts mode now k.fit k.whole h (room_for v k) k.good)
 
-          by : (mode : Mode) (answer : Answer) → DropKeeps setting size sized kept dropping here serial w answer →
+          by : (mode : Mode) (answer : Answer) → DropKeeps setting size sized kept dropping here w answer →
               Done setting size sized kept dropping w s.address mode
               (in_mode mode (drop_body_out mode answer) (again HasRun here))
           by mode answer (returns value v k) = rest_done mode v k
           by Normal answer (unwinds v k) = unwinding_done setting size sized kept dropping w s Normal _ refl
               (rest_done Unwinding v k)
-          by Unwinding answer (unwinds v k) = ends Aborted v tt (kept.at_halt (serial ∷ dropping) v k.good)
+          by Unwinding answer (unwinds v k) = ends Aborted v tt (kept.at_halt (k.own ∷ dropping) v k.good)
           by mode answer (halts halt v h g) = ends halt v h g
 
       box_done : (dropping : List ℕ) (w : State) (s : Located) (serial : ℕ) (impl_no : Option ℕ) (inside : Datum)

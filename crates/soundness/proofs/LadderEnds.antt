@@ -66,21 +66,21 @@ module _ (setting : Setting) (size : ℕ → ℕ)
   abbrev pub Told : DynamicType → Type 0
   Told f = (still_of items f f ≡ true) × (is_found items f ≡ true)
 
-  -- a whole value of the same type stands at the address, with the same number, and nothing else is changed
-  pub record StandsWhole (dropping : List ℕ) (s : Located) (serial : ℕ) (w v : State) : Type 0 where
+  -- a whole value of the same type stands at the address, with a number, and nothing else is changed
+  pub record StandsWhole (dropping : List ℕ) (s : Located) (w v : State) : Type 0 where
     pub variant : ℕ
+    pub own : ℕ
     pub parts : Data
-    pub changed : Alike v.activations (stored_at s.address (Aggregate variant (Some serial) parts) w).activations
-    pub fit : Fits items s.dynamic is_present (Aggregate variant (Some serial) parts)
+    pub changed : Alike v.activations (stored_at s.address (Aggregate variant (Some own) parts) w).activations
+    pub fit : Fits items s.dynamic is_present (Aggregate variant (Some own) parts)
     pub whole : are_whole parts ≡ true
-    pub good : kept.good (serial ∷ dropping) v
+    pub good : kept.good (own ∷ dropping) v
 
   -- what a `Drop` body owes
-  pub data DropKeeps (dropping : List ℕ) (s : Located) (serial : ℕ) (w : State) : Answer → Type 0 where
-    returns : (value : Datum) (v : State) → StandsWhole dropping s serial w v → DropKeeps dropping s serial w
-        (Returns value v)
-    unwinds : (v : State) → StandsWhole dropping s serial w v → DropKeeps dropping s serial w (Unwinds v)
-    halts : (halt : Halt) (v : State) → MayEnd halt → kept.halted v → DropKeeps dropping s serial w (HaltsIn halt v)
+  pub data DropKeeps (dropping : List ℕ) (s : Located) (w : State) : Answer → Type 0 where
+    returns : (value : Datum) (v : State) → StandsWhole dropping s w v → DropKeeps dropping s w (Returns value v)
+    unwinds : (v : State) → StandsWhole dropping s w v → DropKeeps dropping s w (Unwinds v)
+    halts : (halt : Halt) (v : State) → MayEnd halt → kept.halted v → DropKeeps dropping s w (HaltsIn halt v)
 
   abbrev pub DropsKeep : Bodies → Type 0
   DropsKeep run = (dropping : List ℕ) (w : State) (s : Located) (of : ℕ × ℕ) (variant serial : ℕ) (parts : Data) →
@@ -88,7 +88,7 @@ module _ (setting : Setting) (size : ℕ → ℕ)
       drop_impl items (concrete_ty items s.dynamic) ≡ Some of →
       Fits items s.dynamic is_present s.value → is_found items s.dynamic ≡ true → Room size dropping w s.value →
       kept.good dropping w →
-      DropKeeps dropping s serial w (run (Event.Dropped of.0 serial) of.1 (Address s.address ∷ []) w)
+      DropKeeps dropping s w (run (Event.Dropped of.0 serial) of.1 (Address s.address ∷ []) w)
 
   -- the place is gone and nothing else is changed, or the run may end so
   pub data Done (dropping : List ℕ) (w0 : State) (a : Addr) (mode : Mode) : Out State → Type 0 where

@@ -1,6 +1,6 @@
 -- From what is owed to the laws: no run is stuck, since `main` is called with no arguments and so leaves the state by
 -- the contract of calls; and each call changes what its `&mut` arguments name alone and leaves whole what is named.
-use Rattle.std.proofs.Common.{◌≡◌, ◌≢◌, ℕ, suc, ℤ, Bool, List, [], ◌∷◌, Option, Some, None, refl, sym, subst}
+use Rattle.std.proofs.Common.{◌≡◌, ◌≢◌, ℕ, suc, ℤ, List, [], Some, sym, subst}
 use Rattle.std.specs.Prelude.{slice_get}
 use Rattle.mir_base.specs.declared.trace.End.{End}
 use Rattle.mir_base.specs.declared.trace.Event.{Event}
@@ -11,8 +11,10 @@ use Rattle.store_model.specs.Effects.{Halt, Aborted, OutOfTicks, Stuck, StuckAt,
 use Rattle.store_model.specs.Concrete.Bodies.{outcome_of, end_of_halt, run_body, main_of}
 use Rattle.store_model.specs.Concrete.State.{State, Answer, beginning}
 use Rattle.src_meaning.specs.Programs.{source, setting_of, code_of}
-use Rattle.typed_tree.specs.Tree.{ProgramTree}
+use Rattle.typed_tree.specs.Tree.{BodyTree, ProgramTree}
+use Rattle.well_typed.specs.Program.{WellTyped}
 use Rattle.soundness.specs.Laws.{references, MayBePassed, LeftBy, AreOf}
+use Rattle.soundness.proofs.AlsoTests.{Also}
 use Rattle.soundness.proofs.Bodies.{Keep, bodies_keep}
 use Rattle.soundness.proofs.CallsLaw.{may_run_by, left_by}
 use Rattle.soundness.proofs.Checked.{Checking}
@@ -20,17 +22,19 @@ use Rattle.soundness.proofs.Contracts.{targets_of, MayRun, LeftSo, returned, unw
 use Rattle.soundness.proofs.Facts.{Facts}
 use Rattle.soundness.proofs.Known.{Target}
 use Rattle.soundness.proofs.LadderEnds.{MayEnd}
-use Rattle.soundness.proofs.Owing.{calls_keep, Heads, Owing, owed}
+use Rattle.soundness.proofs.MainHead.{Main, main_head}
+use Rattle.soundness.proofs.Owing.{calls_keep, Owing, owed}
 use Rattle.soundness.proofs.Relating.{Kept, feeds}
 
 module _ (p : ProgramTree) (Extra : Event → ℕ → List Datum → State → Answer → Type 0)
     (More : Event → ℕ → List Datum → State → State → Kept → Type 0)
-    (Ended : Event → ℕ → List Datum → State → State → Type 0) (heads : Heads p Extra More Ended)
-    (owing : Owing p Extra More Ended heads) where
+    (Ended : Event → ℕ → List Datum → State → State → Type 0)
+    (also : ℕ → Also) (AtReturn AtPanic : BodyTree → Checking Facts → Type 0) (typed : WellTyped p)
+    (owing : Owing p Extra More Ended also AtReturn AtPanic typed) where
   -- each body keeps to the contract of calls, however much fuel and however many ticks there are
-  pub all_keep : (n : ℕ) → Keep (calls_keep p Extra More Ended) (run_body (setting_of p) (code_of p) n)
-  all_keep n = bodies_keep p (calls_keep p Extra More Ended) Kept (Checking Facts) feeds (λ v. v.lost)
-      (λ v. v.free.choices) (owed p Extra More Ended heads owing) n
+  pub all_keep : (n : ℕ) → Keep (calls_keep p Extra More Ended also AtReturn AtPanic) (run_body (setting_of p) (code_of p) n)
+  all_keep n = bodies_keep p (calls_keep p Extra More Ended also AtReturn AtPanic) Kept (Checking Facts) feeds (λ v. v.lost)
+      (λ v. v.free.choices) (owed p Extra More Ended also AtReturn AtPanic typed owing) n
 
   -- the law of calls
   pub calls_leave_whole : (event : Event) (fuel n : ℕ) (sig : Sig) (values : List Datum) (w : State) →
@@ -41,12 +45,6 @@ module _ (p : ProgramTree) (Extra : Event → ℕ → List Datum → State → A
   calls_leave_whole event fuel n sig values w e whole may =
       left_by (setting_of p) sig.params values w sig.result (run_body (setting_of p) (code_of p) fuel event n values w)
       (all_keep fuel event n values w (sig, e, may_run_by (setting_of p) sig.params values w whole may) sig e).0
-
-  -- `main` has no parameters
-  pub record Main : Type 0 where
-    pub sig : Sig
-    pub there : slice_get p.items.bodies (main_of p.items) ≡ Some sig
-    pub none : sig.params ≡ []
 
   not_stuck : (targets : List Target) (result : TyId) (w : State) (answer : Answer) →
       LeftSo (setting_of p) targets result w answer → (body block : ℕ) → (outcome_of answer).1 ≢ End.Stuck body block
@@ -65,7 +63,10 @@ module _ (p : ProgramTree) (Extra : Event → ℕ → List Datum → State → A
       by Infeasible h e = h
       by Unreachable h e = h
 
-  module _ (main : Main) (asked : List ℤ) (ticks : ℕ) where
+  module _ (asked : List ℤ) (ticks : ℕ) where
+    abbrev main : Main p
+    main = main_head p typed
+
     may_run_main : (params : List TyId) → params ≡ [] → MayRun (setting_of p) params [] (beginning asked ticks)
     may_run_main params none = subst (λ l. MayRun (setting_of p) l [] (beginning asked ticks)) (sym none)
         (record { whole = tt; stands = tt; alone = tt })

@@ -1,12 +1,10 @@
 -- What the induction on ticks owes, but for the statement of the pass over the forms: each activation of a body that
 -- was entered by the contract follows a checked free run, and leaves the state by the contract. What more is said of
 -- the states of an activation, and of how it ends, may be added.
-use Rattle.std.proofs.Common.{◌≡◌, ℕ, zero, suc, ◌+◌, ◌<◌, Bool, true, false, List, [], ◌∷◌, map, length, Option, Some, None, refl, ap, sym, ◌∙◌, subst, arith}
-use Rattle.std.specs.Prelude.{slice_get, option_and_then}
+use Rattle.std.proofs.Common.{◌≡◌, ℕ, suc, Bool, true, List, [], length, Option, Some, None, refl, sym, ◌∙◌, subst}
+use Rattle.std.specs.Prelude.{slice_get}
 use Rattle.std.specs.List.{range_with_len}
-use Rattle.std.specs.Option.{option_map_or}
-use Rattle.std.proofs.Math.Path.{fun_ext}
-use Rattle.std.proofs.lemmas.Option.{none-some, slice_get_within}
+use Rattle.std.proofs.lemmas.Option.{none-some}
 use Rattle.mir_base.specs.declared.trace.Event.{Event}
 use Rattle.mir_ty.specs.declared.def.Sig.{Sig}
 use Rattle.mir_ty.specs.declared.ty.TyId.{TyId}
@@ -14,48 +12,42 @@ use Rattle.mir_ty.specs.ItemTable.{ItemTable}
 use Rattle.store_model.proofs.Effects.Following.{FollowsEffects}
 use Rattle.store_model.specs.declared.address.Addr.{Addr}
 use Rattle.store_model.specs.Values.Datum.{Datum}
-use Rattle.store_model.specs.Effects.{Halt, Aborted, OutOfTicks, Stuck, StuckAt, BadUse, BadStore, NoChoice, Infeasible, Unreachable, Effects}
+use Rattle.store_model.specs.Effects.{Halt, Aborted, OutOfTicks, Stuck, StuckAt, BadUse, BadStore, NoChoice, Infeasible, Unreachable, Out, Effects}
 use Rattle.store_model.specs.Abstract.Effects.{presence, params_present, abstract_effects}
 use Rattle.store_model.specs.Abstract.Presence.{Presence, all_present}
 use Rattle.store_model.specs.Concrete.Bodies.{cells_of_youngest}
-use Rattle.store_model.specs.Concrete.Effects.{concrete_effects, virtual_body}
-use Rattle.store_model.specs.Concrete.Drops.{drop_impl}
-use Rattle.store_model.specs.Concrete.Location.{Setting, DynamicType, OfType, concrete_ty}
+use Rattle.store_model.specs.Concrete.Effects.{concrete_effects}
+use Rattle.store_model.specs.Concrete.Location.{Setting}
 use Rattle.store_model.specs.Concrete.State.{State, Bodies, Answer, Returns, Unwinds, HaltsIn, cell, with_event, without_activation}
-use Rattle.src_meaning.specs.Locals.OfBody.{local_ty, local_tys, local_of}
+use Rattle.src_meaning.specs.Locals.OfBody.{local_ty, local_of}
 use Rattle.src_meaning.specs.Locals.Effects.{at_locals}
 use Rattle.src_meaning.specs.Programs.{activation, setting_of}
 use Rattle.typed_tree.specs.Tree.{BodyTree, ProgramTree}
-use Rattle.soundness.specs.Typed.{is_found}
+use Rattle.well_typed.specs.Program.{WellTyped}
+use Rattle.soundness.proofs.AlsoTests.{Also, nothing_else, checks_also}
 use Rattle.soundness.proofs.Bodies.{Contract, Keep, Owed, begun}
+use Rattle.soundness.proofs.BodyHeads.{size, sized, types_are, Heads, heads_of}
 use Rattle.soundness.proofs.Checked.{Checking, checked_effects}
 use Rattle.soundness.proofs.CheckedBodies.{checks_of, is_reference_param}
-use Rattle.soundness.proofs.Checks.{head_of}
 use Rattle.soundness.proofs.Contracts.{targets_of, uniques_of, MayRun, Leaves, LeftSo, returned, unwound, halted}
-use Rattle.soundness.proofs.DropCalls.{DropHead, KeepsHead, drops_keep}
+use Rattle.soundness.proofs.DropCalls.{drops_keep}
+use Rattle.soundness.proofs.DropHeads.{drop_heads_of}
 use Rattle.soundness.proofs.Dropped.{Lapses}
-use Rattle.soundness.proofs.EffectsFollow.{BodiesKeep, Adds, effects_follow}
-use Rattle.soundness.proofs.Emptied.{Hole}
-use Rattle.soundness.proofs.Entering.{each_from, as_many_args, HeadOf, passed_at, runs_at}
-use Rattle.soundness.proofs.Facts.{Facts, Each, no_facts}
+use Rattle.soundness.proofs.EffectsFollow.{BodiesKeep}
+use Rattle.soundness.proofs.Entering.{each_from, as_many_args, passed_at, runs_at}
+use Rattle.soundness.proofs.Facts.{Facts, no_facts}
 use Rattle.soundness.proofs.Feeding.{fed}
-use Rattle.soundness.proofs.Fits.{Fits}
 use Rattle.soundness.proofs.Known.{Target, StandsFor, Known}
 use Rattle.soundness.proofs.LadderEnds.{MayEnd}
+use Rattle.soundness.proofs.MethodHeads.{methods_of}
 use Rattle.soundness.proofs.NeverStuck as never_stuck
 use Rattle.soundness.proofs.NeverStuck.{Shows}
 use Rattle.soundness.proofs.Relating.{Kept, feeds}
 use Rattle.soundness.proofs.Running as running
 use Rattle.soundness.proofs.Running.{Passed}
 use Rattle.soundness.proofs.Simulation.{Related, as_known, as_emptied, checks_by}
-use Rattle.soundness.proofs.Virtual.{Method, virtual_keeps}
-use Rattle.soundness.proofs.Starts.{Finished, known_at_end, result_is_whole}
-
-mapped : {A B : Type 0} (f : A → B) (list : List A) (n : ℕ) (a : A) → slice_get list n ≡ Some a →
-    slice_get (map f list) n ≡ Some (f a)
-mapped f [] n a e = absurd (none-some a e)
-mapped f (x ∷ list) zero a e = let same : x ≡ a = cc in ap (λ y. Some (f y)) same
-mapped f (x ∷ list) (suc n) a e = mapped f list n a e
+use Rattle.soundness.proofs.Virtual.{virtual_keeps}
+use Rattle.soundness.proofs.Starts.{known_at_end, result_is_whole}
 
 module _ (p : ProgramTree) where
   abbrev items : ItemTable
@@ -64,27 +56,46 @@ module _ (p : ProgramTree) where
   abbrev setting : Setting
   setting = setting_of p
 
-  -- how many locals a body has
-  pub size : ℕ → ℕ
-  size n = option_map_or (λ (tys : List TyId). length tys) (slice_get (map (local_tys items) p.bodies) n) 0
+  -- ---- the statement of the pass
 
-  pub sized : (body key : ℕ) (id : TyId) → setting.local_ty body key ≡ Some id → key < size body
-  unfolding size
-  sized body key id e = by (slice_get (map (local_tys items) p.bodies) body) e
-    where
-      by : (o : Option (List TyId)) → option_and_then (λ (tys : List TyId). slice_get tys key) o ≡ Some id →
-          key < option_map_or (λ (tys : List TyId). length tys) o 0
-      by None k = absurd (none-some id k)
-      by (Some tys) k = slice_get_within tys key id k
+  abbrev pub starting_of : BodyTree → Kept
+  starting_of b = (params_present (range_with_len 1 (length b.params)), no_facts)
 
-  pub types_are : (n : ℕ) (b : BodyTree) → slice_get p.bodies n ≡ Some b →
-      (λ (key : ℕ). setting.local_ty n key) ≡ local_ty items b
-  types_are n b e = fun_ext (λ key. ap (option_and_then (λ (tys : List TyId). slice_get tys key))
-      (mapped (local_tys items) p.bodies n b e))
+  -- the checked run of a body, with the tests beside
+  module _ (also : ℕ → Also) where
+    abbrev pub checked_of : (n : ℕ) (b : BodyTree) → slice_get p.bodies n ≡ Some b → Effects (Checking Facts)
+    checked_of n b e = checked_effects (checks_also (also n) (checks_of items b))
+        (abstract_effects items (local_ty items b))
+
+    abbrev pub checked_body : (n fuel : ℕ) (b : BodyTree) → slice_get p.bodies n ≡ Some b → List Bool →
+        Out (Checking Facts)
+    checked_body n fuel b e list =
+        activation items (at_locals (local_of items b) (checked_of n b e)) fuel b (feeds list (starting_of b))
+
+  -- the checked run of a body never complains, and its result is whole where it returns
+  abbrev pub PassShows : Type 0
+  PassShows = (n fuel : ℕ) (b : BodyTree) (e : slice_get p.bodies n ≡ Some b) (list : List Bool) →
+      Shows {V = Checking Facts} (λ v. v.lost) (λ v. v.free.choices)
+      (λ v. (v.facts.refilled ≡ None) × (all_present (presence 0 v.free.cells) ≡ true))
+      (λ v. v.facts.refilled ≡ None) (checked_body (λ m. nothing_else) n fuel b e list)
+
+  module _ (also : ℕ → Also) (AtReturn AtPanic : BodyTree → Checking Facts → Type 0) where
+    -- and more, where it returns and where it panics
+    abbrev pub returned_so : BodyTree → Checking Facts → Type 0
+    returned_so b v = (v.facts.refilled ≡ None) × (all_present (presence 0 v.free.cells) ≡ true) × AtReturn b v
+
+    abbrev pub panicked_so : BodyTree → Checking Facts → Type 0
+    panicked_so b v = (v.facts.refilled ≡ None) × AtPanic b v
+
+    abbrev pub PassShowsMore : Type 0
+    PassShowsMore = (n fuel : ℕ) (b : BodyTree) (e : slice_get p.bodies n ≡ Some b) (list : List Bool) →
+        Shows {V = Checking Facts} (λ v. v.lost) (λ v. v.free.choices) (returned_so b) (panicked_so b)
+        (checked_body also n fuel b e list)
 
   module _ (Extra : Event → ℕ → List Datum → State → Answer → Type 0)
       (More : Event → ℕ → List Datum → State → State → Kept → Type 0)
-      (Ended : Event → ℕ → List Datum → State → State → Type 0) where
+      (Ended : Event → ℕ → List Datum → State → State → Type 0)
+      (also : ℕ → Also) (AtReturn AtPanic : BodyTree → Checking Facts → Type 0) where
     -- the contract of bodies
     abbrev pub calls_keep : Contract
     calls_keep = record {
@@ -94,16 +105,11 @@ module _ (p : ProgramTree) where
           LeftSo setting (targets_of items 1 sig.params args) sig.result w answer × Extra event n args w answer;
     }
 
-    -- the heads of bodies
-    pub record Heads : Type 0 where
-      pub there : (n : ℕ) (sig : Sig) → slice_get items.bodies n ≡ Some sig →
-          (b : BodyTree) × (slice_get p.bodies n ≡ Some b)
-      pub head : (n : ℕ) (sig : Sig) (b : BodyTree) → slice_get items.bodies n ≡ Some sig →
-          slice_get p.bodies n ≡ Some b →
-          HeadOf setting n (is_reference_param items b) sig.params sig.result
-          × (length b.params ≡ length sig.params)
+    module _ (typed : WellTyped p) where
+      -- the heads of bodies
+      abbrev pub heads : Heads p
+      heads = heads_of p typed
 
-    module _ (heads : Heads) where
       module _ (n : ℕ) (args : List Datum) (w : State) (sig : Sig) (e : slice_get items.bodies n ≡ Some sig)
           (b : BodyTree) (eb : slice_get p.bodies n ≡ Some b) (may : MayRun setting sig.params args w) where
         abbrev pub targets : List Target
@@ -177,19 +183,7 @@ module _ (p : ProgramTree) where
 
       -- ---- how an activation ends
 
-      abbrev pub returned_so : BodyTree → Checking Facts → Type 0
-      returned_so b v = (v.facts.refilled ≡ None) × (all_present (presence 0 v.free.cells) ≡ true)
-
-      abbrev pub panicked_so : BodyTree → Checking Facts → Type 0
-      panicked_so b v = v.facts.refilled ≡ None
-
-      abbrev pub starting_of : BodyTree → Kept
-      starting_of b = (params_present (range_with_len 1 (length b.params)), no_facts)
-
-      abbrev pub checked_of : (n : ℕ) (b : BodyTree) → slice_get p.bodies n ≡ Some b → Effects (Checking Facts)
-      checked_of n b e = checked_effects (checks_of items b) (abstract_effects items (local_ty items b))
-
-      known_so : (n : ℕ) (args : List Datum) (w : State) (sig : Sig) (e : slice_get items.bodies n ≡ Some sig)
+      pub known_so : (n : ℕ) (args : List Datum) (w : State) (sig : Sig) (e : slice_get items.bodies n ≡ Some sig)
           (b : BodyTree) (eb : slice_get p.bodies n ≡ Some b) (may : MayRun setting sig.params args w) (v : State)
           (k : Kept) → RelatedIn n args w sig e b eb may v k → k.1.refilled ≡ None →
           Known setting n (targets_of items 1 sig.params args) (uniques_of (targets_of items 1 sig.params args)) w v k.0
@@ -237,36 +231,51 @@ module _ (p : ProgramTree) where
       as_may_end Infeasible h = h
       as_may_end Unreachable h = h
 
-      -- what is left: the methods of traits and the heads of `Drop` bodies by the rules of items, the pass over the
-      -- forms, and what more is said, among it that a `Drop` body keeps the number of its `self`
+      -- the checked run, by the types of its locals
+      abbrev pub checked_by : (n : ℕ) → BodyTree → (ℕ → Option TyId) → Effects (Checking Facts)
+      checked_by n b lt = checked_effects (checks_also (also n) (checks_by items lt (is_reference_param items b)))
+          (abstract_effects items lt)
+
+      -- what bodies keep that keep the contract
+      module _ (run : Bodies) (keep : Keep calls_keep run) where
+        plain_keeps : (m : ℕ) (sig : Sig) → slice_get items.bodies m ≡ Some sig → (ds : List Datum) (v : State) →
+            MayRun setting sig.params ds v → LeftSo setting (targets_of items 1 sig.params ds) sig.result v
+            (run (Event.Call m) m ds v)
+        plain_keeps m sig e ds v may = (keep (Event.Call m) m ds v (sig, e, may) sig e).0
+
+        drop_keeps : (event : Event) (m : ℕ) (sig : Sig) (ds : List Datum) (v : State) →
+            slice_get items.bodies m ≡ Some sig → MayRun setting sig.params ds v →
+            LeftSo setting (targets_of items 1 sig.params ds) sig.result v (run event m ds v)
+        drop_keeps event m sig ds v e may = (keep event m ds v (sig, e, may) sig e).0
+
+        pub bodies_keep_so : (n : ℕ) (args : List Datum) (w : State) (sig : Sig)
+            (e : slice_get items.bodies n ≡ Some sig) (b : BodyTree) (eb : slice_get p.bodies n ≡ Some b)
+            (may : MayRun setting sig.params args w) → BodiesKeep setting n (targets_of items 1 sig.params args)
+            (uniques_of (targets_of items 1 sig.params args)) w (is_reference_param items b)
+            (as_passed n args w sig e b eb may) run (size p) (sized p)
+        bodies_keep_so n args w sig e b eb may = record {
+          plain = plain_keeps;
+          virtual = λ trait_no method head h. virtual_keeps setting run plain_keeps trait_no method head.0 head.1
+              (methods_of p typed trait_no method head h);
+          drops = drops_keep setting (size p) (sized p) run drop_keeps (λ f of h found. drop_heads_of p typed f of h);
+        }
+
+      -- what is left: the pass over the forms, and what more is said
       pub record Owing : Type 1 where
-        pub methods : (trait_no method : ℕ) (head : List TyId × TyId) →
-            head_of items (λ key. None) (λ key. false) trait_no method ≡ Some head →
-            Method setting trait_no method head.0 head.1
-        pub drop_heads : (f : DynamicType) (of : ℕ × ℕ) → drop_impl items (concrete_ty items f) ≡ Some of →
-            is_found items f ≡ true → DropHead setting f of.1
-        pub keeps_head : (event : Event) (n : ℕ) (args : List Datum) (w : State) (answer : Answer) →
-            Extra event n args w answer → KeepsHead setting event args answer
-        pub shows : (n fuel : ℕ) (b : BodyTree) (e : slice_get p.bodies n ≡ Some b) (list : List Bool) →
-            Shows {V = Checking Facts} (λ v. v.lost) (λ v. v.free.choices) (returned_so b) (panicked_so b)
-            (activation items (at_locals (local_of items b) (checked_of n b e)) fuel b (feeds list (starting_of b)))
+        pub shows : PassShowsMore also AtReturn AtPanic
         pub more_starts : (event : Event) (n ticks : ℕ) (b : BodyTree) (args : List Datum) (w : State) →
             slice_get p.bodies n ≡ Some b → w.ticks ≡ suc ticks → calls_keep.pre event n args w →
             More event n args w (begun event n args ticks w) (starting_of b)
-        pub adds : (run : Bodies) → Keep calls_keep run → (fuel : ℕ) (event : Event) (n : ℕ) (args : List Datum)
+        pub follow : (run : Bodies) → Keep calls_keep run → (fuel : ℕ) (event : Event) (n : ℕ) (args : List Datum)
             (w : State) (sig : Sig) (e : slice_get items.bodies n ≡ Some sig) (b : BodyTree)
-            (eb : slice_get p.bodies n ≡ Some b) (may : MayRun setting sig.params args w)
-            (keep : BodiesKeep setting n (targets_of items 1 sig.params args)
-            (uniques_of (targets_of items 1 sig.params args)) w (is_reference_param items b)
-            (as_passed n args w sig e b eb may) run size sized) →
-            Adds setting n (targets_of items 1 sig.params args) (uniques_of (targets_of items 1 sig.params args)) w
-            (is_reference_param items b) (as_passed n args w sig e b eb may) run size sized refl keep fuel
-            (Runs event n args w) (Ended event n args w)
+            (eb : slice_get p.bodies n ≡ Some b) (may : MayRun setting sig.params args w) →
+            FollowsEffects (fed Kept feeds (Runs event n args w) (Lapses (Ended event n args w)))
+            (concrete_effects setting run fuel) (checked_by n b (λ key. setting.local_ty n key))
         pub more_returns : (event : Event) (n : ℕ) (b : BodyTree) (args : List Datum) (w v : State) (k : Kept) →
-            Runs event n args w v k → returned_so b (feeds [] k) → Extra event n args w
+            slice_get p.bodies n ≡ Some b → Runs event n args w v k → returned_so also AtReturn AtPanic b (feeds [] k) → Extra event n args w
             (Returns (cell 0 (cells_of_youngest v.activations)) (with_event (Event.Return n) (without_activation v)))
         pub more_panics : (event : Event) (n : ℕ) (b : BodyTree) (args : List Datum) (w v : State) (k : Kept) →
-            Runs event n args w v k → panicked_so b (feeds [] k) → Extra event n args w
+            slice_get p.bodies n ≡ Some b → Runs event n args w v k → panicked_so also AtReturn AtPanic b (feeds [] k) → Extra event n args w
             (Unwinds (with_event (Event.Unwind n) (without_activation v)))
         pub more_stops : (event : Event) (n : ℕ) (b : BodyTree) (args : List Datum) (w v : State) (k : Kept)
             (halt : Halt) → never_stuck.MayEnd halt → Runs event n args w v k → Extra event n args w (HaltsIn halt v)
@@ -279,39 +288,11 @@ module _ (p : ProgramTree) where
         follows : (run : Bodies) → Keep calls_keep run → (fuel : ℕ) (event : Event) (n : ℕ) (b : BodyTree)
             (args : List Datum) (w : State) (eb : slice_get p.bodies n ≡ Some b) → calls_keep.pre event n args w →
             FollowsEffects (fed Kept feeds (Runs event n args w) (Lapses (Ended event n args w)))
-            (concrete_effects setting run fuel) (checked_of n b eb)
+            (concrete_effects setting run fuel) (checked_of also n b eb)
         follows run keep fuel event n b args w eb k =
             subst (λ (lt : ℕ → Option TyId). FollowsEffects (fed Kept feeds (Runs event n args w)
-            (Lapses (Ended event n args w))) (concrete_effects setting run fuel)
-            (checked_effects (checks_by items lt (is_reference_param items b)) (abstract_effects items lt)))
-            (types_are n b eb)
-            (effects_follow setting n (targets_of items 1 k.0.params args)
-            (uniques_of (targets_of items 1 k.0.params args)) w (is_reference_param items b)
-            (as_passed n args w k.0 k.1 b eb k.2) run size sized refl bodies fuel (Runs event n args w)
-            (Ended event n args w) (owing.adds run keep fuel event n args w k.0 k.1 b eb k.2 bodies))
-          where
-            plain : (m : ℕ) (sig : Sig) → slice_get items.bodies m ≡ Some sig → (ds : List Datum) (v : State) →
-                MayRun setting sig.params ds v → LeftSo setting (targets_of items 1 sig.params ds) sig.result v
-                (run (Event.Call m) m ds v)
-            plain m sig e ds v may = (keep (Event.Call m) m ds v (sig, e, may) sig e).0
-
-            drops : (event : Event) (m : ℕ) (sig : Sig) (ds : List Datum) (v : State) →
-                slice_get items.bodies m ≡ Some sig → MayRun setting sig.params ds v →
-                LeftSo setting (targets_of items 1 sig.params ds) sig.result v (run event m ds v)
-                × KeepsHead setting event ds (run event m ds v)
-            drops event m sig ds v e may =
-                let kept = keep event m ds v (sig, e, may) sig e in
-                (kept.0, owing.keeps_head event m ds v (run event m ds v) kept.1)
-
-            bodies : BodiesKeep setting n (targets_of items 1 k.0.params args)
-                (uniques_of (targets_of items 1 k.0.params args)) w (is_reference_param items b)
-                (as_passed n args w k.0 k.1 b eb k.2) run size sized
-            bodies = record {
-              plain = plain;
-              virtual = λ trait_no method head e. virtual_keeps setting run plain trait_no method head.0 head.1
-                  (owing.methods trait_no method head e);
-              drops = drops_keep setting size sized run drops owing.drop_heads;
-            }
+            (Lapses (Ended event n args w))) (concrete_effects setting run fuel) (checked_by n b lt))
+            (types_are p n b eb) (owing.follow run keep fuel event n args w k.0 k.1 b eb k.2)
 
         -- all that is owed, but for what is left
         pub owed : Owed p calls_keep Kept (Checking Facts) feeds (λ v. v.lost) (λ v. v.free.choices)
@@ -320,10 +301,10 @@ module _ (p : ProgramTree) where
           never_lost = λ list c. refl;
           related = Runs;
           lapses = λ event n args w. Lapses (Ended event n args w);
-          checks = checked_of;
+          checks = checked_of also;
           starting = starting_of;
-          returned = returned_so;
-          panicked = panicked_so;
+          returned = returned_so also AtReturn AtPanic;
+          panicked = panicked_so also AtReturn AtPanic;
           there = λ event n args w k. heads.there n k.0 k.1;
           starts = λ event n ticks b args w eb t k. is_so k.0 k.1 b eb k.2
               (as_known refl (subst (λ m. running.Runs setting n (targets_of items 1 k.0.params args)
@@ -343,14 +324,14 @@ module _ (p : ProgramTree) where
                 (result_is_whole setting n (targets_of items 1 sig.params args)
                 (uniques_of (targets_of items 1 sig.params args)) w v c.0 sig.result k
                 (heads.head n sig b e eb).0.answer h.1)),
-            owing.more_returns event n b args w v c r h,
+            owing.more_returns event n b args w v c eb r h,
           );
           panics_out = λ event n b args w v c eb r h sig e. (
             (let may = may_of event n args w v c r sig e in
-                let k = known_so n args w sig e b eb may v c (related_so event n args w v c r sig e b eb may) h in
+                let k = known_so n args w sig e b eb may v c (related_so event n args w v c r sig e b eb may) h.0 in
                 unwound (with_event (Event.Unwind n) (without_activation v))
                 (leaves_so (Event.Unwind n) n w v c.0 (targets_of items 1 sig.params args) k)),
-            owing.more_panics event n b args w v c r h,
+            owing.more_panics event n b args w v c eb r h,
           );
           stops_in = λ event n b args w v c halt m eb r sig e. (
             halted halt v (as_may_end halt m),

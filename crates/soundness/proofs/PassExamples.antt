@@ -10,7 +10,7 @@ use Rattle.mir_ty.specs.ItemTable.{ItemTable, type_at}
 use Rattle.store_model.specs.Abstract.Effects.{AbstractState, at_start, abstract_effects, presence, may_use, watched_at}
 use Rattle.store_model.specs.Abstract.Presence.{all_present, itself_gone}
 use Rattle.store_model.specs.Effects.{Halt, Aborted, OutOfTicks, Stuck, StuckAt, BadUse, BadStore, NoChoice, Infeasible, Unreachable, Out, Go, Unwind, Halts, Effects}
-use Rattle.store_model.specs.Places.Place.{Step, Place}
+use Rattle.store_model.specs.Places.Place.{Step, Place, is_reference}
 use Rattle.store_model.specs.Places.TypeForms.{same_id}
 use Rattle.src_meaning.specs.Forms.{Destination, Into, Coerced, LoopsAndGuards, loop_destination, Meaning, is_never}
 use Rattle.src_meaning.specs.Locals.Effects.{at_locals, place_at}
@@ -270,7 +270,7 @@ module _ (items : ItemTable) (body : BodyTree) where
 
   abbrev at_exit : Node → Bool → LoopsAndGuards → Destination → Scopes → State → Exit → Scopes → State → List ℕ
   at_exit n own around to S v exit T w =
-      unless 21 (if is_let n then same_scopes S T else scopes_at n own true S T)
+      unless 21 (if is_let n then grown_innermost (all_numbers n) S T else scopes_at n own true S T)
       ++ unless 22 (is_held (flying around to exit) T w) ++ unless 23 (are_pending (flying around to exit) T w)
       ++ unless 25 (full_flying around to exit w)
       ++ unless 26 (is_kept (own_locals n (keys_filled around to exit)) (changed_by around n) v w)
@@ -291,11 +291,18 @@ module _ (items : ItemTable) (body : BodyTree) where
       ++ unless 34 (fresh (inner_numbers n) S) ++ unless 36 (around_lands around S)
       ++ unless 38 (sure_aliases around v) ++ unless 39 (is_none v.facts.refilled)
 
+  -- a value that is reached was pending, and is an entry then
+  abbrev pending_else : ℕ → Scopes → Scopes
+  pending_else key [] = []
+  pending_else key (s ∷ S) =
+      record s { pending = filter (λ (e : Entry). not (e.key == key)) s.pending } ∷ pending_else key S
+
+  -- a reference is gone through, and not used by itself
   abbrev reached : Node → LoopsAndGuards → Scopes → State → Scopes → State → List ℕ
   reached n around S v T w =
-      unless 41 (is_sure w ((shape items n).place around.aliases))
-      ++ unless 42 (grown false (all_numbers n) S T) ++ unless 44 (is_held (λ key. false) T w)
-      ++ unless 45 (are_pending (λ key. false) T w)
+      unless 41 (is_reference (type_at items (ty_of n)) || is_sure w ((shape items n).place around.aliases))
+      ++ unless 42 (grown false (all_numbers n) (pending_else (number_of n) S) T)
+      ++ unless 44 (is_held (λ key. false) T w) ++ unless 45 (are_pending (λ key. false) T w)
       ++ unless 46 (is_kept (own_locals n (number_of n ∷ [])) (changed_by around n) v w)
       ++ unless 47 (is_none w.facts.refilled)
 
@@ -333,7 +340,7 @@ module _ (items : ItemTable) (body : BodyTree) where
   faults zero list = []
   faults (suc n) list = faults_of list (run list) (faults n)
 
-abbrev all_faults : ℕ → ItemTable → List BodyTree → List (ℕ × (ℕ × List Bool))
+abbrev pub all_faults : ℕ → ItemTable → List BodyTree → List (ℕ × (ℕ × List Bool))
 all_faults n items [] = []
 all_faults n items (body ∷ bodies) = faults items body n [] ++ all_faults n items bodies
 
@@ -370,3 +377,42 @@ loops_holds = refl
 
 never_holds : text_faults 4 texts.never ≡ []
 never_holds = refl
+
+params_holds : text_faults 3 texts.params ≡ []
+params_holds = refl
+
+tail_holds : text_faults 3 texts.tail ≡ []
+tail_holds = refl
+
+let_parts_holds : text_faults 3 texts.let_parts ≡ []
+let_parts_holds = refl
+
+part_of_a_box_holds : text_faults 3 texts.part_of_a_box ≡ []
+part_of_a_box_holds = refl
+
+struct_fields_holds : text_faults 3 texts.struct_fields ≡ []
+struct_fields_holds = refl
+
+trait_objects_holds : text_faults 3 texts.trait_objects ≡ []
+trait_objects_holds = refl
+
+part_of_self_holds : text_faults 3 texts.part_of_self ≡ []
+part_of_self_holds = refl
+
+references_holds : text_faults 3 texts.references ≡ []
+references_holds = refl
+
+methods_holds : text_faults 3 texts.methods ≡ []
+methods_holds = refl
+
+patterns_holds : text_faults 3 texts.patterns ≡ []
+patterns_holds = refl
+
+closure_holds : text_faults 3 texts.closure ≡ []
+closure_holds = refl
+
+literals_holds : text_faults 3 texts.literals ≡ []
+literals_holds = refl
+
+nested_closures_holds : text_faults 3 texts.nested_closures ≡ []
+nested_closures_holds = refl

@@ -128,8 +128,8 @@ module _ (items : ItemTable) (needs : ℕ → Bool) where
   grows_then A B C (here s t S e m) (here t2 u S2 f n) = here s u S e (more_then s t u m n)
   grows_then A B C (here s t S e m) (past t2 S2 U f g) =
       absurd (false≢true (sym f ∙ m.same ∙ e))
-  grows_then A B C (past s S T e g) (here s2 u T2 f n) = absurd (false≢true (sym e ∙ f))
-  grows_then A B C (past s S T e g) (past s2 T2 U f h) = past s S U e (grows_then S T U g h)
+  grows_then A B C (past s S T e g) (here s2 u V f n) = absurd (false≢true (sym e ∙ f))
+  grows_then A B C (past s S T e g) (past s2 V U f h) = past s S U e (grows_then S T U g h)
 
   pub grows_among : (S T : Scopes) → Grows S T → (key : ℕ) → Among (all_entries S) key → Among (all_entries T) key
   grows_among A B no_scope key a = a
@@ -236,10 +236,10 @@ module _ (items : ItemTable) (needs : ℕ → Bool) where
   opened id false S = inside _ S refl (tt, tt) (not_grown S)
 
   pub inside_grows : (own : Bool) (S T U : Scopes) → Inside own S T → Grows T U → Inside own S U
-  inside_grows true S A B (inside s T f t g) (here s2 u T2 e m) = inside u T (m.same ∙ f) (m.typed t) g
-  inside_grows true S A B (inside s T f t g) (past s2 T2 U e h) = absurd (false≢true (sym e ∙ f))
-  inside_grows false S A B (inside s T f t g) (here s2 u T2 e m) = absurd (false≢true (sym f ∙ e))
-  inside_grows false S A B (inside s T f t g) (past s2 T2 U e h) = inside s U f t (grows_then S T U g h)
+  inside_grows true S A B (inside s T f t g) (here s2 u V e m) = inside u T (m.same ∙ f) (m.typed t) g
+  inside_grows true S A B (inside s T f t g) (past s2 V U e h) = absurd (false≢true (sym e ∙ f))
+  inside_grows false S A B (inside s T f t g) (here s2 u V e m) = absurd (false≢true (sym f ∙ e))
+  inside_grows false S A B (inside s T f t g) (past s2 V U e h) = inside s U f t (grows_then S T U g h)
 
   pub inside_wider : (own : Bool) (S T : Scopes) → Inside own S T → Wider S T
   inside_wider own S A (inside s T f t g) = record {

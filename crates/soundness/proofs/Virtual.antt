@@ -41,7 +41,7 @@ second : (a b : Bool) → (a && b) ≡ true → b ≡ true
 second true b h = h
 second false b h = absurd (false≢true h)
 
-a_reference : (unique : Bool) (to : TyId) → is_reference (Some (names_it unique to)) ≡ true
+pub a_reference : (unique : Bool) (to : TyId) → is_reference (Some (names_it unique to)) ≡ true
 a_reference true to = refl
 a_reference false to = refl
 
@@ -87,14 +87,14 @@ module _ (setting : Setting) where
   no_dyn_value id n (Address a) e k = absurd (let never : ⊥ = cc in never)
 
   -- what a reference to a trait object names is found by an impl of the trait
-  record Object (object : TyId) (trait_no : ℕ) (f : DynamicType) : Type 0 where
+  pub record Object (object : TyId) (trait_no : ℕ) (f : DynamicType) : Type 0 where
     pub impl_no : ℕ
     pub found_so : f ≡ OfObject object impl_no
     pub impl : ImplDef
     pub there : slice_get items.impls impl_no ≡ Some impl
     pub of_trait : (impl.trait_no == trait_no) ≡ true
 
-  object_of : (object : TyId) (trait_no : ℕ) (f : DynamicType) (d : Datum) → type_at items object
+  pub object_of : (object : TyId) (trait_no : ℕ) (f : DynamicType) (d : Datum) → type_at items object
       ≡ Some (Ty.Dyn trait_no) → is_of_type items object f ≡ true → is_found items f ≡ true →
       Fits items f is_present d → Object object trait_no f
   object_of object trait_no (OfType id) d e h i k =
@@ -140,7 +140,7 @@ module _ (setting : Setting) where
     abbrev as_self : Target
     as_self = record { unique = unique; local = 1; address = a; to = of }
 
-    self_stands : (w : State) (s : StandsFor setting 0 as_object_target w) (o : Object object trait_no
+    pub self_stands : (w : State) (s : StandsFor setting 0 as_object_target w) (o : Object object trait_no
         s.standing.dynamic) → type_at items of ≡ Some (Ty.Adt o.impl.adt) → StandsFor setting 0 as_self w
     self_stands w s o e = record {
       standing = s.standing;
@@ -234,7 +234,7 @@ module _ (setting : Setting) where
     left_so result w ts al s _ (halted halt v h) = halted halt v h
 
   -- the targets of a call whose first argument is a reference
-  first_target : (unique : Bool) (to self : TyId) (a : Addr) (rest : List TyId) (ds : List Datum) →
+  pub first_target : (unique : Bool) (to self : TyId) (a : Addr) (rest : List TyId) (ds : List Datum) →
       type_at items self ≡ Some (names_it unique to) → targets_of items 1 (self ∷ rest) (Address a ∷ ds)
       ≡ (record { unique = unique; local = 1; address = a; to = to }) ∷ targets_of items 2 rest ds
   first_target unique to self a rest ds e = ap (λ o. target_if o 1 (Address a) ++ targets_of items 2 rest ds) e

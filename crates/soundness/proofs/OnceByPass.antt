@@ -1,0 +1,36 @@
+-- The law of once, from the statement of the pass over the forms with the tests of protected parameters, and from that
+-- `self` of a `Drop` body is protected.
+use Rattle.std.proofs.Common.{◌≡◌, ℕ, zero, suc, not, Bool, true, Some}
+use Rattle.store_model.specs.Concrete.Drops.{drop_impl}
+use Rattle.store_model.specs.Concrete.Location.{DynamicType, concrete_ty}
+use Rattle.typed_tree.specs.Tree.{ProgramTree}
+use Rattle.typing_rules.specs.Replaced.{is_among, replaceable}
+use Rattle.soundness.specs.Laws.{IsSound, EndsOnce}
+use Rattle.soundness.proofs.CallsCounted.{falls, calls_counted}
+use Rattle.soundness.proofs.CountedOwing.{ClearAtReturn, ClearAtPanic}
+use Rattle.soundness.proofs.OnceBy.{ends_once}
+use Rattle.soundness.proofs.Owing.{PassShowsMore}
+use Rattle.soundness.proofs.ProtectTests.{protect_tests}
+
+-- what a parameter names is replaced as a whole by no call, by the local of the parameter
+abbrev pub protected : ProgramTree → ℕ → ℕ → Bool
+protected p n zero = true
+protected p n (suc k) = not (is_among (replaceable p) k n)
+
+-- the statement of the pass, with these tests; where a body returns or panics out, its locals are clear
+abbrev pub PassShowsAll : ProgramTree → Type 0
+PassShowsAll p = PassShowsMore p (protect_tests p.items (protected p))
+    (ClearAtReturn p (protected p) (protect_tests p.items (protected p)))
+    (ClearAtPanic p (protected p) (protect_tests p.items (protected p)))
+
+abbrev pub DropsProtect : ProgramTree → Type 0
+DropsProtect p = (f : DynamicType) (of : ℕ × ℕ) → drop_impl p.items (concrete_ty p.items f) ≡ Some of →
+    protected p of.1 1 ≡ true
+
+module _ (drops : (p : ProgramTree) → IsSound p → DropsProtect p) (pass : (p : ProgramTree) → IsSound p → PassShowsAll p)
+  where
+    pub ends_once_by : EndsOnce
+    ends_once_by p asked ticks sound =
+        ends_once p (protected p) (protect_tests p.items (protected p)) sound.typed
+        (falls p (protected p) sound.typed (drops p sound)) (drops p sound)
+        (calls_counted p (protected p) sound.typed (drops p sound)) (pass p sound) asked ticks

@@ -1,0 +1,271 @@
+-- In each body of a well typed program a marked run, which tests what cells hold and much else, never ends by the first
+-- mark: all that is done with cells is of the right types. Nor does it miss a step, whatever it meets.
+use Rattle.std.proofs.Common.{◌≡◌, inl, inr, ℕ, Bool, true, false, List, [], ◌∷◌, ◌++◌, map, Option, Some, None, refl, ap, sym, ◌∙◌, subst}
+use Rattle.std.specs.Option.{option_map_or}
+use Rattle.std.specs.List.{flat_map}
+use Rattle.std.proofs.lemmas.Bool.{false≢true}
+use Rattle.std.proofs.lemmas.Option.{none-some}
+use Rattle.mir_ty.specs.declared.def.ClosureDef.{ClosureDef}
+use Rattle.mir_ty.specs.declared.def.Sig.{Sig}
+use Rattle.mir_ty.specs.declared.ty.TyId.{TyId}
+use Rattle.mir_ty.specs.ItemTable.{ItemTable}
+use Rattle.store_model.specs.Effects.{Unwinding, Out, Go, Unwind, Halts, Effects, aborting}
+use Rattle.store_model.specs.Places.Place.{whole_local}
+use Rattle.typed_tree.specs.Nodes.{number_of}
+use Rattle.typed_tree.specs.Tree as tree
+use Rattle.typed_tree.specs.Tree.{Node, node, Form, ParamTree, BodyTree}
+use Rattle.src_meaning.specs.Evaluation.{meaning}
+use Rattle.src_meaning.specs.Forms.{Into, site_of_key, bind}
+use Rattle.src_meaning.specs.Locals.OfBody.{cells, answer_key, param_key, local_ty, local_of}
+use Rattle.src_meaning.specs.Programs as programs
+use Rattle.src_meaning.specs.Programs.{params_entered, unwinds, body_end, around_body, answer_scope, entire_function, activation}
+use Rattle.src_meaning.specs.Scopes.{Entry, Scopes, innermost, with_scope, with_entry, all_entries, needing_drop, Value, Breaks, Continues, Returns, Panics, Run, At, Over, on_value, entry_site}
+use Rattle.src_meaning.specs.Shape.{head, shape, BoundName}
+use Rattle.well_typed.specs.Claim.{Holds}
+use Rattle.well_typed.specs.Nodes.{typed}
+use Rattle.well_typed.specs.Patterns as patterns
+use Rattle.well_typed.specs.Patterns.{entries_of}
+use Rattle.well_typed.specs.Places.{InScope, Context, loop_with, is_place, Wanted, form_of}
+use Rattle.well_typed.specs.Program.{is_body, is_inside, closure_with}
+use Rattle.soundness.proofs.Checked.{Checking, with_facts}
+use Rattle.soundness.proofs.CheckedBodies.{checks_of, is_reference_param}
+use Rattle.soundness.proofs.Facts.{Facts}
+use Rattle.soundness.proofs.Leaving.{Shown, ShownOut}
+use Rattle.soundness.proofs.PassCellActs.{Cell}
+use Rattle.soundness.proofs.PassCellEffects.{marked_run, may_end, Acts, Tests, Drops, Made, does_well, either_mark}
+use Rattle.soundness.proofs.PassCellForms as pass
+use Rattle.soundness.proofs.PassCellNodes as nodes
+use Rattle.soundness.proofs.PassCellNodes.{May, Post, Fine, Dest, AroundWell}
+use Rattle.soundness.proofs.PassCellParts as at_nodes
+use Rattle.soundness.proofs.PassCellPatterns as cells_of
+use Rattle.soundness.proofs.PassCellPatterns.{Told, Has}
+use Rattle.soundness.proofs.PassCellStands as stand
+use Rattle.soundness.proofs.PassCellTests.{alone, cells_give}
+use Rattle.soundness.proofs.PassCells.{param_entry, inside, inside_params, parts}
+use Rattle.soundness.proofs.PassEnds as ends
+use Rattle.soundness.proofs.PassFacts.{Standpoint, context}
+use Rattle.soundness.proofs.PassGood.{TypedParams, whole, param_made, entry_local}
+use Rattle.soundness.proofs.PassLocals.{EntryIn}
+use Rattle.soundness.proofs.PlaceTypes.{same_type}
+use Rattle.soundness.proofs.PassWell as rules
+use Rattle.soundness.proofs.PassWellBranches as branches
+
+abbrev is_block : Form → Bool
+is_block (tree.Block statements tail) = true
+is_block form = false
+
+no_place : (form : Form) → is_block form ≡ true → is_place form ≡ true → ⊥
+no_place (tree.Block statements tail) is p = false≢true p
+no_place form is p = false≢true is
+
+no_name : (form : Form) → is_block form ≡ true → cells_of.made_of_never form ≡ true → ⊥
+no_name (tree.Block statements tail) is p = false≢true p
+no_name form is p = false≢true is
+
+module _ (items : ItemTable) (told : Told items) (body : BodyTree) (fuel : ℕ) where
+  abbrev V : Type 0
+  V = Checking Facts
+
+  abbrev q : Effects V
+  q = marked_run items body
+
+  abbrev Ends : Out V → Type 0
+  Ends = ShownOut may_end (λ w. Unit {0}) (λ w. Unit {0})
+
+  -- ---- parameters
+
+  pattern_cells : (p : Node) (want : TyId) → Holds (patterns.pattern items whole want p) →
+      Cell items body (number_of p) want → Has items body (inside items p) → Has items body (cells items true p)
+  pattern_cells (node id at ty by form) want h c k =
+      cells_of.with_own items body id at ty by form
+      (subst (λ t. Cell items body id t) (sym (param_made items (node id at ty by form) want h)) c) k
+
+  params_well : (c : Context) (params : List ParamTree) → TypedParams items params →
+      Has items body (map (param_entry items) params) → Has items body (inside_params items params) → (S : Scopes)
+      (v : V) → Fine items body S →
+      Shown may_end (Post items body c (Unit {0})) (params_entered items q fuel params S v)
+  params_well c [] t k l S v f = (tt, f)
+  params_well c (param ∷ params) t k l S v f =
+      by_kind (shape items param.pattern).is_binding refl
+      (λ T w g. params_well c params t.1 k.1
+      (cells_of.has_right items body (inside items param.pattern) (inside_params items params) l) T w g)
+    where
+      e : Entry
+      e = record { key = param_key param; ty = param.ty }
+
+      T : Scopes
+      T = innermost (with_entry e) S
+
+      fine : Fine items body T
+      fine = rules.fine_innermost items (marked_run items body) may_end (Acts items body) (Tests items body)
+          (Drops items body) (Made items body) (does_well items body) (Cell items body) (May items body) (with_entry e)
+          (rules.entered items (marked_run items body) may_end (Acts items body) (Tests items body) (Drops items body)
+          (Made items body) (does_well items body) (Cell items body) (May items body) e
+          (nodes.droppable items body e)) S f
+
+      bounds : List BoundName
+      bounds = (shape items param.pattern).bindings (whole_local (param_key param))
+
+      by_kind : (b : Bool) → (shape items param.pattern).is_binding ≡ b →
+          ((U : Scopes) (u : V) → Fine items body U →
+          Shown may_end (Post items body c (Unit {0})) (params_entered items q fuel params U u)) →
+          Shown may_end (Post items body c (Unit {0}))
+          (on_value (programs.names_of_param items q fuel b bounds T v) (params_entered items q fuel params))
+      by_kind true e later = later T v fine
+      by_kind false e later = rules.then_well items (marked_run items body) may_end (Acts items body) (Tests items body)
+          (Drops items body) (Made items body) (does_well items body) (Cell items body) (May items body) c (Unit {0})
+          (Unit {0}) (bind items q innermost bounds T v)
+          (params_entered items q fuel params)
+          (branches.bind_well items (marked_run items body) may_end (Acts items body) (Tests items body)
+          (Drops items body) (Made items body) (does_well items body) (Cell items body) (May items body) c innermost
+          (λ change k U g. rules.fine_innermost items (marked_run items body) may_end (Acts items body)
+          (Tests items body) (Drops items body) (Made items body) (does_well items body) (Cell items body)
+          (May items body) change k U g) bounds
+          (cells_of.bounds_ok items body told param.pattern whole param.ty t.0
+          (λ o. absurd (false≢true (sym e ∙ sym (at_nodes.one_name items body told fuel param.pattern) ∙ o)))
+          (pattern_cells param.pattern param.ty t.0 k.0
+          (cells_of.has_left items body (inside items param.pattern) (inside_params items params) l))
+          (whole_local (param_key param))) T v fine)
+          (λ U u x g. later U u g)
+
+  -- ---- how a body ends
+
+  -- the result stands in the local of its key, and is neither a reference nor a trait object
+  abbrev Result : Type 0
+  Result = Cell items body (answer_key body) body.answer × (alone items body.answer ≡ true)
+
+  gives_well : (v : V) → Result → Ends (q.give (site_of_key (answer_key body)) v)
+  gives_well v r = either_mark items body ((checks_of items body).give_ok
+      (record { node = (answer_key body); place = whole_local (local_of items body (answer_key body)) }) v.free v.facts)
+      (cells_give items (local_ty items body) (is_reference_param items body)
+      (whole_local (local_of items body (answer_key body))))
+      (ap (λ o. option_map_or (alone items) o false) r.0 ∙ r.1) v (with_facts v.facts v.facts (Go v.free))
+      (λ w. Unit {0}) (λ w. Unit {0}) tt
+
+  unwound : (es : List Entry) (v : V) → Ends (unwinds items q fuel es v)
+  unwound [] v = tt
+  unwound (e ∷ es) v = dropped (q.drop Unwinding (entry_site e) v)
+      ((does_well items body).drops Unwinding (entry_site e) v tt) (λ w. unwound es w)
+    where
+      dropped : (o : Out V) → ShownOut may_end (λ w. Unit {0}) (λ w. Unit {0}) o →
+          ((w : V) → Ends (unwinds items q fuel es w)) → Ends (aborting o (unwinds items q fuel es))
+      dropped (Go w) h later = later w
+      dropped (Unwind w) h later = tt
+      dropped (Halts halt w) h later = h
+
+  ended : (c : Context) (valued : Type 0) → c.loops ≡ [] → Result → (r : Run V) →
+      Shown may_end (Post items body c valued) r → Ends (body_end items q fuel (answer_key body) r)
+  ended c valued none a (At Value S w) h = gives_well w a
+  ended c valued none a (At (Breaks loop) S w) h =
+      absurd (none-some h.0.0 (ap (loop_with loop) (sym none) ∙ h.0.1.0))
+  ended c valued none a (At (Continues loop) S w) h =
+      absurd (none-some h.0.0 (ap (loop_with loop) (sym none) ∙ h.0.1))
+  ended c valued none a (At Returns S w) h = gives_well w a
+  ended c valued none a (At Panics S w) h = unwound (needing_drop items (all_entries S)) w
+  ended c valued none a (Over halt w) h = h
+
+  module _ (x : Standpoint) (no_loops : x.loops ≡ []) (answers : x.answer ≡ body.answer)
+      (params : TypedParams items body.params) (own : Has items body (map (param_entry items) body.params))
+      (named : Has items body (inside_params items body.params)) (block : Has items body (inside items body.block))
+      (result : Result) where
+    around_well : AroundWell items body (context items x) (around_body items q fuel body)
+    around_well = (
+      subst (λ t. Dest items body t (Into (answer_key body))) (sym answers) (inr result.0),
+      λ loop a e. absurd (none-some a (ap (loop_with loop) (sym no_loops) ∙ e)),
+    )
+
+    block_well : (b : Node) → is_block (form_of b) ≡ true → Holds (typed (context items x) (Wanted body.answer) b) →
+        Has items body (inside items b) → (S : Scopes) (v : V) → Fine items body S →
+        Shown may_end (Post items body (context items x) (nodes.IsMade items body (meaning items q fuel b).head.ty))
+        ((meaning items q fuel b).evaluate (around_body items q fuel body) false (Into (answer_key body)) S v)
+    block_well (node id at ty by form) is h k S v f = pass.form_well items body told fuel form x id ty by h.1
+        (λ p. absurd (no_place form is p)) k (λ n m. absurd (no_name form is m)) (around_body items q fuel body) false
+        (Into (answer_key body)) S v around_well
+        (stand.fits_head items body told fuel (node id at ty by form) body.answer (Into (answer_key body))
+        (stand.wanted_fits items body told fuel x body.answer (node id at ty by form) h) (inr result.0)) f
+
+    pub run_well : is_block (form_of body.block) ≡ true →
+        Holds (typed (context items x) (Wanted body.answer) body.block) → (v : V) →
+        Ends (activation items q fuel body v)
+    run_well is h v = ended (context items x) (nodes.IsMade items body (meaning items q fuel body.block).head.ty)
+        no_loops
+        result (entire_function items q fuel body (answer_scope items q fuel body) v)
+        (rules.leave_well items (marked_run items body) may_end (Acts items body) (Tests items body) (Drops items body)
+        (Made items body) (does_well items body) (Cell items body) (May items body) (context items x)
+        (nodes.IsMade items body (meaning items q fuel body.block).head.ty)
+        (on_value (params_entered items q fuel body.params
+        (with_scope (answer_key body) true (answer_scope items q fuel body)) v)
+        ((meaning items q fuel body.block).evaluate (around_body items q fuel body) false (Into (answer_key body))))
+        (rules.then_well items (marked_run items body) may_end (Acts items body) (Tests items body) (Drops items body)
+        (Made items body) (does_well items body) (Cell items body) (May items body) (context items x) (Unit {0})
+        (nodes.IsMade items body (meaning items q fuel body.block).head.ty)
+        (params_entered items q fuel body.params (with_scope (answer_key body) true (answer_scope items q fuel body)) v)
+        ((meaning items q fuel body.block).evaluate (around_body items q fuel body) false (Into (answer_key body)))
+        (params_well (context items x) body.params params own named
+        (with_scope (answer_key body) true (answer_scope items q fuel body)) v
+        (rules.opened items (marked_run items body) may_end (Acts items body) (Tests items body) (Drops items body)
+        (Made items body) (does_well items body) (Cell items body) (May items body) (answer_key body) true
+        (answer_scope items q fuel body) answer_fine))
+        (λ T w u g. block_well body.block is h block T w g)))
+      where
+        answer_fine : Fine items body (answer_scope items q fuel body)
+        answer_fine = ((tt, (nodes.droppable items body (record { key = answer_key body; ty = body.answer }), tt)), tt)
+
+module _ (items : ItemTable) (told : Told items) (number : ℕ) (sig : Sig) (body : BodyTree)
+    (h : Holds (is_body items number sig body)) (answers : alone items sig.result ≡ true) (fuel : ℕ) where
+  abbrev at_body : Option InScope → List ParamTree → Standpoint
+  at_body closure scoped = record {
+    entries = flat_map (λ p. entries_of p.pattern) scoped;
+    closure = closure;
+    loops = [];
+    answer = body.answer;
+  }
+
+  abbrev all : List Entry
+  all = parts items body.params body.answer body.block
+
+  cell_at : (e : Entry) → EntryIn all e → Cell items body e.key e.ty
+  cell_at e i = ends.local_is items number sig body h (checks_of items body) fuel e.key
+      ∙ entry_local items body.params body.answer body.block
+      (ends.rise items number sig body h (checks_of items body) fuel)
+      (ends.typed_so items number sig body h (checks_of items body) fuel) e i
+
+  all_have : (es : List Entry) → ((e : Entry) → EntryIn es e → EntryIn all e) → Has items body es
+  all_have [] f = tt
+  all_have (e ∷ es) f = (cell_at e (f e (inl refl)), all_have es (λ x i. f x (inr i)))
+
+  all_cells_have : Has items body all
+  all_cells_have = all_have all (λ e i. i)
+
+  abbrev P : List Entry
+  P = map (param_entry items) body.params
+
+  abbrev N : List Entry
+  N = inside_params items body.params
+
+  abbrev B : List Entry
+  B = inside items body.block
+
+  runs : (closure : Option InScope) (scoped : List ParamTree) →
+      Holds (typed (context items (at_body closure scoped)) (Wanted body.answer) body.block) → (v : Checking Facts) →
+      ShownOut may_end (λ w. Unit {0}) (λ w. Unit {0}) (activation items (marked_run items body) fuel body v)
+  runs closure scoped k v = run_well items told body fuel (at_body closure scoped) refl refl
+      (ends.typed_so items number sig body h (checks_of items body) fuel)
+      (cells_of.has_left items body P N (cells_of.has_left items body (P ++ N) B all_cells_have.1))
+      (cells_of.has_right items body P N (cells_of.has_left items body (P ++ N) B all_cells_have.1))
+      (cells_of.has_right items body (P ++ N) B all_cells_have.1)
+      (all_cells_have.0, subst (λ t. alone items t ≡ true) (sym (same_type body.answer sig.result h.1.0)) answers)
+      h.1.1.1.1.1.0 k v
+
+  ended_in : (o : Option ClosureDef) (params : List ParamTree) → Holds (is_inside items o body params) →
+      (v : Checking Facts) →
+      ShownOut may_end (λ w. Unit {0}) (λ w. Unit {0}) (activation items (marked_run items body) fuel body v)
+  ended_in None params k v = runs None params k.0 v
+  ended_in (Some def) [] k v = absurd (false≢true k)
+  ended_in (Some def) (self ∷ rest) k v =
+      runs (Some (record { key = number_of self.pattern; ty = self.ty; is_in_guard = false })) rest k.0 v
+
+  -- each marked run of the body ends by no first mark, and misses no step
+  pub ends_well : (v : Checking Facts) →
+      ShownOut may_end (λ w. Unit {0}) (λ w. Unit {0}) (activation items (marked_run items body) fuel body v)
+  ends_well v = ended_in (closure_with items number) body.params h.1.1.1.1.1.1 v
