@@ -655,7 +655,7 @@ module _ (items : ItemTable) (told : Told items) where
     statement_good : (c : Context) → Scope c → (id : ℕ) (at : Pos) (ty : TyId) (by : Option Use) (form : Form) → Fine items ty → Holds (typing.statement (K c) form) →
         (AllFine items (cells items true (tree.node id at ty by form)) × AllMarked items (nodes_of (tree.node id at ty by form))) × AllThere items (typing.entries_in form)
     statement_good c sc id at ty by (tree.Let p absent) f h =
-        let t = some_is (type_at items (ty_of p)) h.1.1 in
+        let t = some_is (type_at items (ty_of p)) h.1.1.0 in
         let q = pattern_good _ (ty_of p) p t h.1.0 in
         (a_part (tree.node id at ty by (tree.Let p absent)) f refl (λ l. refl) (joined _ [] q.cells tt) (together _ [] q.nodes tt), pattern_names p q)
     statement_good c sc id at ty by (tree.Let p (present value)) f h =

@@ -11,7 +11,7 @@ use Rattle.src_tree.specs.declared.node.NodePiece.{NodePiece}
 use Rattle.src_tree.specs.View.{parts_in, parts_from, piece_of, Single, a_token, a_node}
 use Rattle.src_tree.proofs.Pieces.{node_seen, token_seen}
 use Rattle.src_ast.specs.Seen.{syn_of}
-use Rattle.src_ast.specs.Syntax.{Syn}
+use Rattle.src_ast.specs.Syntax.{Word, Syn}
 use Rattle.typing_rules.specs.Check.{Check, TypingState, Broken, and_then, obeys, pure, each_checked}
 use Rattle.typing_rules.specs.Collected.{adt_item, all_derive, all_finite, is_finite, may_derive}
 use Rattle.typing_rules.specs.Items.{items_of, item_syns}
@@ -112,29 +112,34 @@ module _ (all_ : ℕ → List Adt_ → Check (Unit {0})) (one : ℕ → Option A
       subst (λ o. Refuses o e) (sym (so ∙ numbered_at n ps i p s h is))
       (stopped (one n (told_by adt_item (piece_of p)) s) (λ m. of_all m (drop (i + 1) ps)) e here)
 
-derive_first : (b : Bool) (at : Pos) (n : ℕ) (as_ : List Adt_) (s : TypingState) →
-    and_then (obeys Rule.T10 at b s) (λ _. all_derive (suc n) as_) ≡ and_then (and_then (obeys Rule.T10 at b s) (λ _. pure (n + 1))) (λ m. all_derive m as_)
-derive_first true at n as_ s = ap (λ z. all_derive z as_ s) (sym (add-one n))
-derive_first false at n as_ s = refl
+module _ (dropped : List Word) where
+  derive_first : (b : Bool) (at : Pos) (n : ℕ) (as_ : List Adt_) (s : TypingState) →
+      and_then (obeys Rule.T10 at b s) (λ _. all_derive dropped (suc n) as_)
+      ≡ and_then (and_then (obeys Rule.T10 at b s) (λ _. pure (n + 1))) (λ m. all_derive dropped m as_)
+  derive_first true at n as_ s = ap (λ z. all_derive dropped z as_ s) (sym (add-one n))
+  derive_first false at n as_ s = refl
 
-pub derive_steps : IsStep all_derive derives_by
-derive_steps =
-    record {
-      on_none = λ n s. refl;
-      on_some = λ n a as_ s. derive_first (may_derive s.items a.1 (slice_get s.items.adts n)) a.0 n as_ s;
-    }
+  pub derive_steps : IsStep (all_derive dropped) (derives_by dropped)
+  derive_steps =
+      record {
+        on_none = λ n s. refl;
+        on_some = λ n a as_ s. derive_first (may_derive s.items dropped a.1 (slice_get s.items.adts n)) a.0 n as_ s;
+      }
 
-pub on_derived : (whole : Result (Unit {0} × TypingState) Broken) (n m : ℕ) (ps : List NodePiece) (i : ℕ) (p : NodePiece) (o : Option Adt_) (s t : TypingState) →
-    i < length ps → p ≡ get_or ps i p → whole ≡ of_all all_derive derives_by derive_steps n (drop i ps) s → o ≡ told_by adt_item (piece_of p) →
-    derives_by n o s ≡ Ok (m, t) → whole ≡ of_all all_derive derives_by derive_steps m (drop (i + 1) ps) t
-on_derived whole n m ps i p o s t h is so of_p here =
-    on_numbered all_derive derives_by derive_steps whole n m ps i p s t h is so (ap (λ z. derives_by n z s) (sym of_p) ∙ here)
+  abbrev derived_from : ℕ → List NodePiece → Check (Unit {0})
+  derived_from n ps = of_all (all_derive dropped) (derives_by dropped) derive_steps n ps
 
-pub stopped_derived : (whole : Result (Unit {0} × TypingState) Broken) (n : ℕ) (ps : List NodePiece) (i : ℕ) (p : NodePiece) (o : Option Adt_) (s : TypingState) (e : RuleError) →
-    i < length ps → p ≡ get_or ps i p → whole ≡ of_all all_derive derives_by derive_steps n (drop i ps) s → o ≡ told_by adt_item (piece_of p) →
-    Refuses (derives_by n o s) e → Refuses whole e
-stopped_derived whole n ps i p o s e h is so of_p here =
-    stopped_numbered all_derive derives_by derive_steps whole n ps i p s e h is so (subst (λ z. Refuses (derives_by n z s) e) of_p here)
+  pub on_derived : (whole : Result (Unit {0} × TypingState) Broken) (n m : ℕ) (ps : List NodePiece) (i : ℕ) (p : NodePiece) (o : Option Adt_) (s t : TypingState) →
+      i < length ps → p ≡ get_or ps i p → whole ≡ derived_from n (drop i ps) s → o ≡ told_by adt_item (piece_of p) →
+      derives_by dropped n o s ≡ Ok (m, t) → whole ≡ derived_from m (drop (i + 1) ps) t
+  on_derived whole n m ps i p o s t h is so of_p here =
+      on_numbered (all_derive dropped) (derives_by dropped) derive_steps whole n m ps i p s t h is so (ap (λ z. derives_by dropped n z s) (sym of_p) ∙ here)
+
+  pub stopped_derived : (whole : Result (Unit {0} × TypingState) Broken) (n : ℕ) (ps : List NodePiece) (i : ℕ) (p : NodePiece) (o : Option Adt_) (s : TypingState) (e : RuleError) →
+      i < length ps → p ≡ get_or ps i p → whole ≡ derived_from n (drop i ps) s → o ≡ told_by adt_item (piece_of p) →
+      Refuses (derives_by dropped n o s) e → Refuses whole e
+  stopped_derived whole n ps i p o s e h is so of_p here =
+      stopped_numbered (all_derive dropped) (derives_by dropped) derive_steps whole n ps i p s e h is so (subst (λ z. Refuses (derives_by dropped n z s) e) of_p here)
 
 -- ---- T09, one by one
 

@@ -1,37 +1,39 @@
 -- What is asked of an item, by its form.
-use Rattle.std.proofs.Common.{◌≡◌, Option, Result, refl, ap, sym, subst, ℕ, length, Some, ◌∙◌, List, []}
+use Rattle.std.proofs.Common.{◌≡◌, Option, Result, refl, ap, sym, subst, ℕ, length, Some, None, ◌∙◌, List, []}
 use Rattle.mir_base.specs.declared.place_in_text.Pos.{Pos}
 use Rattle.src_tree.specs.declared.node.SyntaxNode.{SyntaxNode}
 use Rattle.src_ast.specs.Seen.{syn_of}
 use Rattle.src_ast.specs.Sorts.{item_part}
-use Rattle.src_ast.specs.Syntax.{Word, Named, FieldsKind, Syn, syn, at_of, shape_of, AnItem, Item, StructItem, EnumItem, TraitItem, Syns}
+use Rattle.src_ast.specs.Syntax.{Word, Named, FieldsKind, Syn, syn, at_of, shape_of, AnItem, Item, StructItem, EnumItem, TraitItem, ImplItem, Syns}
 use Rattle.src_ast.proofs.Named.{seen_as}
 use Rattle.typing_rules.specs.Check.{TypingState, Broken}
 use Rattle.typing_rules.specs.Collected as walk
-use Rattle.typing_rules.specs.Collected.{adt_item, item_head, impl_of, no_items, starting_with}
+use Rattle.typing_rules.specs.Collected.{adt_item, drop_owner, item_head, impl_of, no_items, starting_with}
 use Rattle.typing_rules.specs.Items.{adt_name, trait_name, impl_owner, own_name, path_in}
 use Rattle.mir_base.specs.declared.rule.RuleError.{RuleError}
 use Rattle.mir_ty.specs.ItemTable.{ItemTable}
 use Rattle.typeck_heads.specs.Answers.{Answers}
 use Rattle.typeck_heads.specs.Forms.{struct_by, enum_by}
-use Rattle.name_table.specs.Forms.{trait_at, adt_name_by, trait_name_by, owner_by, own_name_by, path_by, adt_item_by, head_by, impl_by}
+use Rattle.name_table.specs.Forms.{trait_at, adt_name_by, trait_name_by, owner_by, own_name_by, path_by, adt_item_by, drop_owner_by, head_by, impl_by}
 
 abbrev Outcome : Type 0
 Outcome = Result (Unit {0} × TypingState) Broken
 
 abbrev Asked : Type 0
-Asked = Option Word × (Option Word × (Option Word × (Option Word × ((Word → Word) × (Option (Pos × List Named) × (Outcome × Outcome))))))
+Asked = Option Word × (Option Word × (Option Word × (Option Word × ((Word → Word) × (Option (Pos × List Named) × (Option Word × (Outcome × Outcome)))))))
 
 abbrev asked : walk.Known → Syn → TypingState → Asked
 asked k x s =
-    (adt_name x, (trait_name x, (impl_owner x, (own_name x, (path_in x, (adt_item x, (item_head k x s, impl_of k x s)))))))
+    (adt_name x, (trait_name x, (impl_owner x, (own_name x, (path_in x, (adt_item x, (drop_owner x, (item_head k x s, impl_of k x s))))))))
 
 abbrev asked_by : walk.Known → Pos → Option Item → TypingState → Asked
 asked_by k at o s =
-    (adt_name_by o, (trait_name_by o, (owner_by o, (own_name_by o, (path_by o, (adt_item_by at o, (head_by k o s, impl_by k o s)))))))
+    (adt_name_by o, (trait_name_by o, (owner_by o, (own_name_by o, (path_by o, (adt_item_by at o, (drop_owner_by o, (head_by k o s, impl_by k o s))))))))
 
 asked_as : (k : walk.Known) (x : Syn) (s : TypingState) → asked k x s ≡ asked_by k (at_of x) (item_part (shape_of x)) s
 asked_as k (syn at (AnItem (StructItem a b c d))) s = refl
+asked_as k (syn at (AnItem (ImplItem None b c))) s = refl
+asked_as k (syn at (AnItem (ImplItem (Some a) b c))) s = refl
 asked_as k (syn at _) s = refl
 
 asked_seen : (k : walk.Known) (n : SyntaxNode) (s : TypingState) → asked k (syn_of n) s ≡ asked_by k n.at (item_part (shape_of (syn_of n))) s
@@ -39,10 +41,10 @@ asked_seen k n s =
     asked_as k (syn_of n) s ∙ ap (λ (x : Syn). asked_by k (at_of x) (item_part (shape_of (syn_of n))) s) (seen_as n)
 
 pub head_seen : (k : walk.Known) (n : SyntaxNode) (s : TypingState) → item_head k (syn_of n) s ≡ head_by k (item_part (shape_of (syn_of n))) s
-head_seen k n s = ap (λ (a : Asked). a.1.1.1.1.1.1.0) (asked_seen k n s)
+head_seen k n s = ap (λ (a : Asked). a.1.1.1.1.1.1.1.0) (asked_seen k n s)
 
 pub impl_seen : (k : walk.Known) (n : SyntaxNode) (s : TypingState) → impl_of k (syn_of n) s ≡ impl_by k (item_part (shape_of (syn_of n))) s
-impl_seen k n s = ap (λ (a : Asked). a.1.1.1.1.1.1.1) (asked_seen k n s)
+impl_seen k n s = ap (λ (a : Asked). a.1.1.1.1.1.1.1.1) (asked_seen k n s)
 
 module _ (n : SyntaxNode) where
   no_names : walk.Known
@@ -62,6 +64,9 @@ module _ (n : SyntaxNode) where
 
   pub adt_item_seen : adt_item (syn_of n) ≡ adt_item_by n.at (item_part (shape_of (syn_of n)))
   adt_item_seen = ap (λ (a : Asked). a.1.1.1.1.1.0) (asked_seen no_names n no_state)
+
+  pub drop_owner_seen : drop_owner (syn_of n) ≡ drop_owner_by (item_part (shape_of (syn_of n)))
+  drop_owner_seen = ap (λ (a : Asked). a.1.1.1.1.1.1.0) (asked_seen no_names n no_state)
 
   pub own_name_seen : own_name (syn_of n) ≡ own_name_by (item_part (shape_of (syn_of n)))
   own_name_seen = ap (λ (a : Asked). a.1.1.1.0) (asked_seen no_names n no_state)

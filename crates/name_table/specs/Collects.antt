@@ -10,7 +10,7 @@ use Rattle.mir_ty.specs.declared.ty.Ty.{Ty}
 use Rattle.name_table.specs.Forms.{each_done}
 use Rattle.typing_rules.specs.Check.{Check, Broken, interned, obeys, pure, ◌>>◌}
 use Rattle.typing_rules.specs.Collected as walk
-use Rattle.typing_rules.specs.Collected.{adt_item, all_derive, all_finite, heads_collected, impl_of, item_name, names_differ}
+use Rattle.typing_rules.specs.Collected.{adt_item, all_derive, all_finite, drop_owners, heads_collected, impl_of, item_name, names_differ}
 use Rattle.typing_rules.specs.Items.{ItemSyn, item_syns}
 use Rattle.typing_rules.specs.Written.{number_of}
 
@@ -31,7 +31,7 @@ declared k items = do
 abbrev pub tested : walk.Known → List ItemSyn → Pos → Check (Unit {0})
 tested k items end = do
   all_finite 0 (filter_map adt_item (item_syns items))
-  all_derive 0 (filter_map adt_item (item_syns items))
+  all_derive (drop_owners items) 0 (filter_map adt_item (item_syns items))
   obeys Rule.T01 end (is_some (number_of k.paths (codes "main")))
 
 abbrev pub stages : walk.Known → List ItemSyn → Pos → Check (Unit {0})

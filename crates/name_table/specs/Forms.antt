@@ -1,5 +1,5 @@
 -- The definitions over forms that are borrowed from a tree: `None` is a node that is none of the sort.
-use Rattle.std.specs.Prelude.{ℕ, ◌+◌, List, [], ◌∷◌, ◌++◌, ◌||◌, not, length, map, slice_get, Option, Some, None, Bool, if◌then◌else◌, codes, ◌&&◌, is_some}
+use Rattle.std.specs.Prelude.{ℕ, ◌+◌, List, [], ◌∷◌, ◌++◌, ◌||◌, not, length, map, slice_get, Option, Some, None, Bool, if◌then◌else◌, codes, ◌&&◌}
 use Rattle.mir_base.specs.declared.place_in_text.Pos.{Pos}
 use Rattle.mir_base.specs.declared.rule.Rule.{Rule}
 use Rattle.mir_ty.specs.Facts.{is_copy}
@@ -19,7 +19,7 @@ use Rattle.src_tree.specs.declared.node.SyntaxNode.{SyntaxNode}
 use Rattle.src_tree.specs.declared.row.GrammarRow.{GrammarRow}
 use Rattle.typing_rules.specs.Check.{Check, pure, obeys, known, interned, the_items, each_checked, ◌>>=◌, ◌>>◌}
 use Rattle.typing_rules.specs.Collected as walk
-use Rattle.typing_rules.specs.Collected.{item_name, impl_head, is_drop, impl_added, names_alone, trait_head, added, item_head, body_sigs, may_derive, is_finite}
+use Rattle.typing_rules.specs.Collected.{item_name, impl_head, drop_owner, is_drop, is_dropped, impl_added, names_alone, trait_head, added, item_head, body_sigs, may_derive, is_finite}
 use Rattle.typing_rules.specs.Items.{ItemSyn, bodies_in, impl_owner, is_body_row, body_path, adt_name, trait_name, own_name, method_path}
 use Rattle.typing_rules.specs.Written.{number_of}
 use Rattle.well_typed.specs.Names.{is_among, built_in}
@@ -58,6 +58,15 @@ trait_name_by _ = None
 abbrev pub owner_by : Option Item → Option Word
 owner_by (Some (ImplItem trait_ name methods)) = Some name.1
 owner_by _ = None
+
+-- the owner of an impl of a trait, if that is `Drop`
+abbrev pub owner_if_drop : Option Named → Named → Option Word
+owner_if_drop None name = None
+owner_if_drop (Some trait_) name = if is_drop trait_.1 then Some name.1 else None
+
+abbrev pub drop_owner_by : Option Item → Option Word
+drop_owner_by (Some (ImplItem trait_ name methods)) = owner_if_drop trait_ name
+drop_owner_by _ = None
 
 abbrev pub adt_item_by : Pos → Option Item → Option (Pos × List Named)
 adt_item_by at (Some (StructItem ds name kind fields)) = Some (at, ds)
@@ -120,6 +129,7 @@ one_more (Some name) n = n + 1
 abbrev pub sought : NameSort → Syn → Option Word
 sought NameSort.Adts = adt_name
 sought NameSort.Traits = trait_name
+sought NameSort.Dropped = drop_owner
 
 abbrev pub paths_in_piece : Single → List Word
 paths_in_piece (a_token t) = []
@@ -183,15 +193,16 @@ abbrev pub Adt_ : Type 0
 Adt_ = Pos × List Named
 
 -- a struct or an enum derives what it may; the number of the next one
-abbrev pub derives_by : ℕ → Option Adt_ → Check ℕ
-derives_by n None = pure n
-derives_by n (Some a) = do
+abbrev pub derives_by : List Word → ℕ → Option Adt_ → Check ℕ
+derives_by dropped n None = pure n
+derives_by dropped n (Some a) = do
   items ← the_items
-  obeys Rule.T10 a.0 (may_derive items a.1 (slice_get items.adts n))
+  obeys Rule.T10 a.0 (may_derive items dropped a.1 (slice_get items.adts n))
   pure (n + 1)
 
-abbrev pub can_copy : ItemTable → Adt → Bool
-can_copy items adt = not (is_some adt.drop_body) && list_all (λ v. list_all (is_copy items) v.fields) adt.variants
+abbrev pub can_copy : ItemTable → List Word → Adt → Bool
+can_copy items dropped adt =
+    not (is_dropped dropped adt) && list_all (λ v. list_all (is_copy items) v.fields) adt.variants
 
 abbrev pub impl_of_names : walk.Known → Option Named → Named → Check (Unit {0})
 impl_of_names k None name = pure tt

@@ -97,7 +97,7 @@ fn check_items(
     ensures { Answers (tested_by (known_of known.now) (items_of (parts_in pieces.now)) end (starting_with items.old)) result items.new }
 {
     finite(items, known.alloc, pieces)?;
-    derive(items, pieces)?;
+    derive(items, known.alloc, pieces)?;
     has_main(items, known, end)
 }
 

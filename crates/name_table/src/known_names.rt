@@ -1,11 +1,13 @@
 //! The names of structs and enums, of traits, and the paths of bodies, each by its number.
-ghost use Rattle.std.specs.Prelude.{◌≡◌, ◌∷◌, [], ◌++◌, IfOk, IfErr, OnOk, List as Listed, ℕ, map, codes};
+ghost use Rattle.std.specs.Prelude.{◌≡◌, ◌∷◌, [], ◌++◌, IfOk, IfErr, OnOk, List as Listed, Some, None, if◌then◌else◌, ℕ, map, codes};
 ghost use Rattle.std.specs.List.{filter_map};
 ghost use Rattle.std.specs.String.{string_bytes};
 ghost use Rattle.mir_base.specs.declared.rule.RuleError.{RuleError};
 ghost use Rattle.typeck_heads.specs.Forms.{bodies_in_piece, known_of, listed};
-ghost use Rattle.name_table.specs.Forms.{own_paths, path_of_body, path_within, paths_in_piece, sought as sought_by, told_by, trait_named};
+ghost use Rattle.name_table.specs.Forms.{owner_if_drop as owner_if_drop_of, own_paths, path_of_body, path_within, paths_in_piece, sought as sought_by, told_by, trait_named};
+ghost use Rattle.src_ast.specs.ItemForms.{name_seen};
 ghost use Rattle.src_ast.specs.Seen.{syn_of, word_of};
+ghost use Rattle.src_ast.specs.View.{named};
 ghost use Rattle.src_tree.specs.View.{layout_of, parts_in, piece_of};
 ghost use Rattle.typing_rules.specs.Collected as walk;
 ghost use Rattle.typing_rules.specs.Items as told;
@@ -24,6 +26,8 @@ pub enum NameSort {
     /// Of structs and enums.
     Adts,
     Traits,
+    /// Of structs and enums, each in an impl of `Drop`.
+    Dropped,
 }
 
 /// The names of the impl around a body; none where there is no impl.
@@ -61,12 +65,50 @@ fn trait_name(node: &SyntaxNode) -> Option<&str>
     }
 }
 
+fn is_drop(name: &str) -> bool
+    ensures { result ≡ walk.is_drop name.now }
+{
+    name == "Drop"
+}
+
+fn name_where(is: bool, name: &SyntaxNode) -> Option<&str>
+    ensures { word_of result ≡ (if is then Some (named (syn_of name.now)).1 else None) }
+{
+    if is { Some(name_of(name)) } else { None }
+}
+
+/// The struct or enum of an impl of a trait, if that is `Drop`.
+fn owner_if_drop<'a>(trait_: Option<&SyntaxNode>, name: &'a SyntaxNode) -> Option<&'a str>
+    ensures { word_of result ≡ owner_if_drop_of (name_seen trait_.entry) (named (syn_of name.now)) }
+{
+    match trait_ {
+        Some(trait_) => name_where(is_drop(name_of(trait_)), name),
+        None => None,
+    }
+}
+
+/// The struct or enum of an impl of `Drop`.
+#[tactic(auto, using(crate::proofs::ItemForms::drop_owner_seen))]
+fn drop_owner(node: &SyntaxNode) -> Option<&str>
+    ensures { word_of result ≡ walk.drop_owner (syn_of node.now) }
+{
+    match item_form(node) {
+        ItemForm::Impl { trait_, name, .. } => owner_if_drop(trait_, name),
+        ItemForm::Struct { .. } => None,
+        ItemForm::Enum { .. } => None,
+        ItemForm::Trait { .. } => None,
+        ItemForm::Fn(_) => None,
+        ItemForm::Other => None,
+    }
+}
+
 fn sought(sort: NameSort, node: &SyntaxNode) -> Option<&str>
     ensures { word_of result ≡ sought_by sort (syn_of node.now) }
 {
     match sort {
         NameSort::Adts => adt_name(node),
         NameSort::Traits => trait_name(node),
+        NameSort::Dropped => drop_owner(node),
     }
 }
 

@@ -1,7 +1,6 @@
--- A `let` of a reference without a value, which no text has: its program is well typed and accepted, but its checked
--- run complains, by computation. So that no checked run of a well typed and accepted program complains, as `Owing`
--- asks, the rules of typing have to refuse it.
-use Rattle.std.proofs.Common.{◌≡◌, true, [], ◌∷◌, Some, None, refl}
+-- A `let` of a reference without a value: the rules of typing refuse it, by computation. They have to, since its body
+-- is accepted and its checked run complains.
+use Rattle.std.proofs.Common.{◌≡◌, true, false, [], ◌∷◌, Some, None, refl}
 use Rattle.std.specs.Prelude.{codes}
 use Rattle.mir_base.specs.declared.int_kind.IntKind.{IntKind}
 use Rattle.mir_base.specs.declared.place_in_text.Pos.{Pos}
@@ -50,8 +49,8 @@ body = record {
 abbrev program : ProgramTree
 program = record { items = items; bodies = body ∷ [] }
 
-unassigned_typed : is_well_typed program ≡ true
-unassigned_typed = refl
+unassigned_untyped : is_well_typed program ≡ false
+unassigned_untyped = refl
 
 unassigned_accepted : reached_by items body [] ≡ None
 unassigned_accepted = refl

@@ -4,3 +4,4 @@ pub mod Outside
 pub mod KindForms
 pub mod KindWalk
 pub mod Starting
+pub mod SelfForms

@@ -1,5 +1,5 @@
 -- Tables put together of three parts, and the place where a checker begins.
-use Rattle.std.proofs.Common.{◌≡◌, ℕ, List, [], Option, None, map, reverse, ap, ◌∙◌}
+use Rattle.std.proofs.Common.{◌≡◌, ℕ, List, [], Option, None, map, reverse, ap}
 use Rattle.mir_ty.specs.declared.ty.TyId.{TyId}
 use Rattle.mir_ty.specs.ItemTable.{ItemTable}
 use Rattle.typeck_env.specs.Scope.{around_of}
@@ -8,7 +8,7 @@ use Rattle.typeck_checker.specs.Tables.{AreTablesOf, all_kinds_of}
 use Rattle.typeck_checker.specs.declared.body_scope.BodyScope.{BodyScope}
 use Rattle.typeck_checker.specs.declared.tables.Tables.{Tables}
 use Rattle.typed_tree.specs.declared.node.Node.{Node}
-use Rattle.typing_rules.specs.Items.{adt_names, all_kinds, trait_names}
+use Rattle.typing_rules.specs.Items.{adt_names, all_kinds, self_methods, trait_names}
 use Rattle.typing_rules.specs.Places.{unit}
 use Rattle.typing_rules.specs.Program.{outermost}
 use Rattle.typing_rules.specs.Scope.{LabelledLoop, NamedEntry, Env}
@@ -24,6 +24,7 @@ together text of_items impls =
       adts = text.adts;
       traits = text.traits;
       kinds = text.kinds;
+      self_methods = text.self_methods;
       adt_names = of_items.adt_names;
       trait_names = of_items.trait_names;
       body_names = of_items.body_names;
@@ -46,12 +47,13 @@ ready items text of_items impls known done =
       drops = done.drops;
     }
 
-abbrev made : List Word → List Word → List (List FieldsKind) → Option ℕ → List NamedEntry → List LabelledLoop → TyId → Env
-made adts traits kinds self_adt variables loops answer =
+abbrev made : List Word → List Word → List (List FieldsKind) → List Word → Option ℕ → List NamedEntry → List LabelledLoop → TyId → Env
+made adts traits kinds methods self_adt variables loops answer =
     record {
       adts = adts;
       traits = traits;
       kinds = kinds;
+      methods = methods;
       self_adt = self_adt;
       variables = variables;
       loops = loops;
@@ -59,17 +61,11 @@ made adts traits kinds self_adt variables loops answer =
     }
 
 pub begins : (items : List Syn) (t : Tables) (s : BodyScope) → t.adts ≡ adt_names items → t.traits ≡ trait_names items →
-    all_kinds_of t.kinds ≡ all_kinds items → s.self_adt ≡ None → s.variables ≡ [] → s.loops ≡ [] → s.answer ≡ unit →
-    env_in t s ≡ outermost items
+    all_kinds_of t.kinds ≡ all_kinds items → t.self_methods ≡ self_methods items → s.self_adt ≡ None → s.variables ≡ [] → s.loops ≡ [] →
+    s.answer ≡ unit → env_in t s ≡ outermost items
 unfolding env_in
-begins items t s adts traits kinds self_adt variables loops answer =
-    ap (λ x. made x t.traits (all_kinds_of t.kinds) s.self_adt s.variables (reverse (map around_of s.loops)) s.answer) adts
-    ∙ ap (λ x. made (adt_names items) x (all_kinds_of t.kinds) s.self_adt s.variables (reverse (map around_of s.loops)) s.answer) traits
-    ∙ ap (λ x. made (adt_names items) (trait_names items) x s.self_adt s.variables (reverse (map around_of s.loops)) s.answer) kinds
-    ∙ ap (λ x. made (adt_names items) (trait_names items) (all_kinds items) x s.variables (reverse (map around_of s.loops)) s.answer) self_adt
-    ∙ ap (λ x. made (adt_names items) (trait_names items) (all_kinds items) None x (reverse (map around_of s.loops)) s.answer) variables
-    ∙ ap (λ x. made (adt_names items) (trait_names items) (all_kinds items) None [] (reverse (map around_of x)) s.answer) loops
-    ∙ ap (λ x. made (adt_names items) (trait_names items) (all_kinds items) None [] [] x) answer
+begins items t s adts traits kinds methods self_adt variables loops answer =
+    λ i. made (adts i) (traits i) (kinds i) (methods i) (self_adt i) (variables i) (reverse (map around_of (loops i))) (answer i)
 
 pub none_made : (nodes : List Node) → nodes ≡ [] → stack_of nodes ≡ []
 unfolding stack_of

@@ -7,6 +7,7 @@ mod functions;
 mod items;
 mod kinds;
 mod program;
+mod self_methods;
 mod start;
 mod walk;
 

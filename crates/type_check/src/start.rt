@@ -2,7 +2,7 @@
 ghost use Rattle.std.specs.Prelude.{◌≡◌, [], None, IfOk};
 ghost use Rattle.src_tree.specs.View.{parts_in};
 ghost use Rattle.typing_rules.specs.Collected.{starting_with};
-ghost use Rattle.typing_rules.specs.Items.{adt_names as names_of_adts, all_kinds, item_syns, items_of, trait_names as names_of_traits};
+ghost use Rattle.typing_rules.specs.Items.{adt_names as names_of_adts, all_kinds, item_syns, items_of, self_methods as with_self, trait_names as names_of_traits};
 ghost use Rattle.typing_rules.specs.Places.{unit};
 ghost use Rattle.typing_rules.specs.Program.{outermost};
 ghost use Rattle.typeck_env.specs.Walked.{state_of};
@@ -12,6 +12,7 @@ ghost use Rattle.type_check.specs.Start.{HasImplTables, HasItemTables, HasTextTa
 
 use crate::items::{adt_names, body_names, method_names, trait_names};
 use crate::kinds::kinds;
+use crate::self_methods::self_methods;
 use mir_base::{List, NoMemory};
 use mir_ty::{Items, UNIT};
 use name_table::{NameSort, names_of};
@@ -29,6 +30,7 @@ struct TextTables {
     adts: NameTable,
     traits: NameTable,
     kinds: List<List<FieldKind>>,
+    self_methods: NameTable,
 }
 
 /// The tables of names as the items have them.
@@ -63,10 +65,12 @@ fn text_tables(alloc: Global, pieces: &[NodePiece]) -> Result<TextTables, NoMemo
     let adts = names(alloc, NameSort::Adts, pieces)?;
     let traits = names(alloc, NameSort::Traits, pieces)?;
     let kinds = kinds(alloc, pieces)?;
+    let self_methods = self_methods(alloc, pieces)?;
     Ok(TextTables {
         adts,
         traits,
         kinds,
+        self_methods,
     })
 }
 
@@ -100,6 +104,7 @@ fn put_together(text: TextTables, of_items: ItemTables, impls: ImplTables) -> Ta
       adts = text.adts;
       traits = text.traits;
       kinds = text.kinds;
+      self_methods = text.self_methods;
       adt_names = of_items.adt_names;
       trait_names = of_items.trait_names;
       body_names = of_items.body_names;
@@ -113,6 +118,7 @@ fn put_together(text: TextTables, of_items: ItemTables, impls: ImplTables) -> Ta
         adts,
         traits,
         kinds,
+        self_methods,
     } = text;
     let ItemTables {
         adt_names,
@@ -126,6 +132,7 @@ fn put_together(text: TextTables, of_items: ItemTables, impls: ImplTables) -> Ta
         adts,
         traits,
         kinds,
+        self_methods,
         adt_names,
         trait_names,
         body_names,
@@ -141,6 +148,7 @@ fn tables(alloc: Global, pieces: &[NodePiece], items: &Items) -> Result<Tables, 
     ensures adts { IfOk result (λ tables. tables.adts ≡ names_of_adts (item_syns (items_of (parts_in pieces.now)))) }
     ensures traits { IfOk result (λ tables. tables.traits ≡ names_of_traits (item_syns (items_of (parts_in pieces.now)))) }
     ensures kinds { IfOk result (λ tables. all_kinds_of tables.kinds ≡ all_kinds (item_syns (items_of (parts_in pieces.now)))) }
+    ensures methods { IfOk result (λ tables. tables.self_methods ≡ with_self (item_syns (items_of (parts_in pieces.now)))) }
 {
     let text = text_tables(alloc, pieces)?;
     let of_items = item_tables(alloc, items)?;

@@ -55,7 +55,7 @@ pub whole : (check inner : Body) (outer : Outer) (s t : TypingState) (r : Result
     ((block : Env → Typer) → unvalued (check block) s ≡ closed outer (inner block t)) → HasOuter outer r → GivesBlock inner t r after → GivesHead check s r after
 whole check inner outer s t (Ok head) after row is given =
     λ block. row block ∙ ap (closed outer) (given block)
-    ∙ ap (λ (o : Outer). closed o (block_rest head.at head.number (last_params head.params (stack after)) head.answer block (env after) (state after))) (sym is)
+    ∙ ap (λ (o : Outer). closed o (block_rest head.too_many head.at head.number (last_params head.params (stack after)) head.answer block (env after) (state after))) (sym is)
 whole check inner outer s t (Err e) after row is given =
     λ block. subst (λ (o : Result (Unit {0} × TypingState) Broken). Refuses o e) (sym (row block)) (refused_closed outer (inner block t) e (given block))
 

@@ -4,14 +4,14 @@ use Rattle.typeck_heads.proofs.Sequences.{stopped}
 use Rattle.typeck_heads.specs.Answers.{Refuses}
 use Rattle.mir_base.specs.declared.place_in_text.Pos.{Pos}
 use Rattle.mir_base.specs.declared.rule.RuleError.{RuleError}
-use Rattle.mir_ty.specs.ItemTable.{with_closure}
+use Rattle.mir_ty.specs.ItemTable.{ItemTable, with_closure}
 use Rattle.mir_ty.specs.declared.ty.Ty.{Ty}
 use Rattle.mir_ty.specs.declared.ty.TyId.{TyId}
 use Rattle.src_ast.specs.Syntax.{MaybeSyn, Syns}
 use Rattle.typed_tree.specs.Tree as tree
 use Rattle.typed_tree.specs.Tree.{BodyTree, Node, Nodes}
-use Rattle.typing_rules.specs.Bodies.{captured, closure, closure_body, types_of}
-use Rattle.typing_rules.specs.Check.{Broken, Check, TypingState, ◌>>=◌, and_then, closure_added, interned, pure}
+use Rattle.typing_rules.specs.Bodies.{captured, closure, closure_body, too_many_rule, types_of}
+use Rattle.typing_rules.specs.Check.{Broken, Check, TypingState, ◌>>=◌, and_then, closure_added, interned, pure, the_items}
 use Rattle.typing_rules.specs.Places.{a_node_of}
 use Rattle.typing_rules.specs.Rows.{Typer, fitted}
 use Rattle.typing_rules.specs.Scope.{NamedEntry, Env}
@@ -31,7 +31,7 @@ module _ (e : Env) (at : Pos) (ps : Syns) (a : MaybeSyn) (block : Env → Typer)
   start_with caps k ty = record { id = id; body = n; captures = caps.0; entries = caps.1; closure = k; ty = ty }
 
   abbrev behind_ty : Nodes × List NamedEntry → ℕ → TyId → Check Node
-  behind_ty caps k ty = closure_body e at n ty caps.1 ps a block >>= (λ b. fitted expected (a_node_of id at ty (tree.Closure k caps.0)))
+  behind_ty caps k ty = the_items >>= (λ items. closure_body e (too_many_rule items expected ty) at n ty caps.1 ps a block >>= (λ b. fitted expected (a_node_of id at ty (tree.Closure k caps.0))))
 
   abbrev behind_captures : Nodes × List NamedEntry → Check Node
   behind_captures caps = closure_added (types_of caps.1) n >>= (λ k. interned (Ty.Closure k) >>= behind_ty caps k)
@@ -68,29 +68,29 @@ body_unlooked body rest s = by (body s)
 abbrev rest_of : Env → Pos → Syns → MaybeSyn → (Env → Typer) → Option TyId → Start → Check Node
 rest_of e at ps a block expected b = closure_rest e at b ps a block expected
 
-abbrev body_in : Env → Pos → Start → Syns → MaybeSyn → (Env → Typer) → Check BodyTree
-body_in e at b ps a block = closure_body e at b.body b.ty b.entries ps a block
+abbrev body_in : Env → Option TyId → ItemTable → Pos → Start → Syns → MaybeSyn → (Env → Typer) → Check BodyTree
+body_in e expected items at b ps a block = closure_body e (too_many_rule items expected b.ty) at b.body b.ty b.entries ps a block
 
 abbrev made : Pos → Option TyId → Start → Check Node
 made at expected b = fitted expected (a_node_of b.id at b.ty (tree.Closure b.closure b.captures))
 
 begun_row : (e e1 : Env) (at : Pos) (cs ps : Syns) (a : MaybeSyn) (block : Env → Typer) (expected : Option TyId) (b : Start) (s s1 : TypingState) →
-    started e cs s ≡ Ok (b, s1) → e1 ≡ e → closure e at cs ps a block expected s ≡ and_then (unvalued (body_in e1 at b ps a block) s1) (λ u. made at expected b)
+    started e cs s ≡ Ok (b, s1) → e1 ≡ e → closure e at cs ps a block expected s ≡ and_then (unvalued (body_in e1 expected s1.items at b ps a block) s1) (λ u. made at expected b)
 begun_row e e1 at cs ps a block expected b s s1 h same =
     row_begins e at cs ps a block expected s ∙ ap (λ o. and_then o (rest_of e at ps a block expected)) h
-    ∙ body_unlooked (body_in e at b ps a block) (made at expected b) s1
-    ∙ ap (λ (z : Env). and_then (unvalued (body_in z at b ps a block) s1) (λ u. made at expected b)) (sym same)
+    ∙ body_unlooked (body_in e expected s1.items at b ps a block) (made at expected b) s1
+    ∙ ap (λ (z : Env). and_then (unvalued (body_in z expected s1.items at b ps a block) s1) (λ u. made at expected b)) (sym same)
 
 pub closure_done : (e e1 : Env) (at : Pos) (cs ps : Syns) (a : MaybeSyn) (block : Env → Typer) (expected : Option TyId) (b : Start) (s s1 s2 : TypingState) →
-    started e cs s ≡ Ok (b, s1) → e1 ≡ e → unvalued (body_in e1 at b ps a block) s1 ≡ Ok (tt, s2) → closure e at cs ps a block expected s ≡ made at expected b s2
+    started e cs s ≡ Ok (b, s1) → e1 ≡ e → unvalued (body_in e1 expected s1.items at b ps a block) s1 ≡ Ok (tt, s2) → closure e at cs ps a block expected s ≡ made at expected b s2
 closure_done e e1 at cs ps a block expected b s s1 s2 h same here =
     begun_row e e1 at cs ps a block expected b s s1 h same ∙ ap (λ o. and_then o (λ u. made at expected b)) here
 
 pub closure_refused : (e e1 : Env) (at : Pos) (cs ps : Syns) (a : MaybeSyn) (block : Env → Typer) (expected : Option TyId) (b : Start) (s s1 : TypingState) (err : RuleError) →
-    started e cs s ≡ Ok (b, s1) → e1 ≡ e → Refuses (unvalued (body_in e1 at b ps a block) s1) err → Refuses (closure e at cs ps a block expected s) err
+    started e cs s ≡ Ok (b, s1) → e1 ≡ e → Refuses (unvalued (body_in e1 expected s1.items at b ps a block) s1) err → Refuses (closure e at cs ps a block expected s) err
 closure_refused e e1 at cs ps a block expected b s s1 err h same here =
     subst (λ (o : Result (Node × TypingState) Broken). Refuses o err) (sym (begun_row e e1 at cs ps a block expected b s s1 h same))
-    (stopped (unvalued (body_in e1 at b ps a block) s1) (λ u. made at expected b) err here)
+    (stopped (unvalued (body_in e1 expected s1.items at b ps a block) s1) (λ u. made at expected b) err here)
 
 pub start_refused : (e : Env) (at : Pos) (cs ps : Syns) (a : MaybeSyn) (block : Env → Typer) (expected : Option TyId) (s : TypingState) (err : RuleError) →
     Refuses (started e cs s) err → Refuses (closure e at cs ps a block expected s) err

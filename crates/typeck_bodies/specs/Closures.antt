@@ -7,8 +7,8 @@ use Rattle.mir_ty.specs.declared.ty.TyId.{TyId}
 use Rattle.src_ast.specs.Syntax.{MaybeSyn, Syns}
 use Rattle.typed_tree.specs.Tree as tree
 use Rattle.typed_tree.specs.Tree.{Node, Nodes}
-use Rattle.typing_rules.specs.Bodies.{captured, closure_body, types_of}
-use Rattle.typing_rules.specs.Check.{Broken, Check, TypingState, ◌>>=◌, body_number, closure_added, interned, number, pure}
+use Rattle.typing_rules.specs.Bodies.{captured, closure_body, too_many_rule, types_of}
+use Rattle.typing_rules.specs.Check.{Broken, Check, TypingState, ◌>>=◌, body_number, closure_added, interned, number, pure, the_items}
 use Rattle.typing_rules.specs.Places.{a_node_of}
 use Rattle.typing_rules.specs.Rows.{Typer, fitted}
 use Rattle.typing_rules.specs.Scope.{NamedEntry, Env}
@@ -54,7 +54,8 @@ started env captures = do
 -- the rest of the row
 abbrev pub closure_rest : Env → Pos → Start → Syns → MaybeSyn → (Env → Typer) → Option TyId → Check Node
 closure_rest env at begun params answer block expected = do
-  _ ← closure_body env at begun.body begun.ty begun.entries params answer block
+  items ← the_items
+  _ ← closure_body env (too_many_rule items expected begun.ty) at begun.body begun.ty begun.entries params answer block
   fitted expected (a_node_of begun.id at begun.ty (tree.Closure begun.closure begun.captures))
 
 -- ---- what calls answer: the nodes of the captures are the last ones

@@ -1,6 +1,7 @@
 -- What comes before the block of a body, and what is left behind it: each is by definition a part of the row.
 use Rattle.std.specs.Prelude.{◌≡◌, ⊤, ℕ, true, false, List, [], ◌∷◌, length, Some, Result, Ok, Err}
 use Rattle.mir_base.specs.declared.place_in_text.Pos.{Pos}
+use Rattle.mir_base.specs.declared.rule.Rule.{Rule}
 use Rattle.mir_base.specs.declared.rule.RuleError.{RuleError}
 use Rattle.mir_ty.specs.declared.ty.TyId.{TyId}
 use Rattle.src_ast.specs.Syntax.{MaybeSyn, Syns}
@@ -25,34 +26,34 @@ use Rattle.typeck_bodies.specs.declared.scopes.BodyHead.{BodyHead}
 -- ---- before the block
 
 -- behind the parameters
-abbrev pub answered : Pos → ℕ → List ParamTree → Env → MaybeSyn → List NamedEntry → (Env → Typer) → Check BodyTree
-answered at n params env answer entries block = do
+abbrev pub answered : Rule → Pos → ℕ → List ParamTree → Env → MaybeSyn → List NamedEntry → (Env → Typer) → Check BodyTree
+answered too_many at n params env answer entries block = do
   t ← answer_of env answer
   b ← block (inside env t entries) (Some t)
-  within_limit at (body_of n params t b)
+  within_limit too_many at (body_of n params t b)
 
 -- from the parameters of a function or a method on
 abbrev pub fn_inside : Pos → ℕ → Env → Syns → MaybeSyn → (Env → Typer) → Check BodyTree
 fn_inside at n env params answer block = do
   ps ← params_of env (type_by env true) params []
-  answered at n ps.0 env answer ps.1 block
+  answered Rule.T19 at n ps.0 env answer ps.1 block
 
 abbrev pub numbered_fn : Pos → ℕ → Env → Syns → MaybeSyn → (Env → Typer) → Check BodyTree
 numbered_fn at n env params answer block = with_body (λ b. b) (in_new_body (fn_inside at n env params answer block))
 
 -- from the value of a closure on, which is the first parameter of its body
-abbrev pub closure_inside : Pos → ℕ → TyId → Env → Syns → MaybeSyn → (Env → Typer) → Check BodyTree
-closure_inside at n ty env params answer block = do
+abbrev pub closure_inside : Rule → Pos → ℕ → TyId → Env → Syns → MaybeSyn → (Env → Typer) → Check BodyTree
+closure_inside too_many at n ty env params answer block = do
   self ← name_param at [] ty
   ps ← params_of env (type_by env false) params []
-  answered at n (self.0 ∷ ps.0) env answer ps.1 block
+  answered too_many at n (self.0 ∷ ps.0) env answer ps.1 block
 
 -- ---- the block, and what is behind it
 
-abbrev pub block_rest : Pos → ℕ → List ParamTree → TyId → (Env → Typer) → Env → Check BodyTree
-block_rest at n params answer block env = do
+abbrev pub block_rest : Rule → Pos → ℕ → List ParamTree → TyId → (Env → Typer) → Env → Check BodyTree
+block_rest too_many at n params answer block env = do
   b ← block env (Some answer)
-  within_limit at (body_of n params answer b)
+  within_limit too_many at (body_of n params answer b)
 
 -- a check of a body, which stands among the bodies behind it
 abbrev pub unvalued : Check BodyTree → Check (Unit {0})
@@ -65,7 +66,7 @@ closed outer (Err e) = Err e
 
 -- the last node is the block
 abbrev pub ended : BodyHead → List Node → Check (Unit {0})
-ended head nodes = λ s. closed head.outer (body_on head.at head.number head.params head.answer nodes s)
+ended head nodes = λ s. closed head.outer (body_on head.too_many head.at head.number head.params head.answer nodes s)
 
 -- ---- what calls answer
 
@@ -73,14 +74,14 @@ ended head nodes = λ s. closed head.outer (body_on head.at head.number head.par
 abbrev pub GivesBlock : ((Env → Typer) → Check BodyTree) → TypingState → Result BodyHead RuleError → Checker → Type 0
 GivesBlock check before (Ok head) after =
     (block : Env → Typer) → check block before
-    ≡ block_rest head.at head.number (last_params head.params (stack after)) head.answer block (env after) (state after)
+    ≡ block_rest head.too_many head.at head.number (last_params head.params (stack after)) head.answer block (env after) (state after)
 GivesBlock check before (Err e) after = (block : Env → Typer) → Refuses (check block before) e
 
 -- the same of a body as a whole
 abbrev pub GivesHead : ((Env → Typer) → Check BodyTree) → TypingState → Result BodyHead RuleError → Checker → Type 0
 GivesHead check before (Ok head) after =
     (block : Env → Typer) → unvalued (check block) before
-    ≡ closed head.outer (block_rest head.at head.number (last_params head.params (stack after)) head.answer block
+    ≡ closed head.outer (block_rest head.too_many head.at head.number (last_params head.params (stack after)) head.answer block
     (env after)
     (state after))
 GivesHead check before (Err e) after = (block : Env → Typer) → Refuses (unvalued (check block) before) e

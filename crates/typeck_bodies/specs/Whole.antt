@@ -5,6 +5,7 @@ use Rattle.mir_ty.specs.declared.ty.TyId.{TyId}
 use Rattle.typed_tree.specs.Tree.{Node, Nodes, no_node, a_node, ParamTree, BodyTree}
 use Rattle.typing_rules.specs.Bodies as rules
 use Rattle.typing_rules.specs.Check.{Check, TypingState}
+use Rattle.mir_base.specs.declared.rule.Rule.{Rule}
 use Rattle.mir_base.specs.declared.rule.RuleError.{RuleError}
 use Rattle.typeck_heads.specs.Answers.{Refuses}
 use Rattle.typed_tree.specs.View.{body_of}
@@ -33,12 +34,12 @@ plain_body_on number tys answer nodes =
     }
 
 -- a body is within the limit of nodes, or refused
-abbrev pub IsWithin : Pos → BodyTree → TypingState → Result TBody RuleError → Type 0
-IsWithin at body s (Ok b) = (rules.within_limit at body s ≡ Ok (body, s)) × (body_of b ≡ body)
-IsWithin at body s (Err e) = Refuses (rules.within_limit at body s) e
+abbrev pub IsWithin : Rule → Pos → BodyTree → TypingState → Result TBody RuleError → Type 0
+IsWithin too_many at body s (Ok b) = (rules.within_limit too_many at body s ≡ Ok (body, s)) × (body_of b ≡ body)
+IsWithin too_many at body s (Err e) = Refuses (rules.within_limit too_many at body s) e
 
 -- the body whose block is the last node, behind the patterns of parameters of these types
-abbrev pub body_on : Pos → ℕ → List TyId → TyId → List Node → Check BodyTree
-body_on at number tys answer nodes =
-    rules.within_limit at (rules.body_of number (params_from (last_nodes (length tys) (below nodes)) tys) answer
+abbrev pub body_on : Rule → Pos → ℕ → List TyId → TyId → List Node → Check BodyTree
+body_on too_many at number tys answer nodes =
+    rules.within_limit too_many at (rules.body_of number (params_from (last_nodes (length tys) (below nodes)) tys) answer
     (top nodes))

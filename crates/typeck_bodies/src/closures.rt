@@ -4,6 +4,7 @@ ghost use Rattle.typeck_checker.specs.Lists.{below_all, last_nodes};
 ghost use Rattle.src_ast.specs.Seen.{nodes_of};
 ghost use Rattle.src_ast.specs.View.{idents, syns_of};
 ghost use Rattle.typed_tree.specs.Tree as tree;
+ghost use Rattle.typing_rules.specs.Bodies as bodies;
 ghost use Rattle.typing_rules.specs.Places.{a_node_of};
 ghost use Rattle.typing_rules.specs.Rows as rows;
 ghost use Rattle.typeck_checker.specs.Stand.{Gives, GivesValue, KeepsStack, ChangesNothing, env, stack, state};
@@ -11,11 +12,11 @@ ghost use Rattle.typeck_bodies.specs.Closures.{GivesStart, KeepsStart, closure_t
 
 use crate::numbers::{body_number, closure_added};
 use crate::{capture_types, check_captures};
-use mir_base::{NodeId, Pos, RuleError};
+use mir_base::{NodeId, Pos, Rule, RuleError};
 use mir_ty::{Ty, TyId};
 use src_ast::Nodes;
 use typeck_checker::{Checker, Many, coerce_many};
-use typeck_env::Variables;
+use typeck_env::{Variables, agrees};
 
 /// A closure whose body is still to come. The nodes of its captures are the last ones.
 #[derive(Drop)]
@@ -87,6 +88,17 @@ pub fn closure_begin(checker: &mut Checker, captures: Nodes) -> Result<ClosureBe
     let id = checker.number()?;
     let body = body_number(checker)?;
     numbered_closure(checker, id, body, captures)
+}
+
+/// The rule that a closure of this type breaks by too many nodes.
+pub fn too_many_rule(checker: &Checker, expected: Option<TyId>, ty: TyId) -> Rule
+    ensures { result ≡ bodies.too_many_rule checker.now.walk.items expected ty }
+{
+    if agrees(&checker.walk.items, expected, ty) {
+        Rule::T19
+    } else {
+        Rule::T03
+    }
 }
 
 /// A closure whose body is whole, as a value that is fitted to the type that is required.

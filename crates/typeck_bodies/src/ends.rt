@@ -14,12 +14,14 @@ use typeck_checker::Checker;
 ///
 /// # Errors
 ///
-/// T19 at the place of the body where it has more than 2,048 nodes; [`RuleError::Memory`] where memory is wanted.
+/// The rule of its head at the place of the body where it has more than 2,048 nodes; [`RuleError::Memory`] where memory is
+/// wanted.
 pub fn body_end(checker: &mut Checker, head: BodyHead) -> Result<(), RuleError>
     ensures gives { GivesValue (λ u. u) (ended head (stack checker.old) (state checker.old)) result checker.new }
     ensures kept { OnOk result (Returns head checker.old checker.new) }
 {
     let BodyHead {
+        too_many,
         at,
         number,
         params,
@@ -27,7 +29,7 @@ pub fn body_end(checker: &mut Checker, head: BodyHead) -> Result<(), RuleError>
         outer,
         aside,
     } = head;
-    let body = take_body(checker, at, number, &params, answer)?;
+    let body = take_body(checker, too_many, at, number, &params, answer)?;
     end_body(checker, outer, body)?;
     put_back(checker, aside);
     Ok(())

@@ -11,7 +11,7 @@ ghost use Rattle.typeck_bodies.specs.Scoped.{KeepsSelf};
 use crate::numbers::body_number;
 use crate::scopes::{BegunBody, BodyHead, begin, block_scope};
 use crate::{name_param, params_of};
-use mir_base::{List, Pos, RuleError};
+use mir_base::{List, Pos, Rule, RuleError};
 use mir_ty::TyId;
 use src_ast::Nodes;
 use src_tree::SyntaxNode;
@@ -34,7 +34,7 @@ fn numbered_head(
     let begun = begin(checker);
     let mut bound = Variables::new(checker.alloc);
     let tys = params_of(checker, &mut bound, true, params)?;
-    block_scope(checker, begun, at, number, tys, &bound, answer)
+    block_scope(checker, begun, Rule::T19, at, number, tys, &bound, answer)
 }
 
 /// The body of a function or a method up to its block, in whose scope the walk stands then: its number, its parameters
@@ -76,20 +76,21 @@ fn with_first(first: TyId, rest: List<TyId>, alloc: Global) -> Result<List<TyId>
 fn closure_params(
     checker: &mut Checker,
     begun: BegunBody,
+    too_many: Rule,
     at: Pos,
     number: u32,
     ty: TyId,
     params: Nodes,
     answer: Option<&SyntaxNode>,
 ) -> Result<BodyHead, RuleError>
-    ensures gives { GivesBlock (closure_inside at number ty (env checker.old) (nodes_of params.entry) (maybe_of answer.entry)) (state checker.old) result checker.new }
+    ensures gives { GivesBlock (closure_inside too_many at number ty (env checker.old) (nodes_of params.entry) (maybe_of answer.entry)) (state checker.old) result checker.new }
     ensures kept { KeepsSelf begun checker.old result checker.new }
 {
     name_param(checker, at, "", ty)?;
     let mut bound = Variables::new(checker.alloc);
     let later = params_of(checker, &mut bound, false, params)?;
     let tys = with_first(ty, later, checker.alloc)?;
-    block_scope(checker, begun, at, number, tys, &bound, answer)
+    block_scope(checker, begun, too_many, at, number, tys, &bound, answer)
 }
 
 /// The body of a closure up to its block, in whose scope the walk stands then. Its captures are in scope, and behind them
@@ -100,6 +101,7 @@ fn closure_params(
 /// As for [`fn_head`].
 pub fn closure_head(
     checker: &mut Checker,
+    too_many: Rule,
     at: Pos,
     number: u32,
     ty: TyId,
@@ -107,10 +109,10 @@ pub fn closure_head(
     params: Nodes,
     answer: Option<&SyntaxNode>,
 ) -> Result<BodyHead, RuleError>
-    ensures gives { GivesHead (bodies.closure_body (env checker.old) at number ty (reverse captures.now) (nodes_of params.entry) (maybe_of answer.entry)) (state checker.old) result checker.new }
+    ensures gives { GivesHead (bodies.closure_body (env checker.old) too_many at number ty (reverse captures.now) (nodes_of params.entry) (maybe_of answer.entry)) (state checker.old) result checker.new }
     ensures kept { KeepsHead checker.old result checker.new }
 {
     let begun = begin(checker);
     enter_bound(checker, captures)?;
-    closure_params(checker, begun, at, number, ty, params, answer)
+    closure_params(checker, begun, too_many, at, number, ty, params, answer)
 }

@@ -21,7 +21,7 @@ mod text_order;
 mod whole;
 
 pub use captures::check_captures;
-pub use closures::{ClosureBegun, closure_begin, closure_end};
+pub use closures::{ClosureBegun, closure_begin, closure_end, too_many_rule};
 pub use ends::body_end;
 pub use heads::{closure_head, fn_head};
 pub use name_params::name_param;

@@ -9,7 +9,7 @@ ghost use Rattle.typeck_bodies.specs.Heads.{GivesBlock, KeepsBlock, answered};
 
 use crate::saved_scope::{begin_block, put_aside};
 use crate::{Outer, begin_body};
-use mir_base::{List, Pos, RuleError};
+use mir_base::{List, Pos, Rule, RuleError};
 use mir_ty::TyId;
 use src_tree::SyntaxNode;
 use typeck_checker::{BodyScope, Checker, answer_of};
@@ -26,6 +26,8 @@ pub struct BegunBody {
 /// A body whose block is to be checked next: the patterns of its parameters are the last nodes.
 #[derive(Drop)]
 pub struct BodyHead {
+    /// The rule that more than 2,048 nodes break.
+    pub too_many: Rule,
     pub at: Pos,
     pub number: u32,
     /// The types of its parameters.
@@ -56,19 +58,21 @@ pub fn begin(checker: &mut Checker) -> BegunBody
 pub fn block_scope(
     checker: &mut Checker,
     begun: BegunBody,
+    too_many: Rule,
     at: Pos,
     number: u32,
     params: List<TyId>,
     bound: &Variables,
     answer: Option<&SyntaxNode>,
 ) -> Result<BodyHead, RuleError>
-    ensures gives { GivesBlock (answered at number (last_params params (stack checker.old)) (env checker.old) (maybe_of answer.entry) (reverse bound.now)) (state checker.old) result checker.new }
+    ensures gives { GivesBlock (answered too_many at number (last_params params (stack checker.old)) (env checker.old) (maybe_of answer.entry) (reverse bound.now)) (state checker.old) result checker.new }
     ensures kept { KeepsBlock begun params checker.old result checker.new }
 {
     let ty = answer_of(checker, answer)?;
     let around = begin_block(checker, begun.aside, ty);
     enter_bound(checker, bound)?;
     Ok(BodyHead {
+        too_many,
         at,
         number,
         params,

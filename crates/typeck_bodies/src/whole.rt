@@ -72,24 +72,24 @@ fn count_of(alloc: Global, body: &TBody) -> Result<usize, RuleError>
 }
 
 /// A body of at most 2,048 nodes, which has so many.
-fn of_count(at: Pos, body: TBody, count: usize) -> Result<TBody, RuleError>
+fn of_count(too_many: Rule, at: Pos, body: TBody, count: usize) -> Result<TBody, RuleError>
     requires { count ≡ length (numbers_of (body_of body)) }
-    ensures { (s : TypingState) → IsWithin at (body_of body) s result }
+    ensures { (s : TypingState) → IsWithin too_many at (body_of body) s result }
 {
     if count > MAX_BODY_NODES {
         drop(body);
-        Err(broken_rule(Rule::T19, at))
+        Err(broken_rule(too_many, at))
     } else {
         Ok(body)
     }
 }
 
 /// A body of at most 2,048 nodes.
-fn check_node_limit(alloc: Global, at: Pos, body: TBody) -> Result<TBody, RuleError>
-    ensures { (s : TypingState) → IsWithin at (body_of body) s result }
+fn check_node_limit(alloc: Global, too_many: Rule, at: Pos, body: TBody) -> Result<TBody, RuleError>
+    ensures { (s : TypingState) → IsWithin too_many at (body_of body) s result }
 {
     match count_of(alloc, &body) {
-        Ok(count) => of_count(at, body, count),
+        Ok(count) => of_count(too_many, at, body, count),
         Err(_) => {
             drop(body);
             Err(RuleError::Memory)
@@ -132,19 +132,21 @@ fn take_block_and_params(
 ///
 /// # Errors
 ///
-/// T19 at the place of the body where it has more than 2,048 nodes; [`RuleError::Memory`] where memory is wanted.
+/// The rule `too_many` at the place of the body where it has more than 2,048 nodes; [`RuleError::Memory`] where memory is
+/// wanted.
 pub fn take_body(
     checker: &mut Checker,
+    too_many: Rule,
     at: Pos,
     number: u32,
     tys: &List<TyId>,
     answer: TyId,
 ) -> Result<TBody, RuleError>
-    ensures gives { GivesValue body_of (body_on at number tys.now answer (stack checker.old) (state checker.old)) result checker.new }
+    ensures gives { GivesValue body_of (body_on too_many at number tys.now answer (stack checker.old) (state checker.old)) result checker.new }
     ensures left { OnOk result (stack checker.new ≡ below_all (length tys.now) (below (stack checker.old))) }
     ensures place { OnOk result (Stays checker.old checker.new) }
 {
     let body = take_block_and_params(checker, number, tys, answer)?;
     let body = number_nodes(checker.alloc, body)?;
-    check_node_limit(checker.alloc, at, body)
+    check_node_limit(checker.alloc, too_many, at, body)
 }

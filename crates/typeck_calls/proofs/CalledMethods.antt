@@ -11,8 +11,8 @@ use Rattle.typeck_heads.specs.Answers.{Refuses}
 use Rattle.typeck_checker.specs.declared.checker.Checker.{Checker}
 use Rattle.typed_tree.specs.Tree.{Node, Nodes}
 use Rattle.typing_rules.specs.Check.{Broken, Check, TypingState, and_then, ◌>>=◌, ◌>>◌, pure, breaks, obeys, the_items}
-use Rattle.typing_rules.specs.Places.{Coerced, Differs, Fit, Fits, Member, a_node_of, fit, is_behind_shared, through}
-use Rattle.typing_rules.specs.Rows.{fitted, fitted_by, head_of, is_drop_method, is_unique_borrow, Method, method_end, method_form, received, takes_self, with_method, with_self}
+use Rattle.typing_rules.specs.Places.{Coerced, Differs, Fit, Fits, Member, a_node_of, fit, is_behind_shared, place_in_text, through}
+use Rattle.typing_rules.specs.Rows.{fitted, fitted_by, head_of, is_drop_method, is_unique_borrow, has_self, Method, method_end, method_form, received, takes_self, with_method, with_self}
 use Rattle.typing_rules.specs.Scope.{Env}
 use Rattle.well_typed.specs.Places.{form_of, ty_of}
 use Rattle.well_typed.specs.Types.{is_same, reference_of}
@@ -44,6 +44,10 @@ pub self_none : (items : ItemTable) (own : TyId) (params : List TyId) → self_o
 self_none items own [] e = refl
 self_none items own (first ∷ params) e = none_by _ first e
 
+and_false : (b : Bool) → (b && false) ≡ false
+and_false true = refl
+and_false false = refl
+
 -- ---- what is behind `&`
 
 -- a node that is fitted to a type leaves the items as they were
@@ -64,7 +68,7 @@ module _ (id : ℕ) (at : Pos) (called : Called) (expected : Option TyId) (recei
 
   abbrev asked : ItemTable → Node → Check Node
   asked items n = do
-    obeys Rule.T08 at (not (called.is_unique && borrows_shared items receiver))
+    obeys Rule.T08 called.place_at (not (called.is_unique && borrows_shared items receiver))
     obeys Rule.T13 at (not called.is_drop)
     pure n
 
@@ -72,7 +76,7 @@ module _ (id : ℕ) (at : Pos) (called : Called) (expected : Option TyId) (recei
   all_asked is_count n = do
     items ← the_items
     obeys Rule.T04 at is_count
-    obeys Rule.T08 at (not (called.is_unique && borrows_shared items receiver))
+    obeys Rule.T08 called.place_at (not (called.is_unique && borrows_shared items receiver))
     obeys Rule.T13 at (not called.is_drop)
     pure n
 
@@ -94,20 +98,28 @@ module _ (env : Env) (at : Pos) (id : ℕ) (base : Node) (f : Method) (count : �
   chosen : Bool → Check Node
   chosen b = if b then with_self env at id base f count args expected (head_of f).params else (args [] >> breaks Rule.T12 at)
 
-  by_self : (b : Bool) → takes_self s.items (ty_of base) (head_of f).params ≡ b → with_method env at id base (Some f) count args expected s ≡ chosen b s
+  by_self : (b : Bool) → (has_self env f && takes_self s.items (ty_of base) (head_of f).params) ≡ b → with_method env at id base (Some f) count args expected s ≡ chosen b s
   unfolding chosen
   by_self b e = ap (λ b. chosen b s) e
 
-  pub without_self : self_of s.items (ty_of base) (head_of f).params ≡ None → with_method env at id base (Some f) count args expected s ≡ (args [] >>= (λ given. receiver_by id at None (count == 0) expected base given)) s
-  unfolding chosen
-  without_self e = by_self false (self_none s.items (ty_of base) (head_of f).params e)
+  -- what is no method of a value
+  abbrev pub nothing : Check Node
+  nothing = args [] >>= (λ given. receiver_by id at None (count == 0) expected base given)
 
-  module _ (self : TyId) (is : self_of s.items (ty_of base) (head_of f).params ≡ Some self) where
+  pub without_self : has_self env f ≡ false → with_method env at id base (Some f) count args expected s ≡ nothing s
+  unfolding chosen
+  without_self e = by_self false (ap (λ b. b && takes_self s.items (ty_of base) (head_of f).params) e)
+
+  pub of_no_type : self_of s.items (ty_of base) (head_of f).params ≡ None → with_method env at id base (Some f) count args expected s ≡ nothing s
+  unfolding chosen
+  of_no_type e = by_self false (ap (λ b. has_self env f && b) (self_none s.items (ty_of base) (head_of f).params e) ∙ and_false (has_self env f))
+
+  module _ (has : has_self env f ≡ true) (self : TyId) (is : self_of s.items (ty_of base) (head_of f).params ≡ Some self) where
     begins : with_method env at id base (Some f) count args expected s ≡ with_self env at id base f count args expected (self ∷ drop 1 (head_of f).params) s
     unfolding chosen
     begins =
         let both = self_some s.items (ty_of base) self (head_of f).params is in
-        by_self true both.0 ∙ ap (λ ps. with_self env at id base f count args expected ps s) both.1
+        by_self true (ap (λ b. b && takes_self s.items (ty_of base) (head_of f).params) has ∙ both.0) ∙ ap (λ ps. with_self env at id base f count args expected ps s) both.1
 
     -- the rest behind the receiver
     abbrev behind : Node → Check Node
@@ -116,19 +128,19 @@ module _ (env : Env) (at : Pos) (id : ℕ) (base : Node) (f : Method) (count : �
       n ← fitted expected (a_node_of id at (head_of f).result (method_form f receiver given))
       items ← the_items
       obeys Rule.T04 at (count == length (drop 1 (head_of f).params))
-      obeys Rule.T08 at (not (is_unique_borrow (form_of receiver) && is_behind_shared items base))
+      obeys Rule.T08 (place_in_text base) (not (is_unique_borrow (form_of receiver) && is_behind_shared items base))
       obeys Rule.T13 at (not (is_drop_method f))
       pure n
 
-    pub refuses : (e : Broken) → received env at base self s ≡ Err e → with_method env at id base (Some f) count args expected s ≡ Err e
+    pub refuses : (e : Broken) → received env (place_in_text base) base self s ≡ Err e → with_method env at id base (Some f) count args expected s ≡ Err e
     refuses e h = begins ∙ ap (λ r. and_then r behind) h
 
-    pub given_behind : (called : Called) (params : List TyId) (r : Node) (t : TypingState) → received env at base self s ≡ Ok (r, t) →
+    pub given_behind : (called : Called) (params : List TyId) (r : Node) (t : TypingState) → received env (place_in_text base) base self s ≡ Ok (r, t) →
         ((items : ItemTable) → (called.is_unique && borrows_shared items r) ≡ (is_unique_borrow (form_of r) && is_behind_shared items base)) →
-        params ≡ drop 1 (head_of f).params → called.answer ≡ (head_of f).result → called.is_drop ≡ is_drop_method f →
+        params ≡ drop 1 (head_of f).params → called.answer ≡ (head_of f).result → called.is_drop ≡ is_drop_method f → called.place_at ≡ place_in_text base →
         ((given : Nodes) → behind_form called.behind r given ≡ method_form f r given) →
         with_method env at id base (Some f) count args expected s ≡ (args params >>= (λ given. receiver_by id at (Some called) (count == length params) expected r given)) t
-    given_behind called params r t got shared same answer is_drop form =
+    given_behind called params r t got shared same answer is_drop placed form =
         begins
         ∙ ap (λ o. and_then o behind) got
         ∙ sym (λ i. (do
@@ -136,7 +148,7 @@ module _ (env : Env) (at : Pos) (id : ℕ) (base : Node) (f : Method) (count : �
           n ← fitted expected (a_node_of id at (answer i) (form given i))
           items ← the_items
           obeys Rule.T04 at (count == length (same i))
-          obeys Rule.T08 at (not (shared items i))
+          obeys Rule.T08 (placed i) (not (shared items i))
           obeys Rule.T13 at (not (is_drop i))
           pure n) t)
 
@@ -147,7 +159,7 @@ some_of None h = absurd (cc)
 some_of (Some x) h = (x, refl)
 
 pub receiver_as : (env env_after : Env) (id : ℕ) (at : Pos) (named : Member Method) (expected : Option TyId) (base n : Node) (found : Option Method) (f : Method) (s t : TypingState) →
-    through named at base s ≡ Ok ((n, found), t) → found ≡ Some f → env_after ≡ env → (count : ℕ) (args : Arguments) →
+    through named (place_in_text base) base s ≡ Ok ((n, found), t) → found ≡ Some f → env_after ≡ env → (count : ℕ) (args : Arguments) →
     method_end env id at named expected base count args s ≡ with_method env_after at id n (Some f) count args expected t
 receiver_as env env_after id at named expected base n found f s t e is same count args =
     ap (λ r. and_then r (λ x. with_method env at id x.0 x.1 count args expected)) e

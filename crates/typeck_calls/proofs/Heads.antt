@@ -1,5 +1,5 @@
 -- Methods by their names.
-use Rattle.std.proofs.Common.{◌≡◌, ℕ, ◌+◌, Bool, false, cond, not, nat_lt, if◌then◌else◌, List, [], ◌∷◌, map, Option, Some, None, IsSome, slice_get, refl, ap, sym, ◌∙◌}
+use Rattle.std.proofs.Common.{◌≡◌, ℕ, ◌+◌, Bool, true, false, cond, not, nat_lt, if◌then◌else◌, List, [], ◌∷◌, map, Option, Some, None, IsSome, slice_get, refl, ap, sym, ◌∙◌}
 use Rattle.std.specs.List.{position as position_of, prefix_len}
 use Rattle.std.specs.Option.{is_some, option_map, option_and_then}
 use Rattle.std.specs.Str.{bytes_eq}
@@ -13,6 +13,7 @@ use Rattle.src_ast.specs.Syntax.{Word}
 use Rattle.typeck_checker.specs.Tables.{AreTablesOf, method_words}
 use Rattle.typeck_checker.specs.declared.tables.Tables.{Tables}
 use Rattle.typing_rules.specs.Named.{trait_method}
+use Rattle.typing_rules.specs.Scope.{Env}
 use Rattle.typing_rules.specs.Rows as rows
 use Rattle.mir_ty.specs.DropBodies.{is_drop_body}
 use Rattle.typeck_calls.specs.Methods.{IsMethod, is_drop_of, method_seen}
@@ -45,6 +46,33 @@ drop_seen items (Method.OfTrait trait_no k) found e = by (slice_get items.traits
     of_head (Some head) h = let is : rows.OfTrait trait_no k head ≡ found = cc in ap rows.is_drop_method is
 
     by : (def : Option TraitDef) → option_and_then (λ (def : TraitDef). option_map (rows.OfTrait trait_no k) (slice_get def.methods k)) def ≡ Some found → false ≡ rows.is_drop_method found
+    by None h = absurd (cc)
+    by (Some def) h = of_head (slice_get def.methods k) h
+
+-- ---- whether a method has `self`
+
+pub body_self : (items : ItemTable) (env : Env) (body : ℕ) (sig : Sig) (found : rows.Method) → Some sig ≡ slice_get items.bodies body →
+    method_seen items (Method.OfAdt body) ≡ Some found → is_some (position_of (bytes_eq sig.name) env.methods) ≡ rows.has_self env found
+body_self items env body sig found at e =
+    let is : Some (rows.OfAdt body (is_drop_body items body) sig) ≡ Some found = ap (option_map (rows.OfAdt body (is_drop_body items body))) at ∙ e in
+    let same : rows.OfAdt body (is_drop_body items body) sig ≡ found = cc in
+    ap (rows.has_self env) same
+
+pub no_body_self : (items : ItemTable) (env : Env) (body : ℕ) (found : rows.Method) → None ≡ slice_get items.bodies body →
+    method_seen items (Method.OfAdt body) ≡ Some found → false ≡ rows.has_self env found
+no_body_self items env body found at e =
+    let is : None ≡ Some found = ap (option_map (rows.OfAdt body (is_drop_body items body))) at ∙ e in
+    absurd (cc)
+
+pub trait_self : (items : ItemTable) (env : Env) (trait_no k : ℕ) (found : rows.Method) → method_seen items (Method.OfTrait trait_no k) ≡ Some found →
+    true ≡ rows.has_self env found
+trait_self items env trait_no k found e = by (slice_get items.traits trait_no) e
+  where
+    of_head : (head : Option Sig) → option_map (rows.OfTrait trait_no k) head ≡ Some found → true ≡ rows.has_self env found
+    of_head None h = absurd (cc)
+    of_head (Some head) h = let is : rows.OfTrait trait_no k head ≡ found = cc in ap (rows.has_self env) is
+
+    by : (def : Option TraitDef) → option_and_then (λ (def : TraitDef). option_map (rows.OfTrait trait_no k) (slice_get def.methods k)) def ≡ Some found → true ≡ rows.has_self env found
     by None h = absurd (cc)
     by (Some def) h = of_head (slice_get def.methods k) h
 

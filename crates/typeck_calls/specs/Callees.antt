@@ -1,10 +1,11 @@
 -- What paths and callees name, in Rust as the rules of typing see it.
 use Rattle.std.specs.Prelude.{ℕ, suc, [], Option, Some, None, slice_get}
 use Rattle.std.specs.Option.{option_map_or}
+use Rattle.mir_base.specs.declared.place_in_text.Pos.{Pos}
 use Rattle.mir_ty.specs.ItemTable.{ItemTable}
 use Rattle.src_ast.specs.Syntax.{Syn, syn, AnExpression, Expression, Parens}
 use Rattle.typing_rules.specs.Named as named
-use Rattle.typing_rules.specs.Named.{callee_of, callee_by, function_by}
+use Rattle.typing_rules.specs.Named.{callee_of, callee_by, function_by, place_inside_form}
 use Rattle.typing_rules.specs.Scope.{Env}
 use Rattle.well_typed.specs.Types.{variant_at}
 use Rattle.typeck_calls.specs.declared.callees.Callee.{Callee}
@@ -32,6 +33,11 @@ callee_seen items Callee.NoCallee = named.NoCallee
 abbrev pub callee_seen_by : ItemTable → Env → Option Expression → named.Callee
 callee_seen_by items env None = named.AValue
 callee_seen_by items env (Some e) = callee_by items env e
+
+-- where a node stands without the parentheses around it, by its place and its form, where it has that of an expression
+abbrev pub place_seen_by : Pos → Option Expression → Pos
+place_seen_by at None = at
+place_seen_by at (Some e) = place_inside_form at e
 
 -- how many parentheses stand around an expression
 abbrev mutual

@@ -25,7 +25,7 @@ called_rest id at called is_count expected receiver given = do
   n ← fitted expected (a_node_of id at called.answer (behind_form called.behind receiver given))
   items ← the_items
   obeys Rule.T04 at is_count
-  obeys Rule.T08 at (not (called.is_unique && borrows_shared items receiver))
+  obeys Rule.T08 called.place_at (not (called.is_unique && borrows_shared items receiver))
   obeys Rule.T13 at (not called.is_drop)
   pure n
 
@@ -33,7 +33,7 @@ called_rest id at called is_count expected receiver given = do
 abbrev pub refused_rest : ℕ → Pos → Called → Bool → Bool → Option TyId → Node → Nodes → Check Node
 refused_rest id at called is_count is_refused expected receiver given = do
   n ← counted_call_end id at called.answer (behind_form called.behind receiver given) Rule.T04 is_count expected
-  obeys Rule.T08 at (not is_refused)
+  obeys Rule.T08 called.place_at (not is_refused)
   obeys Rule.T13 at (not called.is_drop)
   pure n
 

@@ -3,16 +3,18 @@ ghost use Rattle.std.specs.Prelude.{◌≡◌, codes, if◌then◌else◌, IfErr
 ghost use Rattle.std.specs.Str.{bytes_eq};
 ghost use Rattle.mir_base.specs.declared.rule.Rule.{Rule};
 ghost use Rattle.mir_base.specs.declared.rule.RuleError.{RuleError};
+ghost use Rattle.mir_ty.specs.ItemTable.{ItemTable};
 ghost use Rattle.typeck_calls.specs.Callees.{callee_seen};
 ghost use Rattle.src_ast.specs.Seen.{syn_of, word_of};
 ghost use Rattle.src_ast.specs.Syntax.{Path};
 ghost use Rattle.typeck_checker.specs.Stand.{env};
 ghost use Rattle.typing_rules.specs.Named as named;
 ghost use Rattle.typing_rules.specs.Scope as scope;
+ghost use Rattle.typing_rules.specs.Typed as typed;
 ghost use Rattle.typing_rules.specs.Written as written;
 ghost use Rattle.well_typed.specs.Types as types;
 
-use mir_base::{Rule, RuleError};
+use mir_base::{Pos, Rule, RuleError};
 use mir_ty::Items;
 use src_ast::{ExpressionForm, FieldKind, PathForm, expression_form};
 use src_tree::SyntaxNode;
@@ -77,7 +79,6 @@ fn built_in_callee(items: &Items, name: &str) -> Callee
         "ask" => Callee::Asks,
         "drop" => Callee::Drops,
         "forget" => Callee::Forgets,
-        "Box" => Callee::NoCallee,
         _ => Callee::Unnamed(Rule::T01),
     }
 }
@@ -226,5 +227,28 @@ pub fn callee_of(checker: &Checker, node: &SyntaxNode) -> Result<Callee, RuleErr
         ExpressionForm::Path(path) => path_callee(checker, path),
         ExpressionForm::SelfValue => Ok(name_callee(checker, "self")),
         _ => Ok(Callee::Value),
+    }
+}
+
+/// Where an expression stands without the parentheses around it.
+#[tactic(auto, using(crate::proofs::CalleeForms::place_as, crate::proofs::CalleeForms::fewer_parens))]
+fn place_inside(node: &SyntaxNode) -> Pos
+    ensures { result ≡ named.place_inside (syn_of node.now) }
+{
+    match expression_form(node) {
+        ExpressionForm::Parens(inside) => place_inside(inside),
+        _ => node.at,
+    }
+}
+
+/// Where a call that begins at a place is refused: one by a name that is not there where the name stands, in parentheses
+/// or not.
+#[tactic(auto, using(crate::proofs::CalleeForms::function_place))]
+pub fn call_place(at: Pos, node: &SyntaxNode, callee: Callee) -> Pos
+    ensures { (items : ItemTable) → result ≡ typed.call_place at (named.place_inside (syn_of node.now)) (callee_seen items callee) }
+{
+    match callee {
+        Callee::Unnamed(_) => place_inside(node),
+        _ => at,
     }
 }

@@ -18,7 +18,7 @@ mod resolve;
 mod structs;
 mod variants;
 
-pub use callees::{Callee, callee_of};
+pub use callees::{Callee, call_place, callee_of};
 pub use closures::{ClosureCallee, closure_callee, closure_end};
 pub use ends::call_end;
 pub use fields::{field_end, field_named, part_end};

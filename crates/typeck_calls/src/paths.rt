@@ -37,7 +37,7 @@ fn is_built_in(name: &str) -> bool
     ensures { result ≡ named.is_built_in name.now }
 {
     match name {
-        "print" | "ask" | "drop" | "forget" | "Box" => true,
+        "print" | "ask" | "drop" | "forget" => true,
         _ => false,
     }
 }

@@ -1,6 +1,6 @@
 //! Calls of methods (The Rust Reference, "Method-call expressions"): the receiver is borrowed or taken once the method is
 //! found, the arguments are checked behind it, and then the call ends.
-ghost use Rattle.std.specs.Prelude.{◌≡◌, ℕ, ◌&&◌, ◌||◌, [], IfErr, IfOk, Option, drop, false};
+ghost use Rattle.std.specs.Prelude.{◌≡◌, ℕ, ◌&&◌, ◌||◌, [], IfErr, IfOk, Option, drop, false, true};
 ghost use Rattle.std.specs.Option.{option_map_or};
 ghost use Rattle.mir_base.specs.declared.rule.RuleError.{RuleError};
 ghost use Rattle.mir_base.specs.declared.place_in_text.Pos.{Pos};
@@ -23,7 +23,7 @@ use crate::methods::{Method, head, is_drop, through};
 use mir_base::{List, NodeId, Pos, Rule, RuleError};
 use mir_ty::{Items, Sig, TyId, UNIT};
 use std::alloc::Global;
-use typeck_checker::{Behind, Checker};
+use typeck_checker::{Behind, Checker, is_self_method};
 use typeck_env::{is_behind_shared, reference_of};
 use typeck_exprs::{borrow_of, counted_end};
 use typeck_heads::{broken_rule, obeys};
@@ -34,6 +34,8 @@ use typed_tree::{Form, Node};
 pub struct Called {
     pub behind: Behind,
     pub answer: TyId,
+    /// Where the receiver's place stands.
+    pub place_at: Pos,
     /// It takes `self` by `&mut`.
     pub is_unique: bool,
     /// It is the body of a `Drop` impl.
@@ -83,6 +85,20 @@ fn self_ty(items: &Items, own: TyId, method: Method) -> Option<TyId>
     match head(items, method) {
         Some(sig) => self_in(items, own, sig.params.as_slice()),
         None => None,
+    }
+}
+
+/// Whether a method has `self`, so that it is one of a value; a method of a trait has one.
+#[tactic(auto, using(crate::proofs::Heads::body_self, crate::proofs::Heads::no_body_self, crate::proofs::Heads::trait_self))]
+fn has_self(checker: &Checker, method: Method) -> bool
+    ensures { (found : rows.Method) → method_seen checker.now.walk.items method ≡ Some found → result ≡ rows.has_self (env checker.now) found }
+{
+    match method {
+        Method::OfAdt(body) => match checker.walk.items.body_sig(body) {
+            Some(sig) => is_self_method(checker, sig.name.as_str()),
+            None => false,
+        },
+        Method::OfTrait { .. } => true,
     }
 }
 
@@ -170,11 +186,11 @@ fn check_receiver(checker: &mut Checker, at: Pos, self_ty: TyId) -> Result<bool,
 
 fn with_self(
     checker: &mut Checker,
-    at: Pos,
     method: Method,
     self_ty: TyId,
 ) -> Result<MethodReceiver, RuleError>
-    ensures gives { (id : ℕ) (found : rows.Method) → method_seen checker.old.walk.items method ≡ Some found →
+    ensures gives { (id : ℕ) (at : Pos) (found : rows.Method) → method_seen checker.old.walk.items method ≡ Some found →
+        rows.has_self (env checker.old) found ≡ true →
         self_of checker.old.walk.items (ty_of (top (stack checker.old))) (rows.head_of found).params ≡ Some self_ty →
         (expected : Option TyId) → GivesCall (λ count args. rows.with_method (env checker.old) at id (top (stack checker.old)) (Some found) count args expected) (state checker.old) (λ r. r.params) (receiver_rest id at expected) result checker.new }
     ensures kept { KeepsStack (below (stack checker.old)) checker.old result checker.new }
@@ -182,11 +198,13 @@ fn with_self(
     let answer = answer_of(&checker.walk.items, method);
     let is_drop = is_drop(checker, method);
     let params = other_params(checker, method)?;
-    let is_unique = check_receiver(checker, at, self_ty)?;
+    let place_at = checker.last_at();
+    let is_unique = check_receiver(checker, place_at, self_ty)?;
     Ok(MethodReceiver {
         called: Some(Called {
             behind: behind_of(method),
             answer,
+            place_at,
             is_unique,
             is_drop,
         }),
@@ -203,29 +221,29 @@ fn no_method(checker: &Checker) -> MethodReceiver
     }
 }
 
-fn with_method(checker: &mut Checker, at: Pos, method: Method) -> Result<MethodReceiver, RuleError>
-    ensures gives { (id : ℕ) (found : rows.Method) → method_seen checker.old.walk.items method ≡ Some found →
+fn with_method(checker: &mut Checker, method: Method) -> Result<MethodReceiver, RuleError>
+    ensures gives { (id : ℕ) (at : Pos) (found : rows.Method) → method_seen checker.old.walk.items method ≡ Some found →
         (expected : Option TyId) → GivesCall (λ count args. rows.with_method (env checker.old) at id (top (stack checker.old)) (Some found) count args expected) (state checker.old) (λ r. r.params) (receiver_rest id at expected) result checker.new }
     ensures kept { KeepsStack (below (stack checker.old)) checker.old result checker.new }
 {
+    if !has_self(checker, method) {
+        return Ok(no_method(checker));
+    }
     match self_ty(&checker.walk.items, checker.last_ty(), method) {
-        Some(self_ty) => with_self(checker, at, method, self_ty),
+        Some(self_ty) => with_self(checker, method, self_ty),
         None => Ok(no_method(checker)),
     }
 }
 
 /// The last node as the receiver of a method of this name: it is gone through, up to the first type that has one, and
 /// borrowed or taken as the method says. The arguments are checked behind it, and then [`method_end`] ends the call.
-pub fn method_receiver(
-    checker: &mut Checker,
-    at: Pos,
-    name: &str,
-) -> Result<MethodReceiver, RuleError>
-    ensures gives { (id : ℕ) (expected : Option TyId) → GivesCall (method_end (env checker.old) id at (named.method_named name.now) expected (top (stack checker.old))) (state checker.old) (λ r. r.params) (receiver_rest id at expected) result checker.new }
+pub fn method_receiver(checker: &mut Checker, name: &str) -> Result<MethodReceiver, RuleError>
+    ensures gives { (id : ℕ) (at : Pos) (expected : Option TyId) → GivesCall (method_end (env checker.old) id at (named.method_named name.now) expected (top (stack checker.old))) (state checker.old) (λ r. r.params) (receiver_rest id at expected) result checker.new }
     ensures kept { KeepsStack (below (stack checker.old)) checker.old result checker.new }
 {
-    match through(checker, at, name)? {
-        Some(method) => with_method(checker, at, method),
+    let place_at = checker.last_at();
+    match through(checker, place_at, name)? {
+        Some(method) => with_method(checker, method),
         None => Ok(no_method(checker)),
     }
 }
@@ -289,7 +307,7 @@ fn refused_end(
         expected,
     )?;
     if is_refused {
-        return Err(broken_rule(Rule::T08, at));
+        return Err(broken_rule(Rule::T08, called.place_at));
     }
     obeys(Rule::T13, at, !called.is_drop)
 }

@@ -39,6 +39,10 @@ pub self_is : (t : Tables) (s : BodyScope) → (env_in t s).self_adt ≡ s.self_
 unfolding env_in
 self_is t s = refl
 
+pub methods_are : (t : Tables) (s : BodyScope) → (env_in t s).methods ≡ t.self_methods
+unfolding env_in
+methods_are t s = refl
+
 kinds_are : (t : Tables) (s : BodyScope) → (env_in t s).kinds ≡ all_kinds_of t.kinds
 unfolding env_in
 kinds_are t s = refl

@@ -46,6 +46,7 @@ env_in t s =
       adts = t.adts;
       traits = t.traits;
       kinds = all_kinds_of t.kinds;
+      methods = t.self_methods;
       self_adt = s.self_adt;
       variables = s.variables;
       loops = reverse (map around_of s.loops);

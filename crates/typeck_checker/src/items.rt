@@ -1,5 +1,7 @@
 //! Structs, enums, variants, functions and methods by their names.
-ghost use Rattle.std.specs.Prelude.{◌≡◌, IfErr, IfOk, ◌++◌, codes};
+ghost use Rattle.std.specs.Prelude.{◌≡◌, IfErr, IfOk, ◌++◌, codes, is_some};
+ghost use Rattle.std.specs.List.{position as position_of};
+ghost use Rattle.std.specs.Str.{bytes_eq};
 ghost use Rattle.std.specs.String.{string_bytes};
 ghost use Rattle.mir_base.specs.declared.rule.RuleError.{RuleError};
 ghost use Rattle.src_ast.specs.ItemForms.{kind_seen};
@@ -28,6 +30,14 @@ pub fn body_named(checker: &Checker, name: &str) -> Option<u32>
     ensures { result ≡ scope.body_named checker.now.walk.items name.now }
 {
     checker.tables.body_names.find(name)
+}
+
+/// Whether a method of an impl, by its whole name, has `self`.
+#[tactic(auto, using(crate::proofs::NameTables::methods_are))]
+pub fn is_self_method(checker: &Checker, name: &str) -> bool
+    ensures { result ≡ is_some (position_of (bytes_eq name.now) (env checker.now).methods) }
+{
+    checker.tables.self_methods.find(name).is_some()
 }
 
 fn method_word(alloc: Global, adt: &str, name: &str) -> Result<String, AllocError>

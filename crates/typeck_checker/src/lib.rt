@@ -25,7 +25,9 @@ pub use binding_scopes::{count, enter, enter_all, leave};
 pub use body_scope::BodyScope;
 pub use checker::Checker;
 pub use forms::{Four, Leaf, One, Three, TwoParts};
-pub use items::{adt_at_head, adt_named, body_named, kind_at, method_of, variant_of_enum};
+pub use items::{
+    adt_at_head, adt_named, body_named, is_self_method, kind_at, method_of, variant_of_enum,
+};
 pub use lists::{
     Behind, Many, coerce_many, let_go, one_type_of, take_nodes, wrap_behind, wrap_many,
 };

@@ -12,6 +12,8 @@ pub struct Tables {
     pub traits: NameTable,
     /// How the parts of each variant of each struct and enum are written.
     pub kinds: List<List<FieldKind>>,
+    /// The methods of impls that have `self`, by their names.
+    pub self_methods: NameTable,
     /// The names of structs and enums, of traits, and of bodies, as the items have them.
     pub adt_names: NameTable,
     pub trait_names: NameTable,
@@ -33,6 +35,7 @@ impl Drop for Tables {
             adts,
             traits,
             kinds,
+            self_methods,
             adt_names,
             trait_names,
             body_names,
@@ -44,6 +47,7 @@ impl Drop for Tables {
         drop(adts);
         drop(traits);
         drop(kinds);
+        drop(self_methods);
         drop(adt_names);
         drop(trait_names);
         drop(body_names);

@@ -27,6 +27,7 @@ fn no_tables(alloc: Global) -> Tables
         adts: NameTable::new(alloc),
         traits: NameTable::new(alloc),
         kinds: List::new(alloc),
+        self_methods: NameTable::new(alloc),
         adt_names: NameTable::new(alloc),
         trait_names: NameTable::new(alloc),
         body_names: NameTable::new(alloc),

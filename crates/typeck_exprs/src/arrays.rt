@@ -1,5 +1,5 @@
 //! How an array ends, once its elements are checked (The Rust Reference, "Array expressions").
-ghost use Rattle.std.specs.Prelude.{◌≡◌, ◌==◌, ◌||◌, not};
+ghost use Rattle.std.specs.Prelude.{◌≡◌, ◌==◌, ◌||◌, is_some, not};
 ghost use Rattle.typeck_checker.specs.Lists.{below_all, last_nodes, last_types};
 ghost use Rattle.typing_rules.specs.Rows as rows;
 ghost use Rattle.typeck_checker.specs.Stand.{Gives, KeepsStack, stack, state};
@@ -38,10 +38,10 @@ fn sized_array(
 }
 
 /// Whether the type of an array is known: it has elements, or one is required.
-fn is_known(has_type: bool, count: usize) -> bool
-    ensures { result ≡ (has_type || not (count == 0)) }
+fn is_known(expected: Option<TyId>, count: usize) -> bool
+    ensures { result ≡ (is_some expected || not (count == 0)) }
 {
-    has_type || count != 0
+    expected.is_some() || count != 0
 }
 
 fn counted_array(
@@ -49,14 +49,13 @@ fn counted_array(
     id: NodeId,
     at: Pos,
     element: TyId,
-    has_type: bool,
     count: usize,
     expected: Option<TyId>,
 ) -> Result<(), RuleError>
-    ensures gives { Gives (counted_array_end id.0 at count has_type element (last_nodes count (stack checker.old)) expected (state checker.old)) result checker.new }
+    ensures gives { Gives (counted_array_end id.0 at count element (last_nodes count (stack checker.old)) expected (state checker.old)) result checker.new }
     ensures kept { KeepsStack (below_all count (stack checker.old)) checker.old result checker.new }
 {
-    obeys(Rule::T16, at, is_known(has_type, count))?;
+    obeys(Rule::T16, at, is_known(expected, count))?;
     sized_array(checker, id, at, element, count, expected)
 }
 
@@ -73,7 +72,7 @@ pub fn elements_end(
     ensures kept { KeepsStack (below_all count (stack checker.old)) checker.old result checker.new }
 {
     match element_ty(checker, wanted, count) {
-        Some(element) => counted_array(checker, id, at, element, wanted.is_some(), count, expected),
+        Some(element) => counted_array(checker, id, at, element, count, expected),
         None => Err(broken_rule(Rule::T03, at)),
     }
 }

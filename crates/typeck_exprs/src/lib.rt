@@ -45,6 +45,6 @@ pub use operators::{
 };
 pub use place_forms::{NamedVariable, PlaceForm, place_form, variable_of};
 pub use places::{deref_end, element_end};
-pub use references::{borrow_end, borrow_of};
+pub use references::{borrow_alone_end, borrow_end, borrow_of};
 pub use statements::evaluate_end;
 pub use stores::store_end;

@@ -4,12 +4,13 @@ ghost use Rattle.typing_rules.specs.Places as places;
 ghost use Rattle.typing_rules.specs.Rows as rows;
 ghost use Rattle.well_typed.specs.Types.{is_same};
 ghost use Rattle.typeck_checker.specs.Stand.{Gives, KeepsStack, below, stack, state, top};
-ghost use Rattle.typing_rules.specs.Rows.{borrow_allowed_end, borrow_end};
+ghost use Rattle.typing_rules.specs.Rows.{borrow_allowed_end, borrow_alone_end, borrow_end};
 
 use mir_base::{NodeId, Pos, Rule, RuleError};
-use mir_ty::{Ty, TyId};
+use mir_ty::{Items, Ty, TyId};
 use typeck_checker::{Checker, One};
-use typeck_heads::obeys;
+use typeck_env::reference_of;
+use typeck_heads::{broken_rule, obeys};
 use typed_tree::Use;
 
 fn reference_ty(unique: bool, to: TyId) -> Ty
@@ -43,6 +44,34 @@ fn is_for(of: TyId, to: TyId, unique: bool, is_unique: bool) -> bool
     ensures { result ≡ (is_same of to && rows.is_same_truth unique is_unique) }
 {
     of.0 == to.0 && unique == is_unique
+}
+
+/// Whether a borrow of a value of this type has the type that is required of it, if one is.
+fn agrees_borrow(items: &Items, unique: bool, to: TyId, expected: Option<TyId>) -> bool
+    ensures { result ≡ rows.agrees_borrow items.now unique to expected }
+{
+    match expected {
+        Some(expected) => match reference_of(items, expected) {
+            Some((is_unique, inside)) => is_for(inside, to, is_unique, unique),
+            None => false,
+        },
+        None => true,
+    }
+}
+
+/// `&e` and `&mut e` of the last node, where they are no argument for a reference: a rule is broken.
+pub fn borrow_alone_end(
+    checker: &mut Checker,
+    at: Pos,
+    unique: bool,
+    expected: Option<TyId>,
+) -> Result<(), RuleError>
+    ensures gives { Gives (borrow_alone_end at unique expected (top (stack checker.old)) (state checker.old)) result checker.new }
+    ensures kept { KeepsStack (below (stack checker.old)) checker.old result checker.new }
+{
+    let agrees = agrees_borrow(&checker.walk.items, unique, checker.last_ty(), expected);
+    obeys(Rule::T03, at, agrees)?;
+    Err(broken_rule(Rule::T08, at))
 }
 
 /// Whether the last node may be borrowed so.

@@ -21,9 +21,9 @@ use Rattle.typeck_checker.specs.declared.checker.Checker.{Checker}
 use Rattle.typed_tree.specs.Tree as tree
 use Rattle.typed_tree.specs.Tree.{Node, Nodes, a_node, Fields, no_field, a_field, Form}
 use Rattle.typing_rules.specs.Check.{Check, TypingState, Broken, and_then, ◌>>=◌, ◌>>◌, known, number, pure, obeys, the_items}
-use Rattle.typing_rules.specs.Patterns.{are_given_once, BoundPattern, count_of, field_patterns, fields_from, fields_of, inside_of, is_count, of_target, part_patterns, pattern, pattern_form, PatternTarget, target_end, tuple_types}
+use Rattle.typing_rules.specs.Patterns.{are_all_given, are_given_once, BoundPattern, count_of, field_patterns, fields_from, fields_of, inside_of, is_count, of_target, part_patterns, pattern, pattern_form, PatternTarget, target_end, tuple_types}
 use Rattle.typing_rules.specs.Places.{a_node_of}
-use Rattle.typing_rules.specs.Rows.{PatternContext, Given, all_given, are_known}
+use Rattle.typing_rules.specs.Rows.{PatternContext, Given, are_known}
 use Rattle.typing_rules.specs.Scope.{Env, NamedEntry}
 use Rattle.well_typed.specs.Types.{array_of}
 use Rattle.typeck_patterns.specs.Numbers.{numbers_below}
@@ -62,19 +62,19 @@ module _ (w : Env) (id : ℕ) (at : Pos) (e : PatternContext) (ty : TyId) (t : P
 
   abbrev by_name : Bool → List TyId → Result ((Fields × List NamedEntry × Given) × TypingState) Broken → Result (BoundPattern × TypingState) Broken
   by_name dots tys o =
-      and_then {A = Parts} (and_then o (λ ps. pure {A = Parts} (ps.0, ps.1, are_given_once ps.2 && (dots || all_given (length tys) ps.2), are_known ps.2))) closed
+      and_then {A = Parts} (and_then o (λ ps. pure {A = Parts} (ps.0, ps.1, are_given_once ps.2 && (dots || are_all_given (length tys) ps.2), are_known ps.2))) closed
 
   pub fields_close : (v : Variant) (fields : Syns) (dots : Bool) (xs ys : List NamedEntry) (s u : TypingState) (given : Given) (ns : List Node) (n : ℕ) (r : Result (Unit {0}) RuleError) (c : Checker) →
       field_patterns w (inside_of s.items ty e) v fields xs s ≡ Ok ((last_fields given ns, ys, given), u) →
       n ≡ length (fields_of s.items t) →
-      Gives (target_rest id at e.takes_all ty t (last_fields given ns) (are_given_once given && (dots || all_given n given)) (are_known given) u) r c →
+      Gives (target_rest id at e.takes_all ty t (last_fields given ns) (are_given_once given && (dots || are_all_given n given)) (are_known given) u) r c →
       GivesBeside (target_end id at e ty t (parts_by_name w v fields dots xs) s) r ys c
   fields_close v fields dots xs ys s u given ns n r c here is gives =
       subst (λ o. GivesBeside o r ys c)
       (sym (ap (by_name dots (fields_of s.items t)) here
-      ∙ ap (λ (z : ℕ). target_bound id at e.takes_all ty t (last_fields given ns) (are_given_once given && (dots || all_given z given)) (are_known given) ys u) (sym is)
-      ∙ ends_beside id at e.takes_all ty t (last_fields given ns) (are_given_once given && (dots || all_given n given)) (are_known given) ys u))
-      (beside (target_rest id at e.takes_all ty t (last_fields given ns) (are_given_once given && (dots || all_given n given)) (are_known given) u) r ys c gives)
+      ∙ ap (λ (z : ℕ). target_bound id at e.takes_all ty t (last_fields given ns) (are_given_once given && (dots || are_all_given z given)) (are_known given) ys u) (sym is)
+      ∙ ends_beside id at e.takes_all ty t (last_fields given ns) (are_given_once given && (dots || are_all_given n given)) (are_known given) ys u))
+      (beside (target_rest id at e.takes_all ty t (last_fields given ns) (are_given_once given && (dots || are_all_given n given)) (are_known given) u) r ys c gives)
 
   pub fields_stop : (v : Variant) (fields : Syns) (dots : Bool) (xs : List NamedEntry) (s : TypingState) (err : RuleError) →
       Refuses (field_patterns w (inside_of s.items ty e) v fields xs s) err →
@@ -147,10 +147,10 @@ first_if given None (Some p) types h is = absurd h
 first_if given None None types h is = absurd (cc)
 
 pub tuple_is : (w : Env) (at : Pos) (e : PatternContext) (ty : TyId) (parts : Syns) (dots : Bool) (xs : List NamedEntry) (s t : TypingState) (id : ℕ) (tys : List TyId) →
-    number s ≡ Ok (id, t) → tuple_types t.items ty ≡ Some tys →
+    number s ≡ Ok (id, t) → tuple_types t.items ty (count_of parts) dots ≡ Some tys →
     pattern_form w e ty at (TuplePattern parts dots) xs s ≡ order_rest w id at e ty tys (length tys) tree.TuplePattern parts dots xs t
 tuple_is w at e ty parts dots xs s t id tys here is =
-    numbered (λ id. the_items >>= (λ items. known Rule.T03 at (tuple_types items ty) >>= (λ tys. order_rest w id at e ty tys (length tys) tree.TuplePattern parts dots xs))) s t id here
+    numbered (λ id. the_items >>= (λ items. known Rule.T03 at (tuple_types items ty (count_of parts) dots) >>= (λ tys. order_rest w id at e ty tys (length tys) tree.TuplePattern parts dots xs))) s t id here
     ∙ ap (λ o. and_then {B = BoundPattern} (known {A = List TyId} Rule.T03 at o t) (λ tys. order_rest w id at e ty tys (length tys) tree.TuplePattern parts dots xs)) is
 
 pub array_is : (w : Env) (at : Pos) (e : PatternContext) (ty : TyId) (parts : Syns) (dots : Bool) (xs : List NamedEntry) (s t : TypingState) (id : ℕ) (element : TyId) (count : ℕ) →

@@ -18,9 +18,9 @@ use Rattle.typed_tree.specs.declared.node.Node as made
 use Rattle.typing_rules.specs.Check.{TypingState}
 use Rattle.typing_rules.specs.Rows.{is_unused_place}
 use Rattle.typing_rules.specs.Scope.{Env}
-use Rattle.typing_rules.specs.Typed.{is_one_name}
+use Rattle.typing_rules.specs.Typed.{is_one_name, takes_any}
 use Rattle.well_typed.specs.Places.{is_place}
-use Rattle.typeck_patterns.specs.BindingForms.{one_name_as}
+use Rattle.typeck_patterns.specs.BindingForms.{any_as, one_name_as}
 use Rattle.typeck_patterns.specs.BindingRests.{let_alone_rest, let_rest}
 
 as_form : (items : ItemTable) (x : Syn) → is_one_name items x ≡ one_name_as items (pattern_part (shape_of x))
@@ -57,6 +57,43 @@ no_name items n seen is_seen no_bind no_parens =
     other (PatternForm.Array a b) h k = refl
     other (PatternForm.Or a) h k = refl
     other PatternForm.Other h k = refl
+
+-- ---- `_`
+
+any_form : (x : Syn) → takes_any x ≡ any_as (pattern_part (shape_of x))
+any_form (syn at (APattern AnyPattern)) = refl
+any_form (syn at _) = refl
+
+pub any_seen : (n : SyntaxNode) → takes_any (syn_of n) ≡ any_as (pattern_part (shape_of (syn_of n)))
+any_seen n = any_form (syn_of n)
+
+pub any_told_of : (n : SyntaxNode) (b : Bool) (seen form : PatternForm) → seen ≡ form →
+    pattern_of seen ≡ pattern_part (shape_of (syn_of n)) → b ≡ any_as (pattern_of form) → b ≡ takes_any (syn_of n)
+any_told_of n b seen form is is_seen told =
+    told ∙ ap (λ f. any_as (pattern_of f)) (sym is) ∙ ap any_as is_seen ∙ sym (any_seen n)
+
+pub not_any : (n : SyntaxNode) (seen : PatternForm) → pattern_of seen ≡ pattern_part (shape_of (syn_of n)) →
+    (seen ≡ PatternForm.Wild → ⊥) → ((inside : Bor SyntaxNode) → seen ≡ PatternForm.Parens inside → ⊥) →
+    false ≡ takes_any (syn_of n)
+not_any n seen is_seen no_wild no_parens =
+    other seen no_wild no_parens ∙ ap any_as is_seen ∙ sym (any_seen n)
+  where
+    other : (f : PatternForm) → (f ≡ PatternForm.Wild → ⊥) → ((inside : Bor SyntaxNode) → f ≡ PatternForm.Parens inside → ⊥) →
+        false ≡ any_as (pattern_of f)
+    other PatternForm.Wild h k = absurd (h refl)
+    other (PatternForm.Bind name) h k = refl
+    other (PatternForm.Literal a b c) h k = refl
+    other (PatternForm.Truth a) h k = refl
+    other (PatternForm.Path a) h k = refl
+    other (PatternForm.Parts a b c) h k = refl
+    other (PatternForm.Fields a b c) h k = refl
+    other (PatternForm.Parens inside) h k = absurd (k inside refl)
+    other (PatternForm.Tuple a b) h k = refl
+    other (PatternForm.Array a b) h k = refl
+    other (PatternForm.Or a) h k = refl
+    other PatternForm.Other h k = refl
+
+-- ---- initialisers
 
 pub unused_same : (n : made.Node) → is_unused_place (view.tree_of n) ≡ (is_place (view.form_of n.form) && is_none n.by)
 unused_same n = ap is_unused_place (shape n)

@@ -1,5 +1,5 @@
 -- The rest of a row of patterns with parts, once its first lines are checked: each is by definition the end of the row.
-use Rattle.std.specs.Prelude.{ℕ, Bool, true, ◌==◌, ◌&&◌, ◌||◌, not, List, length}
+use Rattle.std.specs.Prelude.{ℕ, Bool, true, ◌&&◌, ◌||◌, not, List, length}
 use Rattle.mir_base.specs.declared.place_in_text.Pos.{Pos}
 use Rattle.mir_base.specs.declared.rule.Rule.{Rule}
 use Rattle.mir_ty.specs.declared.adt.Variant.{Variant}
@@ -8,9 +8,9 @@ use Rattle.src_ast.specs.Syntax.{Syns}
 use Rattle.typed_tree.specs.Tree as tree
 use Rattle.typed_tree.specs.Tree.{Node, Nodes, Fields, Form}
 use Rattle.typing_rules.specs.Check.{Check, ◌>>=◌, ◌>>◌, pure, obeys}
-use Rattle.typing_rules.specs.Patterns.{BoundPattern, PatternTarget, are_given_once, count_of, each_pattern, field_patterns, fields_from, has_named_parts, has_names, is_count, part_patterns}
+use Rattle.typing_rules.specs.Patterns.{BoundPattern, PatternTarget, are_all_given, are_given_once, are_ordered, count_of, each_pattern, field_patterns, fields_from, has_names, is_count, part_patterns}
 use Rattle.typing_rules.specs.Places.{a_node_of}
-use Rattle.typing_rules.specs.Rows.{PatternContext, all_given, are_known}
+use Rattle.typing_rules.specs.Rows.{PatternContext, are_known}
 use Rattle.typing_rules.specs.Scope.{Env, NamedEntry}
 
 -- the parts of a tuple or an array in their order
@@ -35,9 +35,9 @@ alternatives_rest env id at e ty patterns earlier = do
 
 -- ---- structs and variants
 
--- as many parts as there are fields, and no list of parts where the fields have names
+-- as many parts as there are fields, where these stand in an order
 abbrev pub is_tuple_count : Env → PatternTarget → ℕ → ℕ → Bool → Bool
-is_tuple_count env t given count dots = is_count dots given count && not (has_named_parts env t && not (given == 0))
+is_tuple_count env t given count dots = is_count dots given count && are_ordered env t dots
 
 abbrev pub parts_in_order : Env → PatternTarget → Syns → Bool → List NamedEntry → PatternContext → List TyId →
     Check (Fields × List NamedEntry × Bool ×
@@ -51,4 +51,4 @@ abbrev pub parts_by_name : Env → Variant → Syns → Bool → List NamedEntry
     Bool)
 parts_by_name env v fields dots earlier inside tys = do
   ps ← field_patterns env inside v fields earlier
-  pure (ps.0, ps.1, are_given_once ps.2 && (dots || all_given (length tys) ps.2), are_known ps.2)
+  pure (ps.0, ps.1, are_given_once ps.2 && (dots || are_all_given (length tys) ps.2), are_known ps.2)

@@ -7,7 +7,7 @@ use Rattle.mir_ty.specs.declared.ty.TyId.{TyId}
 use Rattle.src_ast.specs.Syntax.{Word, syn, Shape, Pattern, MaybeSyn, nothing, just}
 use Rattle.typed_tree.specs.Tree.{Node}
 use Rattle.typing_rules.specs.Check.{Check, breaks}
-use Rattle.typing_rules.specs.Patterns.{BoundPattern, bind, field_pattern, pattern, pattern_form}
+use Rattle.typing_rules.specs.Patterns.{BoundPattern, field_pattern, lone_name, pattern, pattern_form}
 use Rattle.typing_rules.specs.Rows.{PatternContext}
 use Rattle.typing_rules.specs.Scope.{Env, NamedEntry}
 
@@ -21,7 +21,7 @@ abbrev pub field_as : Env → PatternContext → Variant → Pos → Option Shap
 field_as env e v at None earlier = breaks Rule.T20 at
 field_as env e v at (Some form) earlier = field_pattern env e v (syn at form) earlier
 
--- the pattern of a field; without one its name is bound
+-- the pattern of a field; without one its name is the pattern
 abbrev pub inside_as : Env → Pos → PatternContext → TyId → Word → MaybeSyn → List NamedEntry → Check BoundPattern
-inside_as env at e ty name nothing earlier = bind at e ty name earlier
+inside_as env at e ty name nothing earlier = lone_name env at e ty name earlier
 inside_as env at e ty name (just inside) earlier = pattern env e ty inside earlier

@@ -22,19 +22,21 @@ use std::alloc::Global;
 use typeck_checker::{Checker, Many, kind_at, wrap_many};
 use typeck_heads::{obeys, push_to};
 
-fn is_named_kind(kind: FieldKind) -> bool
-    ensures { result ≡ rules.is_named_kind (kind_seen kind) }
+fn has_ordered_parts(kind: FieldKind, dots: bool) -> bool
+    ensures { result ≡ rules.has_ordered_parts (kind_seen kind) dots }
 {
     match kind {
-        FieldKind::Named => true,
-        _ => false,
+        FieldKind::Unit => !dots,
+        FieldKind::Tuple => true,
+        FieldKind::Named => false,
     }
 }
 
-fn has_named_parts(checker: &Checker, target: PatternTarget) -> bool
-    ensures { result ≡ rules.has_named_parts (env checker.now) (target_in target) }
+/// Whether a struct or a variant may have a pattern with parts in parentheses.
+fn are_ordered(checker: &Checker, target: PatternTarget, dots: bool) -> bool
+    ensures { result ≡ rules.are_ordered (env checker.now) (target_in target) dots }
 {
-    is_named_kind(kind_at(checker, target.adt, target.variant))
+    has_ordered_parts(kind_at(checker, target.adt, target.variant), dots)
 }
 
 /// A pattern whose parts, the last nodes, so many, stand in their order; `is_count` where there are as many as there
@@ -65,7 +67,7 @@ pub fn is_tuple_count(
 ) -> bool
     ensures { result ≡ is_tuple_count_of (env checker.now) (target_in target) given count dots }
 {
-    is_count(dots, given, count) && !(has_named_parts(checker, target) && !(given == 0))
+    is_count(dots, given, count) && are_ordered(checker, target, dots)
 }
 
 /// The numbers of the first fields, so many.
@@ -113,7 +115,7 @@ pub fn named_end(
     dots: bool,
 ) -> Result<(), RuleError>
     ensures gives { Gives (target_rest id.0 at takes_all ty (target_in target) (last_fields given (stack checker.old))
-        (are_given_once given && (dots || rows.all_given count given)) (rows.are_known given) (state checker.old)) result checker.new }
+        (are_given_once given && (dots || rules.are_all_given count given)) (rows.are_known given) (state checker.old)) result checker.new }
     ensures kept { KeepsStack (below_given given (stack checker.old)) checker.old result checker.new }
 {
     let is_count = is_whole(checker.alloc, given.as_slice(), count, dots)?;

@@ -1,5 +1,5 @@
 //! Which fields of a struct or a variant a pattern gives.
-ghost use Rattle.std.specs.Prelude.{◌≡◌, ◌==◌, ◌&&◌, ◌||◌, [], ℕ, not, IfErr, IfOk, OnOk};
+ghost use Rattle.std.specs.Prelude.{◌≡◌, ◌==◌, ◌&&◌, ◌||◌, [], ℕ, length, not, IfErr, IfOk, OnOk};
 ghost use Rattle.mir_base.specs.declared.rule.RuleError.{RuleError};
 ghost use Rattle.typing_rules.specs.Patterns as rules;
 ghost use Rattle.typing_rules.specs.Rows as rows;
@@ -65,13 +65,14 @@ fn has_all(seen: &HashSet<usize>, count: usize) -> bool
     all
 }
 
-fn are_enough(seen: &HashSet<usize>, count: usize, dots: bool) -> bool
-    ensures { result ≡ (dots || has_all_of count seen.now.keys) }
+/// Whether these are as many as there are fields, and all of these were noted; or whether `..` stands for the others.
+fn are_enough(seen: &HashSet<usize>, given: &[Option<u32>], count: usize, dots: bool) -> bool
+    ensures { result ≡ (dots || (length given.now == count && has_all_of count seen.now.keys)) }
 {
-    dots || has_all(seen, count)
+    dots || (given.len() == count && has_all(seen, count))
 }
 
-/// Whether no field is given twice, and all of them, so many, are where no `..` stands last.
+/// Whether no field is given twice, and all of them, so many, and nothing beside are where no `..` stands last.
 pub fn is_whole(
     alloc: Global,
     given: &[Option<u32>],
@@ -79,12 +80,12 @@ pub fn is_whole(
     dots: bool,
 ) -> Result<bool, RuleError>
     ensures whole { IfOk result (λ is_whole. is_whole ≡
-        (rules.are_given_once given.now && (dots || rows.all_given count given.now))) }
+        (rules.are_given_once given.now && (dots || rules.are_all_given count given.now))) }
     ensures short { IfErr result (λ e. e ≡ RuleError.Memory) }
 {
     let mut seen = HashSet::new(alloc);
     let once = are_given_once(&mut seen, given)?;
-    Ok(once && are_enough(&seen, count, dots))
+    Ok(once && are_enough(&seen, given, count, dots))
 }
 
 /// Whether each name is one of a field.

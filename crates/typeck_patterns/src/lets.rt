@@ -49,19 +49,32 @@ pub fn is_one_name(checker: &Checker, node: &SyntaxNode) -> bool
     }
 }
 
-/// Whether the last node may be taken apart as a value of the type `expected`: a place of type `!` has no parts.
-fn has_parts(checker: &Checker, expected: TyId) -> bool
-    ensures { result ≡ (is_same (ty_of (top (stack checker.now))) expected || not (types.is_never checker.now.walk.items (ty_of (top (stack checker.now))))) }
+/// Whether a pattern is `_`, in parentheses or not.
+#[tactic(auto, using(crate::proofs::OneName::any_seen))]
+pub fn takes_any(node: &SyntaxNode) -> bool
+    ensures { result ≡ typed.takes_any (syn_of node.now) }
 {
-    let ty = checker.last_ty();
-    ty == expected || !is_never(&checker.walk.items, ty)
+    match pattern_form(node) {
+        PatternForm::Wild => true,
+        PatternForm::Parens(inside) => takes_any(inside),
+        _ => false,
+    }
 }
 
-fn place_of(checker: &mut Checker, expected: TyId) -> Result<(), RuleError>
-    ensures gives { Gives (rows.place_for_parts (env checker.old) (Some expected) (top (stack checker.old)) (state checker.old)) result checker.new }
+/// Whether the last node may be taken apart as a value of the type `expected`: a place of type `!` has no parts, so its
+/// pattern is `_` there.
+fn has_parts(checker: &Checker, takes_any: bool, expected: TyId) -> bool
+    ensures { result ≡ (takes_any || (is_same (ty_of (top (stack checker.now))) expected || not (types.is_never checker.now.walk.items (ty_of (top (stack checker.now)))))) }
+{
+    let ty = checker.last_ty();
+    takes_any || (ty == expected || !is_never(&checker.walk.items, ty))
+}
+
+fn place_of(checker: &mut Checker, takes_any: bool, expected: TyId) -> Result<(), RuleError>
+    ensures gives { Gives (rows.place_for_parts (env checker.old) takes_any (Some expected) (top (stack checker.old)) (state checker.old)) result checker.new }
     ensures kept { KeepsStack (below (stack checker.old)) checker.old result checker.new }
 {
-    let has_parts = has_parts(checker, expected);
+    let has_parts = has_parts(checker, takes_any, expected);
     obeys(Rule::T03, checker.last_at(), has_parts)?;
     match how_it_fits(
         &checker.tables.pairs,
@@ -75,14 +88,18 @@ fn place_of(checker: &mut Checker, expected: TyId) -> Result<(), RuleError>
     }
 }
 
-/// The last node, a place that is the initialiser of a pattern with parts: it is taken apart where it stands, unless it
-/// is coerced.
-pub fn place_for_parts(checker: &mut Checker, expected: Option<TyId>) -> Result<(), RuleError>
-    ensures gives { Gives (rows.place_for_parts (env checker.old) expected (top (stack checker.old)) (state checker.old)) result checker.new }
+/// The last node, a place that is the initialiser of another pattern than one name: it is taken apart where it stands,
+/// unless it is coerced; `takes_any` where the pattern is `_`.
+pub fn place_for_parts(
+    checker: &mut Checker,
+    takes_any: bool,
+    expected: Option<TyId>,
+) -> Result<(), RuleError>
+    ensures gives { Gives (rows.place_for_parts (env checker.old) takes_any expected (top (stack checker.old)) (state checker.old)) result checker.new }
     ensures kept { KeepsStack (below (stack checker.old)) checker.old result checker.new }
 {
     match expected {
-        Some(expected) => place_of(checker, expected),
+        Some(expected) => place_of(checker, takes_any, expected),
         None => checker.no_reference(),
     }
 }
@@ -201,6 +218,17 @@ fn pattern_context_of_value(checker: &Checker, is_one_name: bool) -> PatternCont
     }
 }
 
+/// The type of what a `let` of a written type matches: a place that is taken apart, the last node, stands as it is.
+fn matched_ty(checker: &Checker, ty: TyId) -> TyId
+    ensures { result ≡ rows.matched_ty ty (top (stack checker.now)) }
+{
+    if is_unused(checker.last()) {
+        checker.last_ty()
+    } else {
+        ty
+    }
+}
+
 fn let_value_end(
     checker: &mut Checker,
     id: NodeId,
@@ -215,7 +243,7 @@ fn let_value_end(
 {
     let e = pattern_context_of_value(checker, is_one_name);
     match declared {
-        Some(ty) => let_typed_end(checker, id, at, e, ty, pattern),
+        Some(ty) => let_typed_end(checker, id, at, e, matched_ty(checker, ty), pattern),
         None => let_typed_end(checker, id, at, e, checker.last_ty(), pattern),
     }
 }

@@ -24,7 +24,7 @@ pub use counts::count_of;
 pub use fields::target_end;
 pub use given_fields::{are_known, is_whole};
 pub use leaves::{bind, literal_pattern, truth_pattern, wildcard};
-pub use lets::{is_one_name, let_end, place_for_parts};
+pub use lets::{is_one_name, let_end, place_for_parts, takes_any};
 pub use members::{FieldPart, field_parts};
 pub use parts::{PartTypes, element_types, field_count, field_types, tuple_types};
 pub use path_patterns::{lone_name, path_alone, target_begin};

@@ -1,5 +1,5 @@
 //! The types of the parts of a place, which the parts of its pattern have in their order.
-ghost use Rattle.std.specs.Prelude.{◌≡◌, length, min, replicate, Some, take, IfErr, IfOk};
+ghost use Rattle.std.specs.Prelude.{◌≡◌, ◌==◌, ◌||◌, length, min, not, replicate, Some, take, IfErr, IfOk};
 ghost use Rattle.std.specs.Option.{option_copied};
 ghost use Rattle.mir_base.specs.declared.rule.RuleError.{RuleError};
 ghost use Rattle.typing_rules.specs.Patterns as rules;
@@ -52,27 +52,57 @@ fn list_part_types(alloc: Global, types: &[TyId], given: usize) -> Result<PartTy
     })
 }
 
-fn listed_if(alloc: Global, types: &[TyId], given: usize) -> Result<Option<PartTypes>, RuleError>
-    ensures made { IfOk result (λ parts. AreFirstIf given (Some types.now) parts) }
+fn listed_if(
+    alloc: Global,
+    is: bool,
+    types: &[TyId],
+    given: usize,
+) -> Result<Option<PartTypes>, RuleError>
+    ensures made { IfOk result (λ parts. AreFirstIf given (rules.types_if is types.now) parts) }
     ensures short { IfErr result (λ e. e ≡ RuleError.Memory) }
 {
+    if !is {
+        return Ok(None);
+    }
     let parts = list_part_types(alloc, types, given)?;
     Ok(Some(parts))
 }
 
-/// The types of the parts of a tuple, none of `()`; `None` where a type is no tuple.
+/// Whether a pattern in parentheses is another than `()`.
+fn has_parts(given: usize, dots: bool) -> bool
+    ensures { result ≡ (dots || not (given == 0)) }
+{
+    dots || !(given == 0)
+}
+
+fn tuple_parts(
+    alloc: Global,
+    types: &[TyId],
+    given: usize,
+    dots: bool,
+) -> Result<Option<PartTypes>, RuleError>
+    ensures made { IfOk result (λ parts. AreFirstIf given (rules.types_if (dots || not (given == 0)) types.now) parts) }
+    ensures short { IfErr result (λ e. e ≡ RuleError.Memory) }
+{
+    let is = has_parts(given, dots);
+    listed_if(alloc, is, types, given)
+}
+
+/// The types of the parts for a tuple pattern of so many, with `..` behind them or not: none of `()`, whose pattern has
+/// no parts; `None` where a type has no such pattern.
 pub fn tuple_types(
     alloc: Global,
     items: &Items,
     ty: TyId,
     given: usize,
+    dots: bool,
 ) -> Result<Option<PartTypes>, RuleError>
-    ensures found { IfOk result (λ parts. AreFirstIf given (rules.tuple_types items.now ty) parts) }
+    ensures found { IfOk result (λ parts. AreFirstIf given (rules.tuple_types items.now ty given dots) parts) }
     ensures short { IfErr result (λ e. e ≡ RuleError.Memory) }
 {
     match items.ty(ty) {
-        Some(Ty::Unit) => listed_if(alloc, &[], given),
-        Some(Ty::Tuple(types)) => listed_if(alloc, types.as_slice(), given),
+        Some(Ty::Unit) => listed_if(alloc, given == 0, &[], given),
+        Some(Ty::Tuple(types)) => tuple_parts(alloc, types.as_slice(), given, dots),
         _ => Ok(None),
     }
 }

@@ -22,9 +22,9 @@ ghost use Rattle.typing_rules.specs.Patterns.{target_end};
 use crate::counts::{are_several, count_of, is_count, one_more};
 use crate::ends::{counted_end, is_tuple_count, named_end, ordered_end};
 use crate::{
-    FieldPart, PartTypes, PatternContext, PatternTarget, bind, element_types, field_count,
-    field_parts, field_types, inside_of, literal_pattern, lone_name, path_alone, target_begin,
-    target_of, truth_pattern, tuple_types, wildcard,
+    FieldPart, PartTypes, PatternContext, PatternTarget, element_types, field_count, field_parts,
+    field_types, inside_of, literal_pattern, lone_name, path_alone, target_begin, target_of,
+    truth_pattern, tuple_types, wildcard,
 };
 use mir_base::{List, NodeId, Pos, Rule, RuleError};
 use mir_ty::TyId;
@@ -114,7 +114,7 @@ fn inside_field(
 {
     match inside {
         Some(node) => pattern(checker, bound, e, ty, node),
-        None => bind(checker, bound, at, e, ty, name),
+        None => lone_name(checker, bound, at, e, ty, name),
     }
 }
 
@@ -226,7 +226,7 @@ fn tuple_pattern(
 {
     let id = checker.number()?;
     let given = count_of(parts)?;
-    match tuple_types(checker.alloc, &checker.walk.items, ty, given as usize)? {
+    match tuple_types(checker.alloc, &checker.walk.items, ty, given as usize, dots)? {
         Some(types) => in_order(
             checker,
             bound,

@@ -19,44 +19,44 @@ use Rattle.typing_rules.specs.Places.{a_node_of, unit}
 use Rattle.typing_rules.specs.Patterns.{BoundPattern, pattern}
 use Rattle.typing_rules.specs.Rows.{ends_by, let_ty, of_value, place_for_parts, taken}
 use Rattle.typing_rules.specs.Scope.{Env, NamedEntry, with_variables}
-use Rattle.typing_rules.specs.Typed.{a_statement, base_of, declared, for_parts, initialised, is_one_name, is_place, is_place_syn, other_statement, place, typed, value}
+use Rattle.typing_rules.specs.Typed.{a_statement, base_of, declared, for_parts, initialised, is_one_name, is_place, is_place_syn, other_statement, place, takes_any, typed, value}
 use Rattle.typeck_exprs.specs.Forms.{value_as}
 use Rattle.typeck_exprs.proofs.Shapes.{typed_value}
 
 -- ---- the initialiser of a pattern with parts
 
-pub parts_of_place : (e : Env) (x : Syn) (expected : Option TyId) → is_place_syn e x ≡ true → for_parts e expected x ≡ (base_of e x >>= place_for_parts e expected)
-parts_of_place e (syn at (AnExpression form)) expected is = by (is_place e form) is
+pub parts_of_place : (e : Env) (any : Bool) (x : Syn) (expected : Option TyId) → is_place_syn e x ≡ true → for_parts e any expected x ≡ (base_of e x >>= place_for_parts e any expected)
+parts_of_place e any (syn at (AnExpression form)) expected is = by (is_place e form) is
   where
     by : (b : Bool) → b ≡ true →
-        (if b then place e at form >>= place_for_parts e expected else value e at form expected) ≡ ((if b then place e at form else value e at form None) >>= place_for_parts e expected)
+        (if b then place e at form >>= place_for_parts e any expected else value e at form expected) ≡ ((if b then place e at form else value e at form None) >>= place_for_parts e any expected)
     by true h = refl
     by false h = absurd (false≢true h)
-parts_of_place e _ expected is = absurd (false≢true is)
+parts_of_place e any _ expected is = absurd (false≢true is)
 
-as_typed : (e : Env) (x : Syn) (expected : Option TyId) → is_place_syn e x ≡ false → for_parts e expected x ≡ typed e x expected
-as_typed e (syn at (AnExpression form)) expected is = by (is_place e form) is
+as_typed : (e : Env) (any : Bool) (x : Syn) (expected : Option TyId) → is_place_syn e x ≡ false → for_parts e any expected x ≡ typed e x expected
+as_typed e any (syn at (AnExpression form)) expected is = by (is_place e form) is
   where
     by : (b : Bool) → b ≡ false →
-        (if b then place e at form >>= place_for_parts e expected else value e at form expected) ≡ (if b then place e at form >>= taken e expected else value e at form expected)
+        (if b then place e at form >>= place_for_parts e any expected else value e at form expected) ≡ (if b then place e at form >>= taken e expected else value e at form expected)
     by true h = absurd (false≢true (sym h))
     by false h = refl
-as_typed e _ expected is = refl
+as_typed e any _ expected is = refl
 
-pub parts_of_value : (e : Env) (n : SyntaxNode) (expected : Option TyId) → is_place_syn e (syn_of n) ≡ false →
-    for_parts e expected (syn_of n) ≡ value_as e n.at (expression_part (shape_of (syn_of n))) expected
-parts_of_value e n expected is = as_typed e (syn_of n) expected is ∙ typed_value e n expected is
+pub parts_of_value : (e : Env) (any : Bool) (n : SyntaxNode) (expected : Option TyId) → is_place_syn e (syn_of n) ≡ false →
+    for_parts e any expected (syn_of n) ≡ value_as e n.at (expression_part (shape_of (syn_of n))) expected
+parts_of_value e any n expected is = as_typed e any (syn_of n) expected is ∙ typed_value e n expected is
 
 -- ---- a `let` as a whole
 
 pub stated : (e f g : Env) (at : Pos) (p : Syn) (ty init : MaybeSyn) (one : Bool) (id : ℕ) (d : Option TyId) (v : MaybeNode)
     (s s1 s2 s3 : TypingState) → one ≡ is_one_name s.items p → number s ≡ Ok (id, s1) → declared e ty s1 ≡ Ok (d, s2) →
-    initialised e one init d s2 ≡ Ok (v, s3) → f ≡ e →
+    initialised e one (takes_any p) init d s2 ≡ Ok (v, s3) → f ≡ e →
     other_statement e at (LetOf p ty init) s ≡ and_then (let_rest f id at one d v p s3) (λ n. λ t. Ok (a_statement n, t))
 stated e f g at p ty init one id d v s s1 s2 s3 is h1 h2 h3 same =
-    ap (λ (b : Bool). and_then (and_then (number s) (λ i. declared e ty >>= (λ d. initialised e b init d >>= (λ v. let_rest e i at b d v p)))) (λ n. λ t. Ok (a_statement n, t))) (sym is)
-    ∙ ap (λ o. and_then (and_then o (λ i. declared e ty >>= (λ d. initialised e one init d >>= (λ v. let_rest e i at one d v p)))) (λ n. λ t. Ok (a_statement n, t))) h1
-    ∙ ap (λ o. and_then (and_then o (λ d. initialised e one init d >>= (λ v. let_rest e id at one d v p))) (λ n. λ t. Ok (a_statement n, t))) h2
+    ap (λ (b : Bool). and_then (and_then (number s) (λ i. declared e ty >>= (λ d. initialised e b (takes_any p) init d >>= (λ v. let_rest e i at b d v p)))) (λ n. λ t. Ok (a_statement n, t))) (sym is)
+    ∙ ap (λ o. and_then (and_then o (λ i. declared e ty >>= (λ d. initialised e one (takes_any p) init d >>= (λ v. let_rest e i at one d v p)))) (λ n. λ t. Ok (a_statement n, t))) h1
+    ∙ ap (λ o. and_then (and_then o (λ d. initialised e one (takes_any p) init d >>= (λ v. let_rest e id at one d v p))) (λ n. λ t. Ok (a_statement n, t))) h2
     ∙ ap (λ o. and_then (and_then o (λ v. let_rest e id at one d v p)) (λ n. λ t. Ok (a_statement n, t))) h3
     ∙ ap (λ (k : Env). and_then (let_rest k id at one d v p s3) (λ n. λ t. Ok (a_statement n, t))) (sym same)
 
@@ -85,14 +85,14 @@ brings e f id at one d v p n b s t h = by_type e f id at one v p n b s t (let_ty
 -- a `let` that was checked
 pub let_done : (e f g : Env) (at : Pos) (p : Syn) (ty init : MaybeSyn) (one : Bool) (id : ℕ) (d : Option TyId) (v w : MaybeNode) (n : tree.Node × Bool × Env)
     (s s1 s2 s3 t : TypingState) → one ≡ is_one_name s.items p → number s ≡ Ok (id, s1) → declared e ty s1 ≡ Ok (d, s2) →
-    initialised e one init d s2 ≡ Ok (v, s3) → f ≡ e → let_rest f id at one d v p s3 ≡ Ok (n, t) →
+    initialised e one (takes_any p) init d s2 ≡ Ok (v, s3) → f ≡ e → let_rest f id at one d v p s3 ≡ Ok (n, t) →
     other_statement e at (LetOf p ty init) s ≡ Ok (a_statement n, t)
 let_done e f g at p ty init one id d v w n s s1 s2 s3 t is h1 h2 h3 same here =
     stated e f g at p ty init one id d v s s1 s2 s3 is h1 h2 h3 same ∙ ap (λ o. and_then o (λ n. λ t. Ok (a_statement n, t))) here
 
 pub let_refused : (e f g : Env) (at : Pos) (p : Syn) (ty init : MaybeSyn) (one : Bool) (id : ℕ) (d : Option TyId) (v : MaybeNode)
     (s s1 s2 s3 : TypingState) (err : RuleError) → one ≡ is_one_name s.items p → number s ≡ Ok (id, s1) → declared e ty s1 ≡ Ok (d, s2) →
-    initialised e one init d s2 ≡ Ok (v, s3) → f ≡ e → Refuses (let_rest f id at one d v p s3) err →
+    initialised e one (takes_any p) init d s2 ≡ Ok (v, s3) → f ≡ e → Refuses (let_rest f id at one d v p s3) err →
     Refuses (other_statement e at (LetOf p ty init) s) err
 let_refused e f g at p ty init one id d v s s1 s2 s3 err is h1 h2 h3 same here =
     subst (λ (o : Result ((Option tree.Node × Bool × Env) × TypingState) Broken). Refuses o err) (sym (stated e f g at p ty init one id d v s s1 s2 s3 is h1 h2 h3 same))

@@ -83,8 +83,8 @@ block_rest id at statements ends tail expected = do
   settled expected (a_node_of id at (block_ty last ends) (tree.Block statements last))
 
 -- the initialiser of a `let`
-abbrev pub initialiser_of : Env → Bool → Option TyId → Syn → Check Node
-initialiser_of env is_one_name expected e = if is_one_name then typed env e expected else for_parts env expected e
+abbrev pub initialiser_of : Env → Bool → Bool → Option TyId → Syn → Check Node
+initialiser_of env is_one_name any expected e = if is_one_name then typed env e expected else for_parts env any expected e
 
 abbrev pub KeepsValue : List Node → Checker → Result Bool RuleError → Checker → Type 0
 KeepsValue others before (Ok has_value) after = (below_value has_value (stack after) ≡ others) × Stays before after

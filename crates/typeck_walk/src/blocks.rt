@@ -16,7 +16,7 @@ use src_ast::{Nodes, StatementForm, statement_form};
 use src_tree::SyntaxNode;
 use typeck_checker::{Checker, count, leave, resolve_type_if};
 use typeck_exprs::{block_end, evaluate_end, one_more, tail_end};
-use typeck_patterns::{is_one_name, let_end};
+use typeck_patterns::{is_one_name, let_end, takes_any};
 
 /// What a statement gives: whether it has a node, and whether its expression or initialiser has the type `!`.
 #[derive(Clone, Copy)]
@@ -56,33 +56,35 @@ fn evaluate(
 fn initialiser(
     checker: &mut Checker,
     is_one_name: bool,
+    any: bool,
     value: &SyntaxNode,
     expected: Option<TyId>,
 ) -> Result<(), RuleError>
-    ensures gives { Gives (initialiser_of (env checker.old) is_one_name expected (syn_of value.now) (state checker.old)) result checker.new }
+    ensures gives { Gives (initialiser_of (env checker.old) is_one_name any expected (syn_of value.now) (state checker.old)) result checker.new }
     ensures kept { KeepsStack (stack checker.old) checker.old result checker.new }
 {
     if is_one_name {
         check_expr(checker, value, expected)
     } else {
-        check_for_parts(checker, value, expected)
+        check_for_parts(checker, any, value, expected)
     }
 }
 
-/// The initialiser of a `let`; answers whether it has one.
+/// The initialiser of a `let`, whose pattern is one name, or `_`, or another; answers whether it has one.
 #[cycle(check_expr)]
 fn check_let_value(
     checker: &mut Checker,
     is_one_name: bool,
+    any: bool,
     value: Option<&SyntaxNode>,
     expected: Option<TyId>,
 ) -> Result<bool, RuleError>
-    ensures gives { GivesValue (λ has_value. value_if has_value (stack checker.new)) (rules.initialised (env checker.old) is_one_name (maybe_of value.entry) expected (state checker.old)) result checker.new }
+    ensures gives { GivesValue (λ has_value. value_if has_value (stack checker.new)) (rules.initialised (env checker.old) is_one_name any (maybe_of value.entry) expected (state checker.old)) result checker.new }
     ensures kept { KeepsValue (stack checker.old) checker.old result checker.new }
 {
     match value {
         Some(value) => {
-            initialiser(checker, is_one_name, value, expected)?;
+            initialiser(checker, is_one_name, any, value, expected)?;
             Ok(true)
         }
         None => Ok(false),
@@ -102,9 +104,10 @@ fn check_let(
     ensures kept { KeepsStatement (stack checker.old) checker.old result checker.new }
 {
     let is_one = is_one_name(checker, pattern);
+    let any = takes_any(pattern);
     let id = checker.number()?;
     let declared = resolve_type_if(checker, ty)?;
-    let has_value = check_let_value(checker, is_one, value, declared)?;
+    let has_value = check_let_value(checker, is_one, any, value, declared)?;
     let ends = let_end(checker, id, at, is_one, declared, has_value, pattern)?;
     Ok(StatementNode {
         is_made: true,

@@ -18,7 +18,8 @@ use mir_ty::TyId;
 use src_ast::Nodes;
 use src_tree::SyntaxNode;
 use typeck_calls::{
-    Callee, begin, call_end, callee_of, closure_callee, closure_end, method_end, method_receiver,
+    Callee, begin, call_end, call_place, callee_of, closure_callee, closure_end, method_end,
+    method_receiver,
 };
 use typeck_checker::Checker;
 
@@ -105,6 +106,7 @@ pub fn check_call(
     ensures kept { KeepsStack (stack checker.old) checker.old result checker.new }
 {
     let found = callee_of(checker, callee)?;
+    let at = call_place(at, callee, found);
     found_call(checker, at, found, callee, args, expected)
 }
 
@@ -121,7 +123,7 @@ fn method_behind(
     ensures gives { Gives (method_end (env checker.old) id.0 at (named.method_named name.now) expected (top (stack checker.old)) (count_of (nodes_of args.entry)) (λ params. rules.typed_args (env checker.old) params (nodes_of args.entry)) (state checker.old)) result checker.new }
     ensures kept { KeepsStack (below (stack checker.old)) checker.old result checker.new }
 {
-    let receiver = method_receiver(checker, at, name)?;
+    let receiver = method_receiver(checker, name)?;
     let count = check_arguments(checker, receiver.params.as_slice(), args)?;
     method_end(checker, id, at, &receiver, count, expected)
 }

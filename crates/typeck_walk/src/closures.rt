@@ -10,29 +10,33 @@ ghost use Rattle.typing_rules.specs.Typed as rules;
 ghost use Rattle.typeck_checker.specs.Stand.{Gives, GivesValue, KeepsStack, ChangesNothing, env, stack, state};
 
 use crate::expressions::check_expr;
-use mir_base::{Pos, RuleError};
+use mir_base::{Pos, Rule, RuleError};
 use mir_ty::TyId;
 use src_ast::Nodes;
 use src_tree::SyntaxNode;
-use typeck_bodies::{ClosureBegun, body_end, closure_begin, closure_end, closure_head};
+use typeck_bodies::{
+    ClosureBegun, body_end, closure_begin, closure_end, closure_head, too_many_rule,
+};
 use typeck_checker::Checker;
 
 /// The body of a closure, which stands among the bodies that are whole then.
 #[cycle(check_expr)]
 fn check_closure_body(
     checker: &mut Checker,
+    too_many: Rule,
     at: Pos,
     begun: &ClosureBegun,
     params: Nodes,
     answer: Option<&SyntaxNode>,
     block: &SyntaxNode,
 ) -> Result<(), RuleError>
-    ensures gives { GivesValue (λ u. u) (unvalued (bodies.closure_body (env checker.old) at begun.now.body begun.now.ty (reverse begun.now.captures) (nodes_of params.entry) (maybe_of answer.entry)
+    ensures gives { GivesValue (λ u. u) (unvalued (bodies.closure_body (env checker.old) too_many at begun.now.body begun.now.ty (reverse begun.now.captures) (nodes_of params.entry) (maybe_of answer.entry)
         (λ (inner : Env). rules.typed inner (syn_of block.now))) (state checker.old)) result checker.new }
     ensures same { OnOk result (ChangesNothing checker.old checker.new) }
 {
     let head = closure_head(
         checker,
+        too_many,
         at,
         begun.body,
         begun.ty,
@@ -59,6 +63,7 @@ pub fn check_closure(
     ensures kept { KeepsStack (stack checker.old) checker.old result checker.new }
 {
     let begun = closure_begin(checker, captures)?;
-    check_closure_body(checker, at, &begun, params, answer, block)?;
+    let too_many = too_many_rule(checker, expected, begun.ty);
+    check_closure_body(checker, too_many, at, &begun, params, answer, block)?;
     closure_end(checker, at, &begun, expected)
 }

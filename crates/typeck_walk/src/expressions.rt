@@ -62,21 +62,22 @@ pub fn check_place_base(checker: &mut Checker, node: &SyntaxNode) -> Result<(), 
     }
 }
 
-/// The initialiser of a pattern with parts: a place is taken apart where it stands.
+/// The initialiser of `_`, or of another pattern that is not one name: a place is taken apart where it stands.
 #[cycle(check_expr)]
 #[tactic(auto, using(crate::proofs::Lets::parts_of_place, crate::proofs::Lets::parts_of_value))]
 pub fn check_for_parts(
     checker: &mut Checker,
+    any: bool,
     node: &SyntaxNode,
     expected: Option<TyId>,
 ) -> Result<(), RuleError>
-    ensures gives { Gives (rules.for_parts (env checker.old) expected (syn_of node.now) (state checker.old)) result checker.new }
+    ensures gives { Gives (rules.for_parts (env checker.old) any expected (syn_of node.now) (state checker.old)) result checker.new }
     ensures kept { KeepsStack (stack checker.old) checker.old result checker.new }
 {
     match place_form(checker, node) {
         Some(form) => {
             check_place(checker, form)?;
-            place_for_parts(checker, expected)
+            place_for_parts(checker, any, expected)
         }
         None => check_value(checker, node.at, expression_form(node), expected),
     }
@@ -137,7 +138,9 @@ fn check_value(
         ),
         ExpressionForm::Negate(operand) => check_minus(checker, at, operand, expected),
         ExpressionForm::Not(operand) => check_not(checker, at, operand, expected),
-        ExpressionForm::Borrow { operand, .. } => check_borrow(checker, at, operand),
+        ExpressionForm::Borrow { unique, operand } => check_borrow(
+            checker, at, unique, operand, expected,
+        ),
         ExpressionForm::Math {
             operator,
             left,

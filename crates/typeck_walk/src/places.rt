@@ -4,17 +4,15 @@ ghost use Rattle.src_ast.specs.Seen.{syn_of};
 ghost use Rattle.typing_rules.specs.Places as places;
 ghost use Rattle.typing_rules.specs.Rows as rows;
 ghost use Rattle.typing_rules.specs.Typed as rules;
-ghost use Rattle.typeck_walk.specs.Bases as bases;
 ghost use Rattle.typeck_checker.specs.Stand.{Gives, KeepsStack, env, stack, state};
 
 use crate::expressions::{check_expr, check_place_base, check_plain_base};
-use mir_base::{Pos, Rule, RuleError};
-use mir_ty::USIZE;
+use mir_base::{Pos, RuleError};
+use mir_ty::{TyId, USIZE};
 use src_tree::SyntaxNode;
 use typeck_calls::{field_end, part_end};
 use typeck_checker::Checker;
-use typeck_exprs::{deref_end, element_end};
-use typeck_heads::broken_rule;
+use typeck_exprs::{borrow_alone_end, deref_end, element_end};
 
 /// `a[i]`.
 #[cycle(check_expr)]
@@ -78,10 +76,16 @@ pub fn check_part(
 
 /// `&e` and `&mut e` where it is no argument for a reference.
 #[cycle(check_expr)]
-pub fn check_borrow(checker: &mut Checker, at: Pos, operand: &SyntaxNode) -> Result<(), RuleError>
-    ensures gives { Gives (bases.borrowed_value (env checker.old) at (syn_of operand.now) (state checker.old)) result checker.new }
+pub fn check_borrow(
+    checker: &mut Checker,
+    at: Pos,
+    unique: bool,
+    operand: &SyntaxNode,
+    expected: Option<TyId>,
+) -> Result<(), RuleError>
+    ensures gives { Gives (rows.borrow_alone at unique (rules.base_of (env checker.old) (syn_of operand.now)) expected (state checker.old)) result checker.new }
     ensures kept { KeepsStack (stack checker.old) checker.old result checker.new }
 {
     check_plain_base(checker, operand)?;
-    Err(broken_rule(Rule::T08, at))
+    borrow_alone_end(checker, at, unique, expected)
 }

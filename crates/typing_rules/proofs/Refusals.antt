@@ -53,6 +53,9 @@ t01 =
     fine "struct S(i32); fn main() { let S(x) = S(1); }" refl ∷
     at 1 33 "struct S { a: i32 } fn main() { S::S { a: 1 }; }" refl ∷
     fine "struct S { a: i32 } fn main() { S { a: 1 }; }" refl ∷
+    at 1 14 "fn main() { (f)(); }" refl ∷ fine "fn f() {} fn main() { (f)(); }" refl ∷
+    at 1 21 "fn main() { let x = Box; }" refl ∷ fine "fn main() { let x = Box::new(1); }" refl ∷
+    at 1 13 "fn main() { Box(1); }" refl ∷ fine "fn main() { Box::new(1); }" refl ∷
     []
 
 t02 : List (Case Rule.T02)
@@ -188,6 +191,10 @@ t03 =
     at 1 24 "fn main() { let x = if 1 { y } else { 2 }; }" refl ∷
     at 1 31 "fn f(x: i32) {} fn main() { f(true, 2); }" refl ∷
     at 1 23 "fn f() { let x: i32 = true; } struct S { a: i32, a: i32 } fn main() {}" refl ∷
+    at 1 26 "fn main() { let x: i32 = []; }" refl ∷ fine "fn main() { let x: [i32; 0] = []; }" refl ∷
+    at 1 42 "fn f(a: i32) {} fn main() { let x = 1; f(&x); }" refl ∷
+    fine "fn f(a: &i32) {} fn main() { let x = 1; f(&x); }" refl ∷
+    at 1 24 "fn main() { let x = 1; &x }" refl ∷
     []
 
 t04 : List (Case Rule.T04)
@@ -325,6 +332,8 @@ t08 =
     at 1 20 "fn main() { let x: &i32 = 1; }" refl ∷
     at_in 4 15 ("struct D(i32);" ∷ "impl Drop for D { fn drop(&mut self) {} }" ∷ "fn take(x: D) {}" ∷
     "fn f(r: &D) { r.0 = 1; } fn main() {}" ∷ []) refl ∷
+    at 1 56 "struct S; impl S { fn m(&mut self) {} } fn f(r: &S) { (*r).m(); } fn main() {}" refl ∷
+    fine "struct S; impl S { fn m(&mut self) {} } fn f(r: &mut S) { (*r).m(); } fn main() {}" refl ∷
     []
 
 t09 : List (Case Rule.T09)
@@ -390,6 +399,12 @@ t12 =
     fine "struct S { a: i32 } fn f(s: S) { let S { a, .. } = s; } fn main() {}" refl ∷
     at 1 50 "trait Tr { fn f(&self); } fn g(b: Box<dyn Tr>) { b.h(); } fn main() {}" refl ∷
     fine "trait Tr { fn f(&self); } fn g(b: Box<dyn Tr>) { b.f(); } fn main() {}" refl ∷
+    at_in 2 7 ("struct S(i32); impl S { fn get(x: &S) -> i32 { x.0 } } fn main() { let s = S(1);" ∷
+    "print(s.get()); }" ∷ []) refl ∷
+    fine_in ("struct S(i32); impl S { fn get(x: &S) -> i32 { x.0 } } fn main() { let s = S(1);" ∷
+    "print(S::get(&s)); }" ∷ []) refl ∷
+    fine_in ("struct S(i32); impl S { fn get(&self) -> i32 { self.0 } } fn main() { let s = S(1);" ∷
+    "print(s.get()); }" ∷ []) refl ∷
     []
 
 t13 : List (Case Rule.T13)

@@ -1,9 +1,10 @@
 -- Parameters, and bodies as a whole.
-use Rattle.std.specs.Prelude.{ℕ, suc, Bool, true, false, ◌||◌, not, List, [], ◌∷◌, ◌++◌, length, nat_le, map, Some, None, is_some}
+use Rattle.std.specs.Prelude.{ℕ, suc, Bool, true, false, ◌||◌, not, List, [], ◌∷◌, ◌++◌, length, nat_le, map, Option, Some, None, is_some, if◌then◌else◌}
 use Rattle.mir_base.specs.declared.place_in_text.Pos.{Pos}
 use Rattle.mir_base.specs.declared.rule.Rule.{Rule}
 use Rattle.mir_ty.specs.declared.ty.Ty.{Ty}
 use Rattle.mir_ty.specs.declared.ty.TyId.{TyId}
+use Rattle.mir_ty.specs.ItemTable.{ItemTable}
 use Rattle.typed_tree.specs.Nodes.{numbers_of}
 use Rattle.typed_tree.specs.Tree as tree
 use Rattle.typed_tree.specs.Tree.{Node, Form, Nodes, no_node, a_node, ParamTree, BodyTree}
@@ -11,7 +12,7 @@ use Rattle.well_typed.specs.Types.{is_reference}
 use Rattle.typing_rules.specs.Check.{Check, ◌>>=◌, ◌>>◌, pure, breaks, obeys, known, the_items, number, body_number, interned, closure_added, with_body, in_new_body}
 use Rattle.typing_rules.specs.Numbered.{in_text_order}
 use Rattle.typing_rules.specs.Patterns.{pattern}
-use Rattle.typing_rules.specs.Places.{used, a_node_of, unit, variable_place}
+use Rattle.typing_rules.specs.Places.{used, a_node_of, agrees, unit, variable_place}
 use Rattle.typing_rules.specs.Rows.{Typer, PatternContext, taking, taken, fitted}
 use Rattle.typing_rules.specs.Scope.{Env, NamedEntry, Local, Capture, variable, with_variables}
 use Rattle.src_ast.specs.Syntax.{Word, Receiver, ByValue, ByShared, ByUnique, Syn, syn, AName, APattern, AParam, Pattern, AnyPattern, BindPattern, ParensPattern, ParamOf, SelfParam, Syns, no_syn, a_syn, MaybeSyn, nothing, just}
@@ -107,10 +108,10 @@ params_of env ty_of_param (a_syn first rest) earlier = do
 
 -- ---- bodies
 
--- at most 2,048 nodes
-abbrev pub within_limit : Pos → BodyTree → Check BodyTree
-within_limit at body = do
-  obeys Rule.T19 at (nat_le (length (numbers_of body)) 2048)
+-- at most 2,048 nodes; more break this rule
+abbrev pub within_limit : Rule → Pos → BodyTree → Check BodyTree
+within_limit rule at body = do
+  obeys rule at (nat_le (length (numbers_of body)) 2048)
   pure body
 
 abbrev pub body_of : ℕ → List ParamTree → TyId → Node → BodyTree
@@ -127,7 +128,7 @@ fn_body env at params answer block = do
     ps ← params_of env (written_param (all_rules env)) params []
     ty ← answer_of env answer
     b ← block (inside env ty ps.1) (Some ty)
-    within_limit at (body_of n ps.0 ty b))
+    within_limit Rule.T19 at (body_of n ps.0 ty b))
 
 -- ---- closures
 
@@ -159,13 +160,18 @@ types_of entries = map (λ x. x.ty) entries
 abbrev pub inside_closure : Env → List NamedEntry → Env
 inside_closure env captures = with_variables captures (record env { variables = [] })
 
-abbrev pub closure_body : Env → Pos → ℕ → TyId → List NamedEntry → Syns → MaybeSyn → (Env → Typer) → Check BodyTree
-closure_body env at n ty captures params answer block = with_body (λ b. b) (in_new_body do
+abbrev pub closure_body : Env → Rule → Pos → ℕ → TyId → List NamedEntry → Syns → MaybeSyn → (Env → Typer) → Check BodyTree
+closure_body env too_many at n ty captures params answer block = with_body (λ b. b) (in_new_body do
   self ← name_param at [] ty
   ps ← params_of (inside_closure env captures) (written (all_rules env)) params []
   t ← answer_of env answer
   b ← block (inside (inside_closure env captures) t ps.1) (Some t)
-  within_limit at (body_of n (self.0 ∷ ps.0) t b))
+  within_limit too_many at (body_of n (self.0 ∷ ps.0) t b))
+
+-- The rule that a closure with too many nodes breaks: a type that differs from the one that is required is the lower
+-- rule of the same node.
+abbrev pub too_many_rule : ItemTable → Option TyId → TyId → Rule
+too_many_rule items expected ty = if agrees items expected ty then Rule.T19 else Rule.T03
 
 -- a closure: its captures are typed outside, its block in a body of its own
 abbrev pub closure : Env → Pos → Syns → Syns → MaybeSyn → (Env → Typer) → Typer
@@ -175,5 +181,6 @@ closure env at captures params answer block expected = do
   caps ← captured env 0 captures []
   k ← closure_added (types_of caps.1) n
   ty ← interned (Ty.Closure k)
-  _ ← closure_body env at n ty caps.1 params answer block
+  items ← the_items
+  _ ← closure_body env (too_many_rule items expected ty) at n ty caps.1 params answer block
   fitted expected (a_node_of id at ty (tree.Closure k caps.0))

@@ -262,10 +262,22 @@ is_finite n at = do
   items ← the_items
   obeys Rule.T09 at (not (holds items ty ty))
 
-abbrev pub may_derive : ItemTable → List Named → Option Adt → Bool
-may_derive items ds None = true
-may_derive items ds (Some adt) =
-    not (derives (codes "Copy") ds) || (derives (codes "Clone") ds && (not (is_some adt.drop_body) &&
+-- the struct or enum of an impl of `Drop`, whatever that lacks
+abbrev pub drop_owner : Syn → Option Word
+drop_owner (syn at (AnItem (ImplItem (Some trait_) name methods))) = if is_drop trait_.1 then Some name.1 else None
+drop_owner _ = None
+
+abbrev pub drop_owners : List ItemSyn → List Word
+drop_owners items = filter_map drop_owner (item_syns items)
+
+-- one among these has an impl of `Drop`, also where the impl has no `drop` body
+abbrev pub is_dropped : List Word → Adt → Bool
+is_dropped dropped adt = is_some adt.drop_body || is_some (number_of dropped adt.name)
+
+abbrev pub may_derive : ItemTable → List Word → List Named → Option Adt → Bool
+may_derive items dropped ds None = true
+may_derive items dropped ds (Some adt) =
+    not (derives (codes "Copy") ds) || (derives (codes "Clone") ds && (not (is_dropped dropped adt) &&
     list_all (λ v. list_all (is_copy items) v.fields) adt.variants))
 
 -- the structs and enums in their order, each with its place and what it derives
@@ -278,12 +290,12 @@ abbrev pub all_finite : ℕ → List (Pos × List Named) → Check (Unit {0})
 all_finite n [] = pure tt
 all_finite n (a ∷ as_) = is_finite n a.0 >> all_finite (suc n) as_
 
-abbrev pub all_derive : ℕ → List (Pos × List Named) → Check (Unit {0})
-all_derive n [] = pure tt
-all_derive n (a ∷ as_) = do
+abbrev pub all_derive : List Word → ℕ → List (Pos × List Named) → Check (Unit {0})
+all_derive dropped n [] = pure tt
+all_derive dropped n (a ∷ as_) = do
   items ← the_items
-  obeys Rule.T10 a.0 (may_derive items a.1 (slice_get items.adts n))
-  all_derive (suc n) as_
+  obeys Rule.T10 a.0 (may_derive items dropped a.1 (slice_get items.adts n))
+  all_derive dropped (suc n) as_
 
 -- ---- the whole
 
@@ -297,7 +309,7 @@ collecting items end = do
   heads_collected (known_of items) (record { outer = []; in_outer = 0; closures = 0 }) items
   _ ← each_checked (impl_of (known_of items)) (item_syns items)
   all_finite 0 (filter_map adt_item (item_syns items))
-  all_derive 0 (filter_map adt_item (item_syns items))
+  all_derive (drop_owners items) 0 (filter_map adt_item (item_syns items))
   obeys Rule.T01 end (is_some (number_of (body_paths items) (codes "main")))
 
 abbrev pub no_items : ItemTable

@@ -1,13 +1,13 @@
 -- What a text's items are by their names: which structs and enums, traits and bodies there are, in the order of their
 -- numbers, before any type is looked at.
-use Rattle.std.specs.Prelude.{ℕ, Bool, true, false, List, [], ◌∷◌, ◌++◌, map, Option, Some, None, codes}
+use Rattle.std.specs.Prelude.{ℕ, Bool, true, false, List, [], ◌∷◌, ◌++◌, map, Option, Some, None, codes, if◌then◌else◌}
 use Rattle.std.specs.List.{position as position_of, filter_map, flat_map}
 use Rattle.std.specs.Str.{bytes_eq}
 use Rattle.mir_base.specs.declared.place_in_text.Pos.{Pos}
 use Rattle.src_tree.specs.declared.row.GrammarRow.{GrammarRow}
 use Rattle.src_tree.specs.Layout as layout
 use Rattle.src_tree.specs.Layout.{node, Parts, end, tok, sub}
-use Rattle.src_ast.specs.Syntax.{Word, number_word, FieldsKind, Unit_, Syn, syn, AnItem, AVariant, StructItem, EnumItem, TraitItem, ImplItem, FnItem, Syns, no_syn, a_syn}
+use Rattle.src_ast.specs.Syntax.{Word, number_word, FieldsKind, Unit_, Syn, syn, AnItem, AParam, AVariant, StructItem, EnumItem, TraitItem, ImplItem, FnItem, SelfParam, Syns, no_syn, a_syn, list_of}
 use Rattle.src_ast.specs.View.{view}
 
 -- ---- structs, enums and traits
@@ -120,3 +120,26 @@ full_name (Some owner) name = owner ++ codes "::" ++ name
 
 abbrev pub closure_name : Word → ℕ → Word
 closure_name outer k = outer ++ codes "::closure#" ++ number_word k
+
+-- ---- methods with `self`
+
+abbrev pub is_self : Syn → Bool
+is_self (syn at (AParam (SelfParam receiver))) = true
+is_self _ = false
+
+abbrev pub has_self : Syns → Bool
+has_self no_syn = false
+has_self (a_syn first rest) = is_self first
+
+abbrev pub self_method : Word → Syn → List Word
+self_method owner (syn at (AnItem (FnItem name params answer block))) =
+    if has_self params then full_name (Some owner) name.1 ∷ [] else []
+self_method owner _ = []
+
+abbrev pub self_methods_of : Syn → List Word
+self_methods_of (syn at (AnItem (ImplItem trait_ owner methods))) = flat_map (self_method owner.1) (list_of methods)
+self_methods_of _ = []
+
+-- the methods of impls that have `self`, by their names
+abbrev pub self_methods : List Syn → List Word
+self_methods items = flat_map self_methods_of items

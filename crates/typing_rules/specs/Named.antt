@@ -3,6 +3,7 @@ use Rattle.std.specs.Prelude.{ℕ, Bool, true, false, ◌||◌, List, [], ◌∷
 use Rattle.std.specs.List.{list_any, position as position_of}
 use Rattle.std.specs.Option.{option_map_or}
 use Rattle.std.specs.Str.{bytes_eq}
+use Rattle.mir_base.specs.declared.place_in_text.Pos.{Pos}
 use Rattle.mir_base.specs.declared.rule.Rule.{Rule}
 use Rattle.mir_ty.specs.declared.def.Sig.{Sig}
 use Rattle.mir_ty.specs.declared.def.TraitDef.{TraitDef}
@@ -18,7 +19,7 @@ use Rattle.typing_rules.specs.Written.{is_box}
 
 abbrev pub is_built_in : Word → Bool
 is_built_in name =
-    list_any (bytes_eq name) (codes "print" ∷ codes "ask" ∷ codes "drop" ∷ codes "forget" ∷ codes "Box" ∷ [])
+    list_any (bytes_eq name) (codes "print" ∷ codes "ask" ∷ codes "drop" ∷ codes "forget" ∷ [])
 
 abbrev pub is_unit_kind : FieldsKind → Bool
 is_unit_kind Unit_ = true
@@ -111,8 +112,7 @@ built_in_callee name =
     if bytes_eq name (codes "print") then Prints
     else (if bytes_eq name (codes "ask") then Asks
     else (if bytes_eq name (codes "drop") then Drops
-    else (if bytes_eq name (codes "forget") then Forgets
-    else (if bytes_eq name (codes "Box") then NoCallee else Unnamed Rule.T01))))
+    else (if bytes_eq name (codes "forget") then Forgets else Unnamed Rule.T01)))
 
 abbrev pub adt_callee : ItemTable → Env → Word → Option ℕ → Callee
 adt_callee items env name None = built_in_callee name
@@ -168,6 +168,16 @@ abbrev mutual
   pub callee_by : ItemTable → Env → Expression → Callee
   callee_by items env (Parens inside) = callee_of items env inside
   callee_by items env e = callee_form items env e
+
+-- where an expression stands without the parentheses around it, which are no part of a typed program
+abbrev mutual
+  pub place_inside : Syn → Pos
+  place_inside (syn at (AnExpression e)) = place_inside_form at e
+  place_inside (syn at _) = at
+
+  pub place_inside_form : Pos → Expression → Pos
+  place_inside_form at (Parens inside) = place_inside inside
+  place_inside_form at _ = at
 
 -- ---- methods of a value
 

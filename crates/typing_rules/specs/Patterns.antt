@@ -17,7 +17,7 @@ use Rattle.typing_rules.specs.Check.{Check, ◌>>=◌, ◌>>◌, ◌<$>◌, pure
 use Rattle.typing_rules.specs.Places.{used, a_node_of, int}
 use Rattle.typing_rules.specs.Rows.{PatternContext, taking, literal_value, is_signed_kind, most, all_given, are_known, Given}
 use Rattle.typing_rules.specs.Scope.{Env, NamedEntry, Local, variable, variant_named, field_named, kind_at, adt_at_head, adt_named}
-use Rattle.src_ast.specs.Syntax.{Word, FieldsKind, Unit_, Fields_, Syn, syn, APattern, AFieldPattern, Pattern, AnyPattern, BindPattern, LiteralPattern, TruthPattern, PathPattern, PartsPattern, FieldsPattern, ParensPattern, TuplePattern, ArrayPattern, Alternatives, Syns, no_syn, a_syn, nothing, just}
+use Rattle.src_ast.specs.Syntax.{Word, FieldsKind, Unit_, Tuple_, Fields_, Syn, syn, APattern, AFieldPattern, Pattern, AnyPattern, BindPattern, LiteralPattern, TruthPattern, PathPattern, PartsPattern, FieldsPattern, ParensPattern, TuplePattern, ArrayPattern, Alternatives, Syns, no_syn, a_syn, nothing, just}
 
 -- what a pattern gives: its node, and the bindings so far
 abbrev pub BoundPattern : Type 0
@@ -181,17 +181,27 @@ path_alone env at e ty first (Some second) earlier = do
 abbrev pub is_count : Bool → ℕ → ℕ → Bool
 is_count dots given count = if dots then nat_le given count else given == count
 
-abbrev pub is_named_kind : FieldsKind → Bool
-is_named_kind Fields_ = true
-is_named_kind _ = false
+-- parts in parentheses are those of a struct or a variant that is written so; `V()` stands for one without parts, and
+-- `V(..)` does not
+abbrev pub has_ordered_parts : FieldsKind → Bool → Bool
+has_ordered_parts Unit_ dots = not dots
+has_ordered_parts Tuple_ dots = true
+has_ordered_parts Fields_ dots = false
 
-abbrev pub has_named_parts : Env → PatternTarget → Bool
-has_named_parts env t = is_named_kind (kind_at env.kinds t.adt t.variant)
+abbrev pub are_ordered : Env → PatternTarget → Bool → Bool
+are_ordered env t dots = has_ordered_parts (kind_at env.kinds t.adt t.variant) dots
 
 -- ---- tuples
 
-abbrev pub tuple_types : ItemTable → TyId → Option (List TyId)
-tuple_types items ty = if is_unit items ty then Some [] else tuple_of items ty
+abbrev pub types_if : Bool → List TyId → Option (List TyId)
+types_if b tys = if b then Some tys else None
+
+-- the types of the parts for a pattern of so many, with `..` behind them or not. `()` is no tuple: a pattern with parts
+-- is none of it, and the pattern `()` is none of a tuple
+abbrev pub tuple_types : ItemTable → TyId → ℕ → Bool → Option (List TyId)
+tuple_types items ty given dots =
+    if is_unit items ty then types_if (given == 0) []
+    else option_and_then (types_if (dots || not (given == 0))) (tuple_of items ty)
 
 abbrev pub has_names : List NamedEntry → List NamedEntry → Bool
 has_names earlier later = not (length earlier == length later)
@@ -219,6 +229,10 @@ abbrev pub are_given_once : Given → Bool
 are_given_once [] = true
 are_given_once (None ∷ given) = are_given_once given
 are_given_once (Some n ∷ given) = not (is_again n given) && are_given_once given
+
+-- each field, and nothing beside
+abbrev pub are_all_given : ℕ → Given → Bool
+are_all_given count given = length given == count && all_given count given
 
 abbrev pub with_number : ℕ → BoundPattern → Option (ℕ × Node) × List NamedEntry × Option ℕ
 with_number k b = (Some (k, b.0), b.1, Some k)
@@ -260,8 +274,7 @@ abbrev mutual
       pure (
         fields_from 0 ps.0,
         ps.1,
-        is_count dots (count_of parts) (length tys) && not (has_named_parts env t &&
-            not (count_of parts == 0)),
+        is_count dots (count_of parts) (length tys) && are_ordered env t dots,
         true,
       ))
   pattern_form env e ty at (FieldsPattern first second fields dots) earlier = do
@@ -270,12 +283,12 @@ abbrev mutual
     of_target at e ty t (λ inside tys. do
       ps ← field_patterns env inside (option_map_or (λ v. v) (variant_at items t.adt t.variant) no_variant) fields
           earlier
-      pure (ps.0, ps.1, are_given_once ps.2 && (dots || all_given (length tys) ps.2), are_known ps.2))
+      pure (ps.0, ps.1, are_given_once ps.2 && (dots || are_all_given (length tys) ps.2), are_known ps.2))
   pattern_form env e ty at (ParensPattern inside) earlier = pattern env e ty inside earlier
   pattern_form env e ty at (TuplePattern parts dots) earlier = do
     id ← number
     items ← the_items
-    tys ← known Rule.T03 at (tuple_types items ty)
+    tys ← known Rule.T03 at (tuple_types items ty (count_of parts) dots)
     ps ← part_patterns env e tys parts earlier
     obeys Rule.T04 at (is_count dots (count_of parts) (length tys))
     pure (a_node_of id at ty (tree.TuplePattern ps.0), ps.1)
@@ -320,7 +333,7 @@ abbrev mutual
   pub field_pattern : Env → PatternContext → Variant → Syn → List NamedEntry →
       Check (Option (ℕ × Node) × List NamedEntry × Option ℕ)
   field_pattern env e v (syn at (AFieldPattern name nothing)) earlier =
-      field_by v name earlier (λ ty. bind at e ty name earlier)
+      field_by v name earlier (λ ty. lone_name env at e ty name earlier)
   field_pattern env e v (syn at (AFieldPattern name (just inside))) earlier =
       field_by v name earlier (λ ty. pattern env e ty inside earlier)
   field_pattern env e v (syn at _) earlier = breaks Rule.T20 at

@@ -15,7 +15,7 @@ use Rattle.well_typed.specs.Types.{is_same, are_same, is_unit, reference_of}
 use Rattle.typing_rules.specs.Bodies.{all_rules, answer_of, params_of, fn_body}
 use Rattle.typing_rules.specs.Check.{Check, TypingState, Broken, ◌>>=◌, ◌>>◌, pure, breaks, obeys, the_items, in_new_body}
 use Rattle.typing_rules.specs.Collected.{collected, starting_with}
-use Rattle.typing_rules.specs.Items.{items_of, item_syns, adt_names, trait_names, all_kinds}
+use Rattle.typing_rules.specs.Items.{items_of, item_syns, adt_names, trait_names, all_kinds, self_methods}
 use Rattle.typing_rules.specs.Places.{unit}
 use Rattle.typing_rules.specs.Scope.{Env, adt_named, trait_named, body_named, method_word}
 use Rattle.src_ast.specs.Syntax.{Word, Named, ByShared, ByUnique, Syn, syn, AnItem, AParam, AField, AVariant, StructItem, EnumItem, TraitItem, ImplItem, FnItem, SelfParam, Syns, no_syn, a_syn, list_of, MaybeSyn, nothing, just}
@@ -266,6 +266,7 @@ outermost items = record {
   adts = adt_names items;
   traits = trait_names items;
   kinds = all_kinds items;
+  methods = self_methods items;
   self_adt = None;
   variables = [];
   loops = [];

@@ -156,9 +156,9 @@ pub record Blocks : Type 0 where
       SoundPattern s is_one matcher → Knows env s → Gives s (λ w done. IsStatement env w done × Knows done.2 w)
       (let_row at env
       is_one written value matcher (λ xs. with_variables xs env) s)
-  pub in_parts : (env : Env) (expected : Option TyId) (n : Node) (s : TypingState) → IsPlace env s n →
-      ((w : TypingState) → Grows s w →
-      IsPlace env w n) → Gives s (IsInParts env expected) (place_for_parts env expected n s)
+  pub in_parts : (env : Env) (takes_any : Bool) (expected : Option TyId) (n : Node) (s : TypingState) →
+      IsPlace env s n → ((w : TypingState) → Grows s w → IsPlace env w n) → Gives s (IsInParts env expected)
+      (place_for_parts env takes_any expected n s)
   pub braces : (env : Env) (at : Pos) (check : Check (Nodes × Bool × Env)) (tail : Env → Option TyId → Check
       tree.MaybeNode) →
       SoundStatements env check → SoundTail env tail → SoundTemporary env (block at check tail)

@@ -12,7 +12,7 @@ use Rattle.mir_ty.specs.DropBodies.{is_drop_body}
 use Rattle.well_typed.specs.Nodes.{typed, statements, ends_in, arm, is_one_name}
 use Rattle.well_typed.specs.Patterns.{Matched, count_of}
 use Rattle.well_typed.specs.Places.{Context, ty_of, form_of, is_place, Wanted, Passed}
-use Rattle.well_typed.specs.Types.{is_same, closure_in, reference_in, is_reference, reference_of, has_fields, inside_in}
+use Rattle.well_typed.specs.Types.{closure_in, reference_in, is_reference, reference_of, has_fields, inside_in}
 use Rattle.typing_rules.specs.Check.{Check, TypingState}
 use Rattle.typing_rules.specs.Places.{bool, Member, agrees}
 use Rattle.typing_rules.specs.Promises.{IsReady, IsAlone, IsKnown, Gives, TypingSpot, at_spot, Stands, Knows, IsValue, IsBase, Grows, IsPattern}
@@ -195,17 +195,11 @@ FindsMethods named = (s : TypingState) (own : TyId) (m : Method) → named s.ite
     IsPlainType
     s.items own
 
-abbrev pub agrees_same : Option TyId → TyId → Bool
-agrees_same None ty = true
-agrees_same (Some expected) ty = is_same ty expected
-
--- what a `let` is given: one name takes a value, another pattern takes a place or a temporary apart. A place is of the
--- very type that is asked for, where a temporary may be of type `!`
+-- what a `let` is given: one name takes a value, another pattern takes a place or a temporary apart
 pub record IsInParts (env : Env) (expected : Option TyId) (w : TypingState) (n : Node) : Type 0 where
   pub base : IsBase env w n
   pub fit : IsTrue (agrees w.items expected (ty_of n))
   pub no_reference : IsTrue (not (is_reference w.items (ty_of n)))
-  pub own : IsTrue (not (is_place (form_of n)) || agrees_same expected (ty_of n))
 
 abbrev pub IsInitialiser : Env → Bool → Option TyId → TypingState → MaybeNode → Type 0
 IsInitialiser env is_one_name expected w absent = Unit {0}

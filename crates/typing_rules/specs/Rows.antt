@@ -1,8 +1,9 @@
 -- One row a form. A row has the checks of the node's children, each of which waits for the type that is required of it,
 -- and asks nothing else of them than the typed nodes that they give.
 use Rattle.std.specs.Prelude.{ℕ, zero, suc, ℤ, pos, negsuc, ◌^◌, ◌-◌, Bool, true, false, ◌==◌, ◌&&◌, ◌||◌, not, List, [], ◌∷◌, Option, Some, None, if◌then◌else◌, option_and_then, option_map, length, slice_get, map, nat_le, is_some, is_none, drop}
-use Rattle.std.specs.List.{list_all}
+use Rattle.std.specs.List.{list_all, position as position_of}
 use Rattle.std.specs.Option.{option_map_or}
+use Rattle.std.specs.Str.{bytes_eq}
 use Rattle.mir_base.specs.declared.int_kind.IntKind.{IntKind}
 use Rattle.mir_base.specs.declared.operator.Cmp.{Cmp}
 use Rattle.mir_base.specs.declared.operator.Math.{Math}
@@ -338,6 +339,27 @@ borrow at unique base expected is_unique to = do
   b ← base >>= no_reference
   borrow_end id at unique is_unique to b
 
+-- the type of a borrow is a reference, which is the type that is required of it, if one is
+abbrev pub is_reference_to : Bool → TyId → Option (Bool × TyId) → Bool
+is_reference_to unique to None = false
+is_reference_to unique to (Some r) = is_same r.1 to && is_same_truth r.0 unique
+
+abbrev pub agrees_borrow : ItemTable → Bool → TyId → Option TyId → Bool
+agrees_borrow items unique to None = true
+agrees_borrow items unique to (Some expected) = is_reference_to unique to (reference_of items expected)
+
+abbrev pub borrow_alone_end : Pos → Bool → Option TyId → Node → Check Node
+borrow_alone_end at unique expected b = do
+  items ← the_items
+  obeys Rule.T03 at (agrees_borrow items unique (ty_of b) expected)
+  breaks Rule.T08 at
+
+-- `&e` and `&mut e` where they are no argument for a reference parameter
+abbrev pub borrow_alone : Pos → Bool → Check Node → Typer
+borrow_alone at unique base expected = do
+  b ← base >>= no_reference
+  borrow_alone_end at unique expected b
+
 abbrev pub passes : Bool → TyId → Option (Bool × TyId) → Bool
 passes is_unique to None = false
 passes is_unique to (Some r) = is_same r.1 to && (r.0 || not is_unique)
@@ -431,33 +453,38 @@ abbrev pub with_self : Env → Pos → ℕ → Node → Method → ℕ → (List
     Node
 with_self env at id base method count args expected [] = args [] >> breaks Rule.T12 at
 with_self env at id base method count args expected (self ∷ params) = do
-  receiver ← received env at base self
+  receiver ← received env (place_in_text base) base self
   given ← args params
   n ← fitted expected (a_node_of id at (head_of method).result (method_form method receiver given))
   items ← the_items
   obeys Rule.T04 at (count == length params)
-  obeys Rule.T08 at (not (is_unique_borrow (form_of receiver) && is_behind_shared items base))
+  obeys Rule.T08 (place_in_text base) (not (is_unique_borrow (form_of receiver) && is_behind_shared items base))
   obeys Rule.T13 at (not (is_drop_method method))
   pure n
 
--- a function of the type that has no `self` is no method of a value
+-- the first parameter is of the type, or a reference to it
 abbrev pub takes_self : ItemTable → TyId → List TyId → Bool
 takes_self items own [] = false
 takes_self items own (self ∷ params) =
     is_same self own || option_map_or (λ r. is_same r.1 own) (reference_of items self) false
 
+-- a function of the type that has no `self` is no method of a value; methods of traits have one
+abbrev pub has_self : Env → Method → Bool
+has_self env (OfAdt body is_drop head) = is_some (position_of (bytes_eq head.name) env.methods)
+has_self env (OfTrait trait_no method head) = true
+
 abbrev pub with_method : Env → Pos → ℕ → Node → Option Method → ℕ → (List TyId → Check Nodes) → Option TyId → Check Node
 with_method env at id base None count args expected = args [] >> breaks Rule.T12 at
 with_method env at id base (Some method) count args expected = do
   items ← the_items
-  if takes_self items (ty_of base) (head_of method).params then
+  if has_self env method && takes_self items (ty_of base) (head_of method).params then
       with_self env at id base method count args expected (head_of method).params
       else (args [] >> breaks Rule.T12 at)
 
 -- a method of a value that was checked, with what checks its arguments
 abbrev pub method_end : Env → ℕ → Pos → Member Method → Option TyId → Node → ℕ → (List TyId → Check Nodes) → Check Node
 method_end env id at named expected base count args = do
-  found ← through named at base
+  found ← through named (place_in_text base) base
   with_method env at id found.0 found.1 count args expected
 
 abbrev pub method_call : Env → Pos → (ItemTable → TyId → Option Method) → ℕ → Check Node → (List TyId → Check Nodes)
@@ -635,17 +662,17 @@ array_end id at count element elements expected = do
   obeys Rule.T19 at (nat_le count 32)
   pure n
 
--- an array, once its elements have a type, and once they are checked
-abbrev pub counted_array_end : ℕ → Pos → ℕ → Bool → TyId → Nodes → Option TyId → Check Node
-counted_array_end id at count has_type element elements expected = do
-  obeys Rule.T16 at (has_type || not (count == 0))
+-- an array, once its elements have a type: it has elements, or a type is required of it
+abbrev pub counted_array_end : ℕ → Pos → ℕ → TyId → Nodes → Option TyId → Check Node
+counted_array_end id at count element elements expected = do
+  obeys Rule.T16 at (is_some expected || not (count == 0))
   array_end id at count element elements expected
 
 abbrev pub elements_end : ℕ → Pos → ℕ → Option TyId → Nodes → List TyId → Option TyId → Check Node
 elements_end id at count wants elements types expected = do
   items ← the_items
   element ← known Rule.T03 at (element_ty items wants types)
-  counted_array_end id at count (is_some wants) element elements expected
+  counted_array_end id at count element elements expected
 
 abbrev pub array_row : Pos → ℕ → (Option TyId → Check (Nodes × List TyId)) → Typer
 array_row at count elements expected = do
@@ -860,26 +887,32 @@ return_row at answer value expected = do
 
 -- ---- statements
 
--- the initialiser of a pattern with parts: a place that is taken apart where it stands, unless it is coerced; or a
--- value. A place of type `!` has no parts to be taken
+-- the initialiser of another pattern than one name: a place that is taken apart where it stands, unless it is coerced;
+-- or a value. A place of type `!` has no parts to be taken, so there the pattern is `_`
 abbrev pub as_part : Env → Option TyId → Node → Fit → Check Node
 as_part env expected place Fits = no_reference place
 as_part env expected place how = taken env expected place
 
-abbrev pub place_for_parts : Env → Option TyId → Node → Check Node
-place_for_parts env None place = no_reference place
-place_for_parts env (Some expected) place = do
+abbrev pub place_for_parts : Env → Bool → Option TyId → Node → Check Node
+place_for_parts env takes_any None place = no_reference place
+place_for_parts env takes_any (Some expected) place = do
   items ← the_items
-  obeys Rule.T03 (place_in_text place) (is_same (ty_of place) expected || not (is_never items (ty_of place)))
+  obeys Rule.T03 (place_in_text place) (takes_any || (is_same (ty_of place) expected || not (is_never items (ty_of
+      place))))
   as_part env (Some expected) place (fit items expected (ty_of place))
-
-abbrev pub let_ty : Option TyId → MaybeNode → Option TyId
-let_ty (Some ty) value = Some ty
-let_ty None absent = None
-let_ty None (present n) = Some (ty_of n)
 
 abbrev pub is_unused_place : Node → Bool
 is_unused_place (node id at ty by form) = is_place form && is_none by
+
+-- a place that is taken apart stands as it is, so as `!` where that fits
+abbrev pub matched_ty : TyId → Node → TyId
+matched_ty ty n = if is_unused_place n then ty_of n else ty
+
+abbrev pub let_ty : Option TyId → MaybeNode → Option TyId
+let_ty (Some ty) absent = Some ty
+let_ty (Some ty) (present n) = Some (matched_ty ty n)
+let_ty None absent = None
+let_ty None (present n) = Some (ty_of n)
 
 abbrev pub ends_by : ItemTable → MaybeNode → Bool
 ends_by items absent = false

@@ -27,13 +27,13 @@ pub record LabelledLoop : Type 0 where
   pub expected : Option TyId
 
 -- where an expression stands: the names of structs and enums, and of traits, as they are numbered; how the parts of
--- each
--- variant of each struct and enum are written; the struct or enum that `Self` is; variables, the youngest first; loops,
--- the innermost first; the result of the body
+-- each variant of each struct and enum are written; the methods with `self`, as `S::m`; the struct or enum that `Self`
+-- is; variables, the youngest first; loops, the innermost first; the result of the body
 pub record Env : Type 0 where
   pub adts : List Word
   pub traits : List Word
   pub kinds : List (List FieldsKind)
+  pub methods : List Word
   pub self_adt : Option ℕ
   pub variables : List NamedEntry
   pub loops : List LabelledLoop

@@ -14,13 +14,13 @@ use Rattle.well_typed.specs.Places.{ty_of}
 use Rattle.well_typed.specs.Types.{is_reference, is_enum, variant_at}
 use Rattle.typing_rules.specs.Bodies.{all_rules, closure}
 use Rattle.typing_rules.specs.Check.{Check, ◌>>=◌, ◌>>◌, ◌<$>◌, pure, breaks, obeys, known, the_items, interned}
-use Rattle.typing_rules.specs.Named.{PathValue, Makes, IsBroken, path_value, Callee, Function, Constructor, Prints, Asks, Drops, Forgets, Boxes, AValue, Unnamed, NoCallee, callee_of, method_named}
+use Rattle.typing_rules.specs.Named.{PathValue, Makes, IsBroken, path_value, Callee, Function, Constructor, Prints, Asks, Drops, Forgets, Boxes, AValue, Unnamed, NoCallee, callee_of, place_inside, method_named}
 use Rattle.typing_rules.specs.Patterns.{pattern, count_of, PatternTarget, target_of}
 use Rattle.typing_rules.specs.Places.{unit, bool, never, int, variable_place, struct_field, numbered_part}
 use Rattle.typing_rules.specs.Rows as rows
 use Rattle.typing_rules.specs.Rows.{Typer, Referrer, PatternContext, Given, taken, no_reference, leaf}
 use Rattle.typing_rules.specs.Scope.{Env, NamedEntry, variable, with_variables, within_loop, jumps_to, in_guard, adt_named, field_named}
-use Rattle.src_ast.specs.Syntax.{Word, Syn, syn, AnExpression, AStatement, APattern, AnInit, AnArm, Expression, Literal, TruthLiteral, Path, Minus, Bang, Star, Ampersand, Calculate, Compare, Both, Either, Store, CallOf, MethodOf, FieldOf, PartOf, ElementOf, StructOf, Parens, TupleOf, ArrayOf, Braces, IfElse, IfLetElse, MatchOn, LoopOf, WhileOf, WhileLetOf, BreakOf, ContinueOf, ReturnOf, MoveOf, PanicOf, Statement, LetOf, Empty, Semi, Pattern, BindPattern, ParensPattern, Syns, no_syn, a_syn, MaybeSyn, nothing, just}
+use Rattle.src_ast.specs.Syntax.{Word, Syn, syn, AnExpression, AStatement, APattern, AnInit, AnArm, Expression, Literal, TruthLiteral, Path, Minus, Bang, Star, Ampersand, Calculate, Compare, Both, Either, Store, CallOf, MethodOf, FieldOf, PartOf, ElementOf, StructOf, Parens, TupleOf, ArrayOf, Braces, IfElse, IfLetElse, MatchOn, LoopOf, WhileOf, WhileLetOf, BreakOf, ContinueOf, ReturnOf, MoveOf, PanicOf, Statement, LetOf, Empty, Semi, Pattern, AnyPattern, BindPattern, ParensPattern, Syns, no_syn, a_syn, MaybeSyn, nothing, just}
 use Rattle.typing_rules.specs.Written.{written}
 
 abbrev pub has_one : Syns → Bool
@@ -74,10 +74,16 @@ called_by at count callee args AValue = rows.closure_call at count callee args
 called_by at count callee args (Unnamed rule) = λ expected. breaks rule at
 called_by at count callee args NoCallee = rows.no_call at Rule.T13 args
 
+-- where a call is refused: one by a name that is not there where the name stands
+abbrev pub call_place : Pos → Pos → Callee → Pos
+call_place at name (Unnamed rule) = name
+call_place at name _ = at
+
 abbrev pub called : Env → Pos → Syn → ℕ → Check Node → (List TyId → Check Nodes) → Typer
 called env at callee count value args expected = do
   items ← the_items
-  called_by at count value args (callee_of items env callee) expected
+  let c = callee_of items env callee
+  called_by (call_place at (place_inside callee) c) count value args c expected
 
 -- ---- literals
 
@@ -129,6 +135,17 @@ abbrev mutual
   is_one_name_form items (BindPattern name) = not (names_struct items (adt_named items name))
   is_one_name_form items (ParensPattern inside) = is_one_name items inside
   is_one_name_form items _ = false
+
+-- `_`, in parentheses or not
+abbrev mutual
+  pub takes_any : Syn → Bool
+  takes_any (syn at (APattern p)) = takes_any_form p
+  takes_any _ = false
+
+  pub takes_any_form : Pattern → Bool
+  takes_any_form AnyPattern = true
+  takes_any_form (ParensPattern inside) = takes_any inside
+  takes_any_form _ = false
 
 abbrev pub declared : Env → MaybeSyn → Check (Option TyId)
 declared env nothing = pure None
@@ -230,7 +247,7 @@ abbrev mutual
   value env at (TruthLiteral b) = leaf at bool (tree.Truth b)
   value env at (Minus operand) = minus at (literal_in operand) (typed env operand)
   value env at (Bang operand) = rows.not_row at (typed env operand)
-  value env at (Ampersand unique base) = λ expected. base_of env base >>= no_reference >> breaks Rule.T08 at
+  value env at (Ampersand unique base) = rows.borrow_alone at unique (base_of env base)
   value env at (Calculate operator left right) =
       rows.arithmetic at operator (is_plain left) (typed env left) (typed env right)
   value env at (Compare operator left right) =
@@ -295,21 +312,22 @@ abbrev mutual
   other_statement env at (LetOf p ty initialiser) = do
     items ← the_items
     n ← rows.let_row at env (is_one_name items p) (declared env ty) (initialised env (is_one_name items p)
-        initialiser) (matcher env p) (λ xs. with_variables xs env)
+        (takes_any p) initialiser) (matcher env p) (λ xs. with_variables xs env)
     pure (a_statement n)
   other_statement env at (Semi e) = a_statement <$> rows.evaluate at env true (typed env e)
   other_statement env at Empty = pure (None, false, env)
 
   -- one name takes the value; another pattern takes the place apart, or a temporary
-  pub initialised : Env → Bool → MaybeSyn → Option TyId → Check MaybeNode
-  initialised env is_one_name nothing expected = pure absent
-  initialised env is_one_name (just e) expected =
-      present <$> (if is_one_name then typed env e expected else for_parts env expected e)
+  pub initialised : Env → Bool → Bool → MaybeSyn → Option TyId → Check MaybeNode
+  initialised env is_one_name any nothing expected = pure absent
+  initialised env is_one_name any (just e) expected =
+      present <$> (if is_one_name then typed env e expected else for_parts env any expected e)
 
-  pub for_parts : Env → Option TyId → Syn → Check Node
-  for_parts env expected (syn at (AnExpression e)) =
-      if is_place env e then place env at e >>= rows.place_for_parts env expected else value env at e expected
-  for_parts env expected (syn at _) = breaks Rule.T20 at
+  -- for `_`, or for another pattern that is not one name
+  pub for_parts : Env → Bool → Option TyId → Syn → Check Node
+  for_parts env any expected (syn at (AnExpression e)) =
+      if is_place env e then place env at e >>= rows.place_for_parts env any expected else value env at e expected
+  for_parts env any expected (syn at _) = breaks Rule.T20 at
 
   pub typed_args : Env → List TyId → Syns → Check Nodes
   typed_args env params no_syn = pure no_node

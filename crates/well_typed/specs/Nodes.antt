@@ -313,9 +313,10 @@ abbrev mutual
       behind
 
   pub statement : Context → Form → Claim
+  -- without a value no reference is bound: nothing could be stored into it before it is used
   statement c (Let p absent) =
       fact (are_distinct (names_of p)) & pattern c.items whole (ty_of p) p &
-      fact (is_some (type_at c.items (ty_of p)))
+      fact (is_some (type_at c.items (ty_of p))) & fact (not (is_reference c.items (ty_of p)))
   statement c (Let p (present value)) =
       typed c (as_initialiser p) value & of_let c p value
   statement c (Evaluate expression) = typed c Taken expression

@@ -1,4 +1,4 @@
-use Rattle.std.proofs.Common.{◌≡◌, ℕ, ◌||◌, List, [], ◌∷◌, length, length-append, map, reverse, false, Option, None, Some, Result, Ok, slice_get, arith, refl, ap, sym, subst, ◌∙◌}
+use Rattle.std.proofs.Common.{◌≡◌, ℕ, Bool, ◌||◌, List, [], ◌∷◌, length, length-append, map, reverse, false, Option, None, Some, Result, Ok, slice_get, arith, refl, ap, sym, subst, ◌∙◌}
 use Rattle.std.specs.Prelude.{option_map}
 use Rattle.std.specs.Borrow.{Bor}
 use Rattle.typeck_checker.specs.Lists.{below_all, last_nodes}
@@ -14,6 +14,7 @@ use Rattle.typeck_bodies.proofs.Rows.{closure_done, closure_refused, start_refus
 use Rattle.typeck_bodies.specs.Closures.{start_of}
 use Rattle.typeck_bodies.specs.Heads.{unvalued}
 use Rattle.src_ast.specs.View.{idents, syns_of}
+use Rattle.mir_base.specs.declared.rule.Rule.{Rule}
 use Rattle.typing_rules.specs.Bodies as bodies_of
 use Rattle.typing_rules.specs.Places.{a_node_of, wanted}
 use Rattle.typeck_calls.proofs.InitForms.{init_seen}
@@ -32,7 +33,8 @@ use Rattle.typing_rules.specs.Rows.{loop_around, scrutinised}
 use Rattle.typeck_walk.specs.Matches.{arm_of_syn}
 use Rattle.typeck_patterns.specs.PatternContext.{pattern_context_of}
 use Rattle.typeck_walk.proofs.CallSteps.{behind_args, closure_called, method_called, refused_args}
-use Rattle.typing_rules.specs.Named.{method_named}
+use Rattle.mir_base.specs.declared.place_in_text.Pos.{Pos}
+use Rattle.typing_rules.specs.Named.{Callee, method_named, place_inside}
 use Rattle.typeck_walk.proofs.Statements.{below_statement, block_left, grown_length, grows_on, one_statement, scope_left, scoped_grows, statement_by}
 use Rattle.typeck_walk.proofs.Stores.{borrowed, calculated, compared, stored}
 use Rattle.typeck_walk.proofs.Jumps.{broken_out, returned_alone}
@@ -340,9 +342,22 @@ calls::method_behind-returns-clause-gives t c =
     ∙ ap (λ (ps : List TyId). rules_of.typed_args (env middle) ps (nodes_of c.args.args) (state middle)) (sym c.as_slice.ensures) ∙ c.in_ok-count.ensures.gives in
     subst (λ (o : Result (tree.Node × TypingState) Broken). Gives o c.method_end.result c.method_end.new.checker)
     (sym (behind_args (method_end (env before) c.args.id.0 c.args.at (method_named c.args.name.now) c.args.expected (top (stack before))) arguments receiver.params (receiver_rest c.args.id.0 c.args.at c.args.expected receiver) (top (stack middle)) count c.in_ok-count.count (last_nodes c.in_ok-count.count (stack after))
-    (state before) (state middle) (state after) (c.in_ok-receiver.ensures.gives c.args.id.0 c.args.expected count arguments) here c.in_ok-count.ensures.counted
+    (state before) (state middle) (state after) (c.in_ok-receiver.ensures.gives c.args.id.0 c.args.at c.args.expected count arguments) here c.in_ok-count.ensures.counted
     ∙ ap (λ (ns : List tree.Node). receiver_rest c.args.id.0 c.args.at c.args.expected receiver (top ns) c.in_ok-count.count (last_nodes c.in_ok-count.count (stack after)) (state after)) (sym c.in_ok-count.ensures.kept.0)))
     c.method_end.ensures.gives
+
+pub calls::check_call-returns-clause-gives : goal.calls::check_call-returns-clause-gives
+calls::check_call-returns-clause-gives t c =
+    let before = c.args.checker.now in
+    let items = before.walk.items in
+    let node = syn_of c.args.callee.now in
+    let value : Check tree.Node = rules_of.typed (env before) node None in
+    let arguments : Arguments = λ params. rules_of.typed_args (env before) params (nodes_of c.args.args) in
+    let called : Pos → Callee → Result (tree.Node × TypingState) Broken = λ place callee. rules_of.called_by place (count_of (nodes_of c.args.args)) value arguments callee c.args.expected (state before) in
+    subst (λ (o : Result (tree.Node × TypingState) Broken). Gives o c.found_call.result c.found_call.new.checker)
+    (ap (λ (p : Pos). called p (callee_seen items c.in_ok-found.found)) (c.call_place-at.ensures items)
+    ∙ ap (λ (x : Callee). called (rules_of.call_place c.args.at (place_inside node) x) x) c.in_ok-found.ensures.found)
+    c.found_call.ensures.gives
 
 pub calls::check_method_call-returns-clause-gives : goal.calls::check_method_call-returns-clause-gives
 calls::check_method_call-returns-clause-gives t c =
@@ -395,7 +410,7 @@ calls::method_behind-returns-in_err-receiver-clause-gives t c =
     let before = c.args.checker.now in
     let arguments : Arguments = λ params. rules_of.typed_args (env before) params (nodes_of c.args.args) in
     let refused : Refuses (method_end (env before) c.args.id.0 c.args.at (method_named c.args.name.now) c.args.expected (top (stack before)) (count_of (nodes_of c.args.args)) arguments (state before)) c.in_err-receiver.field-0.0 =
-    c.in_err-receiver.ensures.gives c.args.id.0 c.args.expected (count_of (nodes_of c.args.args)) arguments in
+    c.in_err-receiver.ensures.gives c.args.id.0 c.args.at c.args.expected (count_of (nodes_of c.args.args)) arguments in
     grind (arith, refused)
 
 pub calls::found_call-returns-in_default : goal.calls::found_call-returns-in_default
@@ -554,8 +569,9 @@ blocks::check_let-returns-clause-gives t c =
     let third_same : env third ≡ e = c.in_ok-has_value.ensures.kept.1.0 ∙ second_same in
     let written : rules_of.declared e (maybe_of c.args.ty) (state first) ≡ Ok (c.in_ok-declared.declared, state second) =
     ap (λ (f : Env). rules_of.declared f (maybe_of c.args.ty) (state first)) (sym first_same) ∙ c.in_ok-declared.ensures.gives in
-    let init : rules_of.initialised e c.is_one_name-is_one.result (maybe_of c.args.value) c.in_ok-declared.declared (state second) ≡ Ok (value_if has (stack third), state third) =
-    ap (λ (f : Env). rules_of.initialised f c.is_one_name-is_one.result (maybe_of c.args.value) c.in_ok-declared.declared (state second)) (sym second_same) ∙ c.in_ok-has_value.ensures.gives in
+    let init : rules_of.initialised e c.is_one_name-is_one.result (rules_of.takes_any p) (maybe_of c.args.value) c.in_ok-declared.declared (state second) ≡ Ok (value_if has (stack third), state third) =
+    ap (λ (b : Bool). rules_of.initialised e c.is_one_name-is_one.result b (maybe_of c.args.value) c.in_ok-declared.declared (state second)) (sym c.takes_any-any.ensures)
+    ∙ ap (λ (f : Env). rules_of.initialised f c.is_one_name-is_one.result c.takes_any-any.result (maybe_of c.args.value) c.in_ok-declared.declared (state second)) (sym second_same) ∙ c.in_ok-has_value.ensures.gives in
     let done = c.let_end.new.checker in
     let_done e (env third) e c.args.at p (maybe_of c.args.ty) (maybe_of c.args.value) c.is_one_name-is_one.result c.in_ok-id.id.0 c.in_ok-declared.declared (value_if has (stack third)) (value_if has (stack third))
     (top (stack done), c.in_ok-ends.ends, env done) (state before) (state first) (state second) (state third) (state done)
@@ -575,8 +591,9 @@ blocks::check_let-returns-in_err-ends-clause-gives t c =
     let third_same : env third ≡ e = c.in_ok-has_value.ensures.kept.1.0 ∙ second_same in
     let written : rules_of.declared e (maybe_of c.args.ty) (state first) ≡ Ok (c.in_ok-declared.declared, state second) =
     ap (λ (f : Env). rules_of.declared f (maybe_of c.args.ty) (state first)) (sym first_same) ∙ c.in_ok-declared.ensures.gives in
-    let init : rules_of.initialised e c.is_one_name-is_one.result (maybe_of c.args.value) c.in_ok-declared.declared (state second) ≡ Ok (value_if has (stack third), state third) =
-    ap (λ (f : Env). rules_of.initialised f c.is_one_name-is_one.result (maybe_of c.args.value) c.in_ok-declared.declared (state second)) (sym second_same) ∙ c.in_ok-has_value.ensures.gives in
+    let init : rules_of.initialised e c.is_one_name-is_one.result (rules_of.takes_any p) (maybe_of c.args.value) c.in_ok-declared.declared (state second) ≡ Ok (value_if has (stack third), state third) =
+    ap (λ (b : Bool). rules_of.initialised e c.is_one_name-is_one.result b (maybe_of c.args.value) c.in_ok-declared.declared (state second)) (sym c.takes_any-any.ensures)
+    ∙ ap (λ (f : Env). rules_of.initialised f c.is_one_name-is_one.result c.takes_any-any.result (maybe_of c.args.value) c.in_ok-declared.declared (state second)) (sym second_same) ∙ c.in_ok-has_value.ensures.gives in
     let refused : Refuses (rules_of.other_statement e c.args.at (LetOf p (maybe_of c.args.ty) (maybe_of c.args.value)) (state before)) c.in_err-ends.field-0.0 =
     let_refused e (env third) e c.args.at p (maybe_of c.args.ty) (maybe_of c.args.value) c.is_one_name-is_one.result c.in_ok-id.id.0 c.in_ok-declared.declared (value_if has (stack third))
     (state before) (state first) (state second) (state third) c.in_err-ends.field-0.0 c.is_one_name-is_one.ensures c.in_ok-id.ensures.number written init third_same c.in_err-ends.ensures.gives in
@@ -748,7 +765,7 @@ pub closures::check_closure_body-returns-in_err-head-clause-gives : goal.closure
 closures::check_closure_body-returns-in_err-head-clause-gives t c =
     let before = c.args.checker.now in
     let block : Env → Option TyId → Check tree.Node = λ inner. rules_of.typed inner (syn_of c.args.block.now) in
-    let refused : Refuses (unvalued (bodies_of.closure_body (env before) c.args.at c.args.begun.now.body c.args.begun.now.ty (reverse c.args.begun.now.captures) (nodes_of c.args.params) (maybe_of c.args.answer) block) (state before)) c.in_err-head.field-0.0 =
+    let refused : Refuses (unvalued (bodies_of.closure_body (env before) c.args.too_many c.args.at c.args.begun.now.body c.args.begun.now.ty (reverse c.args.begun.now.captures) (nodes_of c.args.params) (maybe_of c.args.answer) block) (state before)) c.in_err-head.field-0.0 =
     c.in_err-head.ensures.gives block in
     grind (arith, refused)
 
@@ -758,7 +775,7 @@ closures::check_closure_body-returns-in_err-check_expr-clause-gives t c =
     let middle = c.closure_head.new.checker in
     let head = c.in_ok-head.head in
     let block : Env → Option TyId → Check tree.Node = λ inner. rules_of.typed inner (syn_of c.args.block.now) in
-    let refused : Refuses (unvalued (bodies_of.closure_body (env before) c.args.at c.args.begun.now.body c.args.begun.now.ty (reverse c.args.begun.now.captures) (nodes_of c.args.params) (maybe_of c.args.answer) block) (state before)) c.in_err-check_expr.field-0.0 =
+    let refused : Refuses (unvalued (bodies_of.closure_body (env before) c.args.too_many c.args.at c.args.begun.now.body c.args.begun.now.ty (reverse c.args.begun.now.captures) (nodes_of c.args.params) (maybe_of c.args.answer) block) (state before)) c.in_err-check_expr.field-0.0 =
     block_refused head _ block (env middle) (stack middle) (state middle) c.in_err-check_expr.field-0.0 (c.in_ok-head.ensures.gives block) c.in_err-check_expr.ensures.gives in
     grind (arith, refused)
 
@@ -769,9 +786,10 @@ closures::check_closure-returns-clause-gives t c =
     let after = c.check_closure_body.new.checker in
     let begun = c.in_ok-begun.begun in
     let block : Env → Option TyId → Check tree.Node = λ inner. rules_of.typed inner (syn_of c.args.block.now) in
+    let body : Rule → Result (Unit {0} × TypingState) Broken = λ rule. unvalued (bodies_of.closure_body (env middle) rule c.args.at begun.body begun.ty (reverse begun.captures) (nodes_of c.args.params) (maybe_of c.args.answer) block) (state middle) in
     subst (λ (o : Result (tree.Node × TypingState) Broken). Gives o c.closure_end.result c.closure_end.new.checker)
     (sym (closure_done (env before) (env middle) c.args.at (syns_of (idents (nodes_of c.args.captures))) (nodes_of c.args.params) (maybe_of c.args.answer) block c.args.expected (start_of begun (stack middle)) (state before) (state middle) (state after)
-    c.in_ok-begun.ensures.gives c.in_ok-begun.ensures.kept.1.0 c.in_ok-check_closure_body.ensures.gives
+    c.in_ok-begun.ensures.gives c.in_ok-begun.ensures.kept.1.0 (ap body (sym c.too_many_rule-too_many.ensures) ∙ c.in_ok-check_closure_body.ensures.gives)
     ∙ ap (λ (ns : List tree.Node). rows_of.fitted c.args.expected (a_node_of begun.id.0 c.args.at begun.ty (tree.Closure begun.closure (last_nodes begun.count ns))) (state after)) (sym c.in_ok-check_closure_body.ensures.same.0)))
     c.closure_end.ensures.gives
 
@@ -788,10 +806,12 @@ closures::check_closure-returns-in_err-check_closure_body-clause-gives t c =
     let before = c.args.checker.now in
     let middle = c.closure_begin.new.checker in
     let begun = c.in_ok-begun.begun in
+    let err = c.in_err-check_closure_body.field-0.0 in
     let block : Env → Option TyId → Check tree.Node = λ inner. rules_of.typed inner (syn_of c.args.block.now) in
+    let body : Rule → Result (Unit {0} × TypingState) Broken = λ rule. unvalued (bodies_of.closure_body (env middle) rule c.args.at begun.body begun.ty (reverse begun.captures) (nodes_of c.args.params) (maybe_of c.args.answer) block) (state middle) in
     let refused : Refuses (rules_of.value (env before) c.args.at (MoveOf (syns_of (idents (nodes_of c.args.captures))) (nodes_of c.args.params) (maybe_of c.args.answer) (syn_of c.args.block.now)) c.args.expected (state before)) c.in_err-check_closure_body.field-0.0 =
     closure_refused (env before) (env middle) c.args.at (syns_of (idents (nodes_of c.args.captures))) (nodes_of c.args.params) (maybe_of c.args.answer) block c.args.expected (start_of begun (stack middle)) (state before) (state middle) c.in_err-check_closure_body.field-0.0
-    c.in_ok-begun.ensures.gives c.in_ok-begun.ensures.kept.1.0 c.in_err-check_closure_body.ensures.gives in
+    c.in_ok-begun.ensures.gives c.in_ok-begun.ensures.kept.1.0 (subst (λ (r : Rule). Refuses (body r) err) c.too_many_rule-too_many.ensures c.in_err-check_closure_body.ensures.gives) in
     grind (arith, refused)
 
 pub closures::check_closure_body-returns-clause-same : goal.closures::check_closure_body-returns-clause-same

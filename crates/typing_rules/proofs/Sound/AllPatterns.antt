@@ -25,7 +25,7 @@ use Rattle.well_typed.proofs.ClaimLemmas.{true_left}
 use Rattle.typing_rules.specs.Check.{Check, TypingState, ◌>>=◌, pure, breaks}
 use Rattle.typing_rules.specs.Patterns as rules
 use Rattle.typing_rules.specs.Promises.{Extends, IsReady, AreReady, Gives, are_bound, AreFresh, AreReadyTypes, IsPattern, SoundMatcher}
-use Rattle.typing_rules.specs.Rows.{PatternContext, Given, numbered_fields, are_known, all_given}
+use Rattle.typing_rules.specs.Rows.{PatternContext, Given, numbered_fields, are_known}
 use Rattle.typing_rules.specs.Scope.{Env, NamedEntry, adt_named, adt_at_head, variant_named, field_named, kind_at}
 use Rattle.src_ast.specs.Syntax.{Word, Syn, syn, APattern, AFieldPattern, Pattern, AnyPattern, BindPattern, LiteralPattern, TruthPattern, PathPattern, PartsPattern, FieldsPattern, ParensPattern, TuplePattern, ArrayPattern, Alternatives, Syns, no_syn, a_syn, nothing, just}
 use Rattle.typing_rules.proofs.Sound.Bindings.{Binds, binds_none, binds_join}
@@ -34,7 +34,7 @@ use Rattle.typing_rules.proofs.Sound.Gives.{◌⋆◌, bind, weaker, with_ready,
 use Rattle.typing_rules.proofs.Sound.Later.{ready_later, alone_ready, in_later, some_got}
 use Rattle.typing_rules.proofs.Sound.Named.{adt_fields, distinct_from}
 use Rattle.typing_rules.proofs.Sound.Places.{not_true}
-use Rattle.typing_rules.proofs.Sound.Patterns.{IsFor, IsAfter, ArePartsAfter, AreEachAfter, AreFieldsAfter, IsTarget, SoundFields, under, wildcard_sound, literal_pattern_sound, truth_pattern_sound, bind_sound, tuple_later, parts_ready, elements_ready, none_new, not_not, of_target_sound}
+use Rattle.typing_rules.proofs.Sound.Patterns.{IsFor, IsAfter, ArePartsAfter, AreEachAfter, AreFieldsAfter, IsTarget, SoundFields, under, wildcard_sound, literal_pattern_sound, truth_pattern_sound, bind_sound, as_tuple, tuple_later, parts_ready, elements_ready, none_new, not_not, of_target_sound}
 
 -- ---- what a path names
 
@@ -423,15 +423,14 @@ mutual
       ready
   form_sound env e ty at (PartsPattern first second parts dots) earlier s = λ ready.
       found Rule.T01 at (rules.target_of s.items env first second) _ λ t is.
-      in_order_sound at e ty t earlier s (λ tys. rules.is_count dots (rules.count_of parts) (length tys) && not
-      (rules.has_named_parts env t && not (rules.count_of parts == 0))) (λ inside tys. rules.part_patterns env inside
-      tys parts
-      earlier) ready (target_is s.items env first second t is) (λ inside tys u types. parts_sound env inside tys parts
+      in_order_sound at e ty t earlier s (λ tys. rules.is_count dots (rules.count_of parts) (length tys) &&
+      rules.are_ordered env t dots) (λ inside tys. rules.part_patterns env inside tys parts earlier) ready (target_is
+      s.items env first second t is) (λ inside tys u types. parts_sound env inside tys parts
       earlier u
       types)
   form_sound env e ty at (FieldsPattern first second fields dots) earlier s = λ ready.
       found Rule.T01 at (rules.target_of s.items env first second) _ λ t is.
-      by_name_sound at e ty t earlier s (λ tys given_. dots || all_given (length tys) given_) (λ inside.
+      by_name_sound at e ty t earlier s (λ tys given_. dots || rules.are_all_given (length tys) given_) (λ inside.
       rules.field_patterns env
       inside (option_map_or (λ (v : Variant). v) (variant_at s.items t.adt t.variant) rules.no_variant) fields
       earlier) ready
@@ -440,7 +439,9 @@ mutual
       (variant_at s.items t.adt t.variant) rules.no_variant) fields earlier u types)
   form_sound env e ty at (ParensPattern inside) earlier s = λ ready. pattern_sound env e ty inside earlier s ready
   form_sound env e ty at (TuplePattern parts dots) earlier s = λ ready.
-      with_ready λ all. after_number (found Rule.T03 at (rules.tuple_types s.items ty) _ λ tys is.
+      with_ready λ all. after_number (found Rule.T03 at (rules.tuple_types s.items ty (rules.count_of parts) dots) _
+      λ tys of.
+      let is = as_tuple s.items ty (rules.count_of parts) dots tys of in
       bind (parts_sound env e tys parts earlier (numbered s) (parts_ready s.items all ty tys is)) λ b t g d.
       obeyed Rule.T04 at (rules.is_count dots (rules.count_of parts) (length tys)) _ λ counted.
       given _ λ ready_t w l.
@@ -565,9 +566,9 @@ mutual
       → slice_get v.fields k ≡ Some t → IsReady s.items t) → Gives s (IsFieldAfter e v.fields earlier s.next_node)
       (rules.field_pattern env e v field earlier s)
   field_sound env e v (syn at (AFieldPattern name nothing)) earlier s = λ ready.
-      field_by_sound e v name earlier (λ ty. rules.bind at e ty name earlier) s (λ k t is. bind_sound at e t name
-      earlier s (ready
-      k t is))
+      field_by_sound e v name earlier (λ ty. rules.lone_name env at e ty name earlier) s (λ k t is. lone_name_sound env
+      at e t
+      name earlier s (ready k t is))
   field_sound env e v (syn at (AFieldPattern name (just inside))) earlier s = λ ready.
       field_by_sound e v name earlier (λ ty. rules.pattern env e ty inside earlier) s (λ k t is. pattern_sound env e t
       inside

@@ -389,7 +389,7 @@ pub array_sound : (env : Env) (at : Pos) (count : ℕ) (elements : Option TyId �
 array_sound env at count elements good expected s k =
     with_ready λ all₀. after_number (bind (good wants (numbered s) (knows_number env k)) λ es t g d.
     found Rule.T03 at (element_ty t.items wants es.1) _ λ ty is_ty.
-    obeyed Rule.T16 at (is_some wants || not (count == 0)) _ λ some_.
+    obeyed Rule.T16 at (is_some expected || not (count == 0)) _ λ some_.
     with_ready λ all.
     let now = d t (grows_refl t) in
     let so = by t all es.0 es.1 wants refl ty is_ty now.0 (λ u e. alone_later g.items u (array_wanted s.items all₀

@@ -1,6 +1,6 @@
 -- `let`.
 use Rattle.std.proofs.Common.{◌≡◌, ℕ, Bool, true, false, ◌&&◌, ◌||◌, not, if◌then◌else◌, List, Option, Some, None, IsTrue, refl, ap, sym, subst, arith, Result, Ok, Err, ◌∙◌}
-use Rattle.std.specs.Prelude.{is_some}
+use Rattle.std.specs.Prelude.{is_none, is_some}
 use Rattle.std.proofs.lemmas.Option.{none-some, same_Some}
 use Rattle.mir_base.specs.declared.place_in_text.Pos.{Pos}
 use Rattle.mir_base.specs.declared.rule.Rule.{Rule}
@@ -15,13 +15,13 @@ use Rattle.well_typed.specs.Names.{are_distinct}
 use Rattle.well_typed.specs.Patterns.{Matched, pattern, names_of}
 use Rattle.well_typed.specs.Places.{Context, ty_of, with_entries, Base, Wanted, form_of, is_place}
 use Rattle.well_typed.specs.Types.{is_same, fits, is_never, is_never_ty, is_unit, is_dyn, is_reference}
-use Rattle.well_typed.proofs.ClaimLemmas.{and_true}
+use Rattle.well_typed.proofs.ClaimLemmas.{and_true, true_left}
 use Rattle.typing_rules.specs.Check.{Check, TypingState, Broken, and_then, obeys, pure, ◌>>=◌}
 use Rattle.typing_rules.specs.Places.{unit, agrees, Fit, Fits, Coerced, Differs, fit, used, is_fixed, in_own_guard, place_in_text}
 use Rattle.typing_rules.specs.Promises.{Gives, Knows, IsReady, IsAlone, Grows, TypingSpot, at_spot, Stands, are_bound, IsPattern, Then, IsValue}
-use Rattle.typing_rules.specs.RowPromises.{IsStatement, IsInitialiser, SoundInitialiser, SoundDeclared, SoundPattern, IsPlace, IsInParts, agrees_same}
+use Rattle.typing_rules.specs.RowPromises.{IsStatement, IsInitialiser, SoundInitialiser, SoundDeclared, SoundPattern, IsPlace, IsInParts}
 use Rattle.typing_rules.specs.Rows as rules
-use Rattle.typing_rules.specs.Rows.{Matcher, PatternContext, pattern_context, let_row, let_ty, of_value, ends_by, fitted_by, taking, taken, as_part, place_for_parts}
+use Rattle.typing_rules.specs.Rows.{Matcher, PatternContext, pattern_context, let_row, let_ty, matched_ty, of_value, ends_by, fitted_by, taking, taken, as_part, place_for_parts}
 use Rattle.typing_rules.specs.Scope.{Env, NamedEntry, with_variables}
 use Rattle.typing_rules.proofs.Sound.Branches.{unit_is}
 use Rattle.typing_rules.proofs.Sound.Fitted.{fits_self, same_self, or_left, or_right, FitOf, it_fits, is_coerced, differs, how_fits}
@@ -47,12 +47,24 @@ as_base c true p n e h =
 as_base c false p n e h =
     subst (λ b. Holds (typed c (if b then Wanted (ty_of p) else Base) n)) (sym e) h
 
+value_ready : (env : Env) (one : Bool) (declared : Option TyId) (t : TypingState) (n : Node) → IsInitialiser env one
+    declared t
+    (present n) → IsReady t.items (ty_of n)
+value_ready env true declared t n is = alone_ready t.items (ty_of n) is.alone
+value_ready env false declared t n is = is.base.ready
+
 -- the type of what is bound is ready
 ty_ready : (env : Env) (one : Bool) (declared : Option TyId) (t : TypingState) (v : MaybeNode) (ty : TyId) → let_ty declared
     v ≡ Some
     ty → ((u : TyId) → declared ≡ Some u → IsAlone t.items u) → IsInitialiser env one declared t v → IsReady t.items ty
-ty_ready env one (Some u) t v ty h alone is =
+ty_ready env one (Some u) t absent ty h alone is =
     alone_ready t.items ty (alone ty h)
+ty_ready env one (Some u) t (present n) ty h alone is =
+    subst (IsReady t.items) (same_Some (matched_ty u n) ty h) (by (rules.is_unused_place n))
+  where
+    by : (b : Bool) → IsReady t.items (if b then ty_of n else u)
+    by true = value_ready env one (Some u) t n is
+    by false = alone_ready t.items u (alone u refl)
 ty_ready env one None t absent ty h alone is = absurd (none-some ty h)
 ty_ready env true None t (present n) ty h alone is =
     subst (IsReady t.items) (same_Some (ty_of n) ty h) (alone_ready t.items (ty_of n) is.alone)
@@ -63,17 +75,27 @@ ty_ready env false None t (present n) ty h alone is =
 value_fits : (items : ItemTable) (declared : Option TyId) (n : Node) (ty : TyId) → let_ty declared (present n) ≡ Some
     ty →
     IsTrue (agrees items declared (ty_of n)) → IsTrue (fits items ty (ty_of n))
-value_fits items (Some u) n ty h fit_ = subst (λ x. IsTrue (fits items x (ty_of n))) (same_Some u ty h) fit_
+value_fits items (Some u) n ty h fit_ =
+    subst (λ x. IsTrue (fits items x (ty_of n))) (same_Some (matched_ty u n) ty h) (by (rules.is_unused_place n))
+  where
+    by : (b : Bool) → IsTrue (fits items (if b then ty_of n else u) (ty_of n))
+    by true = fits_self items (ty_of n)
+    by false = fit_
 value_fits items None n ty h fit_ =
     subst (λ x. IsTrue (fits items x (ty_of n))) (same_Some (ty_of n) ty h) (fits_self items (ty_of n))
 
 -- a place that is taken apart is of the pattern's type
-is_its_own : (declared : Option TyId) (n : Node) (ty u : TyId) → let_ty declared (present n) ≡ Some ty → ty ≡ u →
-    IsTrue (not (is_place (form_of n)) || agrees_same declared (ty_of n)) →
-    IsTrue (not (is_place (form_of n)) || is_same (ty_of n) u)
-is_its_own (Some t) n ty u h same own =
-    subst (λ x. IsTrue (not (is_place (form_of n)) || is_same (ty_of n) x)) (same_Some t ty h ∙ same) own
-is_its_own None n ty u h same own =
+is_its_own : (c : Context) (declared : Option TyId) (n : Node) (ty u : TyId) → let_ty declared (present n) ≡ Some ty →
+    ty ≡ u → Holds (typed c Base n) → IsTrue (not (is_place (form_of n)) || is_same (ty_of n) u)
+is_its_own c (Some t) (node id at own by form) ty u h same holds =
+    subst (λ x. IsTrue (not (is_place form) || is_same own x)) (same_Some (matched_ty t (node id at own by form)) ty h ∙
+    same) (as_it_is (is_place form) (is_none by) (true_left (is_none by) _ holds.0))
+  where
+    as_it_is : (p b : Bool) → IsTrue b → IsTrue (not p || is_same own (if p && b then own else t))
+    as_it_is false b k = refl
+    as_it_is true true k = same_self own.0
+    as_it_is true false k = absurd (false≢true k)
+is_its_own c None n ty u h same holds =
     subst (λ x. IsTrue (not (is_place (form_of n)) || is_same (ty_of n) x)) (same_Some (ty_of n) ty h ∙ same)
     (either (not (is_place (form_of n))))
   where
@@ -93,19 +115,27 @@ put_together : (c : Context) (p n : Node) → Holds (typed c (well.as_initialise
     (present n)))
 put_together c p n value names taken fit own there = value ⋆ names ⋆ taken ⋆ fit ⋆ own ⋆ there
 
+-- without a value the type is the one that is written
+unassigned : (declared : Option TyId) (ty : TyId) → let_ty declared absent ≡ Some ty → declared ≡ Some ty
+unassigned (Some u) ty h = h
+unassigned None ty h = absurd (none-some ty h)
+
 -- what a statement is, apart from what is behind it
 let_holds : (env : Env) (one : Bool) (declared : Option TyId) (t w : TypingState) (v : MaybeNode) (ty : TyId) (n : ℕ) (b :
     Node × List
-    NamedEntry) → Grows t w → let_ty declared v ≡ Some ty → IsInitialiser env one declared t v → IsInitialiser env one
+    NamedEntry) → Grows t w → let_ty declared v ≡ Some ty → ((u : TyId) → declared ≡ Some u → IsAlone w.items u) →
+    IsInitialiser env one declared t v → IsInitialiser env one
     declared w v
     → IsPattern (of_value env one v t.items) ty n w b → is_one_name b.0 ≡ one → IsReady w.items
     ty → (p : TypingSpot) → Stands env w p → Holds (statement (at_spot w.items env.answer p) (tree.Let b.0 v))
-let_holds env one declared t w absent ty n b g is_ty now later is is_one ready p stands =
+let_holds env one declared t w absent ty n b g is_ty alone now later is is_one ready p stands =
     let holds = is.holds well.whole refl (λ h. refl) in
     let same = pattern_type w.items well.whole ty b.0 holds in
     is.names ⋆ subst (λ x. Holds (pattern w.items well.whole x b.0)) same holds ⋆
-    is_in_table w.items ty (ty_of b.0) same ready
-let_holds env true declared t w (present m) ty n b g is_ty now later is is_one ready p stands =
+    is_in_table w.items ty (ty_of b.0) same ready ⋆
+    subst (λ x. IsTrue (not (is_reference w.items x))) same (alone_no_reference w.items ty (alone ty (unassigned declared
+    ty is_ty)))
+let_holds env true declared t w (present m) ty n b g is_ty alone now later is is_one ready p stands =
     let holds = is.holds well.whole refl (λ h. refl) in
     let same = pattern_type w.items well.whole ty b.0 holds in
     let c = at_spot w.items env.answer p in
@@ -117,7 +147,7 @@ let_holds env true declared t w (present m) ty n b g is_ty now later is is_one r
     and_true (fits w.items (ty_of b.0) (ty_of m)) _ fit_ (alone_no_reference w.items (ty_of m) later.alone) ⋆
     or_left (is_one_name b.0) (not (is_place (form_of m)) || is_same (ty_of m) (ty_of b.0)) is_one ⋆
     is_in_table w.items ty (ty_of b.0) same ready
-let_holds env false declared t w (present m) ty n b g is_ty now later is is_one ready p stands =
+let_holds env false declared t w (present m) ty n b g is_ty alone now later is is_one ready p stands =
     let c = at_spot w.items env.answer p in
     let place = well.matched_in true c m in
     let holds = is.holds place refl (λ h. later.base.moves p stands (subst (λ x. IsTrue (not x)) (sym
@@ -129,14 +159,8 @@ let_holds env false declared t w (present m) ty n b g is_ty now later is is_one 
     (subst (λ x. Holds (pattern w.items (if x then well.whole else place) (ty_of b.0) b.0)) (sym is_one) (subst (λ x.
     Holds (pattern w.items place x b.0)) same holds))
     (and_true (fits w.items (ty_of b.0) (ty_of m)) _ fit_ later.no_reference)
-    (or_right (is_one_name b.0) _ (is_its_own declared m ty (ty_of b.0) is_ty same later.own))
+    (or_right (is_one_name b.0) _ (is_its_own c declared m ty (ty_of b.0) is_ty same (later.base.holds p stands)))
     (is_in_table w.items ty (ty_of b.0) same ready)
-
-value_ready : (env : Env) (one : Bool) (declared : Option TyId) (t : TypingState) (n : Node) → IsInitialiser env one
-    declared t
-    (present n) → IsReady t.items (ty_of n)
-value_ready env true declared t n is = alone_ready t.items (ty_of n) is.alone
-value_ready env false declared t n is = is.base.ready
 
 unused_same : (n : Node) → well.is_unused_place n ≡ rules.is_unused_place n
 unused_same (node id at ty by form) = refl
@@ -166,7 +190,8 @@ let_sound env at one written value matcher s good_w good_v good_m k =
       record {
         holds = λ p stands rest behind_ then_.
             and_true true (is_unit w.items unit) refl (unit_is w.items (l.ready ready)) ⋆
-            let_holds env one declared u w v ty u.next_node b on is_ty (e u (grows_refl u)) (e w on) is.0 is.1
+            let_holds env one declared u w v ty u.next_node b on is_ty (λ x q. d w (grows_trans h on) x q)
+            (e u (grows_refl u)) (e w on) is.0 is.1
             (ready_later on.items ty is_ready) p stands ⋆
             subst (λ es. Holds (statements (with_entries es (at_spot w.items env.answer p)) rest behind_)) (sym
             is.0.entries)
@@ -216,14 +241,6 @@ taken_unplaced env expected n s no_fit =
     on (Ok a) h = rules_on a.0 a.1 h _ _
     on (Err e) h = tt
 
-pub no_place_own : (expected : Option TyId) (n : Node) → is_place (form_of n) ≡ false → IsTrue (not (is_place (form_of n))
-    || agrees_same expected (ty_of n))
-no_place_own expected n no_place = by (is_place (form_of n)) no_place
-  where
-    by : (b : Bool) → b ≡ false → IsTrue (not b || agrees_same expected (ty_of n))
-    by true e = absurd (false≢true (sym e))
-    by false e = refl
-
 -- a value that is no place may be taken apart as a temporary
 parts_of_value : (env : Env) (expected : Option TyId) (w : TypingState) (n : Node) → IsValue env expected w n → is_place (form_of n)
     ≡ false →
@@ -233,7 +250,6 @@ parts_of_value env expected w n value no_place =
       base = temporary_base env expected w n (record { value = value; is_no_place = no_place });
       fit = value.fit;
       no_reference = alone_no_reference w.items (ty_of n) value.alone;
-      own = no_place_own expected n no_place;
     }
 
 both_parts : (env : Env) (expected : Option TyId) (t : TypingState) (r : Result (Node × TypingState) Broken) → Gives t (IsValue env
@@ -243,27 +259,24 @@ both_parts env expected t (Ok a) h u =
     record { so = λ ready. let g = h.so ready in (g.0, λ w l. parts_of_value env expected w a.0 (g.1 w l) u) }
 both_parts env expected t (Err e) h u = record { so = λ ready. tt }
 
-pub in_parts_sound : (env : Env) (expected : Option TyId) (n : Node) (t : TypingState) → IsPlace env t n → ((w : TypingState) → Grows
-    t w →
-    IsPlace env w n) → Gives t (IsInParts env expected) (place_for_parts env expected n t)
-in_parts_sound env None n t now later =
+pub in_parts_sound : (env : Env) (takes_any : Bool) (expected : Option TyId) (n : Node) (t : TypingState) → IsPlace env
+    t
+    n → ((w : TypingState) → Grows t w → IsPlace env w n) → Gives t (IsInParts env expected) (place_for_parts env
+    takes_any
+    expected n t)
+in_parts_sound env takes_any None n t now later =
     obeyed Rule.T08 (place_in_text n) (not (is_reference t.items (ty_of n))) _ λ plain.
     given n λ ready w g.
     record {
       base = (later w g).base;
       fit = refl;
       no_reference = subst (λ b. IsTrue (not b)) (sym (same_reference g.items (ty_of n) now.base.ready)) plain;
-      own = or_right (not (is_place (form_of n))) true refl;
     }
-in_parts_sound env (Some expected) n t now later =
-    obeyed Rule.T03 (place_in_text n) (is_same (ty_of n) expected || not (is_never t.items (ty_of n))) _ λ parts. by parts
-    (fit t.items expected (ty_of n)) refl (how_fits t.items expected (ty_of n))
+in_parts_sound env takes_any (Some expected) n t now later =
+    obeyed Rule.T03 (place_in_text n) (takes_any || (is_same (ty_of n) expected || not (is_never t.items (ty_of n)))) _
+    λ
+    _. by (fit t.items expected (ty_of n)) refl (how_fits t.items expected (ty_of n))
   where
-    is_same_ty : (a b : Bool) → IsTrue (a || not b) → IsTrue (a || b) → IsTrue a
-    is_same_ty true b h k = refl
-    is_same_ty false true h k = h
-    is_same_ty false false h k = k
-
     apart : (how : Fit) → fit t.items expected (ty_of n) ≡ how → (how ≡ Fits → ⊥) → Gives t (IsInParts env (Some expected))
         (taken env
         (Some expected) n t)
@@ -276,19 +289,16 @@ in_parts_sound env (Some expected) n t now later =
     is_fit Fits = true
     is_fit _ = false
 
-    by : IsTrue (is_same (ty_of n) expected || not (is_never t.items (ty_of n))) → (how : Fit) → fit t.items expected (ty_of
-        n) ≡ how → FitOf t.items expected (ty_of n) how → Gives t (IsInParts env (Some expected)) (as_part env (Some expected) n
-        how t)
-    by parts _ e (it_fits f) =
+    by : (how : Fit) → fit t.items expected (ty_of n) ≡ how → FitOf t.items expected (ty_of n) how → Gives t
+        (IsInParts env (Some expected)) (as_part env (Some expected) n how t)
+    by _ e (it_fits f) =
         obeyed Rule.T08 (place_in_text n) (not (is_reference t.items (ty_of n))) _ λ plain.
         given n λ ready w g.
         record {
           base = (later w g).base;
           fit = agrees_later g.items (Some expected) (ty_of n) f;
           no_reference = subst (λ b. IsTrue (not b)) (sym (same_reference g.items (ty_of n) now.base.ready)) plain;
-          own = or_right (not (is_place (form_of n))) _ (is_same_ty (is_same (ty_of n) expected) (is_never t.items (ty_of
-              n)) parts f);
         }
-    by parts (Coerced trait_no) e (is_coerced adt to from has) =
+    by (Coerced trait_no) e (is_coerced adt to from has) =
         apart (Coerced trait_no) e (λ f. false≢true (ap is_fit f))
-    by parts Differs e differs = apart Differs e (λ f. false≢true (ap is_fit f))
+    by Differs e differs = apart Differs e (λ f. false≢true (ap is_fit f))

@@ -22,12 +22,12 @@ use Rattle.well_typed.specs.Nodes.{typed, row, arguments, first_and_rest, is_clo
 use Rattle.well_typed.specs.Places as well
 use Rattle.well_typed.specs.Places.{Context, ty_of, form_of, is_place, is_borrow, Taken, Base, Passed}
 use Rattle.well_typed.specs.Types.{closure_of, closure_in, fits, is_same, is_reference, reference_of, reference_in, is_dyn}
-use Rattle.well_typed.proofs.ClaimLemmas.{and_true}
+use Rattle.well_typed.proofs.ClaimLemmas.{and_true, true_right}
 use Rattle.typing_rules.specs.Check.{Check, TypingState, Broken, and_then, breaks, ◌>>◌, pure}
 use Rattle.typing_rules.specs.Places.{a_node_of, is_behind_shared, is_fixed, in_own_guard, place_in_text}
 use Rattle.typing_rules.specs.Promises.{IsAlone, IsKnown, AreReady, AreClosures, Grows, Fact, Gives, TypingSpot, at_spot, Stands, Knows, IsValue, IsTemporary, IsBase, SoundBase, SoundTemporary}
 use Rattle.typing_rules.specs.RowPromises.{IsArgument, AreGiven, SoundArgs, FindsMethods, IsMethodOf, of_adt, of_trait, IsPlainType}
-use Rattle.typing_rules.specs.Rows.{Method, OfAdt, OfTrait, head_of, is_drop_method, method_form, received, received_by, taking, taken, is_unique_borrow, with_self, with_method, takes_self, method_call, with_closure, closure_call}
+use Rattle.typing_rules.specs.Rows.{Method, OfAdt, OfTrait, head_of, is_drop_method, method_form, received, received_by, taking, taken, is_unique_borrow, with_self, with_method, has_self, takes_self, method_call, with_closure, closure_call}
 use Rattle.typing_rules.specs.Scope.{Env, method_of}
 use Rattle.typing_rules.proofs.Sound.Arguments.{passed_value, used_ty, behind_later}
 use Rattle.typing_rules.proofs.Sound.Calls.{arguments_hold}
@@ -253,7 +253,7 @@ with_self_sound env at id base m count args expected [] s k is plain kind method
     takes in cc)
 with_self_sound env at id base m count args expected (self ∷ params) s k is plain kind method e takes good =
     with_ready λ all.
-    bind (received_sound env at base self s is plain (method_known s all (ty_of base) m method self (subst (λ tys.
+    bind (received_sound env (place_in_text base) base self s is plain (method_known s all (ty_of base) m method self (subst (λ tys.
     Contains
     tys self) (sym e) (0, omega arith, refl))) takes) λ receiver t g d.
     bind (good params t (knows_later env g k) (λ ty has. known_later g.items ty (method_known s all (ty_of base) m
@@ -262,7 +262,7 @@ with_self_sound env at id base m count args expected (self ∷ params) s k is pl
     bind (fitted_gives env expected (a_node_of id at (head_of m).result (method_form m receiver given_)) u (method_leaf m
     receiver given_)) λ n v i r.
     obeyed Rule.T04 at (count == length params) _ λ counted.
-    obeyed Rule.T08 at (not (is_unique_borrow (form_of receiver) && is_behind_shared v.items base)) _ λ shared.
+    obeyed Rule.T08 (place_in_text base) (not (is_unique_borrow (form_of receiver) && is_behind_shared v.items base)) _ λ shared.
     obeyed Rule.T13 at (not (is_drop_method m)) _ λ no_drop.
     let to_v = grows_trans g (grows_trans h i) in
     let shared_then = subst (λ b. IsTrue (not (is_unique_borrow (form_of receiver) && b))) (behind_later env s v base
@@ -299,7 +299,7 @@ pub method_sound : (env : Env) (at : Pos) (named : ItemTable → TyId → Option
     (method_call env at named count receiver args)
 method_sound env at named count receiver args finds good_receiver good expected s k =
     after_number (bind (good_receiver (numbered s) (knows_number env k)) λ b t g d.
-    bind (through_sound named at env b t d) λ r u h e. by r u t (knows_later env (grows_trans g h) (knows_number env
+    bind (through_sound named (place_in_text b) env b t d) λ r u h e. by r u t (knows_later env (grows_trans g h) (knows_number env
     k)) h e)
   where
     R : Fact Node
@@ -320,14 +320,14 @@ method_sound env at named count receiver args finds good_receiver good expected 
         let of = finds t (ty_of base) m ((e u (grows_refl u)).1 m refl) in
         let plain = ap is_some (ap (option_and_then reference_in) (type_later h.items (ty_of base) of.1.0 of.1.1) ∙
         of.1.2) in
-        if_takes (takes_self u.items (ty_of base) (head_of m).params) refl
+        if_takes (has_self env m && takes_self u.items (ty_of base) (head_of m).params) refl
         (λ takes. with_self_sound env at s.next_node base m count args expected (head_of m).params u k (λ w g. (e w g).0)
         (truth_of
         _ plain) (of.1.0, type_later h.items (ty_of base) of.1.0 of.1.1, of.1.2, of.1.3) (method_later h (ty_of base)
         m of.0) refl
-        takes good)
+        (true_right (has_self env m) (takes_self u.items (ty_of base) (head_of m).params) takes) good)
       where
-        if_takes : (b : Bool) → takes_self u.items (ty_of base) (head_of m).params ≡ b → (IsTrue b → Gives u R
+        if_takes : (b : Bool) → (has_self env m && takes_self u.items (ty_of base) (head_of m).params) ≡ b → (IsTrue b → Gives u R
             (with_self env
             at s.next_node base m count args expected (head_of m).params u)) → Gives u R ((if b then with_self env at
             s.next_node

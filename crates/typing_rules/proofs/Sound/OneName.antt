@@ -1,5 +1,5 @@
 -- A pattern is one name as it is typed where it is one as it is written.
-use Rattle.std.proofs.Common.{◌≡◌, ℕ, Bool, true, false, not, if◌then◌else◌, List, [], Option, Some, None, Result, Ok, Err, refl, ◌&&◌, ◌||◌, ◌==◌, length, replicate, nat_le, nat_lt, slice_get, sym, ◌∙◌, ap}
+use Rattle.std.proofs.Common.{◌≡◌, ℕ, Bool, true, false, not, if◌then◌else◌, List, [], Option, Some, None, Result, Ok, Err, refl, ◌&&◌, ◌||◌, length, replicate, nat_le, nat_lt, slice_get, sym, ◌∙◌, ap}
 use Rattle.mir_base.specs.declared.int_kind.IntKind.{IntKind}
 use Rattle.mir_base.specs.declared.place_in_text.Pos.{Pos}
 use Rattle.mir_base.specs.declared.rule.Rule.{Rule}
@@ -12,7 +12,7 @@ use Rattle.typing_rules.specs.Check.{Check, TypingState, Broken, and_then, break
 use Rattle.typing_rules.specs.Patterns as rules
 use Rattle.typing_rules.specs.Places.{a_node_of}
 use Rattle.typing_rules.specs.Promises.{Then, Fact, Gives}
-use Rattle.typing_rules.specs.Rows.{PatternContext, is_signed_kind, most, all_given, are_known}
+use Rattle.typing_rules.specs.Rows.{PatternContext, is_signed_kind, most, are_known}
 use Rattle.typing_rules.specs.Scope.{Env, NamedEntry, adt_named, kind_at, variable}
 use Rattle.src_ast.specs.Syntax.{Word, Syn, syn, APattern, Pattern, AnyPattern, BindPattern, LiteralPattern, TruthPattern, PathPattern, PartsPattern, FieldsPattern, ParensPattern, TuplePattern, ArrayPattern, Alternatives}
 use Rattle.typing_rules.specs.Typed as typing
@@ -165,7 +165,7 @@ mutual
         rules.fields_from 0 ps.0,
         ps.1,
         rules.is_count dots
-            (rules.count_of parts) (length tys) && not (rules.has_named_parts env t && not (rules.count_of parts == 0)),
+            (rules.count_of parts) (length tys) && rules.are_ordered env t dots,
         true,
       ))) s
   one_form env e ty at (FieldsPattern first second fields dots) earlier s =
@@ -174,14 +174,13 @@ mutual
       rules.no_variant) fields earlier >>= (λ ps. pure (
         ps.0,
         ps.1,
-        rules.are_given_once ps.2 && (dots || all_given (length tys)
-            ps.2),
+        rules.are_given_once ps.2 && (dots || rules.are_all_given (length tys) ps.2),
         are_known ps.2,
       ))) s
   one_form env e ty at (ParensPattern inside) earlier s = one_name env e ty inside earlier s
   one_form env e ty at (TuplePattern parts dots) earlier s =
-      known_on Rule.T03 at (rules.tuple_types s.items ty) _ λ tys. skip (rules.part_patterns env e tys parts earlier
-      (numbered s))
+      known_on Rule.T03 at (rules.tuple_types s.items ty (rules.count_of parts) dots) _ λ tys. skip
+      (rules.part_patterns env e tys parts earlier (numbered s))
       λ ps u. obeyed_on Rule.T04 at (rules.is_count dots (rules.count_of parts) (length tys)) _ (ends refl)
   one_form env e ty at (ArrayPattern elements dots) earlier s =
       known_on Rule.T03 at (array_of s.items ty) _ λ a. skip (rules.part_patterns env e (replicate a.1 a.0) elements

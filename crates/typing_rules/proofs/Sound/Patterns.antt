@@ -182,8 +182,27 @@ under earlier n m inside outside w out le entries names b =
       types = c.types;
     }
 
+-- what has so many parts is a tuple, or `()`
+pub as_tuple : (items : ItemTable) (ty : TyId) (count : ℕ) (dots : Bool) (tys : List TyId) → rules.tuple_types items ty
+    count dots ≡ Some tys → well.tuple_types items ty ≡ Some tys
+as_tuple items ty count dots tys h = by (is_unit items ty) h
+  where
+    only : (b : Bool) (some_tys : List TyId) → rules.types_if b some_tys ≡ Some tys → Some some_tys ≡ Some tys
+    only true some_tys h = h
+    only false some_tys h = absurd (none-some tys h)
+
+    other : (o : Option (List TyId)) → option_and_then (rules.types_if (dots || not (count == 0))) o ≡ Some tys → o ≡
+        Some tys
+    other None h = absurd (none-some tys h)
+    other (Some some_tys) h = only (dots || not (count == 0)) some_tys h
+
+    by : (b : Bool) → (if b then rules.types_if (count == 0) [] else option_and_then (rules.types_if (dots || not
+        (count == 0))) (tuple_of items ty)) ≡ Some tys → (if b then Some [] else tuple_of items ty) ≡ Some tys
+    by true h = only (count == 0) [] h
+    by false h = other (tuple_of items ty) h
+
 pub tuple_later : {old new : ItemTable} → Extends old new → (ty : TyId) (tys : List TyId) → IsReady old ty →
-    rules.tuple_types old
+    well.tuple_types old
     ty ≡ Some tys → well.tuple_types new ty ≡ Some tys
 tuple_later {old} {new} e ty tys ready h = by (is_unit old ty) (is_unit new ty) (same_is e _ ty ready) h
   where
@@ -194,7 +213,7 @@ tuple_later {old} {new} e ty tys ready h = by (is_unit old ty) (is_unit new ty) 
     by false c same h =
         subst (λ x. (if x then Some [] else tuple_of new ty) ≡ Some tys) (sym same) (in_later e tuple_in ty tys h)
 
-pub parts_ready : (items : ItemTable) → AreReady items → (ty : TyId) (tys : List TyId) → rules.tuple_types items ty ≡
+pub parts_ready : (items : ItemTable) → AreReady items → (ty : TyId) (tys : List TyId) → well.tuple_types items ty ≡
     Some tys → (n
     : ℕ) (t : TyId) → slice_get tys n ≡ Some t → IsReady items t
 parts_ready items all ty tys h n t is = by (is_unit items ty) h

@@ -331,7 +331,7 @@ abbrev IsPartOf : ItemTable → List NamedEntry → NamedEntry → Type 0
 IsPartOf items captures x =
     (j : ℕ) × (x.meaning ≡ Capture 0 j) × (slice_get (bodies.types_of captures) j ≡ Some x.ty) × IsReady items x.ty
 
-module _ (env : Env) (at : Pos) (number k : ℕ) (ty : TyId) (captures : List NamedEntry) (params : Syns) (answer : MaybeSyn)
+module _ (env : Env) (too_many : Rule) (at : Pos) (number k : ℕ) (ty : TyId) (captures : List NamedEntry) (params : Syns) (answer : MaybeSyn)
     (body : Syn) (s : TypingState) (items : KnowsItems env.kinds env.self_adt s.items) (is : type_at s.items ty ≡ Some
     (Ty.Closure k)) (def : slice_get s.items.closures k ≡ Some (record {
       captures = bodies.types_of captures;
@@ -389,7 +389,7 @@ module _ (env : Env) (at : Pos) (number k : ℕ) (ty : TyId) (captures : List Na
             part_at p.0 x.ty p.2,
           )
 
-  closure_inner : Gives (inner_state s) IsGoodBody (in_closure env at number ty captures params answer (λ inner.
+  closure_inner : Gives (inner_state s) IsGoodBody (in_closure env too_many at number ty captures params answer (λ inner.
       typing.typed inner body) (inner_state s))
   closure_inner =
       with_ready λ all. after_number (
@@ -405,7 +405,7 @@ module _ (env : Env) (at : Pos) (number k : ℕ) (ty : TyId) (captures : List Na
       bind_walked (good (bodies.inside outside a ps.1) (Some a) u ku) (both_walk (typing.typed (bodies.inside outside a
       ps.1) body (Some a) u) (typed_walks (bodies.inside outside a ps.1) body (Some a) u) (block_shape (bodies.inside
       outside a ps.1) body shape (Some a) u)) λ b v i f w3.
-      obeyed Rule.T19 at (nat_le (length (numbers_of (bodies.body_of number (record { pattern = self_pattern; ty = ty }
+      obeyed too_many at (nat_le (length (numbers_of (bodies.body_of number (record { pattern = self_pattern; ty = ty }
       ∷ ps.0) a b))) 2048) _ λ few.
       given _ λ ready w l all_w heads.
       let gw = grows_trans gu (grows_trans i l) in
@@ -498,8 +498,8 @@ closure_sound env at captures params answer body shape first good expected s k =
     let def_now = def t' (grows_refl t') in
     bind (interned_sound (Ty.Closure n) t' (closure_made t'.items n _ def_now (λ x has. alone_later g'.items x
     (captured_alone env t 0 caps.0 caps.1 now x has)))) λ ty u h is.
-    bind (new_body_sound (in_closure env at s.next_body ty caps.1 params answer (λ inner. typing.typed inner body)) u
-    (closure_inner env at s.next_body n ty caps.1 params answer body u (items_later (grows_trans g' h).items kt.items)
+    bind (new_body_sound (in_closure env (bodies.too_many_rule u.items expected ty) at s.next_body ty caps.1 params answer (λ inner. typing.typed inner body)) u
+    (closure_inner env (bodies.too_many_rule u.items expected ty) at s.next_body n ty caps.1 params answer body u (items_later (grows_trans g' h).items kt.items)
     (is u (grows_refl u)) (def u h) (λ x has. let f = captured_facts t.items env t 0 caps.0 caps.1 now x has in (
       f.0,
       f.1 ∙ ap (Capture 0) (omega arith),

@@ -70,7 +70,7 @@ in_function env at n params answer block = do
   ps ← bodies.params_of env (types.written_param (bodies.all_rules env)) params []
   ty ← bodies.answer_of env answer
   b ← block (bodies.inside env ty ps.1) (Some ty)
-  bodies.within_limit at (bodies.body_of n ps.0 ty b)
+  bodies.within_limit Rule.T19 at (bodies.body_of n ps.0 ty b)
 
 module _ (env : Env) (at : Pos) (number : ℕ) (params : Syns) (answer : MaybeSyn) (body : Syn) (s : TypingState) (items :
     KnowsItems env.kinds env.self_adt s.items) (bare : (x : NamedEntry) → Contains env.variables x → ⊥) (shape : IsTrue

@@ -181,7 +181,8 @@ collecting_calls : (is : List ItemSyn) (end : Pos) → Walked (λ _ t. AreCalled
 collecting_calls is end =
     walk (names_still (filter_map rules.item_name (item_syns is)) [] start) λ _ t e. walk (items_call (rules.known_of is) first is
     t) λ _ u h. walk (impls_same (rules.known_of is) (item_syns is) u) λ _ v f. walk (finite_still 0 (filter_map rules.adt_item
-    (item_syns is)) v) λ _ w g. walk (derive_still 0 (filter_map rules.adt_item (item_syns is)) w) λ _ x d. walk_map
+    (item_syns is)) v) λ _ w g. walk (derive_still (rules.drop_owners is) 0 (filter_map rules.adt_item (item_syns is))
+    w) λ _ x d. walk_map
     (obeyed_still Rule.T01 end (is_some (types.number_of (body_paths is) (codes "main"))) x) λ _ y o. there (calls_both
     (calls_still first e) h.1) (same_both f (same_heads (onward g (onward d o))))
   where

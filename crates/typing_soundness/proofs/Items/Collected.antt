@@ -703,11 +703,13 @@ finite_still n (a ∷ as_) s =
     (obeyed_still Rule.T09 a.0 (not (rules.holds t.items ty ty)) t) λ _ u g. onward e g) λ _ t e. walk_map (finite_still
     (suc n) as_ t) λ _ u g. onward e g
 
-pub derive_still : (n : ℕ) (as_ : List (Pos × List Named)) (s : TypingState) → Walked (Still s) (rules.all_derive n as_ s)
-derive_still n [] s = walk_ends (still s)
-derive_still n (a ∷ as_) s =
-    walk (obeyed_still Rule.T10 a.0 (rules.may_derive s.items a.1 (slice_get s.items.adts n)) s) λ _ t e. walk_map
-    (derive_still (suc n) as_ t) λ _ u g. onward e g
+pub derive_still : (dropped : List Word) (n : ℕ) (as_ : List (Pos × List Named)) (s : TypingState) → Walked (Still s)
+    (rules.all_derive dropped n as_ s)
+derive_still dropped n [] s = walk_ends (still s)
+derive_still dropped n (a ∷ as_) s =
+    walk (obeyed_still Rule.T10 a.0 (rules.may_derive s.items dropped a.1 (slice_get s.items.adts n)) s) λ _ t e.
+    walk_map
+    (derive_still dropped (suc n) as_ t) λ _ u g. onward e g
 
 pub names_still : (ns : List Named) (earlier : List Word) (s : TypingState) → Walked (Still s) (rules.names_differ ns earlier s)
 names_still [] earlier s = walk_ends (still s)
@@ -739,7 +741,8 @@ pub collecting_collects : (is : List ItemSyn) (end : Pos) → Walked (λ _ t. (u
 collecting_collects is end =
     walk (names_still (filter_map rules.item_name (item_syns is)) [] start) λ _ t e. walk (heads_collected (rules.known_of
     is) (record { outer = []; in_outer = 0; closures = 0 }) is t) λ _ u h. walk (impls_same (rules.known_of is) (item_syns
-    is) u) λ _ v f. walk (finite_still 0 (filter_map rules.adt_item (item_syns is)) v) λ _ w g. walk (derive_still 0
+    is) u) λ _ v f. walk (finite_still 0 (filter_map rules.adt_item (item_syns is)) v) λ _ w g. walk (derive_still
+    (rules.drop_owners is) 0
     (filter_map rules.adt_item (item_syns is)) w) λ _ x d. walk_map (obeyed_still Rule.T01 end (is_some (types.number_of
     (body_paths is) (codes "main"))) x) λ _ y o. (
       u,

@@ -2,6 +2,7 @@
 use Rattle.std.proofs.Common.{◌≡◌, ℕ, suc, ◌+◌, Bool, true, false, ◌&&◌, ◌||◌, not, List, [], ◌∷◌, ◌++◌, slice_get, Some, Result, Ok, Err, IsTrue, refl, ap, sym, subst, ◌∙◌, arith}
 use Rattle.std.specs.Prelude.{codes, is_some}
 use Rattle.std.specs.List.{list_all, filter_map}
+use Rattle.std.proofs.lemmas.Bool.{false≢true}
 use Rattle.mir_base.specs.declared.place_in_text.Pos.{Pos}
 use Rattle.mir_base.specs.declared.rule.Rule.{Rule}
 use Rattle.mir_ty.specs.declared.adt.Adt.{Adt}
@@ -19,7 +20,7 @@ use Rattle.typing_rules.specs.Items.{ItemSyn, items_of, item_syns, body_paths}
 use Rattle.typing_rules.specs.Promises.{AreReady, Extends, IsAlone, IsReady, IsThere, IsValueType}
 use Rattle.typing_rules.specs.Written.{number_of}
 use Rattle.typing_rules.proofs.Sound.Later.{same_copy}
-use Rattle.src_ast.specs.Syntax.{Named, Syn, syn, AnItem, StructItem, EnumItem}
+use Rattle.src_ast.specs.Syntax.{Word, Named, Syn, syn, AnItem, StructItem, EnumItem}
 use Rattle.typing_soundness.specs.Heads.{IsAdtOf, AreAdtsOf}
 use Rattle.typing_soundness.specs.Items.{may_be_copy}
 use Rattle.typing_soundness.specs.Program.{IsAccepted}
@@ -37,29 +38,34 @@ use Rattle.typing_soundness.proofs.Walking.Steps.{walk, walk_map, walk_obeyed, w
 abbrev pub Derived : Type 0
 Derived = List (Pos × List Named)
 
-abbrev pub AreDerived : ItemTable → ℕ → Derived → Type 0
-AreDerived items n [] = Unit {0}
-AreDerived items n (a ∷ as_) = IsTrue (rules.may_derive items a.1 (slice_get items.adts n)) × AreDerived items (suc n) as_
+abbrev pub AreDerived : ItemTable → List Word → ℕ → Derived → Type 0
+AreDerived items dropped n [] = Unit {0}
+AreDerived items dropped n (a ∷ as_) =
+    IsTrue (rules.may_derive items dropped a.1 (slice_get items.adts n)) × AreDerived items dropped (suc n) as_
 
-pub all_derived : (n : ℕ) (as_ : Derived) (s : TypingState) → Walked (λ _ t. (t.items ≡ s.items) × AreDerived s.items n as_)
-    (rules.all_derive n as_ s)
-all_derived n [] s = walk_ends (refl, tt)
-all_derived n (a ∷ as_) s =
-    walk_obeyed Rule.T10 a.0 (rules.may_derive s.items a.1 (slice_get s.items.adts n)) _ λ h. walk_map (all_derived (suc n)
-    as_ s) λ _ t k. (k.0, (h, k.1))
+pub all_derived : (dropped : List Word) (n : ℕ) (as_ : Derived) (s : TypingState) → Walked (λ _ t. (t.items ≡ s.items) ×
+    AreDerived s.items dropped n as_) (rules.all_derive dropped n as_ s)
+all_derived dropped n [] s = walk_ends (refl, tt)
+all_derived dropped n (a ∷ as_) s =
+    walk_obeyed Rule.T10 a.0 (rules.may_derive s.items dropped a.1 (slice_get s.items.adts n)) _ λ h. walk_map
+    (all_derived
+    dropped (suc n) as_ s) λ _ t k. (k.0, (h, k.1))
 
 abbrev pub derived_in : List ItemSyn → Derived
 derived_in is = filter_map rules.adt_item (item_syns is)
 
-collecting_derived : (is : List ItemSyn) (end : Pos) (s : TypingState) → Walked (λ _ t. AreDerived t.items 0 (derived_in is))
+collecting_derived : (is : List ItemSyn) (end : Pos) (s : TypingState) → Walked (λ _ t. AreDerived t.items
+    (rules.drop_owners is) 0
+    (derived_in is))
     (rules.collecting is end s)
 collecting_derived is end s =
     walk (whatever {P = Unit {0}} (rules.names_differ (filter_map rules.item_name (item_syns is)) [] s) tt) λ _ t _. walk
     (whatever {P = Unit {0}} (rules.heads_collected (rules.known_of is) (record { outer = []; in_outer = 0; closures = 0 })
     is t) tt) λ _ u _. walk (whatever {P = Unit {0}} (each_checked (rules.impl_of (rules.known_of is)) (item_syns is) u) tt)
-    λ _ v _. walk (whatever {P = Unit {0}} (rules.all_finite 0 (derived_in is) v) tt) λ _ w _. walk (all_derived 0
-    (derived_in is) w) λ _ x h. walk_map (ends (is_some (number_of (body_paths is) (codes "main"))) x) λ _ y e. subst (λ
-    items. AreDerived items 0 (derived_in is)) (sym (e ∙ h.0)) h.1
+    λ _ v _. walk (whatever {P = Unit {0}} (rules.all_finite 0 (derived_in is) v) tt) λ _ w _. walk (all_derived
+    (rules.drop_owners is) 0 (derived_in is) w) λ _ x h. walk_map (ends (is_some (number_of (body_paths is) (codes
+    "main"))) x) λ _ y e. subst (λ items. AreDerived items
+    (rules.drop_owners is) 0 (derived_in is)) (sym (e ∙ h.0)) h.1
   where
     ends : (b : Bool) (x : TypingState) → Walked (λ _ y. y.items ≡ x.items) (obeys Rule.T01 end b x)
     ends true x = walk_ends refl
@@ -84,33 +90,49 @@ only_copies true true rest h = h
 only_copies true false rest h = absurd (cc)
 only_copies false clone rest h = refl
 
-one_copies : (items : ItemTable) (ds : List Named) (adt : Adt) → adt.copy ≡ rules.derives (codes "Copy") ds → IsTrue
-    (rules.may_derive items ds (Some adt)) → IsTrue (may_be_copy items adt)
-one_copies items ds adt e h =
-    let rest = not (is_some adt.drop_body) && list_all (λ v. list_all (is_copy items) v.fields) adt.variants in
-    ap (λ b. not b || rest) e ∙ only_copies (rules.derives (codes "Copy") ds) (rules.derives (codes "Clone") ds) rest h
+-- what has no impl of `Drop` has no `drop` body either
+without_body : (copy clone body owned rest : Bool) → IsTrue (not copy || (clone && (not (body || owned) && rest))) →
+    IsTrue
+    (not copy || (clone && (not body && rest)))
+without_body true true true owned rest h = h
+without_body true true false true rest h = absurd (false≢true h)
+without_body true true false false rest h = h
+without_body true false body owned rest h = h
+without_body false clone body owned rest h = refl
 
-adt_copies : (items : ItemTable) (n : ℕ) (i : Syn) (is : List Syn) (adt : Adt) → IsAdtOf i adt → slice_get items.adts n ≡
-    Some adt → AreDerived items n (filter_map rules.adt_item (i ∷ is)) → IsTrue (may_be_copy items adt) × AreDerived items
-    (suc n) (filter_map rules.adt_item is)
-adt_copies items n (syn at (AnItem (StructItem ds name kind fields))) is adt are at_n h =
-    (one_copies items ds adt are.4.2 (subst (λ o. IsTrue (rules.may_derive items ds o)) at_n h.0), h.1)
-adt_copies items n (syn at (AnItem (EnumItem ds name variants))) is adt are at_n h =
-    (one_copies items ds adt are.3 (subst (λ o. IsTrue (rules.may_derive items ds o)) at_n h.0), h.1)
-adt_copies items n (syn at _) is adt are at_n h = absurd are
+one_copies : (items : ItemTable) (dropped : List Word) (ds : List Named) (adt : Adt) → adt.copy ≡ rules.derives (codes
+    "Copy") ds → IsTrue (rules.may_derive items dropped ds (Some adt)) → IsTrue (may_be_copy items adt)
+one_copies items dropped ds adt e h =
+    let parts = list_all (λ v. list_all (is_copy items) v.fields) adt.variants in
+    let rest = not (is_some adt.drop_body) && parts in
+    ap (λ b. not b || rest) e ∙ only_copies (rules.derives (codes "Copy") ds) (rules.derives (codes "Clone") ds) rest
+    (without_body (rules.derives (codes "Copy") ds) (rules.derives (codes "Clone") ds) (is_some adt.drop_body) (is_some
+    (number_of dropped adt.name)) parts h)
 
-adts_copy : (items : ItemTable) (n : ℕ) (is : List Syn) (adts : List Adt) → AreAdtsOf is adts → ((k : ℕ) (adt : Adt) →
-    slice_get adts k ≡ Some adt → slice_get items.adts (n + k) ≡ Some adt) → AreDerived items n (filter_map rules.adt_item
-    is) → All (λ adt. IsTrue (may_be_copy items adt)) adts
-adts_copy items n [] [] are at_n h = tt
-adts_copy items n [] (adt ∷ adts) are at_n h = absurd are
-adts_copy items n (i ∷ is) [] are at_n h = absurd are
-adts_copy items n (i ∷ is) (adt ∷ adts) are at_n h =
-    let one = adt_copies items n i is adt are.0 (ap (slice_get items.adts) (omega arith) ∙ at_n 0 adt refl) h in (
-      one.0,
-      adts_copy items (suc n) is adts are.1 (λ k x e. ap (slice_get items.adts) (omega arith) ∙ at_n (suc k) x e)
-          one.1,
-    )
+module _ (items : ItemTable) (dropped : List Word) where
+  adt_copies : (n : ℕ) (i : Syn) (is : List Syn) (adt : Adt) → IsAdtOf i adt → slice_get items.adts n ≡ Some adt →
+      AreDerived items dropped n (filter_map rules.adt_item (i ∷ is)) → IsTrue (may_be_copy items adt) × AreDerived
+      items
+      dropped (suc n) (filter_map rules.adt_item is)
+  adt_copies n (syn at (AnItem (StructItem ds name kind fields))) is adt are at_n h = (
+    one_copies items dropped ds adt are.4.2 (subst (λ o. IsTrue (rules.may_derive items dropped ds o)) at_n h.0),
+    h.1,
+  )
+  adt_copies n (syn at (AnItem (EnumItem ds name variants))) is adt are at_n h =
+      (one_copies items dropped ds adt are.3 (subst (λ o. IsTrue (rules.may_derive items dropped ds o)) at_n h.0), h.1)
+  adt_copies n (syn at _) is adt are at_n h = absurd are
+
+  adts_copy : (n : ℕ) (is : List Syn) (adts : List Adt) → AreAdtsOf is adts → ((k : ℕ) (adt : Adt) → slice_get adts k ≡
+      Some adt → slice_get items.adts (n + k) ≡ Some adt) → AreDerived items dropped n (filter_map rules.adt_item is) →
+      All (λ adt. IsTrue (may_be_copy items adt)) adts
+  adts_copy n [] [] are at_n h = tt
+  adts_copy n [] (adt ∷ adts) are at_n h = absurd are
+  adts_copy n (i ∷ is) [] are at_n h = absurd are
+  adts_copy n (i ∷ is) (adt ∷ adts) are at_n h =
+      let one = adt_copies n i is adt are.0 (ap (slice_get items.adts) (omega arith) ∙ at_n 0 adt refl) h in (
+        one.0,
+        adts_copy (suc n) is adts are.1 (λ k x e. ap (slice_get items.adts) (omega arith) ∙ at_n (suc k) x e) one.1,
+      )
 
 -- ---- among more types
 
@@ -134,18 +156,23 @@ module _ (parts : Parts Pos) (items : ItemTable) (p : ProgramTree) (h : IsAccept
   ready : AreReady items
   ready = (are_collected parts items p h).ready
 
-  derived : AreDerived items 0 (derived_in (items_of parts))
+  abbrev dropped : List Word
+  dropped = rules.drop_owners (items_of parts)
+
+  derived : AreDerived items dropped 0 (derived_in (items_of parts))
   derived = by _ (collecting_derived (items_of parts) h.end (rules.starting_with rules.no_items)) h.collected
     where
-      by : (r : Result (Unit {0} × TypingState) Broken) → Walked (λ _ t. AreDerived t.items 0 (derived_in (items_of parts))) r →
-          rules.items_in r ≡ Ok items → AreDerived items 0 (derived_in (items_of parts))
-      by (Ok a) w e = subst (λ i. AreDerived i 0 (derived_in (items_of parts))) (ok_same a.1.items items e) w.so
+      by : (r : Result (Unit {0} × TypingState) Broken) → Walked (λ _ t. AreDerived t.items dropped 0
+          (derived_in (items_of parts))) r → rules.items_in r ≡ Ok items → AreDerived items dropped 0 (derived_in (items_of parts))
+      by (Ok a) w e = subst (λ i. AreDerived i dropped 0 (derived_in (items_of parts))) (ok_same a.1.items items e) w.so
       by (Err x) w e = absurd (no_ok x e)
 
   collected_copies : All (λ adt. IsTrue (may_be_copy items adt)) items.adts
   collected_copies =
-      adts_copy items 0 (all_adts (items_of parts)) items.adts (heads_of_text parts h.end items h.collected).adts (λ k adt
-      is. ap (slice_get items.adts) (omega arith) ∙ is) (subst (AreDerived items 0) (sym (derived_of_text (items_of
+      adts_copy items dropped 0 (all_adts (items_of parts)) items.adts (heads_of_text parts h.end items
+      h.collected).adts (λ k adt
+      is. ap (slice_get items.adts) (omega arith) ∙ is) (subst (AreDerived items dropped 0) (sym (derived_of_text
+      (items_of
       parts))) derived)
 
   pub text_copies : (n : ℕ) (adt : Adt) → slice_get p.items.adts n ≡ Some adt → IsTrue (may_be_copy p.items adt)

@@ -92,7 +92,8 @@ collecting_drops is end =
       in_outer = 0;
       closures = 0;
     }) is t) λ _ u h. walk (impls_same k (item_syns is) u) λ _ v f. walk (finite_still 0 (filter_map
-    rules.adt_item (item_syns is)) v) λ _ w g. walk (derive_still 0 (filter_map rules.adt_item (item_syns is)) w) λ _ x d.
+    rules.adt_item (item_syns is)) v) λ _ w g. walk (derive_still (rules.drop_owners is) 0 (filter_map rules.adt_item
+    (item_syns is)) w) λ _ x d.
     walk_map (obeyed_still Rule.T01 end (is_some (types.number_of (body_paths is) (codes "main"))) x) λ _ y o. same_drops k
     u.items.adts y.items.adts ((onward g (onward d o)).stays.adts ∙ f.adts) (h (same_drops k [] t.items.adts e.stays.adts tt))
   where

@@ -237,7 +237,8 @@ collecting_checked is end h =
     rules.item_name (item_syns is)) [] start) (names_still (filter_map rules.item_name (item_syns is)) [] start)) λ _ t e.
     walk (heads_ready (rules.known_of is) (record { outer = []; in_outer = 0; closures = 0 }) is t h e.1.stays.closures) λ _
     u f. walk (impls_ready (rules.known_of is) (item_syns is) u) λ _ v g. walk (all_checked 0 (derived_in is) v) λ _ w l.
-    walk (all_derived 0 (derived_in is) w) λ _ x d. walk_map (obeyed_so {P = Unit {0}} rule.Rule.T01 end (is_some (number_of (body_paths is)
+    walk (all_derived (rules.drop_owners is) 0 (derived_in is) w) λ _ x d. walk_map (obeyed_so {P = Unit {0}}
+    rule.Rule.T01 end (is_some (number_of (body_paths is)
     (codes "main"))) x (λ _. tt)) λ _ y o. subst (λ items. AreChecked items 0 (derived_in is)) (sym (ap (λ (z : TypingState).
     z.items) o.1 ∙ d.0)) (l (g (f (e.0 ready_at_first).0).0).0)
   where

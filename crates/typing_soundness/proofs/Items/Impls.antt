@@ -122,7 +122,8 @@ collecting_impls : (is : List ItemSyn) (end : Pos) → Walked (λ _ t. AreAllImp
 collecting_impls is end =
     walk (names_still (filter_map rules.item_name (item_syns is)) [] start) λ _ t e. walk (items_add (rules.known_of is)
     (record { outer = []; in_outer = 0; closures = 0 }) is t) λ _ u h. walk (impls_add (rules.known_of is) (item_syns is) u)
-    λ _ v f. walk (finite_still 0 (filter_map rules.adt_item (item_syns is)) v) λ _ w g. walk (derive_still 0 (filter_map
+    λ _ v f. walk (finite_still 0 (filter_map rules.adt_item (item_syns is)) v) λ _ w g. walk (derive_still
+    (rules.drop_owners is) 0 (filter_map
     rules.adt_item (item_syns is)) w) λ _ x d. walk_map (obeyed_still Rule.T01 end (is_some (types.number_of (body_paths is)
     (codes "main"))) x) λ _ y o. there (h.impls ∙ e.stays.impls) f (onward g (onward d o))
   where

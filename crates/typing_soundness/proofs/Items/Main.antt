@@ -367,7 +367,8 @@ collecting_main is end s =
     (owners_known (rules.known_of is) (record { outer = []; in_outer = 0; closures = 0 }) is t) λ _ u own. walk (whatever {P
     = Unit {0}} (each_checked (rules.impl_of (rules.known_of is)) (item_syns is) u) tt) λ _ v _. walk (whatever {P = Unit
     {0}} (rules.all_finite 0 (filter_map rules.adt_item (item_syns is)) v) tt) λ _ w _. walk (whatever {P = Unit {0}}
-    (rules.all_derive 0 (filter_map rules.adt_item (item_syns is)) w) tt) λ _ x _. walk_map (obeyed_state {P = λ _. Contains
+    (rules.all_derive (rules.drop_owners is) 0 (filter_map rules.adt_item (item_syns is)) w) tt) λ _ x _. walk_map
+    (obeyed_state {P = λ _. Contains
     (body_paths is) main} Rule.T01 end (is_some (types.number_of (body_paths is) main)) x (path_there (body_paths is) main))
     λ _ y h. (h, own)
 

@@ -337,10 +337,12 @@ finite_kept n (a ∷ as_) s =
     step {f = λ _. rules.all_finite (suc n) as_} (step (interned_kept (Ty.Adt n) s) λ ty t. obeyed_kept Rule.T09 a.0 (not
     (rules.holds t.items ty ty)) t) λ _ t. finite_kept (suc n) as_ t
 
-derive_kept : (n : ℕ) (as_ : List (Pos × List Named)) (s : TypingState) → Keeps s (rules.all_derive n as_ s)
-derive_kept n [] s = walk_ends (kept s)
-derive_kept n (a ∷ as_) s =
-    step (obeyed_kept Rule.T10 a.0 (rules.may_derive s.items a.1 (slice_get s.items.adts n)) s) λ _ t. derive_kept (suc n) as_
+derive_kept : (dropped : List Word) (n : ℕ) (as_ : List (Pos × List Named)) (s : TypingState) → Keeps s
+    (rules.all_derive dropped n as_ s)
+derive_kept dropped n [] s = walk_ends (kept s)
+derive_kept dropped n (a ∷ as_) s =
+    step (obeyed_kept Rule.T10 a.0 (rules.may_derive s.items dropped a.1 (slice_get s.items.adts n)) s) λ _ t.
+    derive_kept dropped (suc n) as_
     t
 
 differ_kept : (ns : List Named) (earlier : List Word) (s : TypingState) → Keeps s (rules.names_differ ns earlier s)
@@ -357,7 +359,8 @@ collecting_names is end s h =
     then_names s (by_kept (differ_kept (filter_map rules.item_name (item_syns is)) [] s)) λ _ t. then_names t (heads_names
     (rules.known_of is) (record { outer = []; in_outer = 0; closures = 0 }) is t h) λ _ u. then_names u (by_kept (each_kept
     (rules.impl_of (rules.known_of is)) (impl_kept (rules.known_of is)) (item_syns is) u)) λ _ v. then_names v (by_kept
-    (finite_kept 0 (filter_map rules.adt_item (item_syns is)) v)) λ _ w. then_names w (by_kept (derive_kept 0 (filter_map
+    (finite_kept 0 (filter_map rules.adt_item (item_syns is)) v)) λ _ w. then_names w (by_kept (derive_kept
+    (rules.drop_owners is) 0 (filter_map
     rules.adt_item (item_syns is)) w)) λ _ x. by_kept (obeyed_kept Rule.T01 end (is_some (types.number_of (body_paths is)
     (codes "main"))) x)
 

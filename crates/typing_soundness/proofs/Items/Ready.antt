@@ -762,11 +762,13 @@ finite_ready n (a ∷ as_) s =
     walk {f = λ _. rules.all_finite (suc n) as_} (is_finite_ready n a.0 s) λ _ t e. walk_map (finite_ready (suc n) as_ t) λ
     x u g ready. g (e ready).0
 
-derive_ready : (n : ℕ) (as_ : List (Pos × List Named)) (s : TypingState) → Readies s Kept (rules.all_derive n as_ s)
-derive_ready n [] s = walk_ends (λ ready. (ready, tt))
-derive_ready n (a ∷ as_) s =
-    walk (ready_of (λ items u. Unit {0}) _ (obeyed_ready Rule.T10 a.0 (rules.may_derive s.items a.1 (slice_get s.items.adts
-    n)) s)) λ _ t e. walk_map (derive_ready (suc n) as_ t) λ x u g ready. g (e ready).0
+derive_ready : (dropped : List Word) (n : ℕ) (as_ : List (Pos × List Named)) (s : TypingState) → Readies s Kept
+    (rules.all_derive dropped n as_ s)
+derive_ready dropped n [] s = walk_ends (λ ready. (ready, tt))
+derive_ready dropped n (a ∷ as_) s =
+    walk (ready_of (λ items u. Unit {0}) _ (obeyed_ready Rule.T10 a.0 (rules.may_derive s.items dropped a.1 (slice_get
+    s.items.adts
+    n)) s)) λ _ t e. walk_map (derive_ready dropped (suc n) as_ t) λ x u g ready. g (e ready).0
 
 pub names_ready : (ns : List Named) (earlier : List Word) (s : TypingState) → Readies s Kept (rules.names_differ ns earlier s)
 names_ready [] earlier s = walk_ends (λ ready. (ready, tt))
@@ -781,7 +783,8 @@ collecting_ready is end h =
     rules.item_name (item_syns is)) [] start) (names_still (filter_map rules.item_name (item_syns is)) [] start)) λ _ t e.
     walk (heads_ready (rules.known_of is) (record { outer = []; in_outer = 0; closures = 0 }) is t h e.1.stays.closures) λ _ u
     f. walk (impls_ready (rules.known_of is) (item_syns is) u) λ _ v g. walk (finite_ready 0 (filter_map rules.adt_item
-    (item_syns is)) v) λ _ w l. walk (derive_ready 0 (filter_map rules.adt_item (item_syns is)) w) λ _ x m. walk_map
+    (item_syns is)) v) λ _ w l. walk (derive_ready (rules.drop_owners is) 0 (filter_map rules.adt_item (item_syns is))
+    w) λ _ x m. walk_map
     (ready_of (λ items u. Unit {0}) _ (obeyed_ready Rule.T01 end (is_some (types.number_of (body_paths is) (codes "main")))
     x)) λ _ y o ready. (o (m (l (g (f (e.0 ready).0).0).0).0).0).0
   where

@@ -788,7 +788,10 @@ module _ (f : ℕ → ℕ) where
         names_so p h.0,
         (
           place_pattern c.items whole whole (ty_of p) _ p refl (ty_on p) h.1.0,
-          subst Holds (λ i. fact (is_some (type_at c.items (sym (ty_on p) i)))) h.1.1,
+          (
+            subst Holds (λ i. fact (is_some (type_at c.items (sym (ty_on p) i)))) h.1.1.0,
+            subst Holds (λ i. fact (not (is_reference c.items (sym (ty_on p) i)))) h.1.1.1,
+          ),
         ),
       )
       statement_on c in_ (Let p (present value)) w h =

@@ -19,8 +19,8 @@ use Rattle.well_typed.specs.Patterns as well
 use Rattle.well_typed.specs.Places.{Context, Taken, Wanted, Passed, ty_of, is_taken, is_borrow}
 use Rattle.well_typed.specs.Types.{fits, is_same, is_never, is_reference, reference_of, reference_in}
 use Rattle.typing_rules.specs.Bodies as bodies
-use Rattle.typing_rules.specs.Check.{Check, TypingState, Broken, and_then, breaks, interned, ◌>>=◌}
-use Rattle.typing_rules.specs.Named.{PathValue, Makes, IsBroken, path_value, Callee, Function, Constructor, Prints, Asks, Drops, Forgets, Boxes, AValue, Unnamed, NoCallee, callee_of, method_named}
+use Rattle.typing_rules.specs.Check.{Check, TypingState, Broken, and_then, breaks, interned, obeys, ◌>>=◌}
+use Rattle.typing_rules.specs.Named.{PathValue, Makes, IsBroken, path_value, Callee, Function, Constructor, Prints, Asks, Drops, Forgets, Boxes, AValue, Unnamed, NoCallee, callee_of, place_inside, method_named}
 use Rattle.typing_rules.specs.Patterns.{pattern, count_of, target_of}
 use Rattle.typing_rules.specs.Places.{bool, struct_field, numbered_part, variable_place}
 use Rattle.typing_rules.specs.Promises.{IsReady, IsAlone, IsKnown, Grows, Fact, Gives, TypingSpot, at_spot, Stands, Knows, IsValue, IsTemporary, IsBase, Sound, SoundTemporary, SoundBase}
@@ -29,7 +29,7 @@ use Rattle.typing_rules.specs.Rows as rows
 use Rattle.typing_rules.specs.Rows.{Typer, Referrer, PatternContext, Given, taken}
 use Rattle.typing_rules.specs.Scope.{Env, NamedEntry, LabelledLoop, with_variables, within_loop, jumps_to, in_guard, field_named, labelled, innermost}
 use Rattle.typing_rules.specs.Typed as typing
-use Rattle.typing_rules.specs.Typed.{is_one_name}
+use Rattle.typing_rules.specs.Typed.{is_one_name, takes_any}
 use Rattle.src_ast.specs.Syntax.{Word, Syn, syn, AnExpression, AStatement, AParam, AnInit, AnArm, Expression, Literal, TruthLiteral, Path, Minus, Bang, Star, Ampersand, Calculate, Compare, Both, Either, Store, CallOf, MethodOf, FieldOf, PartOf, ElementOf, StructOf, Parens, TupleOf, ArrayOf, Braces, IfElse, IfLetElse, MatchOn, LoopOf, WhileOf, WhileLetOf, BreakOf, ContinueOf, ReturnOf, MoveOf, PanicOf, Statement, LetOf, Empty, Semi, SelfParam, Syns, no_syn, a_syn, MaybeSyn, nothing, just}
 use Rattle.typing_rules.proofs.Sound.AllPatterns.{matcher_sound}
 use Rattle.typing_rules.proofs.Sound.Arguments.{element_sound, store_sound, argument_sound}
@@ -41,7 +41,7 @@ use Rattle.typing_rules.proofs.Sound.Fitted.{fits_self}
 use Rattle.typing_rules.proofs.Sound.Gives.{bind, weaker, obeyed, found, given, gives_nothing, knows_later, grows_refl, grows_trans}
 use Rattle.typing_rules.proofs.Sound.Jumps.{continue_sound, return_sound, break_sound, while_sound}
 use Rattle.typing_rules.proofs.Sound.Later.{is_some_got, ready_later, alone_later, alone_no_reference, known_later, some_got, same_known}
-use Rattle.typing_rules.proofs.Sound.Lets.{let_sound, in_parts_sound, no_place_own}
+use Rattle.typing_rules.proofs.Sound.Lets.{let_sound, in_parts_sound}
 use Rattle.typing_rules.proofs.Sound.Literals.{literal_sound}
 use Rattle.typing_rules.proofs.Sound.Matching.{if_let_alone_sound, if_let_else_sound, while_let_sound, arm_sound, match_sound}
 use Rattle.typing_rules.proofs.Sound.Methods.{methods_found, method_sound, closure_call_sound}
@@ -73,6 +73,16 @@ broken_ends : {A B : Type 0} {s : TypingState} {Q : Fact B} (rule : Rule) (at : 
     Q (and_then r (λ _. breaks rule at))
 broken_ends rule at (Ok a) = record { so = λ ready. tt }
 broken_ends rule at (Err e) = record { so = λ ready. tt }
+
+-- a borrow that is no argument for a reference gives nothing
+borrow_alone_ends : {s : TypingState} {Q : Fact Node} (at : Pos) (unique : Bool) (expected : Option TyId) (r : Result (Node × TypingState)
+    Broken) → Gives s Q (and_then r (rows.borrow_alone_end at unique expected))
+borrow_alone_ends at unique expected (Err e) = record { so = λ ready. tt }
+borrow_alone_ends {s} {Q} at unique expected (Ok a) = by (rows.agrees_borrow a.1.items unique (ty_of a.0) expected)
+  where
+    by : (b : Bool) → Gives s Q (and_then (obeys Rule.T03 at b a.1) (λ _. breaks Rule.T08 at))
+    by true = record { so = λ ready. tt }
+    by false = record { so = λ ready. tt }
 
 abbrev SoundPlace : Env → Check Node → Type 0
 SoundPlace env check = (s : TypingState) → Knows env s → Gives s (IsPlace env) (check s)
@@ -349,7 +359,7 @@ module _ (closures : (env : Env) (at : Pos) (captures params : Syns) (answer : M
     value_sound env at (Bang operand) h e expected s k =
         not_sound env at (typing.typed env operand) (typed_sound env operand h) expected s k
     value_sound env at (Ampersand unique base) h e expected s k =
-        broken_ends Rule.T08 at ((typing.base_of env base >>= rows.no_reference) s)
+        borrow_alone_ends at unique expected ((typing.base_of env base >>= rows.no_reference) s)
     value_sound env at (Calculate operator left right) h e expected s k =
         arithmetic_sound env at operator (typing.is_plain left) (typing.typed env left) (typing.typed env right)
         (typed_sound env left h.0) (typed_sound env right h.1) expected s k
@@ -366,8 +376,8 @@ module _ (closures : (env : Env) (at : Pos) (captures params : Syns) (answer : M
         store_sound env at (typing.base_of env left) (typing.typed env right) (base_sound env left h.0) (typed_sound env
         right h.1) expected s k
     value_sound env at (CallOf callee args) h e expected s k =
-        called_sound env at (count_of args) (typing.typed env callee None) (λ params. typing.typed_args env params args)
-        (callee_of s.items env callee) (λ t. typed_sound env callee h.0 None t) (λ params t. args_sound env args h.1
+        called_sound env (typing.call_place at (place_inside callee) (callee_of s.items env callee)) (count_of args)
+        (typing.typed env callee None) (λ params. typing.typed_args env params args) (callee_of s.items env callee) (λ t. typed_sound env callee h.0 None t) (λ params t. args_sound env args h.1
         params t) expected s k (callee_is s env k.items callee h.0)
     value_sound env at (MethodOf receiver name args) h e expected s k =
         method_sound env at (method_named name) (count_of args) (typing.base_of env receiver) (λ params.
@@ -464,8 +474,9 @@ module _ (closures : (env : Env) (at : Pos) (captures params : Syns) (answer : M
         (λ w done. IsPart env w done × Knows done.2 w) (typing.other_statement env at form s)
     other_sound env at (LetOf p ty initialiser) h s k =
         bind (let_sound env at (is_one_name s.items p) (typing.declared env ty) (typing.initialised env (is_one_name
-        s.items p) initialiser) (typing.matcher env p) s (declared_sound env ty) (initialised_sound env (is_one_name
-        s.items p) initialiser h) (one_pattern_sound env p s) k) λ done t g d. given (typing.a_statement done) λ ready w
+        s.items p) (takes_any p) initialiser) (typing.matcher env p) s (declared_sound env ty) (initialised_sound env
+        (is_one_name s.items p) (takes_any p) initialiser h) (one_pattern_sound env p s) k) λ done t g d. given
+        (typing.a_statement done) λ ready w
         l. (as_part env w done (d w l).0, (d w l).1)
     other_sound env at (Semi e) h s k =
         bind (evaluate_sound env at true (typing.typed env e) (typed_sound env e h) s k) λ done t g d. given
@@ -476,27 +487,28 @@ module _ (closures : (env : Env) (at : Pos) (captures params : Syns) (answer : M
           knows_later env g k,
         )
 
-    initialised_sound : (env : Env) (one : Bool) (v : MaybeSyn) → Holds (maybe_shaped v) → SoundInitialiser env one
-        (typing.initialised env one v)
-    initialised_sound env one nothing h expected s k = given absent λ ready w g. tt
-    initialised_sound env true (just e) h expected s k =
+    initialised_sound : (env : Env) (one any : Bool) (v : MaybeSyn) → Holds (maybe_shaped v) → SoundInitialiser env one
+        (typing.initialised env one any v)
+    initialised_sound env one any nothing h expected s k = given absent λ ready w g. tt
+    initialised_sound env true any (just e) h expected s k =
         bind (typed_sound env e h expected s k) λ n t g d. given (present n) λ ready w l. d w l
-    initialised_sound env false (just e) h expected s k =
-        bind (for_parts_sound env e h expected s k) λ n t g d. given (present n) λ ready w l. d w l
+    initialised_sound env false any (just e) h expected s k =
+        bind (for_parts_sound env any e h expected s k) λ n t g d. given (present n) λ ready w l. d w l
 
-    for_parts_sound : (env : Env) (e : Syn) → Holds (shaped e) → (expected : Option TyId) (s : TypingState) → Knows env s → Gives
-        s (IsInParts env expected) (typing.for_parts env expected e s)
-    for_parts_sound env (syn at (AnExpression form)) h expected s k =
-        gives_if (typing.is_place env form) (typing.place env at form >>= rows.place_for_parts env expected) (typing.value
-        env at form expected) (λ e. bind (place_sound env at form h e s k) λ n t g d. in_parts_sound env expected n t (d t
-        (grows_refl t)) d) (λ e. weaker (IsInParts env expected) (value_sound env at form h e expected s k) λ n w all g v.
+    for_parts_sound : (env : Env) (any : Bool) (e : Syn) → Holds (shaped e) → (expected : Option TyId) (s : TypingState)
+        → Knows env s → Gives s (IsInParts env expected) (typing.for_parts env any expected e s)
+    for_parts_sound env any (syn at (AnExpression form)) h expected s k =
+        gives_if (typing.is_place env form) (typing.place env at form >>= rows.place_for_parts env any expected)
+        (typing.value env at form expected) (λ e. bind (place_sound env at form h e s k) λ n t g d. in_parts_sound env
+        any
+        expected n t (d t (grows_refl t)) d) (λ e. weaker (IsInParts env expected) (value_sound env at form h e
+        expected s k) λ n w all g v.
         record {
           base = temporary_base env expected w n v;
           fit = v.value.fit;
           no_reference = alone_no_reference w.items (ty_of n) v.value.alone;
-          own = no_place_own expected n v.is_no_place;
         })
-    for_parts_sound env (syn at _) h expected s k = gives_nothing Rule.T20 at
+    for_parts_sound env any (syn at _) h expected s k = gives_nothing Rule.T20 at
 
     args_sound : (env : Env) (args : Syns) → Holds (all_shaped args) → (params : List TyId) (s : TypingState) → Knows env s →
         ((ty : TyId) → Contains params ty → IsKnown s.items ty) → Gives s (IsGiven env params (count_of args))

@@ -213,16 +213,15 @@ module _ (s : TypingState) (env : Env) (k : KnowsItems env.kinds env.self_adt s.
   built_in_is : (name : Word) → IsCallee (looks.built_in_callee name)
   built_in_is name =
       by (bytes_eq name (codes "print")) (bytes_eq name (codes "ask")) (bytes_eq name (codes "drop")) (bytes_eq name
-      (codes "forget")) (bytes_eq name (codes "Box"))
+      (codes "forget"))
     where
-      by : (a b c d e : Bool) → IsCallee (if a then Prints else (if b then Asks else (if c then Drops else (if d then
-          Forgets else (if e then NoCallee else Unnamed Rule.T01)))))
-      by true b c d e = tt
-      by false true c d e = tt
-      by false false true d e = tt
-      by false false false true e = tt
-      by false false false false true = tt
-      by false false false false false = tt
+      by : (a b c d : Bool) → IsCallee (if a then Prints else (if b then Asks else (if c then Drops else (if d then
+          Forgets else Unnamed Rule.T01))))
+      by true b c d = tt
+      by false true c d = tt
+      by false false true d = tt
+      by false false false true = tt
+      by false false false false = tt
 
   struct_or : (n : ℕ) (def : Adt) → slice_get s.items.adts n ≡ Some def → IsCallee (if is_enum s.items n then Unnamed
       Rule.T01 else looks.constructor_of s.items env n 0)

@@ -16,7 +16,7 @@ use Rattle.well_typed.specs.Patterns as well
 use Rattle.well_typed.specs.Types.{is_reference}
 use Rattle.typing_rules.specs.Bodies as bodies
 use Rattle.typing_rules.specs.Check.{Check, TypingState, Broken, pure, ◌>>=◌, with_body, in_new_body, put_before, within_body}
-use Rattle.typing_rules.specs.Named.{PathValue, Makes, IsBroken, path_value, Callee, Function, Constructor, Prints, Asks, Drops, Forgets, Boxes, AValue, Unnamed, NoCallee, callee_of, callee_by, method_named}
+use Rattle.typing_rules.specs.Named.{PathValue, Makes, IsBroken, path_value, Callee, Function, Constructor, Prints, Asks, Drops, Forgets, Boxes, AValue, Unnamed, NoCallee, callee_of, callee_by, place_inside, method_named}
 use Rattle.typing_rules.specs.Patterns.{pattern, count_of, target_of}
 use Rattle.typing_rules.specs.Places.{unit, bool, never, int, struct_field, numbered_part}
 use Rattle.typing_rules.specs.Rows as rows
@@ -49,7 +49,7 @@ use Rattle.typing_soundness.proofs.Walking.Adding.{met_none, Stays, stays_refl, 
 use Rattle.typing_soundness.proofs.Walking.Patterns.{pattern_walks}
 use Rattle.typing_soundness.proofs.Walking.Rows as on
 use Rattle.typing_soundness.proofs.Walking.Rows.{no_closure, ◌⨾◌, WalksTyper, WalksMaybe, WalksArgs, WalksReferrer, WalksMatcher}
-use Rattle.typing_soundness.proofs.Walking.Steps.{walk, walk_obeyed, walk_found, walk_ends, walk_map, walk_nothing, on_same, walk_interned, walk_interned_as, walk_fitted}
+use Rattle.typing_soundness.proofs.Walking.Steps.{walk, walk_obeyed, walk_found, walk_ends, walk_map, walk_borrow_alone, on_same, walk_interned, walk_interned_as, walk_fitted}
 
 -- ---- paths
 
@@ -199,11 +199,11 @@ IsOf around is_legal params answer selves f s b t =
       answer = answer;
     }) tys b.answer × IsTrue is_legal) × Met f s t
 
-inner_walks : {f : Tape} (env : Env) (at : Pos) (n : ℕ) (ty : TyId) (captures : List NamedEntry) (params : Syns) (answer :
+inner_walks : {f : Tape} (env : Env) (too_many : Rule) (at : Pos) (n : ℕ) (ty : TyId) (captures : List NamedEntry) (params : Syns) (answer :
     MaybeSyn) (block : Env → Typer) → ((inner : Env) → bodies.all_rules inner ≡ bodies.all_rules env → WalksTyper f (block
     inner)) → (s : TypingState) → Walked (λ b t. (b.number ≡ n) × Ordered s t × IsOf (bodies.all_rules env) (head_legal legal params answer) params answer (ty ∷
-    []) f s b t) (in_closure env at n ty captures params answer block s)
-inner_walks {f} env at n ty captures params answer block good s =
+    []) f s b t) (in_closure env too_many at n ty captures params answer block s)
+inner_walks {f} env too_many at n ty captures params answer block good s =
     walk (both_walk (params_of (numbered s)) (params_walk (bodies.inside_closure env captures) (types.written
     (bodies.all_rules env)) (λ p t. written_still (bodies.all_rules env) p t) params [] (numbered s)) (both_walk (params_of
     (numbered s)) (params_given (bodies.inside_closure env captures) (types.written (bodies.all_rules env)) (λ p t.
@@ -212,7 +212,7 @@ inner_walks {f} env at n ty captures params answer block good s =
     (numbered s)))) λ ps t w1. walk (both_walk (bodies.answer_of env answer t) (answer_still env answer
     t) (both_walk (bodies.answer_of env answer t) (answer_given env answer t) (answer_is_legal env answer t))) λ
     a u e. walk (good (bodies.inside (bodies.inside_closure env captures) a ps.1) refl
-    (Some a) u) λ b v w2. walk_obeyed Rule.T19 at (nat_le (length (numbers_of (bodies.body_of n (self_param s ∷ ps.0) a
+    (Some a) u) λ b v w2. walk_obeyed too_many at (nat_le (length (numbers_of (bodies.body_of n (self_param s ∷ ps.0) a
     b))) 2048) _ λ _. walk_ends (
       refl,
       ordered_both
@@ -404,7 +404,8 @@ closure_walks {f} env at captures params answer block good expected s =
       bodies = [];
       next_node = 0;
       breaks = [];
-    })} s.next_body (in_closure env at s.next_body ty caps.1 params answer block) u (inner_walks env at s.next_body ty
+    })} s.next_body (in_closure env (bodies.too_many_rule u.items expected ty) at s.next_body ty caps.1 params answer block) u
+    (inner_walks env (bodies.too_many_rule u.items expected ty) at s.next_body ty
     caps.1 params answer block good (record u { bodies = []; next_node = 0; breaks = [] }))) λ b v g. walk_fitted expected
     (node s.next_node at ty None (tree.Closure (length t.items.closures) caps.0)) (walks_node at ty None (tree.Closure
     (length t.items.closures) caps.0) (walks_recast (numbered s) s' t v refl refl (g.number ∙ e.number) (g.breaks ∙
@@ -523,7 +524,7 @@ mutual
   value_walks env at (Minus operand) expected s = minus_walks at (typing.literal_in operand) (typing.typed env operand) (literal_alone
       (bodies.all_rules env) operand) (typed_walks env operand) expected s
   value_walks env at (Bang operand) expected s = on.not_walks at (typing.typed env operand) (typed_walks env operand) expected s
-  value_walks env at (Ampersand unique base) expected s = walk_nothing Rule.T08 at ((typing.base_of env base >>=
+  value_walks env at (Ampersand unique base) expected s = walk_borrow_alone at unique expected ((typing.base_of env base >>=
       rows.no_reference) s)
   value_walks env at (Calculate operator left right) expected s = on.arithmetic_walks at operator (typing.is_plain left)
       (typing.typed env left) (typing.typed env right) (plain_alone (bodies.all_rules env) left) (typed_walks env left) (typed_walks env right) expected s
@@ -535,8 +536,8 @@ mutual
       (typed_walks env left) (typed_walks env right) expected s
   value_walks env at (Store left right) expected s = on.store_walks env at (typing.base_of env left) (typing.typed env
       right) (base_of_walks env left) (typed_walks env right) expected s
-  value_walks env at (CallOf callee args) expected s = called_walks at (count_of args) (typing.typed env callee None) (λ
-      params. typing.typed_args env params args) (callee_of s.items env callee) (named_alone (bodies.all_rules env)
+  value_walks env at (CallOf callee args) expected s = called_walks (typing.call_place at (place_inside callee) (callee_of s.items env callee))
+      (count_of args) (typing.typed env callee None) (λ params. typing.typed_args env params args) (callee_of s.items env callee) (named_alone (bodies.all_rules env)
       s.items env callee) (λ t. typed_walks env callee None t) (λ
       params t. args_walk env params args t) expected s
   value_walks env at (MethodOf receiver name args) expected s = on.method_walks env at (method_named name) (count_of args)
@@ -622,25 +623,32 @@ mutual
       (typing.other_statement env at form s)
   other_walks env at (LetOf p ty initialiser) s =
       walk (on.let_walks (Around env) at env (typing.is_one_name s.items p) (typing.declared env ty)
-      (typing.initialised env (typing.is_one_name s.items p) initialiser) (typing.matcher env p) (λ xs. with_variables
+      (typing.initialised env (typing.is_one_name s.items p) (typing.takes_any p) initialiser) (typing.matcher env p)
+      (λ xs. with_variables
       xs env) (λ xs. refl) (declared_still env ty) (λ expected t. initialised_walks env (typing.is_one_name s.items p)
+      (typing.takes_any p)
       initialiser expected t) (λ e ty t. pattern_walks env e ty p [] t) s) λ n t w. walk_ends w
   other_walks env at (Semi e) s =
       walk (on.evaluate_walks (Around env) at env true (typing.typed env e) refl (typed_walks env e) s) λ n t w.
       walk_ends w
   other_walks env at Empty s = walk_ends (walks_none s, refl)
 
-  initialised_walks : (env : Env) (one : Bool) (e : MaybeSyn) → WalksMaybe (closures_if_any (bodies.all_rules env) e) (typing.initialised env one e)
-  initialised_walks env one nothing expected s = walk_ends (walks_none s)
-  initialised_walks env true (just e) expected s = walk (typed_walks env e expected s) λ n t w. walk_ends w
-  initialised_walks env false (just e) expected s = walk (for_parts_walks env expected e s) λ n t w. walk_ends w
+  initialised_walks : (env : Env) (one any : Bool) (e : MaybeSyn) → WalksMaybe (closures_if_any (bodies.all_rules env)
+      e)
+      (typing.initialised env one any e)
+  initialised_walks env one any nothing expected s = walk_ends (walks_none s)
+  initialised_walks env true any (just e) expected s = walk (typed_walks env e expected s) λ n t w. walk_ends w
+  initialised_walks env false any (just e) expected s = walk (for_parts_walks env any expected e s) λ n t w. walk_ends w
 
-  for_parts_walks : (env : Env) (expected : Option TyId) (e : Syn) → WalksNode (closures_of (bodies.all_rules env) e) (typing.for_parts env expected e)
-  for_parts_walks env expected (syn at (AnExpression e)) s =
-      either (typing.is_place env e) (typing.place env at e >>= rows.place_for_parts env expected) (typing.value env
-      at e expected) s (walk (place_walks env at e s) λ p t w. on.in_parts_walks env expected p w) (value_walks env at
+  for_parts_walks : (env : Env) (any : Bool) (expected : Option TyId) (e : Syn) → WalksNode (closures_of
+      (bodies.all_rules env) e)
+      (typing.for_parts env any expected e)
+  for_parts_walks env any expected (syn at (AnExpression e)) s =
+      either (typing.is_place env e) (typing.place env at e >>= rows.place_for_parts env any expected) (typing.value env
+      at e expected) s (walk (place_walks env at e s) λ p t w. on.in_parts_walks env any expected p w) (value_walks env
+      at
       e expected s)
-  for_parts_walks env expected (syn at _) s = record { so = tt }
+  for_parts_walks env any expected (syn at _) s = record { so = tt }
 
   args_walk : (env : Env) (params : List TyId) (args : Syns) (s : TypingState) → Walked (λ ns t. Walks (closures_among
       (bodies.all_rules env) args) s t (nodes_among ns) ×

@@ -143,10 +143,10 @@ answer_still env nothing s = walk_ends (still s)
 answer_still env (just ty) s = written_still (bodies.all_rules env) ty s
 
 -- the body of a closure, in a walk of its own
-abbrev pub in_closure : Env → Pos → ℕ → TyId → List NamedEntry → Syns → MaybeSyn → (Env → Typer) → Check BodyTree
-in_closure env at n ty captures params answer block = do
+abbrev pub in_closure : Env → Rule → Pos → ℕ → TyId → List NamedEntry → Syns → MaybeSyn → (Env → Typer) → Check BodyTree
+in_closure env too_many at n ty captures params answer block = do
   self ← bodies.name_param at [] ty
   ps ← bodies.params_of (bodies.inside_closure env captures) (types.written (bodies.all_rules env)) params []
   t ← bodies.answer_of env answer
   b ← block (bodies.inside (bodies.inside_closure env captures) t ps.1) (Some t)
-  bodies.within_limit at (bodies.body_of n (self.0 ∷ ps.0) t b)
+  bodies.within_limit too_many at (bodies.body_of n (self.0 ∷ ps.0) t b)

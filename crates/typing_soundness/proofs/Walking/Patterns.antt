@@ -1,5 +1,5 @@
 -- What patterns add to a walk, one line a form.
-use Rattle.std.proofs.Common.{◌≡◌, ℕ, suc, Bool, true, false, ◌&&◌, ◌||◌, ◌==◌, not, nat_le, nat_lt, if◌then◌else◌, List, [], ◌∷◌, ◌++◌, length, replicate, Option, Some, None, refl, ap, sym, subst}
+use Rattle.std.proofs.Common.{◌≡◌, ℕ, suc, Bool, true, false, ◌&&◌, ◌||◌, not, nat_le, nat_lt, if◌then◌else◌, List, [], ◌∷◌, ◌++◌, length, replicate, Option, Some, None, refl, ap, sym, subst}
 use Rattle.std.specs.Prelude.{is_some}
 use Rattle.std.specs.Option.{option_map_or}
 use Rattle.mir_base.specs.declared.int_kind.IntKind.{IntKind}
@@ -18,7 +18,7 @@ use Rattle.well_typed.specs.Types.{is_same, is_bool, is_dyn, is_enum, kind_of, a
 use Rattle.typing_rules.specs.Check.{Check, TypingState, breaks, pure, ◌>>=◌}
 use Rattle.typing_rules.specs.Patterns as rules
 use Rattle.typing_rules.specs.Places.{a_node_of}
-use Rattle.typing_rules.specs.Rows.{PatternContext, is_signed_kind, most, literal_value, all_given, are_known}
+use Rattle.typing_rules.specs.Rows.{PatternContext, is_signed_kind, most, literal_value, are_known}
 use Rattle.typing_rules.specs.Scope.{Env, NamedEntry, adt_named, kind_at, variable, field_named}
 use Rattle.src_ast.specs.Syntax.{Word, Syn, syn, APattern, AFieldPattern, Pattern, AnyPattern, BindPattern, LiteralPattern, TruthPattern, PathPattern, PartsPattern, FieldsPattern, ParensPattern, TuplePattern, ArrayPattern, Alternatives, Syns, no_syn, a_syn, nothing, just}
 use Rattle.typing_rules.proofs.Sound.Gives.{numbered}
@@ -163,8 +163,7 @@ module _ (env : Env) where
         tys. rules.part_patterns env inside tys parts earlier >>= (λ ps. pure (
           rules.fields_from 0 ps.0,
           ps.1,
-          rules.is_count dots (rules.count_of parts) (length tys) && not (rules.has_named_parts env t && not
-              (rules.count_of parts == 0)),
+          rules.is_count dots (rules.count_of parts) (length tys) && rules.are_ordered env t dots,
           true,
         ))) (λ inside tys u. walk (parts_walk inside tys parts earlier u) λ ps v w. walk_ends (subst (λ ns. Walks u v
         ns) (sym (from_nodes 0 ps.0)) w)) s
@@ -174,14 +173,15 @@ module _ (env : Env) where
         rules.no_variant) fields earlier >>= (λ ps. pure (
           ps.0,
           ps.1,
-          rules.are_given_once ps.2 && (dots || all_given (length tys) ps.2),
+          rules.are_given_once ps.2 && (dots || rules.are_all_given (length tys) ps.2),
           are_known ps.2,
         ))) (λ inside tys u. walk (fields_walk inside (option_map_or (λ v. v) (variant_at s.items t.adt t.variant)
         rules.no_variant) fields earlier u) λ ps v w. walk_ends w) s
     form_walks e ty at (ParensPattern inside) earlier s = pattern_walks e ty inside earlier s
     form_walks e ty at (TuplePattern parts dots) earlier s =
-        walk_found Rule.T03 at (rules.tuple_types s.items ty) _ λ tys is. walk (parts_walk e tys parts earlier (numbered
-        s)) λ ps t w. walk_obeyed Rule.T04 at (rules.is_count dots (rules.count_of parts) (length tys)) _ λ _. walk_ends
+        walk_found Rule.T03 at (rules.tuple_types s.items ty (rules.count_of parts) dots) _ λ tys is. walk (parts_walk e
+        tys parts earlier (numbered s)) λ ps t w. walk_obeyed Rule.T04 at (rules.is_count dots (rules.count_of parts)
+        (length tys)) _ λ _. walk_ends
         (walks_node at ty None (tree.TuplePattern ps.0) w)
     form_walks e ty at (ArrayPattern elements dots) earlier s =
         walk_found Rule.T03 at (array_of s.items ty) _ λ a is. walk (parts_walk e (replicate a.1 a.0) elements earlier
@@ -217,8 +217,9 @@ module _ (env : Env) where
     field_walks : (e : PatternContext) (v : Variant) (field : Syn) (earlier : List NamedEntry) (s : TypingState) → Walked (λ f t. Walks s
         t (nodes_in_field f.0)) (rules.field_pattern env e v field earlier s)
     field_walks e v (syn at (AFieldPattern name nothing)) earlier s =
-        field_by_walks v name earlier (λ ty. rules.bind at e ty name earlier) s (λ ty. bind_walks at e ty name earlier
-        s)
+        field_by_walks v name earlier (λ ty. rules.lone_name env at e ty name earlier) s (λ ty. lone_name_walks env at
+        e ty
+        name earlier s)
     field_walks e v (syn at (AFieldPattern name (just inside))) earlier s =
         field_by_walks v name earlier (λ ty. rules.pattern env e ty inside earlier) s (λ ty. pattern_walks e ty inside
         earlier s)

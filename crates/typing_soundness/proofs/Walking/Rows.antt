@@ -268,7 +268,7 @@ pub method_walks : {f g : Tape} (env : Env) (at : Pos) (named : ItemTable → Ty
     (args : List TyId → Check Nodes) → WalksNode f receiver → WalksArgs g count args → WalksTyper (f ⨾ g) (rows.method_call env at
     named count receiver args)
 method_walks {f} {g} env at named count receiver args good_r good expected s =
-    walk (good_r (numbered s)) λ b t w. walk (through_walks named at b w) λ r u w. by r.0 r.1 u w
+    walk (good_r (numbered s)) λ b t w. walk (through_walks named (place_in_text b) b w) λ r u w. by r.0 r.1 u w
   where
     R : Node → TypingState → Type 0
     R n t = Walks (f ⨾ g) s t (nodes_of n)
@@ -277,11 +277,11 @@ method_walks {f} {g} env at named count receiver args good_r good expected s =
         Walked R (rows.with_self env at s.next_node base m count args expected params u)
     with_self base m [] u w = walk_nothing Rule.T12 at (args [] u)
     with_self base m (self ∷ params) u w =
-        walk (received_walks env at base self w) λ receiver t w. walk (good params t) λ ns v x. walk (walk_fitted expected
+        walk (received_walks env (place_in_text base) base self w) λ receiver t w. walk (good params t) λ ns v x. walk (walk_fitted expected
         (a_node_of s.next_node at (rows.head_of m).result (rows.method_form m receiver ns)) (walks_node at
         (rows.head_of m).result None (rows.method_form m receiver ns) (subst (λ xs. Walks (f ⨾ g) (numbered s) v xs) (sym
         (method_nodes m receiver ns)) (walks_both w x.0)))) λ n y w. walk_obeyed Rule.T04 at (count == length params) _ λ _. walk_obeyed
-        Rule.T08 at (not (rows.is_unique_borrow (form_of receiver) && is_behind_shared y.items base)) _ λ _. walk_obeyed Rule.T13 at (not (rows.is_drop_method m)) _ λ _. walk_ends w
+        Rule.T08 (place_in_text base) (not (rows.is_unique_borrow (form_of receiver) && is_behind_shared y.items base)) _ λ _. walk_obeyed Rule.T13 at (not (rows.is_drop_method m)) _ λ _. walk_ends w
 
     if_takes : (base : Node) (m : Method) (u : TypingState) → Walks f (numbered s) u (nodes_of base) → (b : Bool) → Walked R
         ((if b then rows.with_self env at s.next_node base m count args expected (rows.head_of m).params else (args [] >>
@@ -292,7 +292,7 @@ method_walks {f} {g} env at named count receiver args good_r good expected s =
     by : (base : Node) (o : Option Method) (u : TypingState) → Walks f (numbered s) u (nodes_of base) → Walked R
         (rows.with_method env at s.next_node base o count args expected u)
     by base None u w = walk_nothing Rule.T12 at (args [] u)
-    by base (Some m) u w = if_takes base m u w (rows.takes_self u.items (ty_of base) (rows.head_of m).params)
+    by base (Some m) u w = if_takes base m u w (rows.has_self env m && rows.takes_self u.items (ty_of base) (rows.head_of m).params)
 
 pub closure_call_walks : {f g : Tape} (at : Pos) (count : ℕ) (callee : Check Node) (args : List TyId → Check Nodes) → WalksNode f callee → WalksArgs g count args → WalksTyper (f ⨾ g) (rows.closure_call at count callee args)
 closure_call_walks {f} {g} at count callee args good_c good expected s =
@@ -385,7 +385,7 @@ pub array_walks : {f : Tape} (at : Pos) (count : ℕ) (elements : Option TyId �
     : TypingState) → Walked (λ ps t. Walks f s t (nodes_among ps.0)) (elements expected s)) → WalksTyper f (rows.array_row at count
     elements)
 array_walks at count elements good expected s =
-    walk (good _ (numbered s)) λ ps t w. walk_found Rule.T03 at (rows.element_ty t.items (wanted rows.element_wanted s.items expected) ps.1) _ λ el is. walk_obeyed Rule.T16 at (is_some (wanted rows.element_wanted s.items expected) || not (count == 0)) _ λ _.
+    walk (good _ (numbered s)) λ ps t w. walk_found Rule.T03 at (rows.element_ty t.items (wanted rows.element_wanted s.items expected) ps.1) _ λ el is. walk_obeyed Rule.T16 at (is_some expected || not (count == 0)) _ λ _.
     walk_interned (Ty.Array el count) t λ ty u e. walk (walk_fitted expected _ (walks_node at ty None (tree.Array ps.0) (on_same e w))) λ n x
     w. walk_obeyed Rule.T19 at (nat_le count 32) _ λ _. walk_ends w
 
@@ -525,12 +525,15 @@ return_walks at answer value good expected s =
 
 -- ---- statements
 
-pub in_parts_walks : {f : Tape} (env : Env) (expected : Option TyId) (n : Node) {s t : TypingState} → Walks f s t (nodes_of n) →
-    Walked (λ m u. Walks f s u (nodes_of m)) (rows.place_for_parts env expected n t)
-in_parts_walks env None n {t = t} w = walk_obeyed Rule.T08 (place_in_text n) (not (is_reference t.items (ty_of n))) _ λ _. walk_ends w
-in_parts_walks {f} env (Some expected) n {s} {t} w =
-    walk_obeyed Rule.T03 (place_in_text n) (is_same (ty_of n) expected || not (is_never t.items (ty_of n))) _ λ _. by (fit
-    t.items expected (ty_of n))
+pub in_parts_walks : {f : Tape} (env : Env) (any : Bool) (expected : Option TyId) (n : Node) {s t : TypingState} →
+    Walks f s t
+    (nodes_of n) → Walked (λ m u. Walks f s u (nodes_of m)) (rows.place_for_parts env any expected n t)
+in_parts_walks env any None n {t = t} w = walk_obeyed Rule.T08 (place_in_text n) (not (is_reference t.items (ty_of n)))
+    _ λ _. walk_ends w
+in_parts_walks {f} env any (Some expected) n {s} {t} w =
+    walk_obeyed Rule.T03 (place_in_text n) (any || (is_same (ty_of n) expected || not (is_never t.items (ty_of n)))) _
+    λ _. by
+    (fit t.items expected (ty_of n))
   where
     by : (how : Fit) → Walked (λ m u. Walks f s u (nodes_of m)) (rows.as_part env (Some expected) n how t)
     by Fits = walk_obeyed Rule.T08 (place_in_text n) (not (is_reference t.items (ty_of n))) _ λ _. walk_ends w

@@ -15,7 +15,7 @@ use Rattle.typed_tree.specs.Tree.{Node, node, Form, MaybeNode}
 use Rattle.well_typed.specs.Items.{is_equal}
 use Rattle.typing_rules.specs.Check.{Check, TypingState, Broken, and_then, obeys, known, breaks, interned, interned_at}
 use Rattle.typing_rules.specs.Places.{Fit, Fits, Coerced, Differs, fit, place_in_text, agrees}
-use Rattle.typing_rules.specs.Rows.{fitted, fitted_by, settled}
+use Rattle.typing_rules.specs.Rows.{agrees_borrow, borrow_alone_end, fitted, fitted_by, settled}
 use Rattle.typing_soundness.specs.Closures.{Tape}
 use Rattle.typing_soundness.specs.Walks.{Walks, Walked}
 use Rattle.typing_soundness.proofs.Walking.Adding.{Stays, stays_refl, walks_same, walks_outer}
@@ -55,6 +55,16 @@ pub walk_nothing : {A B : Type 0} {R : B → TypingState → Type 0} (rule : Rul
     Walked R (and_then r (λ _. breaks rule at))
 walk_nothing rule at (Ok a) = record { so = tt }
 walk_nothing rule at (Err e) = record { so = tt }
+
+-- nor does a borrow that is no argument for a reference
+pub walk_borrow_alone : {R : Node → TypingState → Type 0} (at : Pos) (unique : Bool) (expected : Option TyId) (r : Result (Node ×
+    TypingState) Broken) → Walked R (and_then r (borrow_alone_end at unique expected))
+walk_borrow_alone at unique expected (Err e) = record { so = tt }
+walk_borrow_alone {R} at unique expected (Ok a) = by (agrees_borrow a.1.items unique (ty_of a.0) expected)
+  where
+    by : (b : Bool) → Walked R (and_then (obeys Rule.T03 at b a.1) (λ _. breaks Rule.T08 at))
+    by true = record { so = tt }
+    by false = record { so = tt }
 
 -- states that differ in their items alone
 pub record SameWalk (s t : TypingState) : Type 0 where

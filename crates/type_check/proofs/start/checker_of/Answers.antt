@@ -12,7 +12,7 @@ invariant_of-result c = record {
 
 pub returns-clause-place : goal.returns-clause-place
 returns-clause-place c =
-    begins (item_syns (items_of (parts_in c.args.pieces.now))) c.in_ok-tables.tables c.outside.result c.in_ok-tables.ensures.adts c.in_ok-tables.ensures.traits c.in_ok-tables.ensures.kinds
+    begins (item_syns (items_of (parts_in c.args.pieces.now))) c.in_ok-tables.tables c.outside.result c.in_ok-tables.ensures.adts c.in_ok-tables.ensures.traits c.in_ok-tables.ensures.kinds c.in_ok-tables.ensures.methods
     c.outside.ensures.self_adt c.outside.ensures.variables c.outside.ensures.loops c.outside.ensures.answer
 
 pub returns-clause-state : goal.returns-clause-state

@@ -22,12 +22,12 @@ returns-clause-gives c =
     let n = c.args.number in
     let ty = c.args.ty in
     let outer = c.begin-begun.result.outer in
-    whole (closure_body e c.args.at n ty captures ps a) (closure_inside c.args.at n ty (env second) ps a) outer (state before) (state second) c.closure_params.result c.closure_params.new.checker
+    whole (closure_body e c.args.too_many c.args.at n ty captures ps a) (closure_inside c.args.too_many c.args.at n ty (env second) ps a) outer (state before) (state second) c.closure_params.result c.closure_params.new.checker
     (λ block.
-    ap (λ (body : Check BodyTree). unvalued body (state before)) (within_captures c.args.at n ty e captures ps a block)
-    ∙ closed_by outer (state before) (state first) (closure_inside c.args.at n ty (inside_closure e captures) ps a block) c.begin-begun.ensures.outer c.begin-begun.ensures.state
-    ∙ ap (λ (z : Env). closed outer (closure_inside c.args.at n ty z ps a block (state first))) (sym (c.in_ok-enter_bound.ensures.entered ∙ ap (with_variables captures) c.begin-begun.ensures.alone))
-    ∙ ap (λ s. closed outer (closure_inside c.args.at n ty (env second) ps a block s)) (sym c.in_ok-enter_bound.ensures.others.1))
+    ap (λ (body : Check BodyTree). unvalued body (state before)) (within_captures c.args.too_many c.args.at n ty e captures ps a block)
+    ∙ closed_by outer (state before) (state first) (closure_inside c.args.too_many c.args.at n ty (inside_closure e captures) ps a block) c.begin-begun.ensures.outer c.begin-begun.ensures.state
+    ∙ ap (λ (z : Env). closed outer (closure_inside c.args.too_many c.args.at n ty z ps a block (state first))) (sym (c.in_ok-enter_bound.ensures.entered ∙ ap (with_variables captures) c.begin-begun.ensures.alone))
+    ∙ ap (λ s. closed outer (closure_inside c.args.too_many c.args.at n ty (env second) ps a block s)) (sym c.in_ok-enter_bound.ensures.others.1))
     (self_outer c.begin-begun.result second c.closure_params.new.checker c.closure_params.result c.closure_params.ensures.kept) c.closure_params.ensures.gives
 
 pub returns-clause-kept : goal.returns-clause-kept

@@ -1,4 +1,5 @@
 use Rattle.std.proofs.Common.{rules, ◌≡◌, true, List, [], Result, Ok, Err, ap, reverse, subst, sym, ◌∙◌}
+use Rattle.mir_base.specs.declared.rule.Rule.{Rule}
 use Rattle.mir_base.specs.declared.rule.RuleError.{RuleError}
 use Rattle.typed_tree.specs.Tree.{BodyTree}
 use Rattle.typing_rules.specs.Bodies.{params_of}
@@ -27,7 +28,7 @@ returns-clause-gives c =
     let here : params_of (env first) (type_by (env first) true) ps [] (state first) ≡ Ok ((last_params c.in_ok-tys.tys (stack second), reverse c.params_of.new.bound), state second) =
     ap (λ (xs : List NamedEntry). params_of (env first) (type_by (env first) true) ps (reverse xs) (state first)) (sym c.new-bound.ensures) ∙ c.in_ok-tys.ensures.gives in
     whole (numbered_fn c.args.at c.args.number (alone (env before)) ps a)
-    (answered c.args.at c.args.number (last_params c.in_ok-tys.tys (stack second)) (env second) a (reverse c.params_of.new.bound))
+    (answered Rule.T19 c.args.at c.args.number (last_params c.in_ok-tys.tys (stack second)) (env second) a (reverse c.params_of.new.bound))
     c.begin-begun.result.outer (state before) (state second) c.block_scope.result c.block_scope.new.checker
     (λ block.
     closed_by c.begin-begun.result.outer (state before) (state first) (fn_inside c.args.at c.args.number (alone (env before)) ps a block) c.begin-begun.ensures.outer c.begin-begun.ensures.state

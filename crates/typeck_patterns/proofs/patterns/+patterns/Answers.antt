@@ -221,9 +221,10 @@ tuple_pattern-returns-in-Some-clause-gives t c =
     let before = c.args.checker.now in
     let later = c.number.new.self in
     let xs = reverse c.args.bound.now in
-    let found = first_if c.in_ok-given.given (patterns.tuple_types later.walk.items c.args.ty) c.in_ok-types.field-0 c.in-Some.types c.in_ok-types.ensures.found c.in-Some.is in
+    let found = first_if c.in_ok-given.given (patterns.tuple_types later.walk.items c.args.ty c.in_ok-given.given c.args.dots) c.in_ok-types.field-0 c.in-Some.types c.in_ok-types.ensures.found c.in-Some.is in
     subst (λ o. GivesBound o c.in_order.result c.in_order.new.bound c.in_order.new.checker)
-    (sym (tuple_is (env before) c.args.at (pattern_context_of c.args.e) c.args.ty (nodes_of c.args.parts) c.args.dots xs (state before) (state later) c.in_ok-id.id.0 found.0 c.in_ok-id.ensures.number found.1))
+    (sym (tuple_is (env before) c.args.at (pattern_context_of c.args.e) c.args.ty (nodes_of c.args.parts) c.args.dots xs (state before) (state later) c.in_ok-id.id.0 found.0 c.in_ok-id.ensures.number
+    (ap (λ (n : ℕ). patterns.tuple_types later.walk.items c.args.ty n c.args.dots) (sym c.in_ok-given.ensures.counted) ∙ found.1)))
     (subst (λ w. GivesBound (order_rest w c.in_ok-id.id.0 c.args.at (pattern_context_of c.args.e) c.args.ty found.0 (length found.0) tree.TuplePattern (nodes_of c.args.parts) c.args.dots xs (state later)) c.in_order.result c.in_order.new.bound c.in_order.new.checker)
     c.in_ok-id.ensures.same.1.0
     (c.in_order.ensures.gives found.0 found.2))

@@ -212,11 +212,12 @@ module _ (b : Bounds) (n : ℕ) where
       k. obeyed_kept Rule.T09 a.0 (not (rules.holds t.items ty ty)) t k) λ _ t k. finite_kept (suc m) as_ (omega (arith, few))
       t k
 
-  derive_kept : (m : ℕ) (as_ : List (Pos × List Named)) → Stays b n (rules.all_derive m as_)
-  derive_kept m [] s h = walk_ends h
-  derive_kept m (a ∷ as_) s h =
-      walk (obeyed_kept Rule.T10 a.0 (rules.may_derive s.items a.1 (slice_get s.items.adts m)) s h) λ _ t k. derive_kept (suc
-      m) as_ t k
+  derive_kept : (dropped : List Word) (m : ℕ) (as_ : List (Pos × List Named)) → Stays b n (rules.all_derive dropped m
+      as_)
+  derive_kept dropped m [] s h = walk_ends h
+  derive_kept dropped m (a ∷ as_) s h =
+      walk (obeyed_kept Rule.T10 a.0 (rules.may_derive s.items dropped a.1 (slice_get s.items.adts m)) s h) λ _ t k.
+      derive_kept dropped (suc m) as_ t k
 
 -- ---- bodies
 
@@ -410,7 +411,8 @@ collecting_kept is end l =
       types = f.1.types;
     })) λ _ v g. walk (finite_kept
     (limits f.0) traits 0 (filter_map rules.adt_item (item_syns is)) (let q = as_many (item_syns is) in omega (arith, q)) v g) λ _ w
-    d. walk (derive_kept (limits f.0) traits 0 (filter_map rules.adt_item (item_syns is)) w d) λ _ x m. walk_map (obeyed_kept
+    d. walk (derive_kept (limits f.0) traits (rules.drop_owners is) 0 (filter_map rules.adt_item (item_syns is)) w d) λ
+    _ x m. walk_map (obeyed_kept
     (limits f.0) traits Rule.T01 end (is_some (types.number_of (body_paths is) (codes "main"))) x m) λ _ y o. (f.0, o, f.2 [])
   where
     adts : ℕ

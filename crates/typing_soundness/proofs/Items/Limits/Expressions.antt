@@ -21,7 +21,7 @@ use Rattle.well_typed.specs.Types.{is_enum, is_reference, variant_at}
 use Rattle.typing_rules.specs.Bodies as bodies
 use Rattle.typing_rules.specs.Check.{Check, TypingState, Broken, pure, ◌>>=◌, with_body, in_new_body, put_before, within_body}
 use Rattle.typing_rules.specs.Named as names
-use Rattle.typing_rules.specs.Named.{PathValue, Makes, IsBroken, path_value, Callee, Function, Constructor, Prints, Asks, Drops, Forgets, Boxes, AValue, Unnamed, NoCallee, callee_of, callee_by, method_named}
+use Rattle.typing_rules.specs.Named.{PathValue, Makes, IsBroken, path_value, Callee, Function, Constructor, Prints, Asks, Drops, Forgets, Boxes, AValue, Unnamed, NoCallee, callee_of, callee_by, place_inside, method_named}
 use Rattle.typing_rules.specs.Patterns.{pattern, count_of, target_of}
 use Rattle.typing_rules.specs.Places.{unit, bool, never, int, struct_field, numbered_part, used, a_node_of}
 use Rattle.typing_rules.specs.Rows as rows
@@ -37,7 +37,7 @@ use Rattle.typing_soundness.proofs.Items.Limits.Rows as on
 use Rattle.typing_soundness.proofs.Items.Limits.Rows.{Inside, Keeps, KeepsTyper, KeepsReferrer, IsNamed, named_below, head_below, intern_kept, fitted_kept}
 use Rattle.typing_soundness.proofs.Items.Limits.Types.{Bounds, IsIn}
 use Rattle.typing_soundness.proofs.Walking.Params.{in_closure}
-use Rattle.typing_soundness.proofs.Walking.Steps.{walk, walk_obeyed, walk_found, walk_ends, walk_nothing}
+use Rattle.typing_soundness.proofs.Walking.Steps.{walk, walk_obeyed, walk_found, walk_ends, walk_borrow_alone}
 
 module _ (b : Bounds) where
   abbrev KeepsArgs : (List TyId → Check Nodes) → Type 0
@@ -121,8 +121,8 @@ module _ (b : Bounds) where
     built_in_is : (name : Word) → IsCallee (names.built_in_callee name)
     built_in_is name =
         if_callee (bytes_eq name (codes "print")) Prints _ tt (if_callee (bytes_eq name (codes "ask")) Asks _ tt
-        (if_callee (bytes_eq name (codes "drop")) Drops _ tt (if_callee (bytes_eq name (codes "forget")) Forgets _ tt
-        (if_callee (bytes_eq name (codes "Box")) NoCallee (Unnamed Rule.T01) tt tt))))
+        (if_callee (bytes_eq name (codes "drop")) Drops _ tt (if_callee (bytes_eq name (codes "forget")) Forgets
+        (Unnamed Rule.T01) tt tt)))
 
     adt_is : (name : Word) (o : Option ℕ) → adt_named items name ≡ o → IsCallee (names.adt_callee items env name o)
     adt_is name None is = built_in_is name
@@ -306,13 +306,13 @@ module _ (b : Bounds) where
       by (Ok a) h = walk_ends h.so
       by (Err e) h = record { so = tt }
 
-  inner_kept : (env : Env) → IsNamed b env → (at : Pos) (n : ℕ) (ty : TyId) (captures : List NamedEntry) (params : Syns) (answer :
+  inner_kept : (env : Env) → IsNamed b env → (too_many : Rule) (at : Pos) (n : ℕ) (ty : TyId) (captures : List NamedEntry) (params : Syns) (answer :
       MaybeSyn) (block : Env → Typer) → ((inner : Env) → IsNamed b inner → KeepsTyper b (block inner)) → Keeps b (in_closure
-      env at n ty captures params answer block)
-  inner_kept env named at n ty captures params answer block good s h =
+      env too_many at n ty captures params answer block)
+  inner_kept env named too_many at n ty captures params answer block good s h =
       walk (params_kept b (bodies.inside_closure env captures) named (types.written (bodies.all_rules env)) (λ x. type_kept b env
       named x) params [] (numbered s) h) λ ps t k. walk (answer_kept b env named answer t k) λ a u l. walk (good (bodies.inside
-      (bodies.inside_closure env captures) a ps.1) named (Some a) u l) λ m v q. walk_obeyed Rule.T19 at (nat_le (length
+      (bodies.inside_closure env captures) a ps.1) named (Some a) u l) λ m v q. walk_obeyed too_many at (nat_le (length
       (numbers_of (bodies.body_of n (self_param s ∷ ps.0) a m))) 2048) _ λ _. walk_ends q
     where
       self_param : TypingState → ParamTree
@@ -325,8 +325,8 @@ module _ (b : Bounds) where
   closure_kept env named at captures params answer block good expected s h =
       walk (captured_kept env 0 captures [] (record (numbered s) { next_body = suc s.next_body }) h) λ caps t k. walk (intern_kept
       b (Ty.Closure (length t.items.closures)) (with_ caps.1 t) (with_closure_kept t.items (def caps.1) k) (inr (closure_more
-      t.items.closures (def caps.1)))) λ ty u l. walk (body_kept (in_closure env at s.next_body ty caps.1 params answer block) u
-      (inner_kept env named at s.next_body ty caps.1 params answer block good (record u {
+      t.items.closures (def caps.1)))) λ ty u l. walk (body_kept (in_closure env (bodies.too_many_rule u.items expected ty) at s.next_body ty
+      caps.1 params answer block) u (inner_kept env named (bodies.too_many_rule u.items expected ty) at s.next_body ty caps.1 params answer block good (record u {
         bodies = [];
         next_node = 0;
         breaks = [];
@@ -383,7 +383,7 @@ module _ (b : Bounds) where
     value_kept env named at (Bang operand) expected s h =
         on.not_kept b at (typing.typed env operand) (typed_kept env named operand) expected s h
     value_kept env named at (Ampersand unique base) expected s h =
-        walk_nothing Rule.T08 at ((typing.base_of env base >>= rows.no_reference) s)
+        walk_borrow_alone at unique expected ((typing.base_of env base >>= rows.no_reference) s)
     value_kept env named at (Calculate operator left right) expected s h =
         on.arithmetic_kept b at operator (typing.is_plain left) (typing.typed env left) (typing.typed env right) (typed_kept env
         named left) (typed_kept env named right) expected s h
@@ -400,8 +400,8 @@ module _ (b : Bounds) where
         on.store_kept b env at (typing.base_of env left) (typing.typed env right) (base_of_kept env named left) (typed_kept env
         named right) expected s h
     value_kept env named at (CallOf callee args) expected s h =
-        called_kept s.items h env named at (count_of args) (typing.typed env callee None) (λ params. typing.typed_args env
-        params args) (callee_of s.items env callee) (callee_is s.items h env named callee) (typed_kept env named callee None) (λ
+        called_kept s.items h env named (typing.call_place at (place_inside callee) (callee_of s.items env callee))
+        (count_of args) (typing.typed env callee None) (λ params. typing.typed_args env params args) (callee_of s.items env callee) (callee_is s.items h env named callee) (typed_kept env named callee None) (λ
         params. args_kept env named params args) expected s h
     value_kept env named at (MethodOf receiver name args) expected s h =
         on.method_kept b env at (method_named name) (count_of args) (typing.base_of env receiver) (λ params. typing.typed_args
@@ -483,26 +483,34 @@ module _ (b : Bounds) where
         Inside b t.items × IsNamed b done.2) (typing.other_statement env at form s)
     other_kept env named at (LetOf p ty initialiser) s h =
         walk (on.let_kept b (IsNamed b) at env (typing.is_one_name s.items p) (typing.declared env ty) (typing.initialised env
-        (typing.is_one_name s.items p) initialiser) (typing.matcher env p) (λ xs. with_variables xs env) (λ xs. named)
-        (declared_kept env named ty) (λ expected. initialised_kept env named (typing.is_one_name s.items p) initialiser expected) (λ e ty.
+        (typing.is_one_name s.items p) (typing.takes_any p) initialiser) (typing.matcher env p) (λ xs. with_variables
+        xs env) (λ xs. named)
+        (declared_kept env named ty) (λ expected. initialised_kept env named (typing.is_one_name s.items p)
+        (typing.takes_any p)
+        initialiser expected) (λ e ty.
         pattern_kept b env named e ty p []) s h) λ n t k. walk_ends k
     other_kept env named at (Semi e) s h =
         walk (on.evaluate_kept b (IsNamed b) at env true (typing.typed env e) named (typed_kept env named e) s h) λ n t k.
         walk_ends k
     other_kept env named at Empty s h = walk_ends (h, named)
 
-    initialised_kept : (env : Env) → IsNamed b env → (one : Bool) (e : MaybeSyn) (expected : Option TyId) → Keeps b
-        (typing.initialised env one e expected)
-    initialised_kept env named one nothing expected s h = walk_ends h
-    initialised_kept env named true (just e) expected s h = walk (typed_kept env named e expected s h) λ n t k. walk_ends k
-    initialised_kept env named false (just e) expected s h = walk (for_parts_kept env named expected e s h) λ n t k. walk_ends k
+    initialised_kept : (env : Env) → IsNamed b env → (one any : Bool) (e : MaybeSyn) (expected : Option TyId) → Keeps b
+        (typing.initialised env one any e expected)
+    initialised_kept env named one any nothing expected s h = walk_ends h
+    initialised_kept env named true any (just e) expected s h =
+        walk (typed_kept env named e expected s h) λ n t k. walk_ends k
+    initialised_kept env named false any (just e) expected s h =
+        walk (for_parts_kept env named any expected e s h) λ n t k. walk_ends k
 
-    for_parts_kept : (env : Env) → IsNamed b env → (expected : Option TyId) (e : Syn) → Keeps b (typing.for_parts env expected e)
-    for_parts_kept env named expected (syn at (AnExpression form)) s h =
-        either (typing.is_place env form) (typing.place env at form >>= rows.place_for_parts env expected) (typing.value env at
-        form expected) s (walk (place_kept env named at form s h) λ p t k. on.in_parts_kept b env expected p t k) (value_kept env named at
+    for_parts_kept : (env : Env) → IsNamed b env → (any : Bool) (expected : Option TyId) (e : Syn) → Keeps b
+        (typing.for_parts env any expected e)
+    for_parts_kept env named any expected (syn at (AnExpression form)) s h =
+        either (typing.is_place env form) (typing.place env at form >>= rows.place_for_parts env any expected)
+        (typing.value env at
+        form expected) s (walk (place_kept env named at form s h) λ p t k. on.in_parts_kept b env any expected p t k)
+        (value_kept env named at
         form expected s h)
-    for_parts_kept env named expected (syn at _) s h = record { so = tt }
+    for_parts_kept env named any expected (syn at _) s h = record { so = tt }
 
     args_kept : (env : Env) → IsNamed b env → (params : List TyId) (args : Syns) → Keeps b (typing.typed_args env params args)
     args_kept env named params no_syn s h = walk_ends h

@@ -1,5 +1,5 @@
 -- Patterns and parameters keep types within their limits.
-use Rattle.std.proofs.Common.{◌≡◌, ℕ, ◌<◌, Bool, true, false, ◌&&◌, ◌||◌, ◌==◌, not, if◌then◌else◌, List, [], ◌∷◌, length, Option, Some, None, refl, subst, nat_le, nat_lt, replicate}
+use Rattle.std.proofs.Common.{◌≡◌, ℕ, ◌<◌, Bool, true, false, ◌&&◌, ◌||◌, not, if◌then◌else◌, List, [], ◌∷◌, length, Option, Some, None, refl, subst, nat_le, nat_lt, replicate}
 use Rattle.std.specs.Prelude.{option_and_then, option_map, is_some}
 use Rattle.std.specs.Option.{option_map_or}
 use Rattle.std.proofs.lemmas.Option.{none-some, same_Some}
@@ -16,7 +16,7 @@ use Rattle.typing_rules.specs.Bodies as bodies
 use Rattle.typing_rules.specs.Bodies.{param_pattern_context, is_name_or_wildcard}
 use Rattle.typing_rules.specs.Check.{Check, TypingState, breaks, pure, ◌>>=◌}
 use Rattle.typing_rules.specs.Patterns as rules
-use Rattle.typing_rules.specs.Rows.{PatternContext, is_signed_kind, most, all_given, are_known}
+use Rattle.typing_rules.specs.Rows.{PatternContext, is_signed_kind, most, are_known}
 use Rattle.typing_rules.specs.Scope.{Env, NamedEntry, adt_named, adt_at_head, kind_at, variable, variant_named, field_named}
 use Rattle.typing_rules.specs.Written as types
 use Rattle.src_ast.specs.Syntax.{Word, Receiver, ByValue, ByShared, ByUnique, Syn, syn, APattern, AParam, AFieldPattern, Pattern, AnyPattern, BindPattern, LiteralPattern, TruthPattern, PathPattern, PartsPattern, FieldsPattern, ParensPattern, TuplePattern, ArrayPattern, Alternatives, ParamOf, SelfParam, Syns, no_syn, a_syn, MaybeSyn, nothing, just}
@@ -152,8 +152,7 @@ module _ (b : Bounds) where
           rules.part_patterns env inside tys parts earlier >>= (λ ps. pure (
             rules.fields_from 0 ps.0,
             ps.1,
-            rules.is_count dots (rules.count_of parts) (length tys) && not (rules.has_named_parts env t && not
-                (rules.count_of parts == 0)),
+            rules.is_count dots (rules.count_of parts) (length tys) && rules.are_ordered env t dots,
             true,
           ))) (target_below s.items h env named first second t is) (λ inside tys u k. walk (parts_kept inside tys parts earlier
           u k) λ ps v l. walk_ends l) s h
@@ -163,14 +162,16 @@ module _ (b : Bounds) where
           fields earlier >>= (λ ps. pure (
             ps.0,
             ps.1,
-            rules.are_given_once ps.2 && (dots || all_given (length tys) ps.2),
+            rules.are_given_once ps.2 && (dots || rules.are_all_given (length tys) ps.2),
             are_known ps.2,
           ))) (target_below s.items h env named first second t is) (λ inside tys u k. walk (fields_kept inside (option_map_or
           (λ v. v) (variant_at s.items t.adt t.variant) rules.no_variant) fields earlier u k) λ ps v l. walk_ends l) s h
       form_kept e ty at (ParensPattern inside) earlier s h = pattern_kept e ty inside earlier s h
       form_kept e ty at (TuplePattern parts dots) earlier s h =
-          walk_found Rule.T03 at (rules.tuple_types s.items ty) _ λ tys is. walk (parts_kept e tys parts earlier (numbered s) h)
-          λ ps t k. walk_obeyed Rule.T04 at (rules.is_count dots (rules.count_of parts) (length tys)) _ λ _. walk_ends k
+          walk_found Rule.T03 at (rules.tuple_types s.items ty (rules.count_of parts) dots) _ λ tys is. walk
+          (parts_kept e tys
+          parts earlier (numbered s) h) λ ps t k. walk_obeyed Rule.T04 at (rules.is_count dots (rules.count_of parts)
+          (length tys)) _ λ _. walk_ends k
       form_kept e ty at (ArrayPattern elements dots) earlier s h =
           walk_found Rule.T03 at (array_of s.items ty) _ λ a is. walk (parts_kept e (replicate a.1 a.0) elements earlier
           (numbered s) h) λ ps t k. walk_obeyed Rule.T04 at (rules.is_count dots (rules.count_of elements) a.1) _ λ _.
@@ -201,7 +202,9 @@ module _ (b : Bounds) where
       field_kept : (e : PatternContext) (v : Variant) (field : Syn) (earlier : List NamedEntry) → Keeps b (rules.field_pattern env e v field
           earlier)
       field_kept e v (syn at (AFieldPattern name nothing)) earlier s h =
-          field_by_kept v name earlier (λ ty. rules.bind at e ty name earlier) (λ ty. bind_kept at e ty name earlier) s h
+          field_by_kept v name earlier (λ ty. rules.lone_name env at e ty name earlier) (λ ty. lone_name_kept env at e
+          ty name
+          earlier) s h
       field_kept e v (syn at (AFieldPattern name (just inside))) earlier s h =
           field_by_kept v name earlier (λ ty. rules.pattern env e ty inside earlier) (λ ty. pattern_kept e ty inside earlier) s h
       field_kept e v (syn at _) earlier s h = record { so = tt }

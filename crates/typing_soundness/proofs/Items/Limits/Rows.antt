@@ -282,15 +282,15 @@ module _ (b : Bounds) where
       List TyId → Check Nodes) → Keeps b receiver → KeepsArgs args → KeepsTyper b (rows.method_call env at named count
       receiver args)
   method_kept env at named count receiver args good_r good expected s h =
-      walk (good_r (numbered s) h) λ n t k. walk (through_kept named at n t k) λ r u l. by r.0 r.1 u l
+      walk (good_r (numbered s) h) λ n t k. walk (through_kept named (place_in_text n) n t k) λ r u l. by r.0 r.1 u l
     where
       with_self : (base : Node) (m : Method) (params : List TyId) (u : TypingState) → Inside b u.items → Walked (λ _ t. Inside b
           t.items) (rows.with_self env at s.next_node base m count args expected params u)
       with_self base m [] u l = walk_nothing Rule.T12 at (args [] u)
       with_self base m (self ∷ params) u l =
-          walk (received_kept env at base self u l) λ receiver t k. walk (good params t k) λ ns v q. walk (fitted_kept expected
+          walk (received_kept env (place_in_text base) base self u l) λ receiver t k. walk (good params t k) λ ns v q. walk (fitted_kept expected
           (a_node_of s.next_node at (rows.head_of m).result (rows.method_form m receiver ns)) v q) λ n y w. walk_obeyed
-          Rule.T04 at (count == length params) _ λ _. walk_obeyed Rule.T08 at (not (rows.is_unique_borrow (form_of receiver)
+          Rule.T04 at (count == length params) _ λ _. walk_obeyed Rule.T08 (place_in_text base) (not (rows.is_unique_borrow (form_of receiver)
           && is_behind_shared y.items base)) _ λ _. walk_obeyed Rule.T13 at (not (rows.is_drop_method m)) _ λ _. walk_ends w
 
       if_takes : (base : Node) (m : Method) (u : TypingState) → Inside b u.items → (c : Bool) → Walked (λ _ t. Inside b t.items) ((if
@@ -302,7 +302,7 @@ module _ (b : Bounds) where
       by : (base : Node) (o : Option Method) (u : TypingState) → Inside b u.items → Walked (λ _ t. Inside b t.items)
           (rows.with_method env at s.next_node base o count args expected u)
       by base None u l = walk_nothing Rule.T12 at (args [] u)
-      by base (Some m) u l = if_takes base m u l (rows.takes_self u.items (ty_of base) (rows.head_of m).params)
+      by base (Some m) u l = if_takes base m u l (rows.has_self env m && rows.takes_self u.items (ty_of base) (rows.head_of m).params)
 
   pub closure_call_kept : (at : Pos) (count : ℕ) (callee : Check Node) (args : List TyId → Check Nodes) → Keeps b callee →
       KeepsArgs args → KeepsTyper b (rows.closure_call at count callee args)
@@ -359,8 +359,7 @@ module _ (b : Bounds) where
       (elements expected)) → KeepsTyper b (rows.array_row at count elements)
   array_kept at count elements good expected s h =
       walk (good _ (numbered s) h) λ ps t k. walk_found Rule.T03 at (rows.element_ty t.items (wanted rows.element_wanted
-      s.items expected) ps.1) _ λ el is. walk_obeyed Rule.T16 at (is_some (wanted rows.element_wanted s.items expected) || not (count
-      == 0)) _ λ _. walk (intern_when {C = IsTrue (nat_le count 32)} (Ty.Array el count) t k λ few. few) λ ty u l. walk
+      s.items expected) ps.1) _ λ el is. walk_obeyed Rule.T16 at (is_some expected || not (count == 0)) _ λ _. walk (intern_when {C = IsTrue (nat_le count 32)} (Ty.Array el count) t k λ few. few) λ ty u l. walk
       (fitted_as (λ items. IsTrue (nat_le count 32) → Inside b items) expected _ _ l) λ n v m. walk_obeyed Rule.T19 at (nat_le
       count 32) _ λ few. walk_ends (m few)
 
@@ -450,13 +449,15 @@ module _ (b : Bounds) where
 
   -- ---- statements
 
-  pub in_parts_kept : (env : Env) (expected : Option TyId) (n : Node) (s : TypingState) → Inside b s.items → Walked (λ _ t. Inside b
-      t.items) (rows.place_for_parts env expected n s)
-  in_parts_kept env None n s h =
+  pub in_parts_kept : (env : Env) (any : Bool) (expected : Option TyId) (n : Node) (s : TypingState) → Inside b s.items
+      →
+      Walked (λ _ t. Inside b t.items) (rows.place_for_parts env any expected n s)
+  in_parts_kept env any None n s h =
       walk_obeyed Rule.T08 (place_in_text n) (not (is_reference s.items (ty_of n))) _ λ _. walk_ends h
-  in_parts_kept env (Some expected) n s h =
-      walk_obeyed Rule.T03 (place_in_text n) (is_same (ty_of n) expected || not (is_never s.items (ty_of n))) _ λ _. by (fit
-      s.items expected (ty_of n))
+  in_parts_kept env any (Some expected) n s h =
+      walk_obeyed Rule.T03 (place_in_text n) (any || (is_same (ty_of n) expected || not (is_never s.items (ty_of n))))
+      _ λ _.
+      by (fit s.items expected (ty_of n))
     where
       by : (how : Fit) → Walked (λ _ t. Inside b t.items) (rows.as_part env (Some expected) n how s)
       by Fits = walk_obeyed Rule.T08 (place_in_text n) (not (is_reference s.items (ty_of n))) _ λ _. walk_ends h

@@ -7,16 +7,16 @@ use Rattle.typeck_heads.specs.Answers.{Refuses}
 use Rattle.name_table.specs.AdtForms.{adt_seen}
 use Rattle.name_table.specs.Forms.{derives_by}
 use Rattle.name_table.proofs.EachItem.{derive_steps, on_derived, stopped_derived}
-use Rattle.name_table.proofs.derives.derive.Goals as goal
+use Rattle.name_table.proofs.derives.derive_beside.Goals as goal
 
 pub loop-piece-preserved : goal.loop-piece-preserved
 loop-piece-preserved c =
-    on_derived _ c.loop-piece.number c.in_ok-number.number c.args.pieces.now c.loop-piece.piece-index c.piece-item.result (adt_seen c.adt_at.result) (starting_with c.args.items.now) (starting_with c.args.items.now)
+    on_derived c.args.dropped.now _ c.loop-piece.number c.in_ok-number.number c.args.pieces.now c.loop-piece.piece-index c.piece-item.result (adt_seen c.adt_at.result) (starting_with c.args.items.now) (starting_with c.args.items.now)
     c.loop-piece-test.true c.piece-item.is c.loop-piece.invariant c.adt_at.ensures c.in_ok-number.ensures
 
 pub returns-in_err-number : goal.returns-in_err-number
 returns-in_err-number c =
-    let refused : Refuses (all_derive 0 (filter_map adt_item (item_syns (items_of (parts_in c.args.pieces.now)))) (starting_with c.args.items.now)) c.in_err-number.field-0.0 =
-    stopped_derived _ c.loop-piece.number c.args.pieces.now c.loop-piece.piece-index c.piece-item.result (adt_seen c.adt_at.result) (starting_with c.args.items.now) c.in_err-number.field-0.0
+    let refused : Refuses (all_derive c.args.dropped.now 0 (filter_map adt_item (item_syns (items_of (parts_in c.args.pieces.now)))) (starting_with c.args.items.now)) c.in_err-number.field-0.0 =
+    stopped_derived c.args.dropped.now _ c.loop-piece.number c.args.pieces.now c.loop-piece.piece-index c.piece-item.result (adt_seen c.adt_at.result) (starting_with c.args.items.now) c.in_err-number.field-0.0
     c.loop-piece-test.true c.piece-item.is c.loop-piece.invariant c.adt_at.ensures c.in_err-number.ensures in
     grind (arith, refused)
