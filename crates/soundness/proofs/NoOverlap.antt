@@ -209,7 +209,7 @@ element_ends (places.ToField v n ∷ steps) i = element_ends steps i
 element_ends (places.ToContent ∷ steps) i = element_ends steps i
 element_ends (places.ToElement j ∷ steps) i = refl
 
-plain_step : (step : Step) (x : AccessStep) → seen (step ∷ []) ≡ x ∷ [] → has_index (step ∷ []) ≡ false →
+pub plain_step : (step : Step) (x : AccessStep) → seen (step ∷ []) ≡ x ∷ [] → has_index (step ∷ []) ≡ false →
     (a : AccessPlace) (p : Place) → Seen a p → Seen (with_step x a) (extended step p)
 plain_step step x e f a p s = by a.has_ended refl
   where
@@ -243,7 +243,7 @@ pub data SeenIf : Option AccessPlace → Place → Type 0 where
   not_seen : (p : Place) → SeenIf None p
   is_seen : (a : AccessPlace) (p : Place) → Seen a p → SeenIf (Some a) p
 
-mapped : (f : AccessPlace → AccessPlace) (step : Step) →
+pub mapped : (f : AccessPlace → AccessPlace) (step : Step) →
     ((a : AccessPlace) (p : Place) → Seen a p → Seen (f a) (extended step p)) →
     (o : Option AccessPlace) (p : Place) →
     SeenIf o p → SeenIf (option_map f o) (extended step p)

@@ -37,7 +37,7 @@ NotFirst halt = Unit {0}
 abbrev pub may_end : {V : Type 0} → Halt → V → Type 0
 may_end halt v = NotFirst halt
 
-not_first : (halt : Halt) → NotStuck halt → NotFirst halt
+pub not_first : (halt : Halt) → NotStuck halt → NotFirst halt
 not_first Aborted h = tt
 not_first OutOfTicks h = tt
 not_first Stuck h = absurd h
@@ -50,7 +50,7 @@ not_first Unreachable h = tt
 
 module _ (items : ItemTable) (local_ty : ℕ → Option TyId) where
   -- a free effect, which panics only where that is so
-  abbrev Quiet : Type 0 → Out AbstractState → Type 0
+  abbrev pub Quiet : Type 0 → Out AbstractState → Type 0
   Quiet panics (Go w) = Unit {0}
   Quiet panics (Unwind w) = panics
   Quiet panics (Halts halt w) = NotStuck halt
@@ -117,7 +117,7 @@ module _ (items : ItemTable) (local_ty : ℕ → Option TyId) where
   computed_quiet : (to : EffectSite) (w : AbstractState) → Quiet (Unit {0}) (computed_by_choice items local_ty to w)
   computed_quiet to w = choice_quiet (store items local_ty to) (λ v. store_quiet (Unit {0}) to v) w
 
-  acted_quiet : (action : Action) (w : AbstractState) → Quiet (Unit {0}) (acted_on items local_ty action w)
+  pub acted_quiet : (action : Action) (w : AbstractState) → Quiet (Unit {0}) (acted_on items local_ty action w)
   acted_quiet (effects.Put to from) w = operands_quiet (Unit {0}) (from ∷ []) _ (λ v. store_quiet (Unit {0}) to v) w
   acted_quiet (effects.Compare to operator left right) w =
       operands_quiet (Unit {0}) (left ∷ right ∷ []) _ (λ v. store_quiet (Unit {0}) to v) w
@@ -146,11 +146,11 @@ module _ (items : ItemTable) (local_ty : ℕ → Option TyId) where
       operands_quiet (Unit {0}) args _ (λ v. returned_quiet to v) w
   acted_quiet (effects.Ask to) w = computed_quiet to w
 
-  compare_quiet : (to : EffectSite) (operator : Cmp) (left right : Operand) (w : AbstractState) →
+  pub compare_quiet : (to : EffectSite) (operator : Cmp) (left right : Operand) (w : AbstractState) →
       Quiet ⊥ (acted_on items local_ty (effects.Compare to operator left right) w)
   compare_quiet to operator left right w = operands_quiet ⊥ (left ∷ right ∷ []) _ (λ v. store_quiet ⊥ to v) w
 
-  abbrev ChosenSo : Choice AbstractState → Type 0
+  abbrev pub ChosenSo : Choice AbstractState → Type 0
   ChosenSo (Yes w) = Unit {0}
   ChosenSo (No w) = Unit {0}
   ChosenSo (Neither halt w) = NotStuck halt
@@ -165,7 +165,7 @@ module _ (items : ItemTable) (local_ty : ℕ → Option TyId) where
   after_quiet (Unwind w) h = tt
   after_quiet (Halts halt w) h = h
 
-  test_quiet : (test : Test) (w : AbstractState) → ChosenSo (free.choose items local_ty test w)
+  pub test_quiet : (test : Test) (w : AbstractState) → ChosenSo (free.choose items local_ty test w)
   test_quiet (effects.IsTrue operand) w =
       after_quiet (operand_used items local_ty operand w) (operand_quiet (Unit {0}) operand w)
   test_quiet (effects.HasVariant site variant) w = after_quiet
@@ -174,7 +174,7 @@ module _ (items : ItemTable) (local_ty : ℕ → Option TyId) where
       (BadUse site)
       Go w tt tt)
 
-  drop_quiet : (mode : Mode) (site : EffectSite) (w : AbstractState) →
+  pub drop_quiet : (mode : Mode) (site : EffectSite) (w : AbstractState) →
       Quiet (Unit {0}) (free.drop items local_ty mode site w)
   drop_quiet mode site w = quiet_when (Unit {0})
       (may_store (watched_at items local_ty site) (presence_of items local_ty site w)) (BadStore site)
@@ -239,7 +239,7 @@ module _ (items : ItemTable) (body : BodyTree) where
   abbrev pub Made : EffectSite → Type 0
   Made site = never_at items (local_ty items body) (site_at local site) ≡ false
 
-  other_mark : NotFirst (StuckAt 2 0)
+  pub other_mark : NotFirst (StuckAt 2 0)
   other_mark e = let same : 2 ≡ 1 = e in omega (same, arith)
 
   -- where the test holds, an effect is one of a free run, or it ends by another mark

@@ -55,7 +55,7 @@ module _ (items : ItemTable) (local_ty : ℕ → Option TyId) (local_of : ℕ �
   abbrev pub Clear : AbstractState → ℕ → Type 0
   Clear w key = (itself_gone (presence (local_of key) w.cells) ≡ true) ⊎ (needs key ≡ false)
 
-  abbrev Change : (moved stored : ℕ → Type 0) → AbstractState → AbstractState → Type 0
+  abbrev pub Change : (moved stored : ℕ → Type 0) → AbstractState → AbstractState → Type 0
   Change moved stored w w' = Changes Clear moved stored w w'
 
   kept : (w : AbstractState) (moved stored : ℕ → Type 0) → ((key : ℕ) → moved key → ⊥) → Change moved stored w w
@@ -63,7 +63,7 @@ module _ (items : ItemTable) (local_ty : ℕ → Option TyId) (local_of : ℕ �
   kept w moved stored none key (inr m) = absurd (none key m)
 
   -- what is done at a place: what is taken is gone then, and what is stored may hold something
-  abbrev Taken : Bool → EffectSite → ℕ → Type 0
+  abbrev pub Taken : Bool → EffectSite → ℕ → Type 0
   Taken true site key = site.place ≡ whole_local key
   Taken false site key = ⊥
 
@@ -360,7 +360,7 @@ module _ (items : ItemTable) (local_ty : ℕ → Option TyId) (local_of : ℕ �
       by Normal (true ∷ rest) = after_changes true site (record w { choices = rest })
       by Unwinding (true ∷ rest) = tt
 
-  drop_so : (mode : Mode) (site : EffectSite) (w : AbstractState) →
+  pub drop_so : (mode : Mode) (site : EffectSite) (w : AbstractState) →
       ShownOut any (Change (Taken true site) Nothing w) (Change (Taken true site) Nothing w)
       (free.drop items local_ty mode (site_at local_of site) w)
   drop_so mode site w = shown_when

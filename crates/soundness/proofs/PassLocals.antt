@@ -96,6 +96,26 @@ found_or_missing es key = by (nat_lt (stop (keys es) key) (length (keys es))) re
           ltb-false k (length (keys es)) h,
         )
 
+-- two keys with one local are one
+pub one_key : (ks : List ℕ) (a b : ℕ) → local_among ks a ≡ local_among ks b → a ≡ b
+one_key ks a b e = by (nat_lt (stop ks a) (length ks)) (nat_lt (stop ks b) (length ks)) refl refl
+  where
+    by : (c d : Bool) → nat_lt (stop ks a) (length ks) ≡ c → nat_lt (stop ks b) (length ks) ≡ d → a ≡ b
+    by true true f g =
+        sym (stands ks a (ltb-true (stop ks a) (length ks) f))
+        ∙ ap (λ n. get_or ks n 0) (sym (within_so ks a f) ∙ e ∙ within_so ks b g)
+        ∙ stands ks b (ltb-true (stop ks b) (length ks) g)
+    by true false f g =
+        let less : stop ks a < length ks = ltb-true (stop ks a) (length ks) f in
+        let same : stop ks a ≡ length ks + b = sym (within_so ks a f) ∙ e ∙ past_so ks b g in
+        absurd (let never : ⊥ = omega (less, same, arith) in never)
+    by false true f g =
+        let less : stop ks b < length ks = ltb-true (stop ks b) (length ks) g in
+        let same : length ks + a ≡ stop ks b = sym (past_so ks a f) ∙ e ∙ within_so ks b g in
+        absurd (let never : ⊥ = omega (less, same, arith) in never)
+    by false false f g =
+        let same : length ks + a ≡ length ks + b = sym (past_so ks a f) ∙ e ∙ past_so ks b g in omega (same, arith)
+
 -- the local of a key is the place of an entry with this key, or none is there
 pub at_local : (es : List Entry) (key : ℕ) →
     ((e : Entry) × ((slice_get es (local_among (keys es) key) ≡ Some e) × (e.key ≡ key)))

@@ -1,5 +1,6 @@
 -- What is left of the tests of a run where the first test holds: of actions on whole cells, that the cell into which
--- they store holds nothing that needs dropping, and that no place waits to be refilled.
+-- they store holds nothing that needs dropping (`PassEmpty`), and that no place waits to be refilled (`PassRefilled`);
+-- of copies, moves into places, borrows, calls and tests of variants all; of a result, that it is whole.
 use Rattle.std.proofs.Common.{◌≡◌, is_some, nat_lt, ◌+◌, length, ℕ, ◌&&◌, ◌||◌, not, Bool, true, false, List, [], ◌∷◌, Option, Some, None, refl, ap, sym, subst}
 use Rattle.std.specs.Prelude.{option_and_then}
 use Rattle.std.specs.Option.{option_map_or}

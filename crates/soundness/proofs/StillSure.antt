@@ -57,7 +57,7 @@ hits_above (ToContent ∷ a) (ToPart m ∷ b) step c h = refl
 hits_above (ToContent ∷ a) (ToField v m ∷ b) step c h = refl
 hits_above (ToContent ∷ a) (ToContent ∷ b) step c h = hits_above a b step c h
 
-index_above : (key : ℕ) (a b : List Step) → takes_index key (a ++ b) ≡ false → takes_index key a ≡ false
+pub index_above : (key : ℕ) (a b : List Step) → takes_index key (a ++ b) ≡ false → takes_index key a ≡ false
 index_above key [] b h = refl
 index_above key (ToPart n ∷ a) b h = index_above key a b h
 index_above key (ToField v n ∷ a) b h = index_above key a b h
@@ -82,7 +82,7 @@ kept_any {A} test keep (a ∷ list) f h = by (test a) refl (keep a) refl h (kept
     by false e false z x later = later x
 
 module _ (items : ItemTable) (b b' : ℕ → ℕ → Bool) (v v' : List Step → ℕ → Bool) where
-  abbrev Kept : List Step → List Step → Type 0
+  abbrev pub Kept : List Step → List Step → Type 0
   Kept so_far [] = Unit {0}
   Kept so_far (step ∷ steps) = ((variant : ℕ) → v so_far variant ≡ true → v' so_far variant ≡ true)
       × Kept (so_far ++ step ∷ []) steps
@@ -166,7 +166,7 @@ module _ (items : ItemTable) (b b' : ℕ → ℕ → Bool) (v v' : List Step →
       (then_sure items b v (step_ty items step ty) rest) (then_sure items b' v' (step_ty items step ty) rest')
       (step_still so_far step ty f g) (then_still (step_ty items step ty) rest rest' k) h
 
-  steps_still : (so_far steps : List Step) (id : TyId) →
+  pub steps_still : (so_far steps : List Step) (id : TyId) →
       ((i count : ℕ) → takes_index i steps ≡ true → b i count ≡ true → b' i count ≡ true) → Kept so_far steps →
       are_sure items b v so_far steps id ≡ true → are_sure items b' v' so_far steps id ≡ true
   steps_still so_far [] id f g h = h
