@@ -1,0 +1,15 @@
+pub mod ApartAs
+pub mod BelowPaths
+pub mod Elsewhere
+pub mod Inductions
+pub mod KindLaws
+pub mod Living
+pub mod NeedsRead
+pub mod NumberedBelow
+pub mod PathPlaces
+pub mod PlanParts
+pub mod Ranking
+pub mod ReadFlags
+pub mod Rungs
+pub mod TreesThere
+pub mod WithinPaths

@@ -1,0 +1,4 @@
+pub mod Laws
+pub mod Ranked
+pub mod Ready
+pub mod Rungs
