@@ -21,7 +21,7 @@ use Rattle.typeck_checker.specs.Lists.{below_all, nodes_on}
 use Rattle.typeck_heads.proofs.Sequences.{stopped}
 use Rattle.typeck_heads.specs.Answers.{Refuses}
 use Rattle.typeck_bodies.specs.ParamAnswers.{last_param, last_params}
-use Rattle.typeck_bodies.specs.ParamRests.{type_by}
+use Rattle.typeck_bodies.specs.ParamForms.{type_by}
 use Rattle.typeck_checker.specs.Stand.{ChangesNothing, Stays, below, env_in, stack, top}
 use Rattle.typeck_checker.specs.declared.checker.Checker.{Checker}
 use Rattle.typeck_checker.specs.declared.tables.Tables.{Tables}

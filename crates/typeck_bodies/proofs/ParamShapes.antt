@@ -11,7 +11,7 @@ use Rattle.typing_rules.specs.Bodies.{is_name_or_wildcard, param}
 use Rattle.typing_rules.specs.Check.{TypingState}
 use Rattle.typing_rules.specs.Scope.{Env, NamedEntry}
 use Rattle.typeck_bodies.specs.ParamForms.{param_as, plain_as}
-use Rattle.typeck_bodies.specs.ParamRests.{type_by}
+use Rattle.typeck_bodies.specs.ParamForms.{type_by}
 
 as_plain : (x : Syn) → is_name_or_wildcard x ≡ plain_as (pattern_part (shape_of x))
 as_plain (syn at (APattern AnyPattern)) = refl

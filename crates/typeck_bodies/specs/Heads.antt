@@ -16,7 +16,7 @@ use Rattle.typeck_bodies.specs.declared.nested_bodies.Outer.{Outer}
 use Rattle.typeck_checker.specs.Lists.{below_all}
 use Rattle.typeck_heads.specs.Answers.{Refuses}
 use Rattle.typeck_bodies.specs.ParamAnswers.{last_params}
-use Rattle.typeck_bodies.specs.ParamRests.{type_by}
+use Rattle.typeck_bodies.specs.ParamForms.{type_by}
 use Rattle.typeck_checker.specs.Stand.{below, env, env_in, stack, state}
 use Rattle.typeck_checker.specs.declared.checker.Checker.{Checker}
 use Rattle.typeck_bodies.specs.Aside.{with_loops}

@@ -8,7 +8,5 @@ pub mod Heads
 pub mod Scoped
 pub mod CaptureAnswers
 pub mod Names
-pub mod CaptureRests
 pub mod ParamAnswers
-pub mod ParamRests
 pub mod ParamForms

@@ -1,5 +1,5 @@
 //! What a closure captures (The Rust Reference, "Closure expressions", "Closure types").
-ghost use Rattle.std.specs.Prelude.{◌≡◌, ◌∷◌, ◌+◌, is_some, not, reverse, IfErr, IfOk, OnOk};
+ghost use Rattle.std.specs.Prelude.{◌≡◌, ◌∷◌, ◌+◌, is_some, not, reverse, None, IfErr, IfOk, OnOk};
 ghost use Rattle.mir_base.specs.declared.rule.RuleError.{RuleError};
 ghost use Rattle.src_ast.specs.Seen.{nodes_of};
 ghost use Rattle.src_ast.specs.Syntax.{syn, AName};
@@ -9,8 +9,11 @@ ghost use Rattle.typeck_bodies.specs.CaptureAnswers.{GivesCaptures, KeepsBelow};
 ghost use Rattle.typeck_patterns.specs.PatternContext.{GivesBound};
 ghost use Rattle.typeck_checker.specs.Stand.{Gives, KeepsStack, env, stack, state};
 ghost use Rattle.typing_rules.specs.Bodies as bodies;
+ghost use Rattle.mir_base.specs.declared.rule.Rule as rules;
+ghost use Rattle.typing_rules.specs.Check as told;
+ghost use Rattle.typing_rules.specs.Places.{variable_place};
+ghost use Rattle.typing_rules.specs.Rows.{taken};
 ghost use Rattle.typing_rules.specs.Scope.{Capture};
-ghost use Rattle.typeck_bodies.specs.CaptureRests.{capture_rest, new_rest, taken_variable};
 
 use crate::names::first_name;
 use mir_base::{Key, Name, NoMemory, Pos, Rule, RuleError};
@@ -27,7 +30,7 @@ fn take_variable(
     name: &str,
     found: FoundVariable,
 ) -> Result<(), RuleError>
-    ensures gives { Gives (taken_variable (env checker.old) at (found_as name.now found) (state checker.old)) result checker.new }
+    ensures gives { Gives (told.and_then (variable_place at (found_as name.now found) (state checker.old)) (taken (env checker.old) None)) result checker.new }
     ensures kept { KeepsStack (stack checker.old) checker.old result checker.new }
 {
     put_variable(checker, at, name, found)?;
@@ -67,7 +70,7 @@ fn capture_as(
     name: &str,
     found: FoundVariable,
 ) -> Result<(), RuleError>
-    ensures gives { GivesBound (capture_rest (env checker.old) part at (found_as name.now found) (reverse bound.old) (state checker.old)) result bound.new checker.new }
+    ensures gives { GivesBound (bodies.capture_end (env checker.old) part at name.now (found_as name.now found) (reverse bound.old) (state checker.old)) result bound.new checker.new }
     ensures kept { KeepsStack (stack checker.old) checker.old result checker.new }
 {
     take_variable(checker, at, name, found)?;
@@ -91,7 +94,7 @@ fn capture_found(
     name: &str,
     found: FoundVariable,
 ) -> Result<(), RuleError>
-    ensures gives { GivesBound (new_rest (env checker.old) part at (found_as name.now found) (reverse bound.old) (state checker.old)) result bound.new checker.new }
+    ensures gives { GivesBound (told.and_then (told.obeys rules.Rule.T02 at (not (bodies.is_captured name.now (reverse bound.old))) (state checker.old)) (λ done. bodies.capture_end (env checker.old) part at name.now (found_as name.now found) (reverse bound.old))) result bound.new checker.new }
     ensures kept { KeepsStack (stack checker.old) checker.old result checker.new }
 {
     let is_new = !is_captured(bound, name);

@@ -4,7 +4,7 @@ ghost use Rattle.src_ast.specs.Seen.{nodes_of, syn_of};
 ghost use Rattle.typeck_checker.specs.Stand.{KeepsStack, env, stack, state};
 ghost use Rattle.typing_rules.specs.Bodies as bodies;
 ghost use Rattle.typeck_bodies.specs.ParamAnswers.{GivesParam, GivesParams, KeepsBelow};
-ghost use Rattle.typeck_bodies.specs.ParamRests.{type_by};
+ghost use Rattle.typeck_bodies.specs.ParamForms.{type_by};
 
 use crate::name_params::self_param;
 use crate::patterns::typed_param;

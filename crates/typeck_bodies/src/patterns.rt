@@ -5,8 +5,9 @@ ghost use Rattle.typeck_checker.specs.Stand.{GivesValue, KeepsStack, ChangesNoth
 ghost use Rattle.typing_rules.specs.Bodies as bodies;
 ghost use Rattle.well_typed.specs.Types as types;
 ghost use Rattle.typeck_bodies.specs.ParamAnswers.{GivesParam};
-ghost use Rattle.typeck_bodies.specs.ParamRests.{type_by, typed_param_of};
+ghost use Rattle.typeck_bodies.specs.ParamForms.{type_by};
 ghost use Rattle.typing_rules.specs.Bodies.{part_param_end, pattern_param_end};
+ghost use Rattle.typing_rules.specs.Check.{and_then};
 
 use mir_base::{Pos, Rule, RuleError};
 use mir_ty::{Items, TyId};
@@ -90,7 +91,7 @@ pub fn typed_param(
     pattern: &SyntaxNode,
     ty: &SyntaxNode,
 ) -> Result<TyId, RuleError>
-    ensures gives { GivesParam (typed_param_of (env checker.old) at may_refer (syn_of pattern.now) (syn_of ty.now) (reverse bound.old) (state checker.old)) result bound.new checker.new }
+    ensures gives { GivesParam (and_then (type_by (env checker.old) may_refer (syn_of ty.now) (state checker.old)) (λ t. pattern_param_end (env checker.old) at t (syn_of pattern.now) (reverse bound.old))) result bound.new checker.new }
     ensures kept { KeepsStack (stack checker.old) checker.old result checker.new }
 {
     let ty = param_ty(checker, may_refer, ty)?;

@@ -16,25 +16,25 @@ use Rattle.typing_rules.specs.Named as named
 use Rattle.typing_rules.specs.Named.{function_by}
 use Rattle.typing_rules.specs.Typed.{called_by, no_variant}
 use Rattle.mir_ty.specs.DropBodies.{is_drop_body}
-use Rattle.typeck_calls.specs.CalleeRests.{begun_rest, ending_rest}
+use Rattle.typeck_calls.specs.Endings.{resolved_end, ending_end}
 use Rattle.typeck_calls.specs.declared.resolve.ResolvedCall.{ResolvedCall}
 use Rattle.typeck_calls.specs.declared.resolve.CallEnding.{CallEnding}
 
 module _ (at : Pos) (expected : Option TyId) (params : List TyId) (ending : CallEnding) where
   -- a call with this end, once it has a number
   abbrev pub numbered : ℕ → Arguments → Check Node
-  numbered count args = number >>= (λ id. args params >>= ending_rest id at expected ending (count == length params) count)
+  numbered count args = number >>= (λ id. args params >>= ending_end id at expected ending (count == length params) count)
 
   begun_as : (b : ResolvedCall) (last : Node) (count : ℕ) (args : Arguments) (s t : TypingState) → number s ≡ Ok (b.id.0, t) → b.params ≡ params → b.ending ≡ ending →
-      numbered count args s ≡ (args b.params >>= begun_rest at expected b last count) t
+      numbered count args s ≡ (args b.params >>= resolved_end at expected b last count) t
   begun_as b last count args s t got same is =
-      ap (λ r. and_then r (λ id. args params >>= ending_rest id at expected ending (count == length params) count)) got
-      ∙ sym (λ i. (args (same i) >>= ending_rest b.id.0 at expected (is i) (count == length (same i)) count) t)
+      ap (λ r. and_then r (λ id. args params >>= ending_end id at expected ending (count == length params) count)) got
+      ∙ sym (λ i. (args (same i) >>= ending_end b.id.0 at expected (is i) (count == length (same i)) count) t)
 
   pub begins : (check : ℕ → Arguments → Check Node) (s t : TypingState) (r : Result ResolvedCall RuleError) (after : Checker) →
       ((count : ℕ) (args : Arguments) → check count args s ≡ numbered count args t) →
       GivesValue (λ b. b.id.0) (number t) r after → IfOk r (λ b. b.params ≡ params) → IfOk r (λ b. b.ending ≡ ending) →
-      GivesCall check s (λ b. b.params) (begun_rest at expected) r after
+      GivesCall check s (λ b. b.params) (resolved_end at expected) r after
   begins check s t (Ok b) after check_is got same is = λ count args. check_is count args ∙ begun_as b (top (stack after)) count args t (state after) got same is
   begins check s t (Err (RuleError.Broken rule place)) after check_is got same is = absurd (cc)
   begins check s t (Err RuleError.Memory) after check_is got same is = λ count args. tt

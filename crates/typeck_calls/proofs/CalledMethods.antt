@@ -9,17 +9,15 @@ use Rattle.mir_ty.specs.declared.ty.TyId.{TyId}
 use Rattle.typeck_checker.specs.Lists.{behind_form}
 use Rattle.typeck_heads.specs.Answers.{Refuses}
 use Rattle.typeck_checker.specs.declared.checker.Checker.{Checker}
-use Rattle.typed_tree.specs.Tree.{Node, Nodes}
+use Rattle.typed_tree.specs.Tree.{Form, Node, Nodes}
 use Rattle.typing_rules.specs.Check.{Broken, Check, TypingState, and_then, ◌>>=◌, ◌>>◌, pure, breaks, obeys, the_items}
-use Rattle.typing_rules.specs.Places.{Coerced, Differs, Fit, Fits, Member, a_node_of, fit, is_behind_shared, place_in_text, through}
-use Rattle.typing_rules.specs.Rows.{fitted, fitted_by, head_of, is_drop_method, is_unique_borrow, has_self, Method, method_end, method_form, received, takes_self, with_method, with_self}
+use Rattle.typing_rules.specs.Places.{Member, a_node_of, is_behind_shared, place_in_text, through}
+use Rattle.typing_rules.specs.Rows.{counted_call_end, fitted, head_of, is_drop_method, is_unique_borrow, has_self, Method, method_call_end, method_end, method_form, received, takes_self, with_method, with_self}
 use Rattle.typing_rules.specs.Scope.{Env}
 use Rattle.well_typed.specs.Places.{form_of, ty_of}
 use Rattle.well_typed.specs.Types.{is_same, reference_of}
-use Rattle.typeck_calls.proofs.Steps.{items_in}
 use Rattle.typeck_calls.specs.Calls.{Arguments, GivesCall}
-use Rattle.typeck_calls.specs.Methods.{borrows_shared, self_of}
-use Rattle.typeck_calls.specs.Rests.{called_rest, receiver_by, refused_rest}
+use Rattle.typeck_calls.specs.Methods.{borrows_shared, ends_by, self_of}
 use Rattle.typeck_calls.specs.declared.receivers.Called.{Called}
 
 -- ---- the type of `self`
@@ -50,46 +48,22 @@ and_false false = refl
 
 -- ---- what is behind `&`
 
--- a node that is fitted to a type leaves the items as they were
-by_fit : (expected : TyId) (n m : Node) (s t : TypingState) (f : Fit) → fitted_by expected n f s ≡ Ok (m, t) → s.items ≡ t.items
-by_fit expected n m s t Fits e = ap (items_in s.items) e
-by_fit expected n m s t (Coerced trait_no) e = ap (items_in s.items) e
-by_fit expected n m s t Differs e = absurd (cc)
-
-fitted_items : (expected : Option TyId) (n m : Node) (s t : TypingState) → fitted expected n s ≡ Ok (m, t) → s.items ≡ t.items
-fitted_items None n m s t e = ap (items_in s.items) e
-fitted_items (Some expected) n m s t e = by_fit expected n m s t (fit s.items expected (ty_of n)) e
-
-module _ (id : ℕ) (at : Pos) (called : Called) (expected : Option TyId) (receiver : Node) (given : Nodes) (s : TypingState) where
-  abbrev counted : Bool → Node → Check Node
-  counted is_count n = do
-    obeys Rule.T04 at is_count
+module _ (id : ℕ) (at : Pos) (answer : TyId) (form : Form) (is_count : Bool) (place : Pos) (is_refused may_be_called : Bool) (expected : Option TyId) (s : TypingState) where
+  abbrev behind_count : Node → Check Node
+  behind_count n = do
+    obeys Rule.T08 place (not is_refused)
+    obeys Rule.T13 at may_be_called
     pure n
 
-  abbrev asked : ItemTable → Node → Check Node
-  asked items n = do
-    obeys Rule.T08 called.place_at (not (called.is_unique && borrows_shared items receiver))
-    obeys Rule.T13 at (not called.is_drop)
-    pure n
+  by_count : (o : Result (Node × TypingState) Broken) (b : Bool) →
+      and_then (and_then o (λ n. obeys Rule.T04 at b >> pure n)) behind_count ≡ and_then o (λ n. obeys Rule.T04 at b >> behind_count n)
+  by_count (Ok x) true = refl
+  by_count (Ok x) false = refl
+  by_count (Err e) b = refl
 
-  abbrev all_asked : Bool → Node → Check Node
-  all_asked is_count n = do
-    items ← the_items
-    obeys Rule.T04 at is_count
-    obeys Rule.T08 called.place_at (not (called.is_unique && borrows_shared items receiver))
-    obeys Rule.T13 at (not called.is_drop)
-    pure n
-
-  same_asked : (is_count : Bool) (o : Result (Node × TypingState) Broken) → ((m : Node) (t : TypingState) → o ≡ Ok (m, t) → s.items ≡ t.items) →
-      and_then (and_then o (counted is_count)) (asked s.items) ≡ and_then o (all_asked is_count)
-  same_asked true (Ok x) same = ap (λ (items : ItemTable). asked items x.0 x.1) (same x.0 x.1 refl)
-  same_asked false (Ok x) same = refl
-  same_asked is_count (Err e) same = refl
-
-  pub refused_as : (is_count : Bool) → refused_rest id at called is_count (called.is_unique && borrows_shared s.items receiver) expected receiver given s ≡ called_rest id at called is_count expected receiver given s
-  refused_as is_count =
-      let n = a_node_of id at called.answer (behind_form called.behind receiver given) in
-      same_asked is_count (fitted expected n s) (λ m t e. fitted_items expected n m s t e)
+  -- the count of arguments comes first
+  pub counted_first : method_call_end id at answer form is_count place is_refused may_be_called expected s ≡ and_then (counted_call_end id at answer form Rule.T04 is_count expected s) behind_count
+  counted_first = sym (by_count (fitted expected (a_node_of id at answer form) s) is_count)
 
 -- ---- what is called behind its receiver
 
@@ -104,7 +78,7 @@ module _ (env : Env) (at : Pos) (id : ℕ) (base : Node) (f : Method) (count : �
 
   -- what is no method of a value
   abbrev pub nothing : Check Node
-  nothing = args [] >>= (λ given. receiver_by id at None (count == 0) expected base given)
+  nothing = args [] >>= (λ given. ends_by id at None (count == 0) expected base given)
 
   pub without_self : has_self env f ≡ false → with_method env at id base (Some f) count args expected s ≡ nothing s
   unfolding chosen
@@ -125,12 +99,9 @@ module _ (env : Env) (at : Pos) (id : ℕ) (base : Node) (f : Method) (count : �
     abbrev behind : Node → Check Node
     behind receiver = do
       given ← args (drop 1 (head_of f).params)
-      n ← fitted expected (a_node_of id at (head_of f).result (method_form f receiver given))
       items ← the_items
-      obeys Rule.T04 at (count == length (drop 1 (head_of f).params))
-      obeys Rule.T08 (place_in_text base) (not (is_unique_borrow (form_of receiver) && is_behind_shared items base))
-      obeys Rule.T13 at (not (is_drop_method f))
-      pure n
+      method_call_end id at (head_of f).result (method_form f receiver given) (count == length (drop 1 (head_of f).params))
+          (place_in_text base) (is_unique_borrow (form_of receiver) && is_behind_shared items base) (not (is_drop_method f)) expected
 
     pub refuses : (e : Broken) → received env (place_in_text base) base self s ≡ Err e → with_method env at id base (Some f) count args expected s ≡ Err e
     refuses e h = begins ∙ ap (λ r. and_then r behind) h
@@ -139,18 +110,14 @@ module _ (env : Env) (at : Pos) (id : ℕ) (base : Node) (f : Method) (count : �
         ((items : ItemTable) → (called.is_unique && borrows_shared items r) ≡ (is_unique_borrow (form_of r) && is_behind_shared items base)) →
         params ≡ drop 1 (head_of f).params → called.answer ≡ (head_of f).result → called.is_drop ≡ is_drop_method f → called.place_at ≡ place_in_text base →
         ((given : Nodes) → behind_form called.behind r given ≡ method_form f r given) →
-        with_method env at id base (Some f) count args expected s ≡ (args params >>= (λ given. receiver_by id at (Some called) (count == length params) expected r given)) t
+        with_method env at id base (Some f) count args expected s ≡ (args params >>= (λ given. ends_by id at (Some called) (count == length params) expected r given)) t
     given_behind called params r t got shared same answer is_drop placed form =
         begins
         ∙ ap (λ o. and_then o behind) got
         ∙ sym (λ i. (do
           given ← args (same i)
-          n ← fitted expected (a_node_of id at (answer i) (form given i))
           items ← the_items
-          obeys Rule.T04 at (count == length (same i))
-          obeys Rule.T08 (placed i) (not (shared items i))
-          obeys Rule.T13 at (not (is_drop i))
-          pure n) t)
+          method_call_end id at (answer i) (form given i) (count == length (same i)) (placed i) (shared items i) (not (is_drop i)) expected) t)
 
 -- ---- what is found of a receiver
 

@@ -4,7 +4,7 @@ use Rattle.mir_base.specs.declared.rule.RuleError.{RuleError}
 use Rattle.mir_ty.specs.declared.ty.TyId.{TyId}
 use Rattle.typeck_heads.specs.Answers.{Refuses}
 use Rattle.typeck_calls.specs.Calls.{Arguments, GivesCall}
-use Rattle.typeck_calls.specs.StructRests.{GivesFields}
+use Rattle.typeck_calls.specs.Inits.{GivesFields}
 use Rattle.typeck_checker.specs.Stand.{Gives, stack, state, top}
 use Rattle.typeck_checker.specs.declared.checker.Checker.{Checker}
 use Rattle.typed_tree.specs.Tree.{Fields, Node, Nodes}

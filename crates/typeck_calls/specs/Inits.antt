@@ -77,3 +77,13 @@ abbrev pub KeepsBelowInits : List Node → Checker → Result Given RuleError �
 KeepsBelowInits others before (Ok given) after =
     (below_all (length given) (stack after) ≡ others) × Stays before after
 KeepsBelowInits others before (Err e) after = ⊤
+
+-- ---- before all fields
+
+-- what a check gives with the fields of a value, whatever they are, is what they give, and then the rest behind them
+abbrev pub GivesFields : {B : Type 0} → (Check (Fields × Given) → Check Node) → TypingState →
+    (B → Fields × Given → Check Node)
+    → Result B RuleError → Checker → Type 0
+GivesFields check before rest (Ok b) after =
+    (fields : Check (Fields × Given)) → check fields before ≡ (fields >>= rest b) (state after)
+GivesFields check before rest (Err e) after = (fields : Check (Fields × Given)) → Refuses (check fields before) e

@@ -2,12 +2,10 @@ pub mod Calls
 pub mod Fields
 pub mod Going
 pub mod Methods
-pub mod Rests
 pub mod StructFields
 pub mod Given
-pub mod StructRests
 pub mod Inits
 pub mod Callees
 pub mod Closures
 pub mod Numbers
-pub mod CalleeRests
+pub mod Endings

@@ -1,22 +1,28 @@
 -- Methods of a value, in Rust as the rules of typing see them.
-use Rattle.std.specs.Prelude.{◌≡◌, Bool, false, ◌&&◌, ◌||◌, List, [], ◌∷◌, Option, Some, None, IsSome, option_and_then, option_map, slice_get, Result, Ok, Err, if◌then◌else◌}
+use Rattle.std.specs.Prelude.{◌≡◌, ℕ, ◌==◌, Bool, false, ◌&&◌, ◌||◌, not, List, [], ◌∷◌, length, Option, Some, None, IsSome, option_and_then, option_map, slice_get, Result, Ok, Err, if◌then◌else◌}
 use Rattle.std.specs.Option.{option_map_or}
+use Rattle.mir_base.specs.declared.place_in_text.Pos.{Pos}
+use Rattle.mir_base.specs.declared.rule.Rule.{Rule}
 use Rattle.mir_base.specs.declared.rule.RuleError.{RuleError}
 use Rattle.mir_ty.specs.declared.ty.TyId.{TyId}
 use Rattle.mir_ty.specs.ItemTable.{ItemTable}
 use Rattle.typed_tree.specs.Tree as tree
-use Rattle.typed_tree.specs.Tree.{Form, Node}
+use Rattle.typed_tree.specs.Tree.{Form, Node, Nodes}
+use Rattle.typeck_checker.specs.Lists.{behind_form}
 use Rattle.typeck_heads.specs.Answers.{Refuses}
 use Rattle.typeck_checker.specs.Stand.{stack, state, top}
 use Rattle.typeck_checker.specs.declared.checker.Checker.{Checker}
-use Rattle.typing_rules.specs.Check.{Broken, TypingState}
+use Rattle.typing_rules.specs.Check.{Broken, Check, TypingState, ◌>>=◌, breaks, the_items}
 use Rattle.typing_rules.specs.Named.{with_head}
 use Rattle.typing_rules.specs.Places.{is_behind_shared}
 use Rattle.typing_rules.specs.Rows as rows
+use Rattle.typing_rules.specs.Rows.{method_call_end}
 use Rattle.mir_ty.specs.DropBodies.{is_drop_body}
 use Rattle.well_typed.specs.Places.{form_of}
 use Rattle.well_typed.specs.Types.{is_same, reference_of}
 use Rattle.typeck_calls.specs.declared.methods.Method.{Method}
+use Rattle.typeck_calls.specs.declared.receivers.Called.{Called}
+use Rattle.typeck_calls.specs.declared.receivers.MethodReceiver.{MethodReceiver}
 
 -- a method by its body, or by its trait and number, with its head in the items
 abbrev pub method_seen : ItemTable → Method → Option rows.Method
@@ -65,3 +71,16 @@ GivesReceiver outcome base (Ok unique) after =
     ((items : ItemTable) → (unique && borrows_shared items (top (stack after)))
     ≡ (rows.is_unique_borrow (form_of (top (stack after))) && is_behind_shared items base))
 GivesReceiver outcome base (Err e) after = Refuses outcome e
+
+-- ---- how a call ends, by what is known of it before its arguments
+
+abbrev pub ends_by : ℕ → Pos → Option Called → Bool → Option TyId → Node → Nodes → Check Node
+ends_by id at None is_count expected receiver given = breaks Rule.T12 at
+ends_by id at (Some called) is_count expected receiver given = do
+  items ← the_items
+  method_call_end id at called.answer (behind_form called.behind receiver given) is_count called.place_at
+      (called.is_unique && borrows_shared items receiver) (not called.is_drop) expected
+
+-- its receiver is this node, and there are so many arguments
+abbrev pub received_end : ℕ → Pos → Option TyId → MethodReceiver → Node → ℕ → Nodes → Check Node
+received_end id at expected r receiver count given = ends_by id at r.called (count == length r.params) expected receiver given

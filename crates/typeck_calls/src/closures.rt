@@ -6,7 +6,7 @@ ghost use Rattle.mir_base.specs.declared.rule.RuleError.{RuleError};
 ghost use Rattle.mir_ty.specs.declared.ty.TyId.{TyId};
 ghost use Rattle.typeck_checker.specs.Lists.{below_all, last_nodes};
 ghost use Rattle.typeck_calls.specs.Closures.{body_seen, closure_seen};
-ghost use Rattle.typeck_calls.specs.CalleeRests.{callee_rest};
+ghost use Rattle.typeck_calls.specs.Closures.{callee_end};
 ghost use Rattle.typeck_calls.specs.Calls.{GivesCall};
 ghost use Rattle.typeck_checker.specs.Stand.{Gives, KeepsStack, below, stack, state, top};
 ghost use Rattle.typing_rules.specs.Rows.{closure_end};
@@ -85,7 +85,7 @@ fn with_body(checker: &Checker, body: u32) -> Result<ClosureCallee, RuleError>
 
 /// The last node as a value that is called. The arguments are checked behind it, and then [`closure_end`] ends the call.
 pub fn closure_callee(checker: &Checker) -> Result<ClosureCallee, RuleError>
-    ensures gives { (id : ℕ) (at : Pos) (expected : Option TyId) → GivesCall (closure_end id at expected (top (stack checker.now))) (state checker.now) (λ callee. callee.params) (callee_rest id at expected) result checker.now }
+    ensures gives { (id : ℕ) (at : Pos) (expected : Option TyId) → GivesCall (closure_end id at expected (top (stack checker.now))) (state checker.now) (λ callee. callee.params) (callee_end id at expected) result checker.now }
 {
     match body_of(&checker.walk.items, checker.last_ty()) {
         Some(body) => {
@@ -105,7 +105,7 @@ pub fn closure_end(
     count: usize,
     expected: Option<TyId>,
 ) -> Result<(), RuleError>
-    ensures gives { Gives (callee_rest id.0 at expected callee.now (top (below_all count (stack checker.old))) count (last_nodes count (stack checker.old)) (state checker.old)) result checker.new }
+    ensures gives { Gives (callee_end id.0 at expected callee.now (top (below_all count (stack checker.old))) count (last_nodes count (stack checker.old)) (state checker.old)) result checker.new }
     ensures kept { KeepsStack (below (below_all count (stack checker.old))) checker.old result checker.new }
 {
     let is_count = count == callee.params.len();

@@ -5,7 +5,7 @@ ghost use Rattle.mir_base.specs.declared.rule.Rule.{Rule};
 ghost use Rattle.mir_base.specs.declared.rule.RuleError.{RuleError};
 ghost use Rattle.typeck_checker.specs.Lists.{below_all, last_nodes};
 ghost use Rattle.typeck_calls.specs.Numbers.{numbers_from};
-ghost use Rattle.typeck_calls.specs.CalleeRests.{begun_rest, ending_rest};
+ghost use Rattle.typeck_calls.specs.Endings.{resolved_end, ending_end};
 ghost use Rattle.typeck_checker.specs.Forms.{one_form};
 ghost use Rattle.typeck_checker.specs.Stand.{Gives, KeepsStack, Stays, stack, state};
 ghost use Rattle.typed_tree.specs.Tree as tree;
@@ -187,7 +187,7 @@ fn end_call(
     count: usize,
     expected: Option<TyId>,
 ) -> Result<(), RuleError>
-    ensures gives { Gives (ending_rest id.0 at expected ending is_count count (last_nodes count (stack checker.old)) (state checker.old)) result checker.new }
+    ensures gives { Gives (ending_end id.0 at expected ending is_count count (last_nodes count (stack checker.old)) (state checker.old)) result checker.new }
     ensures kept { KeepsStack (below_all count (stack checker.old)) checker.old result checker.new }
 {
     match ending {
@@ -221,7 +221,7 @@ pub fn call_end(
     count: usize,
     expected: Option<TyId>,
 ) -> Result<(), RuleError>
-    ensures gives { (last : tree.Node) → Gives (begun_rest at expected begun.now last count (last_nodes count (stack checker.old)) (state checker.old)) result checker.new }
+    ensures gives { (last : tree.Node) → Gives (resolved_end at expected begun.now last count (last_nodes count (stack checker.old)) (state checker.old)) result checker.new }
     ensures kept { KeepsStack (below_all count (stack checker.old)) checker.old result checker.new }
 {
     let is_count = count == begun.params.len();

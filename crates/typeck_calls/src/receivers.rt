@@ -1,6 +1,6 @@
 //! Calls of methods (The Rust Reference, "Method-call expressions"): the receiver is borrowed or taken once the method is
 //! found, the arguments are checked behind it, and then the call ends.
-ghost use Rattle.std.specs.Prelude.{◌≡◌, ℕ, ◌&&◌, ◌||◌, [], IfErr, IfOk, Option, drop, false, true};
+ghost use Rattle.std.specs.Prelude.{◌≡◌, ℕ, ◌&&◌, ◌||◌, [], IfErr, IfOk, Option, drop, false, true, not, Some};
 ghost use Rattle.std.specs.Option.{option_map_or};
 ghost use Rattle.mir_base.specs.declared.rule.RuleError.{RuleError};
 ghost use Rattle.mir_base.specs.declared.place_in_text.Pos.{Pos};
@@ -8,8 +8,7 @@ ghost use Rattle.mir_ty.specs.ItemTable.{ItemTable};
 ghost use Rattle.mir_ty.specs.declared.ty.TyId.{TyId};
 ghost use Rattle.typeck_checker.specs.Lists.{behind_form, below_all, last_nodes};
 ghost use Rattle.typeck_calls.specs.Calls.{GivesCall};
-ghost use Rattle.typeck_calls.specs.Methods.{GivesReceiver, borrows_shared, form_shared, method_seen, self_of};
-ghost use Rattle.typeck_calls.specs.Rests.{called_rest, receiver_rest, refused_rest};
+ghost use Rattle.typeck_calls.specs.Methods.{GivesReceiver, borrows_shared, ends_by, form_shared, method_seen, received_end, self_of};
 ghost use Rattle.typeck_checker.specs.Stand.{Gives, KeepsStack, below, env, node_if_any, stack, state, top};
 ghost use Rattle.typed_tree.specs.Tree as tree;
 ghost use Rattle.typed_tree.specs.View.{form_of};
@@ -192,7 +191,7 @@ fn with_self(
     ensures gives { (id : ℕ) (at : Pos) (found : rows.Method) → method_seen checker.old.walk.items method ≡ Some found →
         rows.has_self (env checker.old) found ≡ true →
         self_of checker.old.walk.items (ty_of (top (stack checker.old))) (rows.head_of found).params ≡ Some self_ty →
-        (expected : Option TyId) → GivesCall (λ count args. rows.with_method (env checker.old) at id (top (stack checker.old)) (Some found) count args expected) (state checker.old) (λ r. r.params) (receiver_rest id at expected) result checker.new }
+        (expected : Option TyId) → GivesCall (λ count args. rows.with_method (env checker.old) at id (top (stack checker.old)) (Some found) count args expected) (state checker.old) (λ r. r.params) (received_end id at expected) result checker.new }
     ensures kept { KeepsStack (below (stack checker.old)) checker.old result checker.new }
 {
     let answer = answer_of(&checker.walk.items, method);
@@ -223,7 +222,7 @@ fn no_method(checker: &Checker) -> MethodReceiver
 
 fn with_method(checker: &mut Checker, method: Method) -> Result<MethodReceiver, RuleError>
     ensures gives { (id : ℕ) (at : Pos) (found : rows.Method) → method_seen checker.old.walk.items method ≡ Some found →
-        (expected : Option TyId) → GivesCall (λ count args. rows.with_method (env checker.old) at id (top (stack checker.old)) (Some found) count args expected) (state checker.old) (λ r. r.params) (receiver_rest id at expected) result checker.new }
+        (expected : Option TyId) → GivesCall (λ count args. rows.with_method (env checker.old) at id (top (stack checker.old)) (Some found) count args expected) (state checker.old) (λ r. r.params) (received_end id at expected) result checker.new }
     ensures kept { KeepsStack (below (stack checker.old)) checker.old result checker.new }
 {
     if !has_self(checker, method) {
@@ -238,7 +237,7 @@ fn with_method(checker: &mut Checker, method: Method) -> Result<MethodReceiver, 
 /// The last node as the receiver of a method of this name: it is gone through, up to the first type that has one, and
 /// borrowed or taken as the method says. The arguments are checked behind it, and then [`method_end`] ends the call.
 pub fn method_receiver(checker: &mut Checker, name: &str) -> Result<MethodReceiver, RuleError>
-    ensures gives { (id : ℕ) (at : Pos) (expected : Option TyId) → GivesCall (method_end (env checker.old) id at (named.method_named name.now) expected (top (stack checker.old))) (state checker.old) (λ r. r.params) (receiver_rest id at expected) result checker.new }
+    ensures gives { (id : ℕ) (at : Pos) (expected : Option TyId) → GivesCall (method_end (env checker.old) id at (named.method_named name.now) expected (top (stack checker.old))) (state checker.old) (λ r. r.params) (received_end id at expected) result checker.new }
     ensures kept { KeepsStack (below (stack checker.old)) checker.old result checker.new }
 {
     let place_at = checker.last_at();
@@ -283,6 +282,7 @@ fn is_refused(checker: &Checker, called: Called, count: usize) -> bool
     called.is_unique && is_shared(checker, count)
 }
 
+#[tactic(auto, using(crate::proofs::CalledMethods::counted_first))]
 fn refused_end(
     checker: &mut Checker,
     id: NodeId,
@@ -293,7 +293,7 @@ fn refused_end(
     is_refused: bool,
     expected: Option<TyId>,
 ) -> Result<(), RuleError>
-    ensures gives { Gives (refused_rest id.0 at called is_count is_refused expected (top (below_all count (stack checker.old))) (last_nodes count (stack checker.old)) (state checker.old)) result checker.new }
+    ensures gives { Gives (rows.method_call_end id.0 at called.answer (behind_form called.behind (top (below_all count (stack checker.old))) (last_nodes count (stack checker.old))) is_count called.place_at is_refused (not called.is_drop) expected (state checker.old)) result checker.new }
     ensures kept { KeepsStack (below (below_all count (stack checker.old))) checker.old result checker.new }
 {
     counted_end(
@@ -321,7 +321,7 @@ fn called_end(
     is_count: bool,
     expected: Option<TyId>,
 ) -> Result<(), RuleError>
-    ensures gives { Gives (called_rest id.0 at called is_count expected (top (below_all count (stack checker.old))) (last_nodes count (stack checker.old)) (state checker.old)) result checker.new }
+    ensures gives { Gives (ends_by id.0 at (Some called) is_count expected (top (below_all count (stack checker.old))) (last_nodes count (stack checker.old)) (state checker.old)) result checker.new }
     ensures kept { KeepsStack (below (below_all count (stack checker.old))) checker.old result checker.new }
 {
     let is_refused = is_refused(checker, called, count);
@@ -339,7 +339,7 @@ pub fn method_end(
     count: usize,
     expected: Option<TyId>,
 ) -> Result<(), RuleError>
-    ensures gives { Gives (receiver_rest id.0 at expected receiver.now (top (below_all count (stack checker.old))) count (last_nodes count (stack checker.old)) (state checker.old)) result checker.new }
+    ensures gives { Gives (received_end id.0 at expected receiver.now (top (below_all count (stack checker.old))) count (last_nodes count (stack checker.old)) (state checker.old)) result checker.new }
     ensures kept { KeepsStack (below (below_all count (stack checker.old))) checker.old result checker.new }
 {
     let is_count = count == receiver.params.len();

@@ -7,7 +7,7 @@ ghost use Rattle.mir_base.specs.declared.place_in_text.Pos.{Pos};
 ghost use Rattle.mir_base.specs.declared.rule.RuleError.{RuleError};
 ghost use Rattle.mir_ty.specs.declared.ty.TyId.{TyId};
 ghost use Rattle.typeck_calls.specs.Callees.{callee_seen};
-ghost use Rattle.typeck_calls.specs.CalleeRests.{begun_rest};
+ghost use Rattle.typeck_calls.specs.Endings.{resolved_end};
 ghost use Rattle.typeck_calls.specs.Calls.{GivesCall};
 ghost use Rattle.typeck_checker.specs.Stand.{GivesValue, ChangesNothing, state};
 ghost use Rattle.typed_tree.specs.Tree as tree;
@@ -98,7 +98,7 @@ fn is_drop(checker: &Checker, body: u32) -> bool
 
 fn function(checker: &mut Checker, body: u32) -> Result<ResolvedCall, RuleError>
     ensures gives { (at : Pos) (expected : Option TyId) (value : Check tree.Node) →
-        GivesCall (λ count args. typed.called_by at count value args (named.function_by checker.old.walk.items body (slice_get checker.old.walk.items.bodies body)) expected) (state checker.old) (λ b. b.params) (begun_rest at expected) result checker.new }
+        GivesCall (λ count args. typed.called_by at count value args (named.function_by checker.old.walk.items body (slice_get checker.old.walk.items.bodies body)) expected) (state checker.old) (λ b. b.params) (resolved_end at expected) result checker.new }
     ensures same { ChangesNothing checker.old checker.new }
 {
     match checker.walk.items.body_sig(body) {
@@ -119,7 +119,7 @@ fn function(checker: &mut Checker, body: u32) -> Result<ResolvedCall, RuleError>
 
 fn constructor(checker: &mut Checker, adt: u32, variant: u32) -> Result<ResolvedCall, RuleError>
     ensures gives { (at : Pos) (expected : Option TyId) (value : Check tree.Node) →
-        GivesCall (λ count args. typed.called_by at count value args (named.Constructor adt variant (option_map_or (λ v. v.fields) (types.variant_at checker.old.walk.items adt variant) [])) expected) (state checker.old) (λ b. b.params) (begun_rest at expected) result checker.new }
+        GivesCall (λ count args. typed.called_by at count value args (named.Constructor adt variant (option_map_or (λ v. v.fields) (types.variant_at checker.old.walk.items adt variant) [])) expected) (state checker.old) (λ b. b.params) (resolved_end at expected) result checker.new }
     ensures same { ChangesNothing checker.old checker.new }
 {
     let params = variant_types(checker, adt, variant)?;
@@ -179,7 +179,7 @@ fn content_wanted(items: &Items, expected: Option<TyId>) -> Option<TyId>
 }
 
 fn new_box(checker: &mut Checker, expected: Option<TyId>) -> Result<ResolvedCall, RuleError>
-    ensures gives { (at : Pos) → GivesCall (λ count args. rows.new_box at count args expected) (state checker.old) (λ b. b.params) (begun_rest at expected) result checker.new }
+    ensures gives { (at : Pos) → GivesCall (λ count args. rows.new_box at count args expected) (state checker.old) (λ b. b.params) (resolved_end at expected) result checker.new }
     ensures same { ChangesNothing checker.old checker.new }
 {
     let content = content_wanted(&checker.walk.items, expected);
@@ -194,7 +194,7 @@ pub fn begin(
     callee: Callee,
     expected: Option<TyId>,
 ) -> Result<ResolvedCall, RuleError>
-    ensures gives { (value : Check tree.Node) → GivesCall (λ count args. typed.called_by at count value args (callee_seen checker.old.walk.items callee) expected) (state checker.old) (λ b. b.params) (begun_rest at expected) result checker.new }
+    ensures gives { (value : Check tree.Node) → GivesCall (λ count args. typed.called_by at count value args (callee_seen checker.old.walk.items callee) expected) (state checker.old) (λ b. b.params) (resolved_end at expected) result checker.new }
     ensures same { ChangesNothing checker.old checker.new }
 {
     match callee {

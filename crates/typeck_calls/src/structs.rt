@@ -6,7 +6,7 @@ ghost use Rattle.typeck_checker.specs.Lists.{below_all, last_nodes};
 ghost use Rattle.typeck_calls.specs.Fields.{number_in};
 ghost use Rattle.src_ast.specs.Syntax.{Word};
 ghost use Rattle.typeck_calls.specs.StructFields.{numbered_by, variant_of};
-ghost use Rattle.typeck_calls.specs.StructRests.{GivesFields};
+ghost use Rattle.typeck_calls.specs.Inits.{GivesFields};
 ghost use Rattle.typed_tree.specs.Tree as tree;
 ghost use Rattle.typing_rules.specs.Places.{a_node_of};
 ghost use Rattle.typing_rules.specs.Rows as rows;

@@ -9,12 +9,11 @@ use Rattle.mir_ty.specs.declared.ty.TyId.{TyId}
 use Rattle.src_ast.specs.Syntax.{Word}
 use Rattle.typed_tree.specs.Tree as tree
 use Rattle.typing_rules.specs.Check.{Check, TypingState, and_then, ◌>>=◌, ◌>>◌, pure, breaks, obeys, known, number, the_items}
-use Rattle.typing_rules.specs.Patterns.{BoundPattern, PatternTarget, bind, is_unit_kind, lone_by, lone_struct, no_parts, of_target, path_alone, target, target_of}
+use Rattle.typing_rules.specs.Patterns.{BoundPattern, PatternTarget, bind, bind_end, is_unit_kind, lone_by, lone_struct, no_parts, of_target, path_alone, target, target_of}
 use Rattle.typing_rules.specs.Places.{a_node_of, used}
 use Rattle.typing_rules.specs.Rows.{PatternContext, taking}
 use Rattle.typing_rules.specs.Scope.{Env, NamedEntry, Local, kind_at, variable}
 use Rattle.well_typed.specs.Types.{is_dyn, is_enum}
-use Rattle.typeck_patterns.specs.Rests.{bind_rest}
 
 -- once a node has its number
 pub numbered : {B : Type 0} (f : ℕ → Check B) (s t : TypingState) (id : ℕ) → number s ≡ Ok (id, t) →
@@ -22,17 +21,15 @@ pub numbered : {B : Type 0} (f : ℕ → Check B) (s t : TypingState) (id : ℕ)
 numbered f s t id h = ap (λ o. and_then o f) h
 
 fresh_name : (id : ℕ) (at : Pos) (e : PatternContext) (ty : TyId) (name : Word) (xs : List NamedEntry) (b : Bool) (s : TypingState) → b ≡ true →
-    (the_items >>= (λ items. obeys Rule.T02 at b >> (obeys Rule.T07 at (is_copy items ty || not (e.is_fixed || is_dyn items ty)) >>
-    pure {A = BoundPattern} (used (taking items ty) (a_node_of id at ty (tree.Binding name)), xs ++ record { name = name; ty = ty; meaning = Local id } ∷ [])))) s
-    ≡ bind_rest id at e.is_fixed ty name xs s
+    (obeys Rule.T02 at b >> bind_end id at e.is_fixed ty name xs) s ≡ bind_end id at e.is_fixed ty name xs s
 fresh_name id at e ty name xs true s h = refl
 fresh_name id at e ty name xs false s h = absurd (cc)
 
 pub bind_is : (at : Pos) (e : PatternContext) (ty : TyId) (name : Word) (xs : List NamedEntry) (s t : TypingState) (id : ℕ) → number s ≡ Ok (id, t) →
-    not (is_some (variable xs name)) ≡ true → bind at e ty name xs s ≡ bind_rest id at e.is_fixed ty name xs t
+    not (is_some (variable xs name)) ≡ true → bind at e ty name xs s ≡ bind_end id at e.is_fixed ty name xs t
 bind_is at e ty name xs s t id h fresh =
     fresh_name s.next_node at e ty name xs (not (is_some (variable xs name))) (record s { next_node = suc s.next_node }) fresh
-    ∙ numbered (λ id. bind_rest id at e.is_fixed ty name xs) s t id h
+    ∙ numbered (λ id. bind_end id at e.is_fixed ty name xs) s t id h
 
 pub unit_struct : (w : Env) (at : Pos) (e : PatternContext) (ty : TyId) (adt : ℕ) (xs : List NamedEntry) (s : TypingState) →
     is_unit_kind (kind_at w.kinds adt 0) ≡ true → lone_struct w at e ty adt xs s ≡ of_target at e ty (target adt 0) (no_parts xs true) s

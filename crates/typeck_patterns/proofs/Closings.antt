@@ -1,4 +1,5 @@
 -- How patterns with parts end, once their parts are checked.
+use Rattle.typeck_patterns.specs.NodeEnds.{counted_node, target_begun, target_node}
 use Rattle.std.proofs.Common.{◌≡◌, ℕ, zero, suc, Bool, true, false, ◌&&◌, ◌||◌, List, [], ◌∷◌, length, nat_lt, replicate, reverse, take, Option, Some, None, Result, Ok, Err, refl, ap, sym, subst, ◌∙◌}
 use Rattle.std.proofs.lemmas.List.{reverse-append}
 use Rattle.typeck_checker.specs.Lists.{below_all, last_nodes, nodes_on}
@@ -10,7 +11,6 @@ use Rattle.mir_ty.specs.declared.adt.Variant.{Variant}
 use Rattle.mir_ty.specs.declared.ty.TyId.{TyId}
 use Rattle.typeck_patterns.specs.PatternContext.{GivesBeside}
 use Rattle.typeck_patterns.specs.Fields.{below_given, below_on, fields_on, last_fields}
-use Rattle.typeck_patterns.specs.Rests.{begin_of, target_rest}
 use Rattle.typeck_patterns.specs.Parts.{AreFirst, AreFirstIf}
 use Rattle.typeck_patterns.specs.declared.parts.PartTypes.{PartTypes}
 use Rattle.typeck_patterns.proofs.Alone.{numbered}
@@ -21,13 +21,12 @@ use Rattle.typeck_checker.specs.declared.checker.Checker.{Checker}
 use Rattle.typed_tree.specs.Tree as tree
 use Rattle.typed_tree.specs.Tree.{Node, Nodes, a_node, Fields, no_field, a_field, Form}
 use Rattle.typing_rules.specs.Check.{Check, TypingState, Broken, and_then, ◌>>=◌, ◌>>◌, known, number, pure, obeys, the_items}
-use Rattle.typing_rules.specs.Patterns.{are_all_given, are_given_once, BoundPattern, count_of, field_patterns, fields_from, fields_of, inside_of, is_count, of_target, part_patterns, pattern, pattern_form, PatternTarget, target_end, tuple_types}
+use Rattle.typing_rules.specs.Patterns.{BoundPattern, PatternTarget, alternatives_end, are_all_given, are_given_once, count_of, each_pattern, field_patterns, fields_from, fields_of, inside_of, is_count, is_tuple_count, of_target, part_patterns, parts_by_name, parts_in_order, pattern, pattern_form, sequence_end, target_end, tuple_types}
 use Rattle.typing_rules.specs.Places.{a_node_of}
 use Rattle.typing_rules.specs.Rows.{PatternContext, Given, are_known}
 use Rattle.typing_rules.specs.Scope.{Env, NamedEntry}
 use Rattle.well_typed.specs.Types.{array_of}
 use Rattle.typeck_patterns.specs.Numbers.{numbers_below}
-use Rattle.typeck_patterns.specs.EndRests.{alternatives_rest, counted_rest, is_tuple_count, order_rest, parts_by_name, parts_in_order}
 
 -- ---- structs and variants
 
@@ -45,14 +44,14 @@ module _ (w : Env) (id : ℕ) (at : Pos) (e : PatternContext) (ty : TyId) (t : P
   pub parts_close : (parts : Syns) (dots : Bool) (xs ys : List NamedEntry) (s u : TypingState) (k : ℕ) (ns : List Node) (b : Bool) (r : Result (Unit {0}) RuleError) (c : Checker) →
       part_patterns w (inside_of s.items ty e) (fields_of s.items t) parts xs s ≡ Ok ((last_nodes k ns, ys), u) →
       b ≡ is_tuple_count w t (count_of parts) (length (fields_of s.items t)) dots →
-      Gives (target_rest id at e.takes_all ty t (fields_from 0 (last_nodes k ns)) b true u) r c →
+      Gives (target_node id at e.takes_all ty t (fields_from 0 (last_nodes k ns)) b true u) r c →
       GivesBeside (target_end id at e ty t (parts_in_order w t parts dots xs) s) r ys c
   parts_close parts dots xs ys s u k ns b r c here is gives =
       subst (λ o. GivesBeside o r ys c)
       (sym (ap (in_order parts dots (fields_of s.items t)) here
       ∙ ap (λ (z : Bool). target_bound id at e.takes_all ty t (fields_from 0 (last_nodes k ns)) z true ys u) (sym is)
       ∙ ends_beside id at e.takes_all ty t (fields_from 0 (last_nodes k ns)) b true ys u))
-      (beside (target_rest id at e.takes_all ty t (fields_from 0 (last_nodes k ns)) b true u) r ys c gives)
+      (beside (target_node id at e.takes_all ty t (fields_from 0 (last_nodes k ns)) b true u) r ys c gives)
 
   pub parts_stop : (parts : Syns) (dots : Bool) (xs : List NamedEntry) (s : TypingState) (err : RuleError) →
       Refuses (part_patterns w (inside_of s.items ty e) (fields_of s.items t) parts xs s) err →
@@ -67,14 +66,14 @@ module _ (w : Env) (id : ℕ) (at : Pos) (e : PatternContext) (ty : TyId) (t : P
   pub fields_close : (v : Variant) (fields : Syns) (dots : Bool) (xs ys : List NamedEntry) (s u : TypingState) (given : Given) (ns : List Node) (n : ℕ) (r : Result (Unit {0}) RuleError) (c : Checker) →
       field_patterns w (inside_of s.items ty e) v fields xs s ≡ Ok ((last_fields given ns, ys, given), u) →
       n ≡ length (fields_of s.items t) →
-      Gives (target_rest id at e.takes_all ty t (last_fields given ns) (are_given_once given && (dots || are_all_given n given)) (are_known given) u) r c →
+      Gives (target_node id at e.takes_all ty t (last_fields given ns) (are_given_once given && (dots || are_all_given n given)) (are_known given) u) r c →
       GivesBeside (target_end id at e ty t (parts_by_name w v fields dots xs) s) r ys c
   fields_close v fields dots xs ys s u given ns n r c here is gives =
       subst (λ o. GivesBeside o r ys c)
       (sym (ap (by_name dots (fields_of s.items t)) here
       ∙ ap (λ (z : ℕ). target_bound id at e.takes_all ty t (last_fields given ns) (are_given_once given && (dots || are_all_given z given)) (are_known given) ys u) (sym is)
       ∙ ends_beside id at e.takes_all ty t (last_fields given ns) (are_given_once given && (dots || are_all_given n given)) (are_known given) ys u))
-      (beside (target_rest id at e.takes_all ty t (last_fields given ns) (are_given_once given && (dots || are_all_given n given)) (are_known given) u) r ys c gives)
+      (beside (target_node id at e.takes_all ty t (last_fields given ns) (are_given_once given && (dots || are_all_given n given)) (are_known given) u) r ys c gives)
 
   pub fields_stop : (v : Variant) (fields : Syns) (dots : Bool) (xs : List NamedEntry) (s : TypingState) (err : RuleError) →
       Refuses (field_patterns w (inside_of s.items ty e) v fields xs s) err →
@@ -83,9 +82,9 @@ module _ (w : Env) (id : ℕ) (at : Pos) (e : PatternContext) (ty : TyId) (t : P
   fields_stop v fields dots xs s RuleError.Memory h = tt
 
   -- once the type is known to be that of the place
-  pub target_begun : (parts : PatternContext → List TyId → Check Parts) (s u : TypingState) → begin_of at ty t s ≡ Ok (id, u) →
+  pub after_begun : (parts : PatternContext → List TyId → Check Parts) (s u : TypingState) → target_begun at ty t s ≡ Ok (id, u) →
       of_target at e ty t parts s ≡ target_end id at e ty t parts u
-  target_begun parts s u h = begins at e ty t parts s ∙ ap (λ o. and_then o (λ id. target_end id at e ty t parts)) h
+  after_begun parts s u h = begins at e ty t parts s ∙ ap (λ o. and_then o (λ id. target_end id at e ty t parts)) h
 
 -- ---- types of as many parts as there are patterns are enough
 
@@ -124,19 +123,19 @@ first_below (suc n) ns =
 -- ---- parts in their order
 
 counted_beside : (id : ℕ) (at : Pos) (ty : TyId) (form : Form) (ys : List NamedEntry) (b : Bool) (u : TypingState) →
-    (obeys Rule.T04 at b >> pure {A = BoundPattern} (a_node_of id at ty form, ys)) u ≡ and_then (counted_rest id at ty form b u) (λ n. pure {A = BoundPattern} (n, ys))
+    (obeys Rule.T04 at b >> pure {A = BoundPattern} (a_node_of id at ty form, ys)) u ≡ and_then (counted_node id at ty form b u) (λ n. pure {A = BoundPattern} (n, ys))
 counted_beside id at ty form ys true u = refl
 counted_beside id at ty form ys false u = refl
 
 pub order_close : (w : Env) (id : ℕ) (at : Pos) (e : PatternContext) (ty : TyId) (tys : List TyId) (n : ℕ) (form : Nodes → Form) (parts : Syns) (dots : Bool) (xs ys : List NamedEntry) (s u : TypingState) (ns : Nodes) (b : Bool) (r : Result (Unit {0}) RuleError) (c : Checker) →
-    part_patterns w e tys parts xs s ≡ Ok ((ns, ys), u) → b ≡ is_count dots (count_of parts) n → Gives (counted_rest id at ty (form ns) b u) r c →
-    GivesBeside (order_rest w id at e ty tys n form parts dots xs s) r ys c
+    part_patterns w e tys parts xs s ≡ Ok ((ns, ys), u) → b ≡ is_count dots (count_of parts) n → Gives (counted_node id at ty (form ns) b u) r c →
+    GivesBeside (sequence_end id at ty form dots (count_of parts) n (part_patterns w e tys parts xs) s) r ys c
 order_close w id at e ty tys n form parts dots xs ys s u ns b r c here is gives =
     subst (λ o. GivesBeside o r ys c)
     (sym (ap (λ o. and_then {B = BoundPattern} o (λ ps. obeys Rule.T04 at (is_count dots (count_of parts) n) >> pure {A = BoundPattern} (a_node_of id at ty (form ps.0), ps.1))) here
     ∙ ap (λ (z : Bool). (obeys Rule.T04 at z >> pure {A = BoundPattern} (a_node_of id at ty (form ns), ys)) u) (sym is)
     ∙ counted_beside id at ty (form ns) ys b u))
-    (beside (counted_rest id at ty (form ns) b u) r ys c gives)
+    (beside (counted_node id at ty (form ns) b u) r ys c gives)
 
 -- the types of the parts of a tuple, where it is one
 pub first_if : (given : ℕ) (o : Option (List TyId)) (p : Option PartTypes) (types : PartTypes) → AreFirstIf given o p → p ≡ Some types →
@@ -148,22 +147,22 @@ first_if given None None types h is = absurd (cc)
 
 pub tuple_is : (w : Env) (at : Pos) (e : PatternContext) (ty : TyId) (parts : Syns) (dots : Bool) (xs : List NamedEntry) (s t : TypingState) (id : ℕ) (tys : List TyId) →
     number s ≡ Ok (id, t) → tuple_types t.items ty (count_of parts) dots ≡ Some tys →
-    pattern_form w e ty at (TuplePattern parts dots) xs s ≡ order_rest w id at e ty tys (length tys) tree.TuplePattern parts dots xs t
+    pattern_form w e ty at (TuplePattern parts dots) xs s ≡ sequence_end id at ty tree.TuplePattern dots (count_of parts) (length tys) (part_patterns w e tys parts xs) t
 tuple_is w at e ty parts dots xs s t id tys here is =
-    numbered (λ id. the_items >>= (λ items. known Rule.T03 at (tuple_types items ty (count_of parts) dots) >>= (λ tys. order_rest w id at e ty tys (length tys) tree.TuplePattern parts dots xs))) s t id here
-    ∙ ap (λ o. and_then {B = BoundPattern} (known {A = List TyId} Rule.T03 at o t) (λ tys. order_rest w id at e ty tys (length tys) tree.TuplePattern parts dots xs)) is
+    numbered (λ id. the_items >>= (λ items. known Rule.T03 at (tuple_types items ty (count_of parts) dots) >>= (λ tys. sequence_end id at ty tree.TuplePattern dots (count_of parts) (length tys) (part_patterns w e tys parts xs)))) s t id here
+    ∙ ap (λ o. and_then {B = BoundPattern} (known {A = List TyId} Rule.T03 at o t) (λ tys. sequence_end id at ty tree.TuplePattern dots (count_of parts) (length tys) (part_patterns w e tys parts xs))) is
 
 pub array_is : (w : Env) (at : Pos) (e : PatternContext) (ty : TyId) (parts : Syns) (dots : Bool) (xs : List NamedEntry) (s t : TypingState) (id : ℕ) (element : TyId) (count : ℕ) →
     number s ≡ Ok (id, t) → array_of t.items ty ≡ Some (element, count) →
-    pattern_form w e ty at (ArrayPattern parts dots) xs s ≡ order_rest w id at e ty (replicate count element) count tree.ArrayPattern parts dots xs t
+    pattern_form w e ty at (ArrayPattern parts dots) xs s ≡ sequence_end id at ty tree.ArrayPattern dots (count_of parts) count (part_patterns w e (replicate count element) parts xs) t
 array_is w at e ty parts dots xs s t id element count here is =
-    numbered (λ id. the_items >>= (λ items. known Rule.T03 at (array_of items ty) >>= (λ a. order_rest w id at e ty (replicate a.1 a.0) a.1 tree.ArrayPattern parts dots xs))) s t id here
-    ∙ ap (λ o. and_then {B = BoundPattern} (known {A = TyId × ℕ} Rule.T03 at o t) (λ a. order_rest w id at e ty (replicate a.1 a.0) a.1 tree.ArrayPattern parts dots xs)) is
+    numbered (λ id. the_items >>= (λ items. known Rule.T03 at (array_of items ty) >>= (λ a. sequence_end id at ty tree.ArrayPattern dots (count_of parts) a.1 (part_patterns w e (replicate a.1 a.0) parts xs)))) s t id here
+    ∙ ap (λ o. and_then {B = BoundPattern} (known {A = TyId × ℕ} Rule.T03 at o t) (λ a. sequence_end id at ty tree.ArrayPattern dots (count_of parts) a.1 (part_patterns w e (replicate a.1 a.0) parts xs))) is
 
 -- alternatives, where there are two or more
 pub or_is : (w : Env) (at : Pos) (e : PatternContext) (ty : TyId) (ps : Syns) (xs : List NamedEntry) (s t : TypingState) (id : ℕ) →
     number s ≡ Ok (id, t) → nat_lt 1 (count_of ps) ≡ true →
-    pattern_form w e ty at (Alternatives ps) xs s ≡ alternatives_rest w id at e ty ps xs t
+    pattern_form w e ty at (Alternatives ps) xs s ≡ alternatives_end id at ty xs (each_pattern w e ty ps xs) t
 or_is w at e ty ps xs s t id here several =
-    numbered (λ id. obeys Rule.T20 at (nat_lt 1 (count_of ps)) >> alternatives_rest w id at e ty ps xs) s t id here
-    ∙ ap (λ (b : Bool). (obeys Rule.T20 at b >> alternatives_rest w id at e ty ps xs) t) several
+    numbered (λ id. obeys Rule.T20 at (nat_lt 1 (count_of ps)) >> alternatives_end id at ty xs (each_pattern w e ty ps xs)) s t id here
+    ∙ ap (λ (b : Bool). (obeys Rule.T20 at b >> alternatives_end id at ty xs (each_pattern w e ty ps xs)) t) several

@@ -1,5 +1,5 @@
 -- One name as a pattern, by the form of its node; initialisers that are no use of a place.
-use Rattle.std.proofs.Common.{◌≡◌, ℕ, Bool, true, false, ◌&&◌, Option, Some, None, refl, ap, sym, ◌∙◌}
+use Rattle.std.proofs.Common.{◌≡◌, ℕ, Bool, true, false, ◌&&◌, List, Option, Some, None, refl, ap, sym, ◌∙◌}
 use Rattle.std.specs.Prelude.{is_none}
 use Rattle.mir_base.specs.declared.place_in_text.Pos.{Pos}
 use Rattle.mir_ty.specs.ItemTable.{ItemTable}
@@ -16,12 +16,11 @@ use Rattle.typed_tree.specs.Tree.{absent}
 use Rattle.typed_tree.specs.View as view
 use Rattle.typed_tree.specs.declared.node.Node as made
 use Rattle.typing_rules.specs.Check.{TypingState}
-use Rattle.typing_rules.specs.Rows.{is_unused_place}
-use Rattle.typing_rules.specs.Scope.{Env}
+use Rattle.typing_rules.specs.Rows.{Matcher, is_unused_place, let_end, let_of_type}
+use Rattle.typing_rules.specs.Scope.{Env, NamedEntry}
 use Rattle.typing_rules.specs.Typed.{is_one_name, takes_any}
 use Rattle.well_typed.specs.Places.{is_place}
 use Rattle.typeck_patterns.specs.BindingForms.{any_as, one_name_as}
-use Rattle.typeck_patterns.specs.BindingRests.{let_alone_rest, let_rest}
 
 as_form : (items : ItemTable) (x : Syn) → is_one_name items x ≡ one_name_as items (pattern_part (shape_of x))
 as_form items (syn at (APattern AnyPattern)) = refl
@@ -98,8 +97,8 @@ not_any n seen is_seen no_wild no_parens =
 pub unused_same : (n : made.Node) → is_unused_place (view.tree_of n) ≡ (is_place (view.form_of n.form) && is_none n.by)
 unused_same n = ap is_unused_place (shape n)
 
-pub alone_same : (env : Env) (id : ℕ) (at : Pos) (b : Bool) (declared : Option TyId) (p : Syn) (s : TypingState) →
-    let_rest env id at b declared absent p s ≡ let_alone_rest env id at declared p s
-alone_same env id at true (Some ty) p s = refl
-alone_same env id at false (Some ty) p s = refl
-alone_same env id at b None p s = refl
+-- without a value the place has the type that is written
+pub untyped_same : (env : Env) (id : ℕ) (at : Pos) (one : Bool) (ty : TyId) (pattern : Matcher) (behind : List NamedEntry → Env) (s : TypingState) →
+    let_end id at env one (Some ty) absent pattern behind s ≡ let_of_type id at (record { is_fixed = false; takes_all = true }) ty absent pattern behind s
+untyped_same env id at true ty pattern behind s = refl
+untyped_same env id at false ty pattern behind s = refl

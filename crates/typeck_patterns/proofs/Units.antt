@@ -1,4 +1,5 @@
 -- Patterns of structs and variants: their node beside the bindings so far.
+use Rattle.typeck_patterns.specs.NodeEnds.{partless_node, target_begun, target_node}
 use Rattle.std.proofs.Common.{◌≡◌, ℕ, suc, Bool, true, false, ◌&&◌, not, List, Result, Ok, Err, refl, ap, sym, subst, ◌∙◌}
 use Rattle.mir_base.specs.declared.place_in_text.Pos.{Pos}
 use Rattle.mir_base.specs.declared.rule.Rule.{Rule}
@@ -16,7 +17,6 @@ use Rattle.typeck_heads.proofs.Sequences.{stopped}
 use Rattle.typeck_checker.specs.Stand.{Gives}
 use Rattle.typeck_checker.specs.declared.checker.Checker.{Checker}
 use Rattle.typeck_patterns.specs.PatternContext.{GivesAnyhow, GivesBeside}
-use Rattle.typeck_patterns.specs.Rests.{begin_of, target_rest, unit_rest}
 
 -- a node that a check gives, beside some bindings
 pub beside : (o : Result (Node × TypingState) Broken) (r : Result (Unit {0}) RuleError) (bound : List NamedEntry) (c : Checker) → Gives o r c →
@@ -40,7 +40,7 @@ tested_beside at false n bound s = refl
 
 pub ends_beside : (id : ℕ) (at : Pos) (takes_all : Bool) (ty : TyId) (t : PatternTarget) (fields : Fields) (is_count is_known : Bool)
     (bound : List NamedEntry) (s : TypingState) → target_bound id at takes_all ty t fields is_count is_known bound s
-    ≡ and_then (target_rest id at takes_all ty t fields is_count is_known s) (λ n. pure {A = BoundPattern} (n, bound))
+    ≡ and_then (target_node id at takes_all ty t fields is_count is_known s) (λ n. pure {A = BoundPattern} (n, bound))
 ends_beside id at takes_all ty t fields true true bound s =
     tested_beside at (not (takes_all && is_test s.items t)) (tested_if (is_test s.items t) (a_node_of id at ty (parts_form s.items t fields))) bound s
 ends_beside id at takes_all ty t fields true false bound s = refl
@@ -59,7 +59,7 @@ begun at ty id tail (Ok p) = same_begun at id (is_same ty p.0) tail p.1
 begun at ty id tail (Err e) = refl
 
 pub begins : (at : Pos) (e : PatternContext) (ty : TyId) (t : PatternTarget) (parts : PatternContext → List TyId → Check (Fields × List NamedEntry × Bool × Bool)) (s : TypingState) →
-    of_target at e ty t parts s ≡ and_then (begin_of at ty t s) (λ id. target_end id at e ty t parts)
+    of_target at e ty t parts s ≡ and_then (target_begun at ty t s) (λ id. target_end id at e ty t parts)
 begins at e ty t parts s =
     begun at ty s.next_node (λ id. target_end id at e ty t parts) (interned (Ty.Adt t.adt) (record s { next_node = suc s.next_node }))
 
@@ -67,14 +67,14 @@ begins at e ty t parts s =
 
 unit_by : (at : Pos) (e : PatternContext) (ty : TyId) (t : PatternTarget) (is_whole : Bool) (bound : List NamedEntry) (o : Result (ℕ × TypingState) Broken) →
     and_then o (λ id. target_end id at e ty t (no_parts bound is_whole))
-    ≡ and_then (and_then o (λ id. target_rest id at e.takes_all ty t no_field is_whole true)) (λ n. pure (n, bound))
+    ≡ and_then (and_then o (λ id. target_node id at e.takes_all ty t no_field is_whole true)) (λ n. pure (n, bound))
 unit_by at e ty t is_whole bound (Ok p) = ends_beside p.0 at e.takes_all ty t no_field is_whole true bound p.1
 unit_by at e ty t is_whole bound (Err b) = refl
 
 pub unit_beside : (at : Pos) (e : PatternContext) (ty : TyId) (t : PatternTarget) (is_whole : Bool) (bound : List NamedEntry) (s : TypingState) →
-    of_target at e ty t (no_parts bound is_whole) s ≡ and_then (unit_rest at e.takes_all ty t is_whole s) (λ n. pure (n, bound))
+    of_target at e ty t (no_parts bound is_whole) s ≡ and_then (partless_node at e.takes_all ty t is_whole s) (λ n. pure (n, bound))
 unit_beside at e ty t is_whole bound s =
-    begins at e ty t (no_parts bound is_whole) s ∙ unit_by at e ty t is_whole bound (begin_of at ty t s)
+    begins at e ty t (no_parts bound is_whole) s ∙ unit_by at e ty t is_whole bound (target_begun at ty t s)
 
 -- ---- steps
 

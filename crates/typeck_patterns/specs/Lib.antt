@@ -4,11 +4,10 @@ pub mod Parts
 pub mod Members
 pub mod Given
 pub mod Fields
-pub mod Rests
+pub mod NodeEnds
 pub mod Sizes
 pub mod Forms
 pub mod Answers
 pub mod Numbers
-pub mod EndRests
 pub mod BindingForms
-pub mod BindingRests
+pub mod LetAnswers

@@ -1,8 +1,8 @@
 //! How patterns with parts end, once their parts are checked.
+ghost use Rattle.typeck_patterns.specs.NodeEnds.{counted_node, target_node};
 ghost use Rattle.std.specs.Prelude.{◌≡◌, ◌&&◌, ◌||◌, true, IfErr, IfOk};
 ghost use Rattle.typeck_checker.specs.Lists.{below_all, last_nodes, many_form};
 ghost use Rattle.mir_base.specs.declared.rule.RuleError.{RuleError};
-ghost use Rattle.typeck_patterns.specs.Rests.{target_rest};
 ghost use Rattle.typeck_patterns.specs.Fields.{below_given, last_fields};
 ghost use Rattle.typeck_patterns.specs.Targets.{target_of as target_in};
 ghost use Rattle.src_ast.specs.ItemForms.{kind_seen};
@@ -11,7 +11,6 @@ ghost use Rattle.typing_rules.specs.Patterns as rules;
 ghost use Rattle.typing_rules.specs.Patterns.{are_given_once, fields_from};
 ghost use Rattle.typing_rules.specs.Rows as rows;
 ghost use Rattle.typeck_patterns.specs.Numbers.{numbers_below};
-ghost use Rattle.typeck_patterns.specs.EndRests.{counted_rest, is_tuple_count as is_tuple_count_of};
 
 use crate::counts::is_count;
 use crate::{PatternTarget, are_known, is_whole, target_end};
@@ -50,7 +49,7 @@ pub fn counted_end(
     count: u32,
     is_count: bool,
 ) -> Result<(), RuleError>
-    ensures gives { Gives (counted_rest id.0 at ty (many_form many (last_nodes count (stack checker.old))) is_count (state checker.old)) result checker.new }
+    ensures gives { Gives (counted_node id.0 at ty (many_form many (last_nodes count (stack checker.old))) is_count (state checker.old)) result checker.new }
     ensures kept { KeepsStack (below_all count (stack checker.old)) checker.old result checker.new }
 {
     obeys(Rule::T04, at, is_count)?;
@@ -65,7 +64,7 @@ pub fn is_tuple_count(
     count: usize,
     dots: bool,
 ) -> bool
-    ensures { result ≡ is_tuple_count_of (env checker.now) (target_in target) given count dots }
+    ensures { result ≡ rules.is_tuple_count (env checker.now) (target_in target) given count dots }
 {
     is_count(dots, given, count) && are_ordered(checker, target, dots)
 }
@@ -93,7 +92,7 @@ pub fn ordered_end(
     count: u32,
     is_count: bool,
 ) -> Result<(), RuleError>
-    ensures gives { Gives (target_rest id.0 at takes_all ty (target_in target) (fields_from 0 (last_nodes count (stack checker.old))) is_count true (state checker.old)) result checker.new }
+    ensures gives { Gives (target_node id.0 at takes_all ty (target_in target) (fields_from 0 (last_nodes count (stack checker.old))) is_count true (state checker.old)) result checker.new }
     ensures kept { KeepsStack (below_all count (stack checker.old)) checker.old result checker.new }
 {
     let given = numbers_up(checker.alloc, count)?;
@@ -114,7 +113,7 @@ pub fn named_end(
     count: usize,
     dots: bool,
 ) -> Result<(), RuleError>
-    ensures gives { Gives (target_rest id.0 at takes_all ty (target_in target) (last_fields given (stack checker.old))
+    ensures gives { Gives (target_node id.0 at takes_all ty (target_in target) (last_fields given (stack checker.old))
         (are_given_once given && (dots || rules.are_all_given count given)) (rows.are_known given) (state checker.old)) result checker.new }
     ensures kept { KeepsStack (below_given given (stack checker.old)) checker.old result checker.new }
 {

@@ -1,4 +1,5 @@
 //! How the pattern of a struct or a variant ends, once its parts are checked: their nodes are the last ones.
+ghost use Rattle.typeck_patterns.specs.NodeEnds.{known_node, target_node, tested_node};
 ghost use Rattle.std.specs.Prelude.{◌≡◌, ◌∷◌, map, reverse, IfErr, IfOk, OnOk};
 ghost use Rattle.mir_base.specs.declared.rule.RuleError.{RuleError};
 ghost use Rattle.typed_tree.specs.Tree.{a_field};
@@ -6,7 +7,6 @@ ghost use Rattle.typed_tree.specs.View.{field_of, fields_from, form_of};
 ghost use Rattle.typing_rules.specs.Patterns as rules;
 ghost use Rattle.typing_rules.specs.Places.{a_node_of};
 ghost use Rattle.typeck_patterns.specs.Fields.{below_given, below_if, fields_on, last_fields, with_last};
-ghost use Rattle.typeck_patterns.specs.Rests.{known_rest, target_rest, test_rest};
 ghost use Rattle.typeck_patterns.specs.Targets.{target_of as target_in};
 ghost use Rattle.typeck_checker.specs.Stand.{Gives, KeepsStack, Stays, below, stack, state, top};
 
@@ -172,7 +172,7 @@ fn test_end(
     target: PatternTarget,
     given: List<Option<u32>>,
 ) -> Result<(), RuleError>
-    ensures gives { Gives (test_rest id.0 at takes_all ty (target_in target) (last_fields given (stack checker.old)) (state checker.old)) result checker.new }
+    ensures gives { Gives (tested_node id.0 at takes_all ty (target_in target) (last_fields given (stack checker.old)) (state checker.old)) result checker.new }
     ensures kept { KeepsStack (below_given given (stack checker.old)) checker.old result checker.new }
 {
     let is_a_test = is_test(&checker.walk.items, target);
@@ -190,7 +190,7 @@ fn known_end(
     given: List<Option<u32>>,
     is_known: bool,
 ) -> Result<(), RuleError>
-    ensures gives { Gives (known_rest id.0 at takes_all ty (target_in target) (last_fields given (stack checker.old)) is_known (state checker.old)) result checker.new }
+    ensures gives { Gives (known_node id.0 at takes_all ty (target_in target) (last_fields given (stack checker.old)) is_known (state checker.old)) result checker.new }
     ensures kept { KeepsStack (below_given given (stack checker.old)) checker.old result checker.new }
 {
     obeys(Rule::T12, at, is_known)?;
@@ -210,7 +210,7 @@ pub fn target_end(
     is_count: bool,
     is_known: bool,
 ) -> Result<(), RuleError>
-    ensures gives { Gives (target_rest id.0 at takes_all ty (target_in target) (last_fields given (stack checker.old)) is_count is_known (state checker.old)) result checker.new }
+    ensures gives { Gives (target_node id.0 at takes_all ty (target_in target) (last_fields given (stack checker.old)) is_count is_known (state checker.old)) result checker.new }
     ensures kept { KeepsStack (below_given given (stack checker.old)) checker.old result checker.new }
 {
     obeys(Rule::T04, at, is_count)?;

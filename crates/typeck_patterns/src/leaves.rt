@@ -9,7 +9,6 @@ ghost use Rattle.typing_rules.specs.Rows as rows;
 ghost use Rattle.typing_rules.specs.Scope.{Local, variable};
 ghost use Rattle.well_typed.specs.Types as types;
 ghost use Rattle.typeck_patterns.specs.PatternContext.{GivesBound, pattern_context_of};
-ghost use Rattle.typeck_patterns.specs.Rests.{bind_rest, wildcard_rest};
 ghost use Rattle.typeck_checker.specs.Forms.{leaf_form};
 ghost use Rattle.typeck_checker.specs.Stand.{Gives, KeepsStack, Stays, stack, state};
 ghost use Rattle.typing_rules.specs.Patterns.{kind_end, literal_pattern_end, number_end, sized_end, tested_end, truth_pattern_end};
@@ -24,7 +23,7 @@ use typed_tree::{Form, Use};
 
 /// `_`, which takes nothing of its place.
 pub fn wildcard(checker: &mut Checker, at: Pos, ty: TyId) -> Result<(), RuleError>
-    ensures gives { Gives (wildcard_rest at ty (state checker.old)) result checker.new }
+    ensures gives { Gives (rules.wildcard at ty (state checker.old)) result checker.new }
     ensures kept { KeepsStack (stack checker.old) checker.old result checker.new }
 {
     let id = checker.number()?;
@@ -256,7 +255,7 @@ fn bind_new(
     ty: TyId,
     name: &str,
 ) -> Result<(), RuleError>
-    ensures gives { GivesBound (bind_rest id.0 at is_fixed ty name.now (reverse bound.old) (state checker.old)) result bound.new checker.new }
+    ensures gives { GivesBound (rules.bind_end id.0 at is_fixed ty name.now (reverse bound.old) (state checker.old)) result bound.new checker.new }
     ensures kept { KeepsStack (stack checker.old) checker.old result checker.new }
 {
     let may_take = may_bind(checker, is_fixed, ty);

@@ -14,7 +14,7 @@ ghost use Rattle.typing_rules.specs.Typed as typed;
 ghost use Rattle.well_typed.specs.Places.{ty_of};
 ghost use Rattle.well_typed.specs.Types.{is_same};
 ghost use Rattle.well_typed.specs.Types as types;
-ghost use Rattle.typeck_patterns.specs.BindingRests.{KeepsTables, below_value, let_alone_rest, let_rest, let_typed, value_if};
+ghost use Rattle.typeck_patterns.specs.LetAnswers.{KeepsTables, below_value, value_if};
 
 use crate::PatternContext;
 use crate::bound_names::{bindings, enter_bound};
@@ -158,7 +158,7 @@ fn let_typed_end(
     pattern: &SyntaxNode,
 ) -> Result<bool, RuleError>
     ensures gives { GivesValue (λ ends. (top (stack checker.new), ends, env checker.new))
-        (let_typed (env checker.old) id.0 at (pattern_context_of e) ty (present (top (stack checker.old))) (syn_of pattern.now) (state checker.old)) result checker.new }
+        (rows.let_of_type id.0 at (pattern_context_of e) ty (present (top (stack checker.old))) (typed.matcher (env checker.old) (syn_of pattern.now)) (λ xs. with_variables xs (env checker.old)) (state checker.old)) result checker.new }
     ensures kept { KeepsTables (below (stack checker.old)) checker.old result checker.new }
 {
     let bound = bindings(checker, e, ty, pattern)?;
@@ -175,7 +175,7 @@ fn let_untyped_end(
     pattern: &SyntaxNode,
 ) -> Result<bool, RuleError>
     ensures gives { GivesValue (λ ends. (top (stack checker.new), ends, env checker.new))
-        (let_typed (env checker.old) id.0 at (record { is_fixed = false; takes_all = true }) ty tree.absent (syn_of pattern.now) (state checker.old)) result checker.new }
+        (rows.let_of_type id.0 at (record { is_fixed = false; takes_all = true }) ty tree.absent (typed.matcher (env checker.old) (syn_of pattern.now)) (λ xs. with_variables xs (env checker.old)) (state checker.old)) result checker.new }
     ensures kept { KeepsTables (stack checker.old) checker.old result checker.new }
 {
     let e = PatternContext {
@@ -185,23 +185,6 @@ fn let_untyped_end(
     let bound = bindings(checker, e, ty, pattern)?;
     put_let_alone(checker, id, at, &bound)?;
     Ok(false)
-}
-
-fn let_alone_end(
-    checker: &mut Checker,
-    id: NodeId,
-    at: Pos,
-    declared: Option<TyId>,
-    pattern: &SyntaxNode,
-) -> Result<bool, RuleError>
-    ensures gives { GivesValue (λ ends. (top (stack checker.new), ends, env checker.new))
-        (let_alone_rest (env checker.old) id.0 at declared (syn_of pattern.now) (state checker.old)) result checker.new }
-    ensures kept { KeepsTables (stack checker.old) checker.old result checker.new }
-{
-    match declared {
-        Some(ty) => let_untyped_end(checker, id, at, ty, pattern),
-        None => Err(broken_rule(Rule::T16, at)),
-    }
 }
 
 /// What the pattern of a `let` is told: one name takes the whole value.
@@ -238,7 +221,7 @@ fn let_value_end(
     pattern: &SyntaxNode,
 ) -> Result<bool, RuleError>
     ensures gives { GivesValue (λ ends. (top (stack checker.new), ends, env checker.new))
-        (let_rest (env checker.old) id.0 at is_one_name declared (present (top (stack checker.old))) (syn_of pattern.now) (state checker.old)) result checker.new }
+        (rows.let_end id.0 at (env checker.old) is_one_name declared (present (top (stack checker.old))) (typed.matcher (env checker.old) (syn_of pattern.now)) (λ xs. with_variables xs (env checker.old)) (state checker.old)) result checker.new }
     ensures kept { KeepsTables (below (stack checker.old)) checker.old result checker.new }
 {
     let e = pattern_context_of_value(checker, is_one_name);
@@ -250,7 +233,7 @@ fn let_value_end(
 
 /// A `let`, whose initialiser, if it has one, is the last node. Its bindings come into scope. Answers whether it ends
 /// its block.
-#[tactic(auto, using(crate::proofs::OneName::alone_same))]
+#[tactic(auto, using(crate::proofs::OneName::untyped_same))]
 pub fn let_end(
     checker: &mut Checker,
     id: NodeId,
@@ -261,12 +244,14 @@ pub fn let_end(
     pattern: &SyntaxNode,
 ) -> Result<bool, RuleError>
     ensures gives { GivesValue (λ ends. (top (stack checker.new), ends, env checker.new))
-        (let_rest (env checker.old) id.0 at is_one_name declared (value_if has_value (stack checker.old)) (syn_of pattern.now) (state checker.old)) result checker.new }
+        (rows.let_end id.0 at (env checker.old) is_one_name declared (value_if has_value (stack checker.old)) (typed.matcher (env checker.old) (syn_of pattern.now)) (λ xs. with_variables xs (env checker.old)) (state checker.old)) result checker.new }
     ensures kept { KeepsTables (below_value has_value (stack checker.old)) checker.old result checker.new }
 {
     if has_value {
-        let_value_end(checker, id, at, is_one_name, declared, pattern)
-    } else {
-        let_alone_end(checker, id, at, declared, pattern)
+        return let_value_end(checker, id, at, is_one_name, declared, pattern);
+    }
+    match declared {
+        Some(ty) => let_untyped_end(checker, id, at, ty, pattern),
+        None => Err(broken_rule(Rule::T16, at)),
     }
 }

@@ -1,12 +1,12 @@
 //! Patterns that are a path alone: a unit struct, a variant without parts, or a binding (The Rust Reference,
 //! "Identifier patterns", "Path patterns").
+ghost use Rattle.typeck_patterns.specs.NodeEnds.{partless_node, target_begun};
 ghost use Rattle.std.specs.Prelude.{◌≡◌, reverse, None, Some};
 ghost use Rattle.src_ast.specs.ItemForms.{kind_seen};
 ghost use Rattle.src_ast.specs.Seen.{word_of};
 ghost use Rattle.typeck_env.specs.Walked.{node_no};
 ghost use Rattle.typing_rules.specs.Patterns as rules;
 ghost use Rattle.typeck_patterns.specs.PatternContext.{GivesAnyhow, GivesBound, pattern_context_of};
-ghost use Rattle.typeck_patterns.specs.Rests.{begin_of, unit_rest};
 ghost use Rattle.typeck_patterns.specs.Targets.{target_of as target_in};
 ghost use Rattle.typeck_checker.specs.Stand.{Gives, GivesValue, KeepsStack, ChangesNothing, env, stack, state};
 
@@ -28,7 +28,7 @@ pub fn target_begin(
     ty: TyId,
     target: PatternTarget,
 ) -> Result<NodeId, RuleError>
-    ensures gives { GivesValue node_no (begin_of at ty (target_in target) (state checker.old)) result checker.new }
+    ensures gives { GivesValue node_no (target_begun at ty (target_in target) (state checker.old)) result checker.new }
     ensures same { ChangesNothing checker.old checker.new }
 {
     let id = checker.number()?;
@@ -45,7 +45,7 @@ fn unit_node(
     target: PatternTarget,
     is_whole: bool,
 ) -> Result<(), RuleError>
-    ensures gives { Gives (unit_rest at takes_all ty (target_in target) is_whole (state checker.old)) result checker.new }
+    ensures gives { Gives (partless_node at takes_all ty (target_in target) is_whole (state checker.old)) result checker.new }
     ensures kept { KeepsStack (stack checker.old) checker.old result checker.new }
 {
     let id = target_begin(checker, at, ty, target)?;

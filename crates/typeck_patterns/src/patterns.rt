@@ -16,7 +16,6 @@ ghost use Rattle.typed_tree.specs.Tree as tree;
 ghost use Rattle.typing_rules.specs.Patterns as rules;
 ghost use Rattle.typeck_patterns.specs.Answers.{GivesField, GivesFields, GivesNodes, KeepsBelow, KeepsGiven, KeepsIf};
 ghost use Rattle.typeck_patterns.specs.Forms.{inside_as};
-ghost use Rattle.typeck_patterns.specs.EndRests.{alternatives_rest, order_rest, parts_by_name, parts_in_order};
 ghost use Rattle.typing_rules.specs.Patterns.{target_end};
 
 use crate::counts::{are_several, count_of, is_count, one_more};
@@ -203,7 +202,7 @@ fn in_order(
 ) -> Result<(), RuleError>
     requires { given ≡ rules.count_of (nodes_of parts) }
     ensures gives { (tys : List TyId) → AreFirst given tys types.now →
-        GivesBound (order_rest (env checker.old) id.0 at (pattern_context_of e) ty tys (length tys) (many_form many) (nodes_of parts.entry) dots (reverse bound.old) (state checker.old)) result bound.new checker.new }
+        GivesBound (rules.sequence_end id.0 at ty (many_form many) dots (rules.count_of (nodes_of parts.entry)) (length tys) (rules.part_patterns (env checker.old) (pattern_context_of e) tys (nodes_of parts.entry) (reverse bound.old)) (state checker.old)) result bound.new checker.new }
     ensures kept { KeepsStack (stack checker.old) checker.old result checker.new }
 {
     let is_count = is_count(dots, given, types.count);
@@ -257,7 +256,7 @@ fn elements_pattern(
     elements: Nodes,
     dots: bool,
 ) -> Result<(), RuleError>
-    ensures gives { GivesBound (order_rest (env checker.old) id.0 at (pattern_context_of e) ty (replicate count element) count tree.ArrayPattern (nodes_of elements.entry) dots (reverse bound.old) (state checker.old)) result bound.new checker.new }
+    ensures gives { GivesBound (rules.sequence_end id.0 at ty tree.ArrayPattern dots (rules.count_of (nodes_of elements.entry)) count (rules.part_patterns (env checker.old) (pattern_context_of e) (replicate count element) (nodes_of elements.entry) (reverse bound.old)) (state checker.old)) result bound.new checker.new }
     ensures kept { KeepsStack (stack checker.old) checker.old result checker.new }
 {
     let given = count_of(elements)?;
@@ -315,7 +314,7 @@ fn alternatives(
     ty: TyId,
     patterns: Nodes,
 ) -> Result<(), RuleError>
-    ensures gives { GivesBound (alternatives_rest (env checker.old) id.0 at (pattern_context_of e) ty (nodes_of patterns.entry) (reverse bound.old) (state checker.old)) result bound.new checker.new }
+    ensures gives { GivesBound (rules.alternatives_end id.0 at ty (reverse bound.old) (rules.each_pattern (env checker.old) (pattern_context_of e) ty (nodes_of patterns.entry) (reverse bound.old)) (state checker.old)) result bound.new checker.new }
     ensures kept { KeepsStack (stack checker.old) checker.old result checker.new }
 {
     let before = bound.len();
@@ -358,7 +357,7 @@ fn ordered_parts(
 ) -> Result<(), RuleError>
     requires given { given ≡ rules.count_of (nodes_of parts) }
     requires types { AreFirst given (rules.fields_of checker.old.walk.items (target_in target)) types.now }
-    ensures gives { GivesBound (target_end id.0 at (pattern_context_of e) ty (target_in target) (parts_in_order (env checker.old) (target_in target) (nodes_of parts.entry) dots (reverse bound.old)) (state checker.old)) result bound.new checker.new }
+    ensures gives { GivesBound (target_end id.0 at (pattern_context_of e) ty (target_in target) (rules.parts_in_order (env checker.old) (target_in target) (nodes_of parts.entry) dots (reverse bound.old)) (state checker.old)) result bound.new checker.new }
     ensures kept { KeepsStack (stack checker.old) checker.old result checker.new }
 {
     let inside = inside_of(&checker.walk.items, ty, e);
@@ -379,7 +378,7 @@ fn parts_behind(
     parts: Nodes,
     dots: bool,
 ) -> Result<(), RuleError>
-    ensures gives { GivesBound (target_end id.0 at (pattern_context_of e) ty (target_in target) (parts_in_order (env checker.old) (target_in target) (nodes_of parts.entry) dots (reverse bound.old)) (state checker.old)) result bound.new checker.new }
+    ensures gives { GivesBound (target_end id.0 at (pattern_context_of e) ty (target_in target) (rules.parts_in_order (env checker.old) (target_in target) (nodes_of parts.entry) dots (reverse bound.old)) (state checker.old)) result bound.new checker.new }
     ensures kept { KeepsStack (stack checker.old) checker.old result checker.new }
 {
     let given = count_of(parts)?;
@@ -400,7 +399,7 @@ fn parts_of_target(
     parts: Nodes,
     dots: bool,
 ) -> Result<(), RuleError>
-    ensures gives { GivesBound (rules.of_target at (pattern_context_of e) ty (target_in target) (parts_in_order (env checker.old) (target_in target) (nodes_of parts.entry) dots (reverse bound.old)) (state checker.old)) result bound.new checker.new }
+    ensures gives { GivesBound (rules.of_target at (pattern_context_of e) ty (target_in target) (rules.parts_in_order (env checker.old) (target_in target) (nodes_of parts.entry) dots (reverse bound.old)) (state checker.old)) result bound.new checker.new }
     ensures kept { KeepsStack (stack checker.old) checker.old result checker.new }
 {
     let id = target_begin(checker, at, ty, target)?;
@@ -442,7 +441,7 @@ fn named_parts(
     dots: bool,
 ) -> Result<(), RuleError>
     ensures gives { (v : Variant) → map (option_map part_of) parts.now ≡ parts_named v (nodes_of fields.entry) →
-        GivesBound (target_end id.0 at (pattern_context_of e) ty (target_in target) (parts_by_name (env checker.old) v (nodes_of fields.entry) dots (reverse bound.old)) (state checker.old)) result bound.new checker.new }
+        GivesBound (target_end id.0 at (pattern_context_of e) ty (target_in target) (rules.parts_by_name (env checker.old) v (nodes_of fields.entry) dots (reverse bound.old)) (state checker.old)) result bound.new checker.new }
     ensures kept { KeepsStack (stack checker.old) checker.old result checker.new }
 {
     let inside = inside_of(&checker.walk.items, ty, e);
@@ -462,7 +461,7 @@ fn fields_of_target(
     fields: Nodes,
     dots: bool,
 ) -> Result<(), RuleError>
-    ensures gives { GivesBound (rules.of_target at (pattern_context_of e) ty (target_in target) (parts_by_name (env checker.old) (variant_of checker.old.walk.items target) (nodes_of fields.entry) dots (reverse bound.old)) (state checker.old)) result bound.new checker.new }
+    ensures gives { GivesBound (rules.of_target at (pattern_context_of e) ty (target_in target) (rules.parts_by_name (env checker.old) (variant_of checker.old.walk.items target) (nodes_of fields.entry) dots (reverse bound.old)) (state checker.old)) result bound.new checker.new }
     ensures kept { KeepsStack (stack checker.old) checker.old result checker.new }
 {
     let parts = field_parts(checker, target, fields)?;

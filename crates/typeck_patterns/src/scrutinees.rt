@@ -3,7 +3,7 @@ ghost use Rattle.std.specs.Prelude.{◌≡◌};
 ghost use Rattle.typeck_patterns.specs.PatternContext.{pattern_context_of};
 ghost use Rattle.typeck_checker.specs.Stand.{Gives, KeepsStack, below, env, stack, state, top};
 ghost use Rattle.typing_rules.specs.Rows as rows;
-ghost use Rattle.typeck_patterns.specs.BindingRests.{scrutinised_rest};
+ghost use Rattle.typing_rules.specs.Check.{pure};
 
 use crate::PatternContext;
 use mir_base::RuleError;
@@ -12,7 +12,7 @@ use typed_tree::Use;
 
 /// The last node is what patterns look at: a place is borrowed, and a value is a temporary.
 pub fn finish_scrutinee(checker: &mut Checker) -> Result<(), RuleError>
-    ensures gives { Gives (scrutinised_rest (top (stack checker.old)) (state checker.old)) result checker.new }
+    ensures gives { Gives (rows.scrutinised (pure (top (stack checker.old))) (state checker.old)) result checker.new }
     ensures kept { KeepsStack (below (stack checker.old)) checker.old result checker.new }
 {
     checker.no_reference()?;

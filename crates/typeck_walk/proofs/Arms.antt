@@ -10,7 +10,7 @@ use Rattle.src_ast.specs.Syntax.{Syn, syn, at_of, shape_of, AnArm, IfLetElse, Ma
 use Rattle.src_ast.proofs.Named.{seen_as}
 use Rattle.typed_tree.specs.Tree as tree
 use Rattle.typed_tree.specs.Tree.{Nodes, a_node}
-use Rattle.typing_rules.specs.Check.{Check, TypingState, Broken, ◌>>=◌, and_then, breaks, number, pure}
+use Rattle.typing_rules.specs.Check.{Check, ◌<$>◌, TypingState, Broken, ◌>>=◌, and_then, breaks, number, pure}
 use Rattle.typing_rules.specs.Rows.{PatternContext, loop_around, match_row, no_reference, scrutinised, used_if_place}
 use Rattle.typing_rules.specs.Scope.{Env, within_loop}
 use Rattle.typing_rules.specs.Typed.{base_of, typed_arms, value}
@@ -20,7 +20,6 @@ use Rattle.typeck_checker.specs.Lists.{nodes_on, types_on}
 use Rattle.typeck_checker.specs.Stand.{below, top}
 use Rattle.typeck_walk.specs.Matches.{arm_check, arm_of_syn, arms_rest, if_let_rest, while_let_rest}
 use Rattle.typeck_walk.proofs.Jumps.{words_are}
-use Rattle.typeck_patterns.specs.BindingRests.{scrutinised_rest}
 use Rattle.typeck_heads.proofs.Sequences.{stopped}
 use Rattle.typeck_heads.specs.Answers.{Refuses}
 use Rattle.mir_base.specs.declared.rule.RuleError.{RuleError}
@@ -126,7 +125,7 @@ if_let_refused e at p x b o expected id s s1 err h1 here =
 
 pub while_let_looked : (e f : Env) (at : Pos) (label : Option (Bor (List ℕ))) (p x b : Syn) (expected : Option TyId) (id : ℕ) (n m : tree.Node) (s s1 s2 s3 : TypingState) →
     number s ≡ Ok (id, s1) → base_of (within_loop (loop_around (word_in label) id false None) e) x s1 ≡ Ok (n, s2) →
-    scrutinised_rest n s2 ≡ Ok (m, s3) → f ≡ e →
+    (used_if_place Use.Borrow <$> no_reference n) s2 ≡ Ok (m, s3) → f ≡ e →
     value e at (WhileLetOf (word_of label) p x b) expected s ≡ while_let_rest f id at (word_in label) m p b expected s3
 while_let_looked e f at label p x b expected id n m s s1 s2 s3 h1 h2 h3 same =
     ap (λ l. value e at (WhileLetOf l p x b) expected s) (words_are label)

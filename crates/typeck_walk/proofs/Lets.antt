@@ -13,13 +13,12 @@ use Rattle.src_ast.specs.Sorts.{expression_part}
 use Rattle.src_ast.specs.Syntax.{Syn, syn, shape_of, AnExpression, LetOf, MaybeSyn}
 use Rattle.typed_tree.specs.Tree as tree
 use Rattle.typed_tree.specs.Tree.{MaybeNode}
-use Rattle.typeck_patterns.specs.BindingRests.{let_rest, let_typed}
 use Rattle.typing_rules.specs.Check.{Check, TypingState, Broken, ◌>>=◌, and_then, known, number, pure, the_items}
 use Rattle.typing_rules.specs.Places.{a_node_of, unit}
 use Rattle.typing_rules.specs.Patterns.{BoundPattern, pattern}
-use Rattle.typing_rules.specs.Rows.{ends_by, let_ty, of_value, place_for_parts, taken}
+use Rattle.typing_rules.specs.Rows.{ends_by, let_end, let_of_type, let_ty, of_value, place_for_parts, taken}
 use Rattle.typing_rules.specs.Scope.{Env, NamedEntry, with_variables}
-use Rattle.typing_rules.specs.Typed.{a_statement, base_of, declared, for_parts, initialised, is_one_name, is_place, is_place_syn, other_statement, place, takes_any, typed, value}
+use Rattle.typing_rules.specs.Typed.{a_statement, base_of, declared, for_parts, initialised, is_one_name, is_place, is_place_syn, matcher, other_statement, place, takes_any, typed, value}
 use Rattle.typeck_exprs.specs.Forms.{value_as}
 use Rattle.typeck_exprs.proofs.Shapes.{typed_value}
 
@@ -49,16 +48,20 @@ parts_of_value e any n expected is = as_typed e any (syn_of n) expected is ∙ t
 
 -- ---- a `let` as a whole
 
+-- once its written type and its initialiser are checked
+abbrev pub ending : Env → ℕ → Pos → Bool → Option TyId → MaybeNode → Syn → Check (tree.Node × Bool × Env)
+ending e id at one d v p = let_end id at e one d v (matcher e p) (λ xs. with_variables xs e)
+
 pub stated : (e f g : Env) (at : Pos) (p : Syn) (ty init : MaybeSyn) (one : Bool) (id : ℕ) (d : Option TyId) (v : MaybeNode)
     (s s1 s2 s3 : TypingState) → one ≡ is_one_name s.items p → number s ≡ Ok (id, s1) → declared e ty s1 ≡ Ok (d, s2) →
     initialised e one (takes_any p) init d s2 ≡ Ok (v, s3) → f ≡ e →
-    other_statement e at (LetOf p ty init) s ≡ and_then (let_rest f id at one d v p s3) (λ n. λ t. Ok (a_statement n, t))
+    other_statement e at (LetOf p ty init) s ≡ and_then (ending f id at one d v p s3) (λ n. λ t. Ok (a_statement n, t))
 stated e f g at p ty init one id d v s s1 s2 s3 is h1 h2 h3 same =
-    ap (λ (b : Bool). and_then (and_then (number s) (λ i. declared e ty >>= (λ d. initialised e b (takes_any p) init d >>= (λ v. let_rest e i at b d v p)))) (λ n. λ t. Ok (a_statement n, t))) (sym is)
-    ∙ ap (λ o. and_then (and_then o (λ i. declared e ty >>= (λ d. initialised e one (takes_any p) init d >>= (λ v. let_rest e i at one d v p)))) (λ n. λ t. Ok (a_statement n, t))) h1
-    ∙ ap (λ o. and_then (and_then o (λ d. initialised e one (takes_any p) init d >>= (λ v. let_rest e id at one d v p))) (λ n. λ t. Ok (a_statement n, t))) h2
-    ∙ ap (λ o. and_then (and_then o (λ v. let_rest e id at one d v p)) (λ n. λ t. Ok (a_statement n, t))) h3
-    ∙ ap (λ (k : Env). and_then (let_rest k id at one d v p s3) (λ n. λ t. Ok (a_statement n, t))) (sym same)
+    ap (λ (b : Bool). and_then (and_then (number s) (λ i. declared e ty >>= (λ d. initialised e b (takes_any p) init d >>= (λ v. ending e i at b d v p)))) (λ n. λ t. Ok (a_statement n, t))) (sym is)
+    ∙ ap (λ o. and_then (and_then o (λ i. declared e ty >>= (λ d. initialised e one (takes_any p) init d >>= (λ v. ending e i at one d v p)))) (λ n. λ t. Ok (a_statement n, t))) h1
+    ∙ ap (λ o. and_then (and_then o (λ d. initialised e one (takes_any p) init d >>= (λ v. ending e id at one d v p))) (λ n. λ t. Ok (a_statement n, t))) h2
+    ∙ ap (λ o. and_then (and_then o (λ v. ending e id at one d v p)) (λ n. λ t. Ok (a_statement n, t))) h3
+    ∙ ap (λ (k : Env). and_then (ending k id at one d v p s3) (λ n. λ t. Ok (a_statement n, t))) (sym same)
 
 abbrev bound_rest : Env → ℕ → Pos → MaybeNode → BoundPattern → Check (tree.Node × Bool × Env)
 bound_rest e id at v m = the_items >>= (λ after. pure (a_node_of id at unit (tree.Let m.0 v), ends_by after v, with_variables m.1 e))
@@ -73,27 +76,27 @@ by_pattern e f id at v n b t (Ok m) h =
 by_pattern e f id at v n b t (Err r) h = absurd (cc)
 
 by_type : (e f : Env) (id : ℕ) (at : Pos) (one : Bool) (v : MaybeNode) (p : Syn) (n : tree.Node) (b : Bool) (s t : TypingState) (o : Option TyId) →
-    (known Rule.T16 at o >>= (λ ty. the_items >>= (λ items. let_typed e id at (of_value e one v items) ty v p))) s ≡ Ok ((n, b, f), t) →
+    (known Rule.T16 at o >>= (λ ty. the_items >>= (λ items. let_of_type id at (of_value e one v items) ty v (matcher e p) (λ xs. with_variables xs e)))) s ≡ Ok ((n, b, f), t) →
     (xs : List NamedEntry) × (f ≡ with_variables xs e)
 by_type e f id at one v p n b s t None h = absurd (cc)
 by_type e f id at one v p n b s t (Some ty) h = by_pattern e f id at v n b t (pattern e (of_value e one v s.items) ty p [] s) h
 
 pub brings : (e f : Env) (id : ℕ) (at : Pos) (one : Bool) (d : Option TyId) (v : MaybeNode) (p : Syn) (n : tree.Node) (b : Bool) (s t : TypingState) →
-    let_rest e id at one d v p s ≡ Ok ((n, b, f), t) → (xs : List NamedEntry) × (f ≡ with_variables xs e)
+    ending e id at one d v p s ≡ Ok ((n, b, f), t) → (xs : List NamedEntry) × (f ≡ with_variables xs e)
 brings e f id at one d v p n b s t h = by_type e f id at one v p n b s t (let_ty d v) h
 
 -- a `let` that was checked
 pub let_done : (e f g : Env) (at : Pos) (p : Syn) (ty init : MaybeSyn) (one : Bool) (id : ℕ) (d : Option TyId) (v w : MaybeNode) (n : tree.Node × Bool × Env)
     (s s1 s2 s3 t : TypingState) → one ≡ is_one_name s.items p → number s ≡ Ok (id, s1) → declared e ty s1 ≡ Ok (d, s2) →
-    initialised e one (takes_any p) init d s2 ≡ Ok (v, s3) → f ≡ e → let_rest f id at one d v p s3 ≡ Ok (n, t) →
+    initialised e one (takes_any p) init d s2 ≡ Ok (v, s3) → f ≡ e → ending f id at one d v p s3 ≡ Ok (n, t) →
     other_statement e at (LetOf p ty init) s ≡ Ok (a_statement n, t)
 let_done e f g at p ty init one id d v w n s s1 s2 s3 t is h1 h2 h3 same here =
     stated e f g at p ty init one id d v s s1 s2 s3 is h1 h2 h3 same ∙ ap (λ o. and_then o (λ n. λ t. Ok (a_statement n, t))) here
 
 pub let_refused : (e f g : Env) (at : Pos) (p : Syn) (ty init : MaybeSyn) (one : Bool) (id : ℕ) (d : Option TyId) (v : MaybeNode)
     (s s1 s2 s3 : TypingState) (err : RuleError) → one ≡ is_one_name s.items p → number s ≡ Ok (id, s1) → declared e ty s1 ≡ Ok (d, s2) →
-    initialised e one (takes_any p) init d s2 ≡ Ok (v, s3) → f ≡ e → Refuses (let_rest f id at one d v p s3) err →
+    initialised e one (takes_any p) init d s2 ≡ Ok (v, s3) → f ≡ e → Refuses (ending f id at one d v p s3) err →
     Refuses (other_statement e at (LetOf p ty init) s) err
 let_refused e f g at p ty init one id d v s s1 s2 s3 err is h1 h2 h3 same here =
     subst (λ (o : Result ((Option tree.Node × Bool × Env) × TypingState) Broken). Refuses o err) (sym (stated e f g at p ty init one id d v s s1 s2 s3 is h1 h2 h3 same))
-    (stopped (let_rest f id at one d v p s3) (λ n. λ t. Ok (a_statement n, t)) err here)
+    (stopped (ending f id at one d v p s3) (λ n. λ t. Ok (a_statement n, t)) err here)

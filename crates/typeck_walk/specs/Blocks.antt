@@ -12,7 +12,7 @@ use Rattle.typing_rules.specs.Scope.{Env, NamedEntry, with_variables}
 use Rattle.typing_rules.specs.Typed.{a_statement, for_parts, other_statement, typed}
 use Rattle.src_ast.specs.Syntax.{Syn, Statement}
 use Rattle.typeck_heads.specs.Answers.{Refuses}
-use Rattle.typeck_patterns.specs.BindingRests.{below_value}
+use Rattle.typeck_patterns.specs.LetAnswers.{below_value}
 use Rattle.typeck_checker.specs.Lists.{below_all, last_nodes, nodes_on}
 use Rattle.typeck_checker.specs.Stand.{Stays, below, env, stack, state, top}
 use Rattle.typeck_checker.specs.declared.checker.Checker.{Checker}

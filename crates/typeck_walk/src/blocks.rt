@@ -4,7 +4,7 @@ ghost use Rattle.mir_base.specs.declared.rule.RuleError.{RuleError};
 ghost use Rattle.src_ast.specs.Seen.{maybe_of, nodes_of, syn_of};
 ghost use Rattle.src_ast.specs.Syntax.{Braces, LetOf};
 ghost use Rattle.typing_rules.specs.Typed as rules;
-ghost use Rattle.typeck_patterns.specs.BindingRests.{value_if};
+ghost use Rattle.typeck_patterns.specs.LetAnswers.{value_if};
 ghost use Rattle.typeck_checker.specs.Lists.{below_all, last_nodes};
 ghost use Rattle.typeck_walk.specs.Blocks.{GivesStatement, GivesStatements, KeepsGrown, KeepsStatement, KeepsStatements, KeepsValue, block_rest, evaluated, initialiser_of, more_if};
 ghost use Rattle.typeck_checker.specs.Stand.{Gives, GivesValue, KeepsStack, env, stack, state};

@@ -136,14 +136,19 @@ fn_body env at params answer block = do
 abbrev pub is_captured : Word → List NamedEntry → Bool
 is_captured name entries = is_some (variable entries name)
 
+-- once a variable of this name is known to be there, and the name to be new
+abbrev pub capture_end : Env → ℕ → Pos → Word → NamedEntry → List NamedEntry → Check (Node × List NamedEntry)
+capture_end env k at name x earlier = do
+  p ← variable_place at x
+  n ← taken env None p
+  pure (n, earlier ++ record { name = name; ty = x.ty; meaning = Capture 0 k } ∷ [])
+
 abbrev pub capture : Env → ℕ → Syn → List NamedEntry → Check (Node × List NamedEntry)
 capture env k (syn at (AName name)) earlier = do
   obeys Rule.T01 at (is_captured name env.variables)
   obeys Rule.T02 at (not (is_captured name earlier))
   x ← known Rule.T01 at (variable env.variables name)
-  p ← variable_place at x
-  n ← taken env None p
-  pure (n, earlier ++ record { name = name; ty = x.ty; meaning = Capture 0 k } ∷ [])
+  capture_end env k at name x earlier
 capture env k (syn at _) earlier = breaks Rule.T20 at
 
 abbrev pub captured : Env → ℕ → Syns → List NamedEntry → Check (Nodes × List NamedEntry)

@@ -72,14 +72,24 @@ truth_pattern at e ty value = do
   id ← number
   truth_pattern_end id at e.takes_all ty value
 
+abbrev pub wildcard : Pos → TyId → Check Node
+wildcard at ty = do
+  id ← number
+  pure (a_node_of id at ty tree.Wildcard)
+
+-- once the name is known to be new
+abbrev pub bind_end : ℕ → Pos → Bool → TyId → Word → List NamedEntry → Check BoundPattern
+bind_end id at is_fixed ty name earlier = do
+  items ← the_items
+  obeys Rule.T07 at (is_copy items ty || not (is_fixed || is_dyn items ty))
+  let entry : NamedEntry = record { name = name; ty = ty; meaning = Local id }
+  pure (used (taking items ty) (a_node_of id at ty (tree.Binding name)), earlier ++ entry ∷ [])
+
 abbrev pub bind : Pos → PatternContext → TyId → Word → List NamedEntry → Check BoundPattern
 bind at e ty name earlier = do
   id ← number
-  items ← the_items
   obeys Rule.T02 at (not (is_some (variable earlier name)))
-  obeys Rule.T07 at (is_copy items ty || not (e.is_fixed || is_dyn items ty))
-  let entry : NamedEntry = record { name = name; ty = ty; meaning = Local id }
-  pure (used (taking items ty) (a_node_of id at ty (tree.Binding name)), earlier ++ entry ∷ [])
+  bind_end id at e.is_fixed ty name earlier
 
 -- ---- structs and variants
 
@@ -191,7 +201,19 @@ has_ordered_parts Fields_ dots = false
 abbrev pub are_ordered : Env → PatternTarget → Bool → Bool
 are_ordered env t dots = has_ordered_parts (kind_at env.kinds t.adt t.variant) dots
 
--- ---- tuples
+-- as many parts as there are fields, where these stand in an order
+abbrev pub is_tuple_count : Env → PatternTarget → ℕ → ℕ → Bool → Bool
+is_tuple_count env t given count dots = is_count dots given count && are_ordered env t dots
+
+-- ---- tuples, arrays and alternatives
+
+-- so many parts in their order, where there are so many places for them
+abbrev pub sequence_end : ℕ → Pos → TyId → (Nodes → Form) → Bool → ℕ → ℕ → Check (Nodes × List NamedEntry) →
+    Check BoundPattern
+sequence_end id at ty form dots given count parts = do
+  ps ← parts
+  obeys Rule.T04 at (is_count dots given count)
+  pure (a_node_of id at ty (form ps.0), ps.1)
 
 abbrev pub types_if : Bool → List TyId → Option (List TyId)
 types_if b tys = if b then Some tys else None
@@ -205,6 +227,13 @@ tuple_types items ty given dots =
 
 abbrev pub has_names : List NamedEntry → List NamedEntry → Bool
 has_names earlier later = not (length earlier == length later)
+
+-- the alternatives bind no name
+abbrev pub alternatives_end : ℕ → Pos → TyId → List NamedEntry → Check (Nodes × List NamedEntry) → Check BoundPattern
+alternatives_end id at ty earlier patterns = do
+  ps ← patterns
+  obeys Rule.T18 at (not (has_names earlier ps.1))
+  pure (a_node_of id at ty (tree.OrPattern ps.0), ps.1)
 
 abbrev pub fields_from : ℕ → Nodes → Fields
 fields_from k no_node = tree.no_field
@@ -234,6 +263,21 @@ are_given_once (Some n ∷ given) = not (is_again n given) && are_given_once giv
 abbrev pub are_all_given : ℕ → Given → Bool
 are_all_given count given = length given == count && all_given count given
 
+-- what the parts of a struct or a variant give: as fields, with their bindings, whether their number is right, and
+-- whether each name is one of a field. So many in parentheses for so many fields
+abbrev pub in_order_end : Env → PatternTarget → ℕ → ℕ → Bool → Check (Nodes × List NamedEntry) →
+    Check (Fields × List NamedEntry × Bool × Bool)
+in_order_end env t given count dots parts = do
+  ps ← parts
+  pure (fields_from 0 ps.0, ps.1, is_tuple_count env t given count dots, true)
+
+-- in braces
+abbrev pub by_name_end : ℕ → Bool → Check (Fields × List NamedEntry × Given) →
+    Check (Fields × List NamedEntry × Bool × Bool)
+by_name_end count dots fields = do
+  ps ← fields
+  pure (ps.0, ps.1, are_given_once ps.2 && (dots || are_all_given count ps.2), are_known ps.2)
+
 abbrev pub with_number : ℕ → BoundPattern → Option (ℕ × Node) × List NamedEntry × Option ℕ
 with_number k b = (Some (k, b.0), b.1, Some k)
 
@@ -256,8 +300,8 @@ abbrev mutual
 
   pub pattern_form : Env → PatternContext → TyId → Pos → Pattern → List NamedEntry → Check BoundPattern
   pattern_form env e ty at AnyPattern earlier = do
-    id ← number
-    pure (a_node_of id at ty tree.Wildcard, earlier)
+    n ← wildcard at ty
+    pure (n, earlier)
   pattern_form env e ty at (BindPattern name) earlier = lone_name env at e ty name earlier
   pattern_form env e ty at (LiteralPattern is_negative value suffix) earlier = do
     n ← literal_pattern at e ty is_negative value suffix
@@ -269,42 +313,29 @@ abbrev mutual
   pattern_form env e ty at (PartsPattern first second parts dots) earlier = do
     items ← the_items
     t ← known Rule.T01 at (target_of items env first second)
-    of_target at e ty t (λ inside tys. do
-      ps ← part_patterns env inside tys parts earlier
-      pure (
-        fields_from 0 ps.0,
-        ps.1,
-        is_count dots (count_of parts) (length tys) && are_ordered env t dots,
-        true,
-      ))
+    of_target at e ty t
+        (λ inside tys. in_order_end env t (count_of parts) (length tys) dots (part_patterns env inside tys parts earlier))
   pattern_form env e ty at (FieldsPattern first second fields dots) earlier = do
     items ← the_items
     t ← known Rule.T01 at (target_of items env first second)
-    of_target at e ty t (λ inside tys. do
-      ps ← field_patterns env inside (option_map_or (λ v. v) (variant_at items t.adt t.variant) no_variant) fields
-          earlier
-      pure (ps.0, ps.1, are_given_once ps.2 && (dots || are_all_given (length tys) ps.2), are_known ps.2))
+    of_target at e ty t (λ inside tys. by_name_end (length tys) dots (field_patterns env inside (option_map_or (λ v. v)
+        (variant_at items t.adt t.variant) no_variant) fields earlier))
   pattern_form env e ty at (ParensPattern inside) earlier = pattern env e ty inside earlier
   pattern_form env e ty at (TuplePattern parts dots) earlier = do
     id ← number
     items ← the_items
     tys ← known Rule.T03 at (tuple_types items ty (count_of parts) dots)
-    ps ← part_patterns env e tys parts earlier
-    obeys Rule.T04 at (is_count dots (count_of parts) (length tys))
-    pure (a_node_of id at ty (tree.TuplePattern ps.0), ps.1)
+    sequence_end id at ty tree.TuplePattern dots (count_of parts) (length tys) (part_patterns env e tys parts earlier)
   pattern_form env e ty at (ArrayPattern elements dots) earlier = do
     id ← number
     items ← the_items
     a ← known Rule.T03 at (array_of items ty)
-    ps ← part_patterns env e (replicate a.1 a.0) elements earlier
-    obeys Rule.T04 at (is_count dots (count_of elements) a.1)
-    pure (a_node_of id at ty (tree.ArrayPattern ps.0), ps.1)
+    sequence_end id at ty tree.ArrayPattern dots (count_of elements) a.1
+        (part_patterns env e (replicate a.1 a.0) elements earlier)
   pattern_form env e ty at (Alternatives patterns) earlier = do
     id ← number
     obeys Rule.T20 at (nat_lt 1 (count_of patterns))
-    ps ← each_pattern env e ty patterns earlier
-    obeys Rule.T18 at (not (has_names earlier ps.1))
-    pure (a_node_of id at ty (tree.OrPattern ps.0), ps.1)
+    alternatives_end id at ty earlier (each_pattern env e ty patterns earlier)
 
   -- patterns of parts in their order; those past the last part are not typed
   pub part_patterns : Env → PatternContext → List TyId → Syns → List NamedEntry → Check (Nodes × List NamedEntry)
@@ -337,3 +368,14 @@ abbrev mutual
   field_pattern env e v (syn at (AFieldPattern name (just inside))) earlier =
       field_by v name earlier (λ ty. pattern env e ty inside earlier)
   field_pattern env e v (syn at _) earlier = breaks Rule.T20 at
+
+-- the parts of a struct or a variant, in parentheses and in braces
+abbrev pub parts_in_order : Env → PatternTarget → Syns → Bool → List NamedEntry → PatternContext → List TyId →
+    Check (Fields × List NamedEntry × Bool × Bool)
+parts_in_order env t parts dots earlier inside tys =
+    in_order_end env t (count_of parts) (length tys) dots (part_patterns env inside tys parts earlier)
+
+abbrev pub parts_by_name : Env → Variant → Syns → Bool → List NamedEntry → PatternContext → List TyId →
+    Check (Fields × List NamedEntry × Bool × Bool)
+parts_by_name env v fields dots earlier inside tys =
+    by_name_end (length tys) dots (field_patterns env inside v fields earlier)

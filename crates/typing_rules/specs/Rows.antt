@@ -449,18 +449,26 @@ abbrev pub is_unique_borrow : Form → Bool
 is_unique_borrow (tree.Borrow unique base) = unique
 is_unique_borrow _ = false
 
+-- the node of a method's call, once its receiver and its arguments are checked: whether there are as many as parameters;
+-- the receiver's place, and whether it is borrowed by `&mut` behind `&`; whether the method may be called
+abbrev pub method_call_end : ℕ → Pos → TyId → Form → Bool → Pos → Bool → Bool → Option TyId → Check Node
+method_call_end id at answer form is_count place is_refused may_be_called expected = do
+  n ← fitted expected (a_node_of id at answer form)
+  obeys Rule.T04 at is_count
+  obeys Rule.T08 place (not is_refused)
+  obeys Rule.T13 at may_be_called
+  pure n
+
 abbrev pub with_self : Env → Pos → ℕ → Node → Method → ℕ → (List TyId → Check Nodes) → Option TyId → List TyId → Check
     Node
 with_self env at id base method count args expected [] = args [] >> breaks Rule.T12 at
 with_self env at id base method count args expected (self ∷ params) = do
   receiver ← received env (place_in_text base) base self
   given ← args params
-  n ← fitted expected (a_node_of id at (head_of method).result (method_form method receiver given))
   items ← the_items
-  obeys Rule.T04 at (count == length params)
-  obeys Rule.T08 (place_in_text base) (not (is_unique_borrow (form_of receiver) && is_behind_shared items base))
-  obeys Rule.T13 at (not (is_drop_method method))
-  pure n
+  method_call_end id at (head_of method).result (method_form method receiver given) (count == length params)
+      (place_in_text base) (is_unique_borrow (form_of receiver) && is_behind_shared items base)
+      (not (is_drop_method method)) expected
 
 -- the first parameter is of the type, or a reference to it
 abbrev pub takes_self : ItemTable → TyId → List TyId → Bool
@@ -924,17 +932,28 @@ of_value env is_one_name absent items = record { is_fixed = false; takes_all = t
 of_value env true (present n) items = record { is_fixed = false; takes_all = true }
 of_value env false (present n) items = pattern_context env true n items
 
+-- a `let` for a place of a type
+abbrev pub let_of_type : ℕ → Pos → PatternContext → TyId → MaybeNode → Matcher → (List NamedEntry → Env) →
+    Check (Node × Bool × Env)
+let_of_type id at e ty v pattern behind = do
+  p ← pattern e ty
+  after ← the_items
+  pure (a_node_of id at unit (tree.Let p.0 v), ends_by after v, behind p.1)
+
+abbrev pub let_end : ℕ → Pos → Env → Bool → Option TyId → MaybeNode → Matcher → (List NamedEntry → Env) →
+    Check (Node × Bool × Env)
+let_end id at env is_one_name declared v pattern behind = do
+  ty ← known Rule.T16 at (let_ty declared v)
+  items ← the_items
+  let_of_type id at (of_value env is_one_name v items) ty v pattern behind
+
 abbrev pub let_row : Pos → Env → Bool → Check (Option TyId) → (Option TyId → Check MaybeNode) → Matcher →
     (List NamedEntry → Env) → Check (Node × Bool × Env)
 let_row at env is_one_name written value pattern behind = do
   id ← number
   declared ← written
   v ← value declared
-  ty ← known Rule.T16 at (let_ty declared v)
-  items ← the_items
-  p ← pattern (of_value env is_one_name v items) ty
-  after ← the_items
-  pure (a_node_of id at unit (tree.Let p.0 v), ends_by after v, behind p.1)
+  let_end id at env is_one_name declared v pattern behind
 
 abbrev pub evaluate_end : Env → ℕ → Pos → Bool → Node → Check (Node × Bool × Env)
 evaluate_end env id at has_semicolon n = do

@@ -3,10 +3,11 @@ use Rattle.std.specs.Prelude.{option_map}
 use Rattle.std.specs.Borrow.{Bor}
 use Rattle.typeck_checker.specs.Lists.{below_all, last_nodes}
 use Rattle.typeck_calls.specs.Callees.{callee_seen}
-use Rattle.typeck_calls.specs.CalleeRests.{begun_rest, callee_rest}
+use Rattle.typeck_calls.specs.Closures.{callee_end}
+use Rattle.typeck_calls.specs.Endings.{resolved_end}
 use Rattle.typeck_calls.specs.Calls.{Arguments}
-use Rattle.typeck_calls.specs.Rests.{receiver_rest}
-use Rattle.typeck_patterns.specs.BindingRests.{value_if}
+use Rattle.typeck_calls.specs.Methods.{received_end}
+use Rattle.typeck_patterns.specs.LetAnswers.{value_if}
 use Rattle.typeck_walk.proofs.Lets.{brings, let_done, let_refused}
 use Rattle.typeck_walk.proofs.Inits.{behind_fields, by_tables, named_init, none_given, refused_fields, refused_value}
 use Rattle.typeck_bodies.proofs.Bodies.{block_given, block_refused, returned_if}
@@ -295,7 +296,7 @@ calls::call_of-returns-clause-gives t c =
     ap (λ (f : Env). rules_of.typed_args f begun.params (nodes_of c.args.args) (state middle)) (sym c.in_ok-begun.ensures.same.1.0)
     ∙ ap (λ (ps : List TyId). rules_of.typed_args (env middle) ps (nodes_of c.args.args) (state middle)) (sym c.as_slice.ensures) ∙ c.in_ok-count.ensures.gives in
     subst (λ (o : Result (tree.Node × TypingState) Broken). Gives o c.call_end.result c.call_end.new.checker)
-    (sym (behind_args check arguments begun.params (begun_rest c.args.at c.args.expected begun) (top (stack middle)) count c.in_ok-count.count (last_nodes c.in_ok-count.count (stack after))
+    (sym (behind_args check arguments begun.params (resolved_end c.args.at c.args.expected begun) (top (stack middle)) count c.in_ok-count.count (last_nodes c.in_ok-count.count (stack after))
     (state before) (state middle) (state after) (c.in_ok-begun.ensures.gives value count arguments) here c.in_ok-count.ensures.counted))
     (c.call_end.ensures.gives (top (stack middle)))
 
@@ -309,9 +310,9 @@ calls::closure_behind-returns-clause-gives t c =
     let here : arguments callee.params (state before) ≡ Ok (last_nodes c.in_ok-count.count (stack after), state after) =
     ap (λ (ps : List TyId). rules_of.typed_args (env before) ps (nodes_of c.args.args) (state before)) (sym c.as_slice.ensures) ∙ c.in_ok-count.ensures.gives in
     subst (λ (o : Result (tree.Node × TypingState) Broken). Gives o c.closure_end.result c.closure_end.new.checker)
-    (sym (behind_args (closure_end c.args.id.0 c.args.at c.args.expected (top (stack before))) arguments callee.params (callee_rest c.args.id.0 c.args.at c.args.expected callee) (top (stack before)) count c.in_ok-count.count (last_nodes c.in_ok-count.count (stack after))
+    (sym (behind_args (closure_end c.args.id.0 c.args.at c.args.expected (top (stack before))) arguments callee.params (callee_end c.args.id.0 c.args.at c.args.expected callee) (top (stack before)) count c.in_ok-count.count (last_nodes c.in_ok-count.count (stack after))
     (state before) (state before) (state after) (c.in_ok-callee.ensures.gives c.args.id.0 c.args.at c.args.expected count arguments) here c.in_ok-count.ensures.counted
-    ∙ ap (λ (ns : List tree.Node). callee_rest c.args.id.0 c.args.at c.args.expected callee (top ns) c.in_ok-count.count (last_nodes c.in_ok-count.count (stack after)) (state after)) (sym c.in_ok-count.ensures.kept.0)))
+    ∙ ap (λ (ns : List tree.Node). callee_end c.args.id.0 c.args.at c.args.expected callee (top ns) c.in_ok-count.count (last_nodes c.in_ok-count.count (stack after)) (state after)) (sym c.in_ok-count.ensures.kept.0)))
     c.closure_end.ensures.gives
 
 pub calls::closure_call-returns-clause-gives : goal.calls::closure_call-returns-clause-gives
@@ -341,9 +342,9 @@ calls::method_behind-returns-clause-gives t c =
     ap (λ (f : Env). rules_of.typed_args f receiver.params (nodes_of c.args.args) (state middle)) (sym c.in_ok-receiver.ensures.kept.1.0)
     ∙ ap (λ (ps : List TyId). rules_of.typed_args (env middle) ps (nodes_of c.args.args) (state middle)) (sym c.as_slice.ensures) ∙ c.in_ok-count.ensures.gives in
     subst (λ (o : Result (tree.Node × TypingState) Broken). Gives o c.method_end.result c.method_end.new.checker)
-    (sym (behind_args (method_end (env before) c.args.id.0 c.args.at (method_named c.args.name.now) c.args.expected (top (stack before))) arguments receiver.params (receiver_rest c.args.id.0 c.args.at c.args.expected receiver) (top (stack middle)) count c.in_ok-count.count (last_nodes c.in_ok-count.count (stack after))
+    (sym (behind_args (method_end (env before) c.args.id.0 c.args.at (method_named c.args.name.now) c.args.expected (top (stack before))) arguments receiver.params (received_end c.args.id.0 c.args.at c.args.expected receiver) (top (stack middle)) count c.in_ok-count.count (last_nodes c.in_ok-count.count (stack after))
     (state before) (state middle) (state after) (c.in_ok-receiver.ensures.gives c.args.id.0 c.args.at c.args.expected count arguments) here c.in_ok-count.ensures.counted
-    ∙ ap (λ (ns : List tree.Node). receiver_rest c.args.id.0 c.args.at c.args.expected receiver (top ns) c.in_ok-count.count (last_nodes c.in_ok-count.count (stack after)) (state after)) (sym c.in_ok-count.ensures.kept.0)))
+    ∙ ap (λ (ns : List tree.Node). received_end c.args.id.0 c.args.at c.args.expected receiver (top ns) c.in_ok-count.count (last_nodes c.in_ok-count.count (stack after)) (state after)) (sym c.in_ok-count.ensures.kept.0)))
     c.method_end.ensures.gives
 
 pub calls::check_call-returns-clause-gives : goal.calls::check_call-returns-clause-gives
@@ -401,7 +402,7 @@ calls::closure_behind-returns-in_err-count-clause-gives t c =
     let here : Refuses (arguments callee.params (state before)) c.in_err-count.field-0.0 =
     subst (λ (ps : List TyId). Refuses (rules_of.typed_args (env before) ps (nodes_of c.args.args) (state before)) c.in_err-count.field-0.0) c.as_slice.ensures c.in_err-count.ensures.gives in
     let refused : Refuses (closure_end c.args.id.0 c.args.at c.args.expected (top (stack before)) count arguments (state before)) c.in_err-count.field-0.0 =
-    refused_args (closure_end c.args.id.0 c.args.at c.args.expected (top (stack before))) arguments callee.params (callee_rest c.args.id.0 c.args.at c.args.expected callee) (top (stack before)) count
+    refused_args (closure_end c.args.id.0 c.args.at c.args.expected (top (stack before))) arguments callee.params (callee_end c.args.id.0 c.args.at c.args.expected callee) (top (stack before)) count
     (state before) (state before) c.in_err-count.field-0.0 (c.in_ok-callee.ensures.gives c.args.id.0 c.args.at c.args.expected count arguments) here in
     grind (arith, refused)
 

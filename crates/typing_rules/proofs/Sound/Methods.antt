@@ -262,12 +262,12 @@ with_self_sound env at id base m count args expected (self ∷ params) s k is pl
     bind (fitted_gives env expected (a_node_of id at (head_of m).result (method_form m receiver given_)) u (method_leaf m
     receiver given_)) λ n v i r.
     obeyed Rule.T04 at (count == length params) _ λ counted.
-    obeyed Rule.T08 (place_in_text base) (not (is_unique_borrow (form_of receiver) && is_behind_shared v.items base)) _ λ shared.
+    obeyed Rule.T08 (place_in_text base) (not (is_unique_borrow (form_of receiver) && is_behind_shared u.items base)) _ λ shared.
     obeyed Rule.T13 at (not (is_drop_method m)) _ λ no_drop.
     let to_v = grows_trans g (grows_trans h i) in
-    let shared_then = subst (λ b. IsTrue (not (is_unique_borrow (form_of receiver) && b))) (behind_later env s v base
+    let shared_then = subst (λ b. IsTrue (not (is_unique_borrow (form_of receiver) && b))) (behind_later env s u base
     (is s
-    (grows_refl s)) to_v) shared in
+    (grows_refl s)) (grows_trans g h)) shared in
     passed_ends env expected v id at (head_of m).result (method_form m receiver given_) n (method_place m receiver given_)
     (λ w.
     method_plain env w (head_of m).result m receiver given_) r λ w ready l.

@@ -281,7 +281,7 @@ method_walks {f} {g} env at named count receiver args good_r good expected s =
         (a_node_of s.next_node at (rows.head_of m).result (rows.method_form m receiver ns)) (walks_node at
         (rows.head_of m).result None (rows.method_form m receiver ns) (subst (λ xs. Walks (f ⨾ g) (numbered s) v xs) (sym
         (method_nodes m receiver ns)) (walks_both w x.0)))) λ n y w. walk_obeyed Rule.T04 at (count == length params) _ λ _. walk_obeyed
-        Rule.T08 (place_in_text base) (not (rows.is_unique_borrow (form_of receiver) && is_behind_shared y.items base)) _ λ _. walk_obeyed Rule.T13 at (not (rows.is_drop_method m)) _ λ _. walk_ends w
+        Rule.T08 (place_in_text base) (not (rows.is_unique_borrow (form_of receiver) && is_behind_shared v.items base)) _ λ _. walk_obeyed Rule.T13 at (not (rows.is_drop_method m)) _ λ _. walk_ends w
 
     if_takes : (base : Node) (m : Method) (u : TypingState) → Walks f (numbered s) u (nodes_of base) → (b : Bool) → Walked R
         ((if b then rows.with_self env at s.next_node base m count args expected (rows.head_of m).params else (args [] >>

@@ -9,7 +9,7 @@ use Rattle.typing_rules.specs.Check.{Check}
 use Rattle.typing_rules.specs.Rows.{Typer}
 use Rattle.typing_rules.specs.Scope.{NamedEntry, Env}
 use Rattle.typeck_bodies.specs.ParamAnswers.{last_param, last_params}
-use Rattle.typeck_bodies.specs.ParamRests.{type_by}
+use Rattle.typeck_bodies.specs.ParamForms.{type_by}
 use Rattle.typeck_bodies.specs.Heads.{GivesBlock, answered, closure_inside}
 use Rattle.typeck_bodies.specs.declared.scopes.BodyHead.{BodyHead}
 use Rattle.typeck_bodies.proofs.Bodies.{below_first, first_param, self_given, self_params_refused, self_refused}

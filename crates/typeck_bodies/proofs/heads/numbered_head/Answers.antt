@@ -9,7 +9,7 @@ use Rattle.src_ast.specs.Seen.{maybe_of, nodes_of}
 use Rattle.typeck_checker.specs.Stand.{env, stack, state}
 use Rattle.typing_rules.specs.Check.{Broken, Check, TypingState}
 use Rattle.typing_rules.specs.Scope.{NamedEntry, Env}
-use Rattle.typeck_bodies.specs.ParamRests.{type_by}
+use Rattle.typeck_bodies.specs.ParamForms.{type_by}
 use Rattle.typeck_bodies.specs.ParamAnswers.{last_params}
 use Rattle.typeck_bodies.specs.Aside.{alone}
 use Rattle.typeck_bodies.specs.Heads.{GivesHead, answered, closed, fn_inside, numbered_fn}

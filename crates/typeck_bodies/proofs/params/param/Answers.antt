@@ -5,7 +5,7 @@ use Rattle.src_ast.specs.Seen.{syn_of}
 use Rattle.typeck_checker.specs.Stand.{env, state}
 use Rattle.typing_rules.specs.Bodies as bodies
 use Rattle.typeck_bodies.specs.ParamAnswers.{GivesParam}
-use Rattle.typeck_bodies.specs.ParamRests.{type_by}
+use Rattle.typeck_bodies.specs.ParamForms.{type_by}
 use Rattle.typeck_bodies.proofs.ParamShapes.{seen_by}
 use Rattle.typeck_bodies.proofs.params.param.Goals as goal
 

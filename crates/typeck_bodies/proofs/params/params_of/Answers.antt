@@ -3,7 +3,7 @@ use Rattle.src_ast.specs.Seen.{nodes_of, syn_of}
 use Rattle.typeck_checker.specs.Stand.{env, stack, state}
 use Rattle.typing_rules.specs.Bodies as bodies
 use Rattle.typing_rules.specs.Scope.{Env}
-use Rattle.typeck_bodies.specs.ParamRests.{type_by}
+use Rattle.typeck_bodies.specs.ParamForms.{type_by}
 use Rattle.typeck_bodies.proofs.ParamSequences.{params_step, under_one}
 use Rattle.typeck_bodies.proofs.params.params_of.Goals as goal
 

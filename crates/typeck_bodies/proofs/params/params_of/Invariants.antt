@@ -5,7 +5,7 @@ use Rattle.typeck_checker.specs.Stand.{Stays, env, stack, state}
 use Rattle.typing_rules.specs.Bodies as bodies
 use Rattle.typing_rules.specs.Patterns.{count_of}
 use Rattle.typeck_bodies.specs.ParamAnswers.{last_params}
-use Rattle.typeck_bodies.specs.ParamRests.{type_by}
+use Rattle.typeck_bodies.specs.ParamForms.{type_by}
 use Rattle.typeck_bodies.proofs.ParamSequences.{behind}
 use Rattle.typeck_bodies.proofs.params.params_of.Given as goal
 

@@ -3,7 +3,7 @@ use Rattle.src_ast.specs.Seen.{syn_of}
 use Rattle.typeck_checker.specs.Stand.{env, state}
 use Rattle.typeck_patterns.proofs.Units.{then_given}
 use Rattle.typeck_bodies.specs.ParamAnswers.{GivesParam}
-use Rattle.typeck_bodies.specs.ParamRests.{type_by}
+use Rattle.typeck_bodies.specs.ParamForms.{type_by}
 use Rattle.typeck_bodies.proofs.patterns.typed_param.Goals as goal
 use Rattle.typing_rules.specs.Bodies.{pattern_param_end}
 

@@ -6,7 +6,7 @@ use Rattle.mir_base.specs.declared.place_in_text.Pos.{Pos}
 use Rattle.typeck_calls.proofs.CalledMethods.{gives_same, receiver_as, some_of}
 use Rattle.typeck_calls.specs.Calls.{Arguments, GivesCall}
 use Rattle.typeck_calls.specs.Methods.{IsMethod}
-use Rattle.typeck_calls.specs.Rests.{receiver_rest}
+use Rattle.typeck_calls.specs.Methods.{received_end}
 use Rattle.typeck_calls.specs.declared.methods.Method.{Method}
 use Rattle.typeck_calls.specs.declared.receivers.MethodReceiver.{MethodReceiver}
 use Rattle.typeck_checker.specs.Stand.{env, stack, state, top}
@@ -29,7 +29,7 @@ returns-in-Some-clause-gives c id at expected =
     ap (λ (p : Pos). through (method_named c.args.name.now) p (top (stack before)) (state before)) (sym c.last_at-place_at.ensures)
     ∙ gone.2
     in
-    gives_same (method_end (env before) id at (method_named c.args.name.now) expected (top (stack before))) (λ count args. with_method (env there) at id (top (stack there)) (Some f.0) count args expected) (state before) (state there) (λ (r : MethodReceiver). r.params) (receiver_rest id at expected)
+    gives_same (method_end (env before) id at (method_named c.args.name.now) expected (top (stack before))) (λ count args. with_method (env there) at id (top (stack there)) (Some f.0) count args expected) (state before) (state there) (λ (r : MethodReceiver). r.params) (received_end id at expected)
     c.with_method.result c.with_method.new.checker
     (λ count args. receiver_as (env before) (env there) id at (method_named c.args.name.now) expected (top (stack before)) (top (stack there)) gone.0 f.0 (state before) (state there) placed f.1 c.in_ok-method.ensures.kept.1.0 count args)
     (c.with_method.ensures.gives id at f.0 (sym found.1 ∙ f.1) expected)
@@ -46,7 +46,7 @@ returns-in-None-clause-gives c id at expected count args =
     in
     ap (λ r. and_then r (λ (x : Node × Option rows.Method). with_method (env before) at id x.0 x.1 count args expected)) placed
     ∙ ap (λ (m : Option rows.Method). with_method (env before) at id (top (stack there)) m count args expected (state there)) none
-    ∙ sym (ap (λ (r : MethodReceiver). (args r.params >>= receiver_rest id at expected r (top (stack there)) count) (state there)) c.no_method.ensures)
+    ∙ sym (ap (λ (r : MethodReceiver). (args r.params >>= received_end id at expected r (top (stack there)) count) (state there)) c.no_method.ensures)
 
 pub returns-in_err-method-clause-gives : goal.returns-in_err-method-clause-gives
 returns-in_err-method-clause-gives c id at expected =
@@ -55,7 +55,7 @@ returns-in_err-method-clause-gives c id at expected =
     let base = top (stack before) in
     let check : ℕ → Arguments → Check Node = method_end (env before) id at (method_named c.args.name.now) expected base in
     let is : ◌≡◌ {A = Result MethodReceiver RuleError} c.from_residual.result (Err err) = search rules in
-    subst (λ (r : Result MethodReceiver RuleError). GivesCall check (state before) (λ (m : MethodReceiver). m.params) (receiver_rest id at expected) r c.through.new.checker) (sym is)
+    subst (λ (r : Result MethodReceiver RuleError). GivesCall check (state before) (λ (m : MethodReceiver). m.params) (received_end id at expected) r c.through.new.checker) (sym is)
     (λ count args.
     stopped (through (method_named c.args.name.now) (place_in_text base) base (state before)) (λ (x : Node × Option rows.Method). with_method (env before) at id x.0 x.1 count args expected) err
     (subst (λ (p : Pos). Refuses (through (method_named c.args.name.now) p base (state before)) err) c.last_at-place_at.ensures c.in_err-method.ensures.gives))

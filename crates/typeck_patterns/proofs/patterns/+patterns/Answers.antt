@@ -8,7 +8,6 @@ use Rattle.mir_ty.specs.declared.ty.TyId.{TyId}
 use Rattle.typeck_patterns.specs.PatternContext.{GivesBound, pattern_context_of}
 use Rattle.typeck_patterns.specs.Fields.{below_given}
 use Rattle.typeck_patterns.specs.Members.{part_of, variant_of}
-use Rattle.typeck_patterns.specs.Rests.{wildcard_rest}
 use Rattle.typeck_patterns.specs.Targets.{target_of}
 use Rattle.typeck_patterns.proofs.Units.{beside}
 use Rattle.src_ast.specs.Seen.{nodes_of, syn_of}
@@ -17,18 +16,17 @@ use Rattle.typed_tree.specs.Tree as tree
 use Rattle.typing_rules.specs.Patterns as patterns
 use Rattle.typing_rules.specs.Rows.{Given}
 use Rattle.typeck_patterns.specs.Answers.{GivesField, GivesNodes}
-use Rattle.typeck_patterns.specs.EndRests.{alternatives_rest, is_tuple_count, order_rest, parts_by_name, parts_in_order}
-use Rattle.typeck_patterns.proofs.Closings.{array_is, fields_close, first_if, first_parts, or_is, order_close, parts_close, target_begun, tuple_is}
+use Rattle.typeck_patterns.proofs.Closings.{array_is, fields_close, first_if, first_parts, or_is, order_close, parts_close, after_begun, tuple_is}
 use Rattle.typeck_patterns.proofs.PartLists.{drop_next, each_step, fields_behind, none_before, nothing_before, one_under, part_step, part_stop}
 use Rattle.typeck_patterns.proofs.Shapes.{field_none, field_some, pattern_falls, seen_by}
 use Rattle.typeck_patterns.proofs.patterns.+patterns.Goals as goal
-use Rattle.typing_rules.specs.Patterns.{target_end}
+use Rattle.typing_rules.specs.Patterns.{alternatives_end, count_of, each_pattern, is_tuple_count, part_patterns, parts_by_name, parts_in_order, sequence_end, target_end, wildcard}
 
 pub pattern-returns-in-Wild-clause-gives : goal.pattern-returns-in-Wild-clause-gives
 pattern-returns-in-Wild-clause-gives t c =
     subst (λ o. GivesBound o c.wildcard.result c.args.bound.now c.wildcard.new.checker)
     (sym (seen_by (env c.args.checker.now) (pattern_context_of c.args.e) c.args.ty c.args.node.now (reverse c.args.bound.now) (state c.args.checker.now) c.pattern_form.result _ c.pattern_form.ensures c.in-Wild.is))
-    (beside (wildcard_rest c.args.node.now.at c.args.ty (state c.args.checker.now)) c.wildcard.result (reverse c.args.bound.now) c.wildcard.new.checker c.wildcard.ensures.gives)
+    (beside (wildcard c.args.node.now.at c.args.ty (state c.args.checker.now)) c.wildcard.result (reverse c.args.bound.now) c.wildcard.new.checker c.wildcard.ensures.gives)
 
 pub pattern-returns-in-Bind-clause-gives : goal.pattern-returns-in-Bind-clause-gives
 pattern-returns-in-Bind-clause-gives t c =
@@ -161,7 +159,7 @@ fields_of_target-returns-clause-gives t c =
     let xs = reverse c.args.bound.now in
     let v = variant_of before.walk.items c.args.target in
     subst (λ o. GivesBound o c.named_parts.result c.named_parts.new.bound c.named_parts.new.checker)
-    (sym (target_begun (env before) c.in_ok-id.id.0 c.args.at (pattern_context_of c.args.e) c.args.ty (target_of c.args.target) (parts_by_name (env before) v (nodes_of c.args.fields) c.args.dots xs) (state before) (state c.target_begin.new.checker) c.in_ok-id.ensures.gives))
+    (sym (after_begun (env before) c.in_ok-id.id.0 c.args.at (pattern_context_of c.args.e) c.args.ty (target_of c.args.target) (parts_by_name (env before) v (nodes_of c.args.fields) c.args.dots xs) (state before) (state c.target_begin.new.checker) c.in_ok-id.ensures.gives))
     (subst (λ w. GivesBound (target_end c.in_ok-id.id.0 c.args.at (pattern_context_of c.args.e) c.args.ty (target_of c.args.target) (parts_by_name w v (nodes_of c.args.fields) c.args.dots xs) (state c.target_begin.new.checker)) c.named_parts.result c.named_parts.new.bound c.named_parts.new.checker)
     c.in_ok-id.ensures.same.1.0
     (c.named_parts.ensures.gives v (ap (map (option_map part_of)) c.as_slice.ensures ∙ c.in_ok-parts.ensures.named)))
@@ -171,7 +169,7 @@ parts_of_target-returns-clause-gives t c =
     let before = c.args.checker.now in
     let xs = reverse c.args.bound.now in
     subst (λ o. GivesBound o c.parts_behind.result c.parts_behind.new.bound c.parts_behind.new.checker)
-    (sym (target_begun (env before) c.in_ok-id.id.0 c.args.at (pattern_context_of c.args.e) c.args.ty (target_of c.args.target) (parts_in_order (env before) (target_of c.args.target) (nodes_of c.args.parts) c.args.dots xs) (state before) (state c.target_begin.new.checker) c.in_ok-id.ensures.gives))
+    (sym (after_begun (env before) c.in_ok-id.id.0 c.args.at (pattern_context_of c.args.e) c.args.ty (target_of c.args.target) (parts_in_order (env before) (target_of c.args.target) (nodes_of c.args.parts) c.args.dots xs) (state before) (state c.target_begin.new.checker) c.in_ok-id.ensures.gives))
     (subst (λ w. GivesBound (target_end c.in_ok-id.id.0 c.args.at (pattern_context_of c.args.e) c.args.ty (target_of c.args.target) (parts_in_order w (target_of c.args.target) (nodes_of c.args.parts) c.args.dots xs) (state c.target_begin.new.checker)) c.parts_behind.result c.parts_behind.new.bound c.parts_behind.new.checker)
     c.in_ok-id.ensures.same.1.0
     c.parts_behind.ensures.gives)
@@ -212,7 +210,7 @@ ordered_parts-returns-clause-gives t c =
 pub elements_pattern-returns-clause-gives : goal.elements_pattern-returns-clause-gives
 elements_pattern-returns-clause-gives t c =
     let tys = replicate c.args.count c.args.element in
-    subst (λ (n : ℕ). GivesBound (order_rest (env c.args.checker.now) c.args.id.0 c.args.at (pattern_context_of c.args.e) c.args.ty tys n (λ x. tree.ArrayPattern x) (nodes_of c.args.elements) c.args.dots (reverse c.args.bound.now) (state c.args.checker.now)) c.in_order.result c.in_order.new.bound c.in_order.new.checker)
+    subst (λ (n : ℕ). GivesBound (sequence_end c.args.id.0 c.args.at c.args.ty (λ x. tree.ArrayPattern x) c.args.dots (count_of (nodes_of c.args.elements)) n (part_patterns (env c.args.checker.now) (pattern_context_of c.args.e) tys (nodes_of c.args.elements) (reverse c.args.bound.now)) (state c.args.checker.now)) c.in_order.result c.in_order.new.bound c.in_order.new.checker)
     (length-replicate c.args.count c.args.element)
     (c.in_order.ensures.gives tys c.in_ok-types.ensures.found)
 
@@ -225,7 +223,7 @@ tuple_pattern-returns-in-Some-clause-gives t c =
     subst (λ o. GivesBound o c.in_order.result c.in_order.new.bound c.in_order.new.checker)
     (sym (tuple_is (env before) c.args.at (pattern_context_of c.args.e) c.args.ty (nodes_of c.args.parts) c.args.dots xs (state before) (state later) c.in_ok-id.id.0 found.0 c.in_ok-id.ensures.number
     (ap (λ (n : ℕ). patterns.tuple_types later.walk.items c.args.ty n c.args.dots) (sym c.in_ok-given.ensures.counted) ∙ found.1)))
-    (subst (λ w. GivesBound (order_rest w c.in_ok-id.id.0 c.args.at (pattern_context_of c.args.e) c.args.ty found.0 (length found.0) tree.TuplePattern (nodes_of c.args.parts) c.args.dots xs (state later)) c.in_order.result c.in_order.new.bound c.in_order.new.checker)
+    (subst (λ w. GivesBound (sequence_end c.in_ok-id.id.0 c.args.at c.args.ty tree.TuplePattern c.args.dots (count_of (nodes_of c.args.parts)) (length found.0) (part_patterns w (pattern_context_of c.args.e) found.0 (nodes_of c.args.parts) xs) (state later)) c.in_order.result c.in_order.new.bound c.in_order.new.checker)
     c.in_ok-id.ensures.same.1.0
     (c.in_order.ensures.gives found.0 found.2))
 
@@ -238,7 +236,7 @@ array_pattern-returns-in-Some-clause-gives t c =
     let count = c.in-Some.count in
     subst (λ o. GivesBound o c.elements_pattern.result c.elements_pattern.new.bound c.elements_pattern.new.checker)
     (sym (array_is (env before) c.args.at (pattern_context_of c.args.e) c.args.ty (nodes_of c.args.elements) c.args.dots xs (state before) (state later) c.in_ok-id.id.0 element count c.in_ok-id.ensures.number (sym c.array_of.ensures ∙ c.in-Some.is)))
-    (subst (λ w. GivesBound (order_rest w c.in_ok-id.id.0 c.args.at (pattern_context_of c.args.e) c.args.ty (replicate count element) count tree.ArrayPattern (nodes_of c.args.elements) c.args.dots xs (state later)) c.elements_pattern.result c.elements_pattern.new.bound c.elements_pattern.new.checker)
+    (subst (λ w. GivesBound (sequence_end c.in_ok-id.id.0 c.args.at c.args.ty tree.ArrayPattern c.args.dots (count_of (nodes_of c.args.elements)) count (part_patterns w (pattern_context_of c.args.e) (replicate count element) (nodes_of c.args.elements) xs) (state later)) c.elements_pattern.result c.elements_pattern.new.bound c.elements_pattern.new.checker)
     c.in_ok-id.ensures.same.1.0
     c.elements_pattern.ensures.gives)
 
@@ -249,7 +247,7 @@ or_pattern-returns-clause-gives t c =
     let xs = reverse c.args.bound.now in
     subst (λ o. GivesBound o c.alternatives.result c.alternatives.new.bound c.alternatives.new.checker)
     (sym (or_is (env before) c.args.at (pattern_context_of c.args.e) c.args.ty (nodes_of c.args.patterns) xs (state before) (state later) c.in_ok-id.id.0 c.in_ok-id.ensures.number (sym c.are_several.ensures ∙ c.in_ok-obeys.ensures.holds)))
-    (subst (λ w. GivesBound (alternatives_rest w c.in_ok-id.id.0 c.args.at (pattern_context_of c.args.e) c.args.ty (nodes_of c.args.patterns) xs (state later)) c.alternatives.result c.alternatives.new.bound c.alternatives.new.checker)
+    (subst (λ w. GivesBound (alternatives_end c.in_ok-id.id.0 c.args.at c.args.ty xs (each_pattern w (pattern_context_of c.args.e) c.args.ty (nodes_of c.args.patterns) xs) (state later)) c.alternatives.result c.alternatives.new.bound c.alternatives.new.checker)
     c.in_ok-id.ensures.same.1.0
     c.alternatives.ensures.gives)
 

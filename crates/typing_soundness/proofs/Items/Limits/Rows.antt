@@ -291,7 +291,7 @@ module _ (b : Bounds) where
           walk (received_kept env (place_in_text base) base self u l) λ receiver t k. walk (good params t k) λ ns v q. walk (fitted_kept expected
           (a_node_of s.next_node at (rows.head_of m).result (rows.method_form m receiver ns)) v q) λ n y w. walk_obeyed
           Rule.T04 at (count == length params) _ λ _. walk_obeyed Rule.T08 (place_in_text base) (not (rows.is_unique_borrow (form_of receiver)
-          && is_behind_shared y.items base)) _ λ _. walk_obeyed Rule.T13 at (not (rows.is_drop_method m)) _ λ _. walk_ends w
+          && is_behind_shared v.items base)) _ λ _. walk_obeyed Rule.T13 at (not (rows.is_drop_method m)) _ λ _. walk_ends w
 
       if_takes : (base : Node) (m : Method) (u : TypingState) → Inside b u.items → (c : Bool) → Walked (λ _ t. Inside b t.items) ((if
           c then rows.with_self env at s.next_node base m count args expected (rows.head_of m).params else (args [] >> breaks
