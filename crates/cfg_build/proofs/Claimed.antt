@@ -22,7 +22,9 @@ use Rattle.lower_laws.proofs.Whole.{graphs_are_well_formed}
 use Rattle.lower_laws.specs.Refused.{MeetsExactly, MeetsItsRefusals}
 use Rattle.lower_laws.proofs.Exact.{lowered-paths-meet-exactly, well_typed_rise}
 use Rattle.lower_laws.proofs.Law.{lowered-paths-meet}
-use Rattle.cfg_build.specs.Claims.{EachBody, HasOrderedEdges, IsPrepared, IsSmall, RunsAsItsSource, WalksAsItRunsFreely}
+use Rattle.lower_ready.specs.Prepared.{IsPreparedButForReferences}
+use Rattle.lower_ready.proofs.Prepared.{graphs_are_prepared}
+use Rattle.cfg_build.specs.Claims.{EachBody, HasOrderedEdges, HasScheduledDrops, IsSmall, RunsAsItsSource, WalksAsItRunsFreely}
 
 -- one body more
 pub pushed_is : (bodies new : List Body) (body same : Body) → new ≡ bodies ++ body ∷ [] → body ≡ same → new ≡ bodies ++ same ∷ []
@@ -73,10 +75,13 @@ module _ (program : ProgramTree) (graph : Graph) (same : graph ≡ graph_of prog
       let names = well_typed_names_loops program typed n tree is in
       (lowered_is_ranked program.items tree names, lowered_keeps_to_cleanup program.items tree names)))
 
-  pub prepared : WellTyped program → EachBody (IsPrepared program.items) program graph
-  prepared typed = of_graph (EachBody (IsPrepared program.items) program)
-      (each (IsPrepared program.items) program
+  pub scheduled : WellTyped program → EachBody (HasScheduledDrops program.items) program graph
+  scheduled typed = of_graph (EachBody (HasScheduledDrops program.items) program)
+      (each (HasScheduledDrops program.items) program
       (λ n tree is. lowered_is_prepared program.items tree (well_typed_names_loops program typed n tree is)))
+
+  pub prepared : WellTyped program → IsLowerable program → IsPreparedButForReferences graph
+  prepared typed low = of_graph IsPreparedButForReferences (graphs_are_prepared program typed low)
 
   pub formed : WellTyped program → IsLowerable program → IsWellFormed graph
   formed typed low = of_graph IsWellFormed (graphs_are_well_formed program typed low)

@@ -46,8 +46,8 @@ HasOrderedEdges tree body =
 
 -- no statement frees, no edge leads to the block in which a body begins, and a place that may not be left gone gets a
 -- value again as soon as it is dropped
-abbrev pub IsPrepared : ItemTable → BodyTree → Body → Type 0
-IsPrepared items tree body =
+abbrev pub HasScheduledDrops : ItemTable → BodyTree → Body → Type 0
+HasScheduledDrops items tree body =
     (frees_nothing body ≡ true) × (begins_once body ≡ true) × (refills_dropped items body ≡ true)
 
 -- at most 32 blocks for the square of the nodes, and 64 more for each node

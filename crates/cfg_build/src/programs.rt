@@ -9,7 +9,9 @@ ghost use Rattle.well_typed.specs.Program.{WellTyped};
 ghost use Rattle.cfg_graph.specs.WellFormed.Faults.{IsCounted, IsCountedBody, IsWellFormed};
 ghost use Rattle.lower_laws.specs.Lowerable.{IsLowerable};
 ghost use Rattle.lower_laws.specs.Refused.{MeetsExactly, MeetsItsRefusals};
-ghost use Rattle.cfg_build.specs.Claims.{EachBody, HasOrderedEdges, IsPrepared, IsSmall, RunsAsItsSource, WalksAsItRunsFreely};
+ghost use Rattle.lower_ready.specs.Prepared.{IsPreparedButForReferences};
+ghost use Rattle.cfg_build.specs.Claims.{EachBody, HasOrderedEdges, HasScheduledDrops, IsSmall, RunsAsItsSource};
+ghost use Rattle.cfg_build.specs.Claims.{WalksAsItRunsFreely};
 
 use crate::bodies::{LoweredBody, lower_body};
 use crate::parts::MANY;
@@ -150,8 +152,10 @@ pub fn lower(alloc: Global, typed: &Typed) -> Result<Lowered, NoMemory>
         EachBody (WalksAsItRunsFreely typed.now.items) (program_of typed.now) lowered.graph) }
     ensures edges { IfOk result (λ lowered. WellTyped (program_of typed.now) →
         EachBody HasOrderedEdges (program_of typed.now) lowered.graph) }
+    ensures drops { IfOk result (λ lowered. WellTyped (program_of typed.now) →
+        EachBody (HasScheduledDrops typed.now.items) (program_of typed.now) lowered.graph) }
     ensures prepared { IfOk result (λ lowered. WellTyped (program_of typed.now) →
-        EachBody (IsPrepared typed.now.items) (program_of typed.now) lowered.graph) }
+        IsLowerable (program_of typed.now) → IsPreparedButForReferences lowered.graph) }
     ensures well_formed { IfOk result (λ lowered. WellTyped (program_of typed.now) →
         IsLowerable (program_of typed.now) → IsWellFormed lowered.graph) }
     ensures paths { IfOk result (λ lowered. WellTyped (program_of typed.now) →

@@ -1,11 +1,18 @@
 -- What is known of a body, of its cells and of what is around a node; effects whose lines are well typed.
-use Rattle.std.proofs.Common.{◌≡◌, ◌⊎◌, inl, inr, ℕ, ◌&&◌, ◌||◌, not, nat_lt, Bool, true, false, List, [], ◌∷◌, ◌++◌, length, Option, Some, None, slice_get, refl, sym, ap, subst, ◌∙◌}
+use Rattle.std.proofs.Common.{◌≡◌, ◌⊎◌, inl, inr, ℕ, ◌&&◌, ◌||◌, not, nat_lt, Bool, true, false, List, [], ◌∷◌, ◌++◌, length, Option, Some, None, map, slice_get, refl, sym, ap, subst, ◌∙◌}
 use Rattle.std.proofs.lemmas.Bool.{eqb-true}
-use Rattle.std.proofs.lemmas.Option.{same_Some}
+use Rattle.std.proofs.lemmas.Option.{none-some, same_Some}
+use Rattle.std.proofs.lemmas.List.{map-append}
+use Rattle.std.specs.List.{list_any, list_all}
+use Rattle.std.specs.Prelude.{option_and_then, is_some}
 use Rattle.cfg_graph.specs.declared.graph.Body.{Body}
 use Rattle.cfg_graph.specs.declared.place.Operand as graph_operand
 use Rattle.cfg_graph.specs.declared.statement.Stmt.{Stmt}
 use Rattle.cfg_graph.specs.declared.terminator.Term.{Term}
+use Rattle.cfg_graph.specs.Moves.Gone.{has_index}
+use Rattle.cfg_graph.specs.Places.{named_step}
+use Rattle.cfg_graph.specs.Ready.{container_tys, may_be_left_gone, moves_out_well}
+use Rattle.cfg_graph.specs.Uses.{operands_of_stmt, operands_of_term}
 use Rattle.cfg_graph.specs.WellFormed.TypeFaults.{is_drop_body}
 use Rattle.mir_ty.specs.declared.def.Sig.{Sig}
 use Rattle.mir_ty.specs.declared.ty.Ty.{Ty}
@@ -16,14 +23,15 @@ use Rattle.store_model.specs.Concrete.Effects.{impl_of}
 use Rattle.store_model.specs.Effects as effects
 use Rattle.store_model.specs.Effects.{EffectSite, Action}
 use Rattle.mir_ty.specs.Parts.{parts_of}
-use Rattle.store_model.specs.Places.Place.{Place, whole_local, content_of, element_of, is_enum}
+use Rattle.store_model.specs.Concrete.Drops.{drop_impl}
+use Rattle.store_model.specs.Places.Place.{Step, ToPart, ToField, ToContent, ToElement, Place, whole_local, content_of, element_of, is_enum, is_reference, step_ty, ty_along}
 use Rattle.store_model.specs.Places.TypeForms as forms
 use Rattle.typed_tree.specs.Nodes.{number_of}
 use Rattle.typed_tree.specs.Tree as tree
 use Rattle.src_meaning.specs.Forms as source
 use Rattle.src_meaning.specs.Forms.{Destination, Into, Coerced, LoopsAndGuards, loop_destination, entry_of, site_in, site_of_key, moved}
 use Rattle.src_meaning.specs.Scopes.{Entry, Exit, Breaks, entry_site}
-use Rattle.src_meaning.specs.Shape.{NodeHead, BoundName, Aliases, place_of_key}
+use Rattle.src_meaning.specs.Shape.{NodeHead, BoundName, Aliases, place_of_key, extended}
 use Rattle.well_typed.specs.Claim.{Claim, Holds, some}
 use Rattle.well_typed.specs.Nodes.{is_closure_body}
 use Rattle.well_typed.specs.Places.{InScope, LoopAround, Context, entry_with, loop_with}
@@ -160,23 +168,84 @@ module _ (g : Ground) where
   KeysOk [] = Unit {0}
   KeysOk (b ∷ bounds) = KeyIs b.key b.ty × KeysOk bounds
 
-  -- ---- lines
+  -- ---- places that may be left gone
+  abbrev pub Left : Place → Type 0
+  Left place = may_be_left_gone g.items B (typed_places.at_graph F g.bodies place) ≡ true
+
+  -- out of a value of this type nothing is moved: it is a reference, or has a `Drop` impl
+  abbrev pub holds_back : Option Ty → Bool
+  holds_back ty = is_reference ty || is_some (drop_impl g.items ty)
+
+  first_false : (x y : Bool) → x || y ≡ false → x ≡ false
+  first_false true y e = absurd (untrue (sym e))
+  first_false false y e = refl
+
+  second_false : (x y : Bool) → x || y ≡ false → y ≡ false
+  second_false true y e = absurd (untrue (sym e))
+  second_false false y e = e
+
+  no_index_on : (steps : List Step) (step : Step) → has_index steps ≡ false → has_index (step ∷ []) ≡ false → has_index (steps ++ step ∷ []) ≡ false
+  no_index_on [] step h k = k
+  no_index_on (ToPart n ∷ steps) step h k = no_index_on steps step h k
+  no_index_on (ToField v n ∷ steps) step h k = no_index_on steps step h k
+  no_index_on (ToContent ∷ steps) step h k = no_index_on steps step h k
+  no_index_on (ToElement local ∷ steps) step h k = absurd (untrue (sym h))
+
+  none_holds_on : (steps : List Step) (step : Step) (o : Option TyId) (id : TyId) (ty : Ty) → option_and_then (ty_along g.items steps) o ≡ Some id → type_at g.items id ≡ Some ty → holds_back (Some ty) ≡ false →
+      list_any holds_back (container_tys g.items o steps) ≡ false → list_any holds_back (container_tys g.items o (steps ++ step ∷ [])) ≡ false
+  none_holds_on steps step None id ty a e d h = absurd (none-some id a)
+  none_holds_on [] step (Some k) id ty a e d h = both_false _ _ (ap holds_back (ap (type_at g.items) (same_Some k id a) ∙ e) ∙ d) refl
+  none_holds_on (x ∷ steps) step (Some k) id ty a e d h =
+      both_false _ _ (first_false (holds_back (type_at g.items k)) _ h)
+      (none_holds_on steps step (option_and_then (step_ty g.items x) (type_at g.items k)) id ty a e d (second_false (holds_back (type_at g.items k)) _ h))
+
+  not_false : (x : Bool) → x ≡ false → not x ≡ true
+  not_false x e = ap not e
+
+  both_true : (x y : Bool) → x ≡ true → y ≡ true → x && y ≡ true
+  both_true true y e d = d
+  both_true false y e d = e
+
+  -- a whole local may be, and so may a part of what may be and does not hold its parts back
+  pub left_whole : (key : ℕ) → Left (whole_local key)
+  left_whole key = refl
+
+  pub left_on : (place : Place) (step : Step) (id : TyId) (ty : Ty) → At place id ty → has_index (named_step (build.step_of F step) ∷ []) ≡ false → holds_back (Some ty) ≡ false → Left place → Left (extended step place)
+  left_on place step id ty t no_index out left =
+      let steps = map named_step (map (build.step_of F) place.steps) in
+      subst (λ (z : List Step). not (has_index z) && not (list_any holds_back (container_tys g.items (slice_get g.tys (g.local_of place.local)) z)) ≡ true)
+      (sym (ap (map named_step) (map-append (build.step_of F) place.steps (step ∷ [])) ∙ map-append named_step (map (build.step_of F) place.steps) (build.step_of F step ∷ [])))
+      (both_true _ _ (not_false _ (no_index_on steps (named_step (build.step_of F step)) (not_true (has_index steps) (and_first _ _ left)) no_index))
+      (not_false _ (none_holds_on steps (named_step (build.step_of F step)) (slice_get g.tys (g.local_of place.local)) id ty t.is t.known out (not_true _ (and_second (not (has_index steps)) _ left)))))
+
+  -- ---- lines: they have no fault, and a value is moved out only where its place may be left gone
+  abbrev pub MovesOk : List graph_operand.Operand → Type 0
+  MovesOk operands = list_all (moves_out_well g.items B) operands ≡ true
+
   abbrev pub StmtOk : Stmt → Type 0
-  StmtOk stmt = typed_lines.StmtOk g.items g.bodies B stmt
+  StmtOk stmt = typed_lines.StmtOk g.items g.bodies B stmt × MovesOk (operands_of_stmt stmt)
 
   abbrev pub TermOk : Term → Type 0
-  TermOk term = typed_lines.TermOk g.items g.bodies B term
+  TermOk term = typed_lines.TermOk g.items g.bodies B term × MovesOk (operands_of_term term)
+
+  pub one_moved : (place : Place) → Left place → MovesOk (graph_operand.Operand.Moved (typed_places.at_graph F g.bodies place) ∷ [])
+  one_moved place left = both_true _ true left refl
+
+  -- operands that are moved out of whole locals
+  pub moved_well : (n : ℕ) (keys : List ℕ) → MovesOk (build.operands_of F (map (moved n) keys))
+  moved_well n [] = refl
+  moved_well n (key ∷ keys) = moved_well n keys
 
   pub drop_ok : (e : Entry) → EntryOk e → needs_drop g.items e.ty ≡ true → (n : ℕ) (u : Unwind) → TermOk (Term.DropAt (build.place_of F (entry_site e)) n u)
-  drop_ok e h x n u = let t = key_typed e.key e.ty (h x) in typed_lines.drop_ok g.items g.bodies B (typed_places.at_graph F g.bodies (whole_local e.key)) e.ty t.0 t.1 n u
+  drop_ok e h x n u = let t = key_typed e.key e.ty (h x) in (typed_lines.drop_ok g.items g.bodies B (typed_places.at_graph F g.bodies (whole_local e.key)) e.ty t.0 t.1 n u, refl)
 
   abbrev pub wanted : Wanted F
   wanted = record {
     stmt = λ stmt n. StmtOk stmt;
     term = λ term n. TermOk term;
     entry = EntryOk;
-    goto = λ n node. typed_lines.goto_ok g.items g.bodies B n;
-    resume = λ node. typed_lines.resume_ok g.items g.bodies B;
+    goto = λ n node. (typed_lines.goto_ok g.items g.bodies B n, refl);
+    resume = λ node. (typed_lines.resume_ok g.items g.bodies B, refl);
     drop = drop_ok;
     behind = λ stmt stmts term. Unit {0};
     returns = 1;
@@ -234,6 +303,10 @@ module _ (g : Ground) where
     pub names : (key : ℕ) (e : InScope) → entry_with key x.entries ≡ Some e → Typed (place_of_key key a.aliases) e.ty
     pub self : (e : InScope) → x.closure ≡ Some e → Typed (place_of_key e.key a.aliases) e.ty
     pub captures : (e : InScope) (ty : Ty) → x.closure ≡ Some e → type_at g.items e.ty ≡ Some ty → is_enum g.items ty ≡ false
+    -- a name stands for a place that may be left gone, unless it is a binding inside its own guard
+    pub lets_go : (key : ℕ) (e : InScope) → entry_with key x.entries ≡ Some e → e.is_in_guard ≡ false → Left (place_of_key key a.aliases)
+    pub self_lets_go : (e : InScope) → x.closure ≡ Some e → Left (place_of_key e.key a.aliases)
+    pub captured_out : (e : InScope) (ty : Ty) → x.closure ≡ Some e → type_at g.items e.ty ≡ Some ty → holds_back (Some ty) ≡ false
     pub answer : DestIf a.answer x.answer
     pub loops : (loop : ℕ) (l : LoopAround) → loop_with loop x.loops ≡ Some l → DestIf (loop_destination loop a.loops) l.ty
 

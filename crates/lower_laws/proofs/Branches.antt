@@ -50,7 +50,7 @@ module _ (g : Ground) where
   scrutinised_sound x n m k c a f = base.and_then g _ _ (k.reaches c a f) (λ e. touched m.shape.is_place (k.place c a f e))
     where
       touched : (b : Bool) → base.Typed g (lower.place_in m a) m.head.ty → Sound (lower.touched F b (lower.site_of m a))
-      touched true t = base.acts g m.head.id (effects.Touch (lower.site_of m a)) (typed_lines.touched g.items g.bodies (base.B g) _ m.head.ty t.0 t.1)
+      touched true t = base.acts g m.head.id (effects.Touch (lower.site_of m a)) (typed_lines.touched g.items g.bodies (base.B g) _ m.head.ty t.0 t.1, refl)
       touched false t = base.nothing_done g
 
   pub scrutinised_leaves : (x : Context) (n : tree.Node) (m : NodeLower) → Good x n m → Cells (reached_cells g.items n) → (a : LoopsAndGuards) → Leaves x.loops (lower.scrutinised F a m)
@@ -64,13 +64,17 @@ module _ (g : Ground) where
   pub scrutinee_place : (x : Context) (n : tree.Node) (m : NodeLower) → Good x n m → Cells (reached_cells g.items n) → (a : LoopsAndGuards) → base.Fine g x a (nodes_of n) → (lower.scrutinised F a m).has_end ≡ true → base.Typed g (lower.place_in m a) m.head.ty
   scrutinee_place x n m k c a f e = k.place c a f (and_first (m.reaches a).has_end _ e)
 
+  -- and it may be left gone, where it may be moved out of
+  pub scrutinee_goes : (x : Context) (n : tree.Node) (m : NodeLower) → Good x n m → Cells (reached_cells g.items n) → (a : LoopsAndGuards) → base.Fine g x a (nodes_of n) → (lower.scrutinised F a m).has_end ≡ true → rules.MayMove g x n → base.Left g (lower.place_in m a)
+  scrutinee_goes x n m k c a f e w = k.lets_go w c a f (and_first (m.reaches a).has_end _ e)
+
   -- ---- `if let` and `while let`
   pub if_taken_sound : (x : Context) (h : NodeHead) (a : LoopsAndGuards) (p : NodeLower) (n : tree.Node) (m : NodeLower) → Good x n m → Cells (reached_cells g.items n) → base.Fine g x a (nodes_of n) →
-      ((place : Place) → base.Typed g place m.head.ty → TestsOk (p.shape.tests place) × rules.BoundsOk g (p.shape.bindings place)) → (P Q : Lowers) → Sound P → Sound Q → Sound (lower.if_taken F h a p m P Q)
+      ((place : Place) → base.Typed g place m.head.ty → (rules.MayMove g x n → base.Left g place) → TestsOk (p.shape.tests place) × rules.BoundsOk g (p.shape.bindings place)) → (P Q : Lowers) → Sound P → Sound Q → Sound (lower.if_taken F h a p m P Q)
   if_taken_sound x h a p n m k c f shaped P Q sp sq =
       let place = lower.place_in m a in
       lines.entered_sound F (base.wanted g) h.id true _ (base.and_then g _ _ (scrutinised_sound x n m k c a f)
-      (λ e. let s = shaped place (scrutinee_place x n m k c a f e) in
+      (λ e. let s = shaped place (scrutinee_place x n m k c a f e) (λ w. scrutinee_goes x n m k c a f e w) in
       lines.branches_sound F (base.wanted g) h.id (tests F (p.shape.tests place)) _ _ (lines.tests_ok F (base.wanted g) (p.shape.tests place) s.0)
       (base.and_then g _ _ (base.and_then g _ P (rules.bind_sound g innermost (rules.inner g) (p.shape.bindings place) s.1) (λ e. sp)) (λ e. lines.leave_sound F (base.wanted g)))
       (base.and_then g _ Q (lines.leave_sound F (base.wanted g)) (λ e. sq))))
@@ -159,14 +163,14 @@ module _ (g : Ground) where
       by (a_lower guard) = ap (λ b. (guard.evaluates (in_guard (p.shape.bindings matched) a) true (Into guard.head.id)).has_end && b) taken ∙ base.and_false _
 
   -- what an arm is for the `match` around it: where a value of the arm's type may go
-  pub record ArmGood (x : Context) (n : tree.Node) (m : NodeLower) (scrutinee : TyId) : Type 0 where
+  pub record ArmGood (x : Context) (n : tree.Node) (m : NodeLower) (scrutinee : TyId) (may : Bool) : Type 0 where
     pub ended : base.Never g (ty_of n) → (matched : Place) (a : LoopsAndGuards) (to : Destination) → (m.arm matched a to).has_end ≡ false
     pub leaves : (matched : Place) (a : LoopsAndGuards) (to : Destination) → base.Spares g x.loops (m.arm matched a to).jumps
-    pub sound : (matched : Place) → base.Typed g matched scrutinee → (a : LoopsAndGuards) → base.Fine g x a (nodes_of n) → (to : Destination) → base.DestIf g to (ty_of n) → ArmSound (m.arm matched a to)
+    pub sound : (matched : Place) → base.Typed g matched scrutinee → (may ≡ true → base.Left g matched) → (a : LoopsAndGuards) → base.Fine g x a (nodes_of n) → (to : Destination) → base.DestIf g to (ty_of n) → ArmSound (m.arm matched a to)
 
-  pub data Arms (x : Context) (scrutinee want : TyId) : List tree.Node → List NodeLower → Type 0 where
-    no_arm : Arms x scrutinee want [] []
-    an_arm : (n : tree.Node) (others : List tree.Node) (m : NodeLower) (ms : List NodeLower) → ArmGood x n m scrutinee → rules.Fits g want (ty_of n) → Arms x scrutinee want others ms → Arms x scrutinee want (nodes_of n ++ others) (m ∷ ms)
+  pub data Arms (x : Context) (scrutinee want : TyId) (may : Bool) : List tree.Node → List NodeLower → Type 0 where
+    no_arm : Arms x scrutinee want may [] []
+    an_arm : (n : tree.Node) (others : List tree.Node) (m : NodeLower) (ms : List NodeLower) → ArmGood x n m scrutinee may → rules.Fits g want (ty_of n) → Arms x scrutinee want may others ms → Arms x scrutinee want may (nodes_of n ++ others) (m ∷ ms)
 
   pub dest_fits : (to : Destination) (want ty : TyId) → rules.Fits g want ty → base.DestIf g to want → base.DestIf g to ty
   dest_fits to want ty fit d m = elim fit [
@@ -174,32 +178,32 @@ module _ (g : Ground) where
     | inr never ↦ absurd (base.never_and_made g ty never m)
   ]
 
-  arms_from : (x : Context) (number : ℕ) (scrutinee want : TyId) (ns : List tree.Node) (ms : List NodeLower) → Arms x scrutinee want ns ms → (matched : Place) → base.Typed g matched scrutinee → (a : LoopsAndGuards) → base.Fine g x a ns → (to : Destination) → base.DestIf g to want → (c : Ways) → c.returns.block ≡ 1 → (S : Scopes) (k : BlockRest) (s : Building) →
+  arms_from : (x : Context) (number : ℕ) (scrutinee want : TyId) (may : Bool) (ns : List tree.Node) (ms : List NodeLower) → Arms x scrutinee want may ns ms → (matched : Place) → base.Typed g matched scrutinee → (may ≡ true → base.Left g matched) → (a : LoopsAndGuards) → base.Fine g x a ns → (to : Destination) → base.DestIf g to want → (c : Ways) → c.returns.block ≡ 1 → (S : Scopes) (k : BlockRest) (s : Building) →
       lines.ScopesOk F (base.wanted g) S → lines.Ok F (base.wanted g) s → lines.RestOk F (base.wanted g) k → lines.Both F (base.wanted g) (lower.arms_from F number ms matched a to c S k s)
-  arms_from x number scrutinee want _ _ no_arm matched t a f to d c w S k s o h l = lines.panic_both F (base.wanted g) (Term.Panic Why.Match) number (λ u. (typed_lines.panic_ok g.items g.bodies (base.B g) u).1) S o s h
-  arms_from x number scrutinee want _ _ (an_arm n others m ms one fit rest) matched t a f to d c w S k s o h l =
+  arms_from x number scrutinee want may _ _ no_arm matched t go a f to d c w S k s o h l = lines.panic_both F (base.wanted g) (Term.Panic Why.Match) number (λ u. ((typed_lines.panic_ok g.items g.bodies (base.B g) u).1, refl)) S o s h
+  arms_from x number scrutinee want may _ _ (an_arm n others m ms one fit rest) matched t go a f to d c w S k s o h l =
       let b = lower.arms_from F number ms matched a to c S k s in
-      let i = arms_from x number scrutinee want others ms rest matched t a (base.fine_second g x a (nodes_of n) others f) to d c w S k s o h l in
-      one.sound matched t a (base.fine_first g x a (nodes_of n) others f) to (dest_fits to want (ty_of n) fit d) c w S (length b.1.blocks) k (closed Kind.Plain b.0 b.1) o (lines.closed_ok F (base.wanted g) Kind.Plain b.0 b.1 i.0 i.1) l
+      let i = arms_from x number scrutinee want may others ms rest matched t go a (base.fine_second g x a (nodes_of n) others f) to d c w S k s o h l in
+      one.sound matched t go a (base.fine_first g x a (nodes_of n) others f) to (dest_fits to want (ty_of n) fit d) c w S (length b.1.blocks) k (closed Kind.Plain b.0 b.1) o (lines.closed_ok F (base.wanted g) Kind.Plain b.0 b.1 i.0 i.1) l
 
-  pub arms_sound : (x : Context) (number : ℕ) (scrutinee want : TyId) (ns : List tree.Node) (ms : List NodeLower) → Arms x scrutinee want ns ms → (matched : Place) → base.Typed g matched scrutinee → (a : LoopsAndGuards) → base.Fine g x a ns → (to : Destination) → base.DestIf g to want → Sound (lower.arms_in_order F number ms matched a to)
-  arms_sound x number scrutinee want ns ms arms matched t a f to d = record {
+  pub arms_sound : (x : Context) (number : ℕ) (scrutinee want : TyId) (may : Bool) (ns : List tree.Node) (ms : List NodeLower) → Arms x scrutinee want may ns ms → (matched : Place) → base.Typed g matched scrutinee → (may ≡ true → base.Left g matched) → (a : LoopsAndGuards) → base.Fine g x a ns → (to : Destination) → base.DestIf g to want → Sound (lower.arms_in_order F number ms matched a to)
+  arms_sound x number scrutinee want may ns ms arms matched t go a f to d = record {
     after = λ e S o. o;
     lines = λ c w S k s o h l.
         let ends = lower.arms_end F ms matched a to in
         let j = joined ends number k s in
         let jo = lines.joined_ok F (base.wanted g) ends number k s h l in
-        arms_from x number scrutinee want ns ms arms matched t a f to d c w S j.0 j.1 o jo.0 jo.1;
+        arms_from x number scrutinee want may ns ms arms matched t go a f to d c w S j.0 j.1 o jo.0 jo.1;
   }
 
-  pub arms_leave : (x : Context) (scrutinee want : TyId) (ns : List tree.Node) (ms : List NodeLower) → Arms x scrutinee want ns ms → (matched : Place) (a : LoopsAndGuards) (to : Destination) → base.Spares g x.loops (lower.arm_jumps F ms matched a to)
-  arms_leave x scrutinee want _ _ no_arm matched a to = tt
-  arms_leave x scrutinee want _ _ (an_arm n others m ms one fit rest) matched a to = base.spares_append g x.loops _ _ (one.leaves matched a to) (arms_leave x scrutinee want others ms rest matched a to)
+  pub arms_leave : (x : Context) (scrutinee want : TyId) (may : Bool) (ns : List tree.Node) (ms : List NodeLower) → Arms x scrutinee want may ns ms → (matched : Place) (a : LoopsAndGuards) (to : Destination) → base.Spares g x.loops (lower.arm_jumps F ms matched a to)
+  arms_leave x scrutinee want may _ _ no_arm matched a to = tt
+  arms_leave x scrutinee want may _ _ (an_arm n others m ms one fit rest) matched a to = base.spares_append g x.loops _ _ (one.leaves matched a to) (arms_leave x scrutinee want may others ms rest matched a to)
 
-  pub arms_ended : (x : Context) (scrutinee want : TyId) (ns : List tree.Node) (ms : List NodeLower) → Arms x scrutinee want ns ms → base.Never g want → (matched : Place) (a : LoopsAndGuards) (to : Destination) → lower.arms_end F ms matched a to ≡ false
-  arms_ended x scrutinee want _ _ no_arm v matched a to = refl
-  arms_ended x scrutinee want _ _ (an_arm n others m ms one fit rest) v matched a to =
-      base.both_false _ _ (one.ended (elim fit [ inl same ↦ subst (base.Never g) (sym same) v | inr never ↦ never ]) matched a to) (arms_ended x scrutinee want others ms rest v matched a to)
+  pub arms_ended : (x : Context) (scrutinee want : TyId) (may : Bool) (ns : List tree.Node) (ms : List NodeLower) → Arms x scrutinee want may ns ms → base.Never g want → (matched : Place) (a : LoopsAndGuards) (to : Destination) → lower.arms_end F ms matched a to ≡ false
+  arms_ended x scrutinee want may _ _ no_arm v matched a to = refl
+  arms_ended x scrutinee want may _ _ (an_arm n others m ms one fit rest) v matched a to =
+      base.both_false _ _ (one.ended (elim fit [ inl same ↦ subst (base.Never g) (sym same) v | inr never ↦ never ]) matched a to) (arms_ended x scrutinee want may others ms rest v matched a to)
 
   -- ---- names of `let`
   pub let_name_sound : (h y : NodeHead) (P : Lowers) → base.KeyIs g y.id y.ty → Sound P →
@@ -226,7 +230,7 @@ module _ (g : Ground) where
     where
       emptied : (x : Bool) → Sound (lower.emptied F x b.key)
       emptied true = base.nothing_done g
-      emptied false = let t = base.key_typed g b.key b.ty k.0 in lines.drop_sound F (base.wanted g) (site_of_key b.key) (λ n u. typed_lines.drop_ok g.items g.bodies (base.B g) _ b.ty t.0 t.1 n u)
+      emptied false = let t = base.key_typed g b.key b.ty k.0 in lines.drop_sound F (base.wanted g) (site_of_key b.key) (λ n u. (typed_lines.drop_ok g.items g.bodies (base.B g) _ b.ty t.0 t.1 n u, refl))
 
   pub declared_leaves : (loops : List LoopAround) (bounds : List BoundName) → Leaves loops (lower.declared F bounds)
   declared_leaves loops [] = record { spares = tt }

@@ -30,7 +30,7 @@ use Rattle.lower_rules.specs.Laws.{AllNameTheirLoops}
 use Rattle.lower_rules.specs.Lower.{body_of, graph_of, node_of, frame}
 use Rattle.lower_rules.proofs.Bodies.{lowered_returns, lowered_keeps_to_cleanup}
 use Rattle.lower_rules.proofs.FormSites.{lowered_stops}
-use Rattle.lower_laws.specs.Refused.{MeetsExactly, AllNumbersRise, LoweredPathsMeetExactly}
+use Rattle.lower_laws.specs.Refused.{ruled_by, MeetsExactly, AllNumbersRise, LoweredPathsMeetExactly}
 use Rattle.lower_laws.proofs.Ends as ends
 use Rattle.lower_laws.proofs.Law.{lowered-paths-meet}
 use Rattle.lower_laws.proofs.Numbers.{IsNoParam, no_param_in}
@@ -102,7 +102,7 @@ module _ (program : ProgramTree) (named : AllNameTheirLoops program) (rises : Al
   reaches path given bad (in_block r before) = inl r
   reaches path given bad (on_way r before) = inr r
 
-  refused : (path : List ℕ) (given : List Bool) (bad : BadUse) → Reaches items body path given bad → reached_by items tree given ≡ Some (site_of (node_of items tree) bad.action)
+  refused : (path : List ℕ) (given : List Bool) (bad : BadUse) → Reaches items body path given bad → (reached_by items tree given ≡ Some (site_of (node_of items tree) bad.action)) × (ruled_by items tree given ≡ Some bad.rule)
   refused path given bad r = (lowered-paths-meet items tree (named n tree there)).refused path given bad (runs path given bad r)
 
   meets_exactly : MeetsExactly items tree body
@@ -110,10 +110,10 @@ module _ (program : ProgramTree) (named : AllNameTheirLoops program) (rises : Al
     refused = refused;
     reached = λ given site is.
         let it = (lowered-paths-meet items tree (named n tree there)).reached given site is in
-        (it.0, it.1, reaches it.0 given it.1 it.2, it.3);
+        (it.0, it.1, reaches it.0 given it.1 it.2, it.3, it.4);
     exact = (
       (lowered-paths-meet items tree (named n tree there)).accepted,
-      λ none. ends.meets_none items body (λ path given bad r. none-some (site_of (node_of items tree) bad.action) (sym (none given) ∙ refused path given bad r)),
+      λ none. ends.meets_none items body (λ path given bad r. none-some (site_of (node_of items tree) bad.action) (sym (none given) ∙ (refused path given bad r).0)),
     );
   }
 

@@ -18,9 +18,10 @@ use Rattle.mir_ty.specs.declared.adt.Variant.{Variant}
 use Rattle.mir_ty.specs.declared.def.Sig.{Sig}
 use Rattle.mir_ty.specs.declared.ty.Ty.{Ty}
 use Rattle.mir_ty.specs.declared.ty.TyId.{TyId}
-use Rattle.mir_ty.specs.Facts.{needs_drop}
+use Rattle.mir_ty.specs.Facts.{needs_drop, is_copy, has_drop_impl, ty_has_drop_impl, adt_has_drop_impl}
 use Rattle.mir_ty.specs.ItemTable.{type_at}
 use Rattle.mir_ty.specs.Parts.{field_ty, parts_of}
+use Rattle.store_model.specs.Concrete.Drops.{drop_impl, with_drop_body}
 use Rattle.store_model.specs.Concrete.Effects.{impl_of}
 use Rattle.store_model.specs.Effects as effects
 use Rattle.store_model.specs.Effects.{EffectSite, Action, OfTuple, OfArray, OfVariant, OfClosure}
@@ -36,9 +37,9 @@ use Rattle.src_meaning.specs.Forms as source
 use Rattle.src_meaning.specs.Forms.{Destination, Into, Coerced, coerced, LoopsAndGuards, in_loop, loop_destination, in_guard, entry_of, site_in, site_of_key, moved}
 use Rattle.src_meaning.specs.Locals.OfBody.{cells, reached_cells, cells_in, all_cells, cells_of_fields, cells_if_any, initial_cells, is_place_form}
 use Rattle.src_meaning.specs.Scopes.{Entry, Breaks, Continues, Returns, innermost, around_innermost}
-use Rattle.src_meaning.specs.Shape.{NodeHead, head, Shape, Aliases, kind_of, shape, shape_of, extended, place_of_key, site_at}
+use Rattle.src_meaning.specs.Shape.{NodeHead, head, moves, Shape, Aliases, kind_of, shape, shape_of, extended, place_of_key, site_at}
 use Rattle.src_meaning.specs.FieldKeys.{field_keys, moved_fields}
-use Rattle.well_typed.specs.Claim.{Claim, Holds, fact, some, ◌&◌}
+use Rattle.well_typed.specs.Claim.{Claim, Holds, fact, some, nothing, ◌&◌}
 use Rattle.well_typed.specs.Names.{are_distinct_numbers}
 use Rattle.mir_ty.specs.DropBodies as of_drops
 use Rattle.well_typed.specs.Nodes as typing
@@ -62,6 +63,7 @@ use Rattle.lower_laws.proofs.Branches as branches
 use Rattle.lower_laws.proofs.Patterns as pattern_lines
 use Rattle.lower_laws.proofs.Names as names
 use Rattle.lower_laws.proofs.Fields as taken_fields
+use Rattle.lower_laws.proofs.MovedOut as moved_out
 
 module _ (g : Ground) where
   abbrev F : LoweringFrame
@@ -281,13 +283,13 @@ module _ (g : Ground) where
       with_kind (Some kind) e h =
           let known = int_known g.items ty kind e in
           let same : kind_of g.items ty ≡ kind = simp (known) in
-          subst (λ (z : IntKind). ActOk id (effects.Put (site_in id key) (effects.Number value z))) (sym same) (typed_lines.put_number g.items g.bodies B _ ty value kind (base.key_at g key ty (Ty.Int kind) k known) h)
+          subst (λ (z : IntKind). ActOk id (effects.Put (site_in id key) (effects.Number value z))) (sym same) (typed_lines.put_number g.items g.bodies B _ ty value kind (base.key_at g key ty (Ty.Int kind) k known) h, refl)
 
   truth_put : (id : ℕ) (ty : TyId) (truth : Bool) (key : ℕ) → base.KeyIs g key ty → types.is_bool g.items ty ≡ true → ActOk id (effects.Put (site_in id key) (effects.Truth truth))
-  truth_put id ty truth key k is = typed_lines.put_truth g.items g.bodies B _ ty truth (base.key_at g key ty Ty.Bool k (bool_known g.items ty is))
+  truth_put id ty truth key k is = (typed_lines.put_truth g.items g.bodies B _ ty truth (base.key_at g key ty Ty.Bool k (bool_known g.items ty is)), refl)
 
   unit_put_at : (id : ℕ) (ty : TyId) (key : ℕ) → base.KeyIs g key ty → types.is_unit g.items ty ≡ true → ActOk id (effects.Put (site_in id key) effects.UnitValue)
-  unit_put_at id ty key k is = typed_lines.put_unit g.items g.bodies B _ ty (base.key_at g key ty Ty.Unit k (unit_known g.items ty is))
+  unit_put_at id ty key k is = (typed_lines.put_unit g.items g.bodies B _ ty (base.key_at g key ty Ty.Unit k (unit_known g.items ty is)), refl)
 
   -- operands that are moved are of their types
   given_moved : (n : ℕ) (ms : List NodeLower) (wants : List TyId) → rules.Given g ms wants → typed_lines.AllMoved g.items g.bodies B (build.operands_of F (lower.all_moved n ms)) wants
@@ -326,7 +328,7 @@ module _ (g : Ground) where
   called : (id callee key : ℕ) (ty : TyId) (sig : Sig) (ms : List NodeLower) → slice_get g.items.bodies callee ≡ Some sig → types.is_same ty sig.result ≡ true → is_drop_body g.items callee ≡ false → rules.Given g ms sig.params → base.KeyIs g key ty → ActOk id (effects.Call (site_in id key) callee (lower.all_moved id ms))
   called id callee key ty sig ms e same no_drop given k n u =
       let t = g.known (g.local_of key) ty k in
-      typed_lines.call_ok g.items g.bodies B _ ty t.0 callee sig _ (base.key_at g key ty t.0 k t.1) t.2 e (sym (eqb-true ty.0 sig.result.0 same)) no_drop (g.callable callee sig e) (given_moved id ms sig.params given) n u
+      (typed_lines.call_ok g.items g.bodies B _ ty t.0 callee sig _ (base.key_at g key ty t.0 k t.1) t.2 e (sym (eqb-true ty.0 sig.result.0 same)) no_drop (g.callable callee sig e) (given_moved id ms sig.params given) n u, base.moved_well g id (lower.keys_of ms))
 
   not_drop_body : (callee : ℕ) → (not (of_drops.is_drop_body g.items callee) && not (typing.is_closure_body g.items callee)) ≡ true → is_drop_body g.items callee ≡ false
   not_drop_body callee e = sym (drop_same callee) ∙ base.not_true (of_drops.is_drop_body g.items callee) (and_first _ _ e)
@@ -334,7 +336,7 @@ module _ (g : Ground) where
   called_virtually : (id trait_no method key : ℕ) (ty : TyId) (sig : Sig) (ms : List NodeLower) → method_at g.items trait_no method ≡ Some sig → types.is_same ty sig.result ≡ true → rules.Given g ms sig.params → base.KeyIs g key ty → ActOk id (effects.CallVirtual (site_in id key) trait_no method (lower.all_moved id ms))
   called_virtually id trait_no method key ty sig ms e same given k n u =
       let t = g.known (g.local_of key) ty k in
-      typed_lines.virtual_ok g.items g.bodies B _ ty t.0 trait_no method sig _ (base.key_at g key ty t.0 k t.1) t.2 e (sym (eqb-true ty.0 sig.result.0 same)) (given_moved id ms sig.params given) n u
+      (typed_lines.virtual_ok g.items g.bodies B _ ty t.0 trait_no method sig _ (base.key_at g key ty t.0 k t.1) t.2 e (sym (eqb-true ty.0 sig.result.0 same)) (given_moved id ms sig.params given) n u, base.moved_well g id (lower.keys_of ms))
 
   -- ---- what the forms have in common
   fits_head : (x : Context) (n : Node) → Good x n (L n) → (want : TyId) → Fits want (ty_of n) → Fits want (L n).head.ty
@@ -397,11 +399,11 @@ module _ (g : Ground) where
     bounds = effects.Bounds (effects.Copied (site_of_key (L index).head.id)) count
 
     touch_ok : (a : LoopsAndGuards) → base.Typed g ((S_of (tree.Index inner index count) (head id ty by)).place a.aliases) ty → ActOk id (touch a)
-    touch_ok a t = let whole = typed_places.array_at F g.bodies ((S_of (tree.Index inner index count) (head id ty by)).place a.aliases) ty t.0 t.1 in typed_lines.touched g.items g.bodies B _ whole.0 whole.1 whole.2
+    touch_ok a t = let whole = typed_places.array_at F g.bodies ((S_of (tree.Index inner index count) (head id ty by)).place a.aliases) ty t.0 t.1 in (typed_lines.touched g.items g.bodies B _ whole.0 whole.1 whole.2, refl)
 
-    index_good : ((o : Bool) → Cells (cells g.items o N) → Reached) → (Cells (cells g.items true N) → base.Made g ty → base.KeyIs g id ty) → ((o : Bool) → Cells (cells g.items o N) → base.Never g ty → base.KeyIs g id ty) →
+    index_good : moved_out.Freed g x by (tree.Index inner index count) → ((o : Bool) → Cells (cells g.items o N) → Reached) → (Cells (cells g.items true N) → base.Made g ty → base.KeyIs g id ty) → ((o : Bool) → Cells (cells g.items o N) → base.Never g ty → base.KeyIs g id ty) →
         Good x N (lower.a_place F (head id ty by) (S_of (tree.Index inner index count) (head id ty by)) (lower.reach_element F (head id ty by) (S_of (tree.Index inner index count) (head id ty by)) (L inner) (L index) count))
-    index_good so cell never = rules.place_good g x N (head id ty by) (S_of (tree.Index inner index count) (head id ty by)) _ (record {
+    index_good u so cell never = rules.place_good g x N (head id ty by) (S_of (tree.Index inner index count) (head id ty by)) _ (record {
       id_is = refl;
       ty_is = refl;
       shape_is = refl;
@@ -414,8 +416,10 @@ module _ (g : Ground) where
           (λ e. base.leaves_then g x.loops _ _ (base.leaves_none g x.loops id (touch a)) (λ e. base.leaves_none g x.loops (L index).head.id bounds)));
       sound = λ c a f. base.and_then g _ _ (b.reaches (of_base c) a (fine_base a f)) (λ e. base.and_then g _ _ (i.evaluates true (of_index c) a (fine_index a f) false (Into (L index).head.id) (λ v. i.cell (of_index c) v))
           (λ d. base.and_then g _ _ (base.acts g id (touch a) (touch_ok a (element c a f e d)))
-          (λ q. base.acts g (L index).head.id bounds (λ n u. typed_lines.bounds_ok g.items g.bodies B _ (L index).head.ty count (base.key_at g (L index).head.id (L index).head.ty (Ty.Int IntKind.Usize) (i.cell (of_index c) (index_made c a d)) (index_usize c a d)) n u))));
+          (λ q. base.acts g (L index).head.id bounds (λ n u. (typed_lines.bounds_ok g.items g.bodies B _ (L index).head.ty count (base.key_at g (L index).head.id (L index).head.ty (Ty.Int IntKind.Usize) (i.cell (of_index c) (index_made c a d)) (index_usize c a d)) n u, refl)))));
       place = λ c a f e. element c a f (and_first ((L inner).reaches a).has_end _ e) (and_first (Asks a).has_end _ (and_second ((L inner).reaches a).has_end _ e));
+      moved = u;
+      lets_go = λ w. absurd (untrue w);
     })
 
   -- operands that are compared are both of one integer type, or both of type `bool`
@@ -731,12 +735,12 @@ module _ (g : Ground) where
   shape_same (tree.node id at ty by (tree.ArrayPattern elements)) = refl
   shape_same (tree.node id at ty by (tree.OrPattern alternatives)) = refl
 
-  shaped_for : (p : Node) (m : Matched) (want : TyId) → Holds (patterns.pattern g.items m want p) → Cells (cells g.items true p) → (place : Place) → base.Typed g place want → lines.TestsOk F (base.wanted g) ((L p).shape.tests place) × rules.BoundsOk g ((L p).shape.bindings place)
-  shaped_for p m want h c place t = subst (λ (s : Shape). lines.TestsOk F (base.wanted g) (s.tests place) × rules.BoundsOk g (s.bindings place)) (sym (shape_same p)) (pattern_lines.pattern_ok g p m want h c place t)
+  shaped_for : (p : Node) (m : Matched) (want : TyId) → Holds (patterns.pattern g.items m want p) → Cells (cells g.items true p) → (place : Place) → base.Typed g place want → (m.may_move ≡ true → base.Left g place) → lines.TestsOk F (base.wanted g) ((L p).shape.tests place) × rules.BoundsOk g ((L p).shape.bindings place)
+  shaped_for p m want h c place t free = subst (λ (s : Shape). lines.TestsOk F (base.wanted g) (s.tests place) × rules.BoundsOk g (s.bindings place)) (sym (shape_same p)) (pattern_lines.pattern_ok g p m want h c place t free)
 
-  shaped_at : (x : Context) (p n : Node) → Good x n (L n) → (m : Matched) → Holds (patterns.pattern g.items m (ty_of n) p) → Cells (cells g.items true p) → (place : Place) → base.Typed g place (L n).head.ty →
+  shaped_at : (x : Context) (p n : Node) → Good x n (L n) → (m : Matched) → Holds (patterns.pattern g.items m (ty_of n) p) → Cells (cells g.items true p) → (place : Place) → base.Typed g place (L n).head.ty → (m.may_move ≡ true → base.Left g place) →
       lines.TestsOk F (base.wanted g) ((L p).shape.tests place) × rules.BoundsOk g ((L p).shape.bindings place)
-  shaped_at x p n k m h c place t = shaped_for p m (ty_of n) h c place (subst (base.Typed g place) k.ty_is t)
+  shaped_at x p n k m h c place t free = shaped_for p m (ty_of n) h c place (subst (base.Typed g place) k.ty_is t) free
 
   -- ---- structs and enums
   adt_is : (ty : TyId) (adt : ℕ) → option_map_or (λ n. n == adt) (types.adt_of g.items ty) false ≡ true → type_at g.items ty ≡ Some (Ty.Adt adt)
@@ -761,6 +765,10 @@ module _ (g : Ground) where
   count_same no_field = refl
   count_same (a_field number value rest) = ap suc (count_same rest)
 
+  fields_moved : (n : ℕ) (fields : List (ℕ × ℕ)) → base.MovesOk g (build.operands_of F (moved_fields n fields))
+  fields_moved n [] = refl
+  fields_moved n (field ∷ fields) = fields_moved n fields
+
   made_adt : (id : ℕ) (ty : TyId) (adt variant : ℕ) (fields : Fields) (v : Variant) (key : ℕ) → option_map_or (λ n. n == adt) (types.adt_of g.items ty) false ≡ true → types.variant_at g.items adt variant ≡ Some v →
       (are_distinct_numbers (patterns.field_numbers fields) && length (patterns.field_numbers fields) == length v.fields) ≡ true → base.KeyIs g key ty → taken_fields.OfFields g v.fields (field_keys fields) →
       ActOk id (effects.Build (site_in id key) (OfVariant adt variant) (moved_fields id (in_number_order (field_keys fields))))
@@ -768,11 +776,13 @@ module _ (g : Ground) where
     where
       with_adt : (o : Option Adt) → slice_get g.items.adts adt ≡ o → option_and_then (λ def. slice_get def.variants variant) o ≡ Some v → ActOk id (effects.Build (site_in id key) (OfVariant adt variant) (moved_fields id (in_number_order (field_keys fields))))
       with_adt None e d = absurd (none-some v d)
-      with_adt (Some def) e d =
-          typed_lines.adt_made g.items g.bodies B _ ty adt variant def v _ (base.key_at g key ty (Ty.Adt adt) k (adt_is ty adt is)) e d
-          (taken_fields.fields_taken g id (field_keys fields) v.fields
-          (taken_fields.distinct_numbers (field_keys fields) (ap are_distinct_numbers (numbers_same fields) ∙ and_first _ _ counts))
-          (count_same fields ∙ eqb-true (length (patterns.field_numbers fields)) (length v.fields) (and_second _ _ counts)) of)
+      with_adt (Some def) e d = (
+        typed_lines.adt_made g.items g.bodies B _ ty adt variant def v _ (base.key_at g key ty (Ty.Adt adt) k (adt_is ty adt is)) e d
+            (taken_fields.fields_taken g id (field_keys fields) v.fields
+            (taken_fields.distinct_numbers (field_keys fields) (ap are_distinct_numbers (numbers_same fields) ∙ and_first _ _ counts))
+            (count_same fields ∙ eqb-true (length (patterns.field_numbers fields)) (length v.fields) (and_second _ _ counts)) of),
+        fields_moved id (in_number_order (field_keys fields)),
+      )
 
   abbrev wants_of : (x : Context) (fields : Fields) (tys : List TyId) → Holds (typing.made_fields (K x) tys fields) → List TyId
   wants_of x no_field tys h = []
@@ -812,8 +822,8 @@ module _ (g : Ground) where
       stored a key t =
           let own : base.KeyIs g (L value_).head.id (L target).head.ty = subst (base.KeyIs g (L value_).head.id) (sym p.ty_is) key in
           lines.replaces_sound F (base.wanted g) (needs_drop g.items (L target).head.ty) (lower.site_of (L target) a) (L value_).head.id
-          (typed_lines.put_moved g.items g.bodies B _ _ (L target).head.ty t.0 t.1 (base.key_at g (L value_).head.id (L target).head.ty t.0 own t.1.known) (sized (L value_).head.id (L target).head.ty t.0 own t.1.known))
-          (λ stmts term. tt) (λ n u. typed_lines.drop_ok g.items g.bodies B _ (L target).head.ty t.0 t.1 n u)
+          (typed_lines.put_moved g.items g.bodies B _ _ (L target).head.ty t.0 t.1 (base.key_at g (L value_).head.id (L target).head.ty t.0 own t.1.known) (sized (L value_).head.id (L target).head.ty t.0 own t.1.known), refl)
+          (λ stmts term. tt) (λ n u. (typed_lines.drop_ok g.items g.bodies B _ (L target).head.ty t.0 t.1 n u, refl))
 
   borrow_good : (x : Context) (inner : Node) → Good x inner (L inner) → (id : ℕ) (at : Pos) (ty : TyId) (by : Option Use) (unique : Bool) → Plain (tree.node id at ty by (tree.Borrow unique inner)) (head id ty by) (S_of (tree.Borrow unique inner) (head id ty by)) →
       Holds (some (types.reference_of g.items ty) (λ r. fact (types.is_same (ty_of inner) r.1) & fact (if unique then r.0 else not r.0))) → ((o : Bool) → Cells (cells g.items o (tree.node id at ty by (tree.Borrow unique inner))) → Cells (reached_cells g.items inner)) →
@@ -868,8 +878,11 @@ module _ (g : Ground) where
               not_never (Ty.Closure n) b f = refl
 
       borrowed : (a : LoopsAndGuards) (key : ℕ) → base.KeyIs g key ty → base.Typed g (lower.place_in (L inner) a) (L inner).head.ty → ActOk (L inner).head.id (action a (site_in id key))
-      borrowed a key l p = typed_lines.borrowed g.items g.bodies B _ _ unique ty (L inner).head.ty t.0 p.0 (base.key_at g key ty t.0 l t.1) p.1
-          (subst (λ (z : Bool). forms.referent z (Some t.0) ≡ Some (L inner).head.ty) way (t.2 ∙ ap (λ (z : TyId). Some z) (sym (k.ty_is ∙ same_id (ty_of inner) r.0.1 r.2.0)))) t.3
+      borrowed a key l p = (
+        typed_lines.borrowed g.items g.bodies B _ _ unique ty (L inner).head.ty t.0 p.0 (base.key_at g key ty t.0 l t.1) p.1
+            (subst (λ (z : Bool). forms.referent z (Some t.0) ≡ Some (L inner).head.ty) way (t.2 ∙ ap (λ (z : TyId). Some z) (sym (k.ty_is ∙ same_id (ty_of inner) r.0.1 r.2.0)))) t.3,
+        refl,
+      )
 
   unsize_good : (x : Context) (operand : Node) → Good x operand (L operand) → (id : ℕ) (at : Pos) (ty : TyId) (by : Option Use) (trait_no : ℕ) → Plain (tree.node id at ty by (tree.Unsize trait_no operand)) (head id ty by) (S_of (tree.Unsize trait_no operand) (head id ty by)) →
       ((object inner : TyId) × (adt impl_no : ℕ) × (type_at g.items ty ≡ Some (Ty.Boxed object)) × (type_at g.items (ty_of operand) ≡ Some (Ty.Boxed inner)) × (type_at g.items object ≡ Some (Ty.Dyn trait_no)) × (type_at g.items inner ≡ Some (Ty.Adt adt)) × (impl_of g.items trait_no adt ≡ Some impl_no)) →
@@ -892,7 +905,7 @@ module _ (g : Ground) where
       dest : (to : Destination) → base.Dest g to ty → (base.Made g (L operand).head.ty → base.KeyIs g (L operand).head.id (L operand).head.ty) → base.DestIf g (coerced (L operand).head.id trait_no to) (L operand).head.ty
       dest (Into key) d cell m = (
         cell m,
-        typed_lines.unsized g.items g.bodies B _ _ ty.0 is.0.0 (L operand).head.ty.0 is.1.0 trait_no is.2 is.3 (base.key_at g key ty (Ty.Boxed is.0) d is.4) (base.key_at g (L operand).head.id (L operand).head.ty (Ty.Boxed is.1) (cell m) from) is.6 is.7 (g.traits is.0 trait_no is.6) is.8,
+        (typed_lines.unsized g.items g.bodies B _ _ ty.0 is.0.0 (L operand).head.ty.0 is.1.0 trait_no is.2 is.3 (base.key_at g key ty (Ty.Boxed is.0) d is.4) (base.key_at g (L operand).head.id (L operand).head.ty (Ty.Boxed is.1) (cell m) from) is.6 is.7 (g.traits is.0 trait_no is.6) is.8, refl),
         (is.1, is.2, from, is.7),
       )
       dest (Coerced key other to) d cell m = absurd (apart d.2.1 d.2.0 d.2.2 d.2.3)
@@ -916,14 +929,14 @@ module _ (g : Ground) where
     pub leaves : (a : LoopsAndGuards) → base.Leaves g x.loops (lower.let_parts F h (L p) (L v) a)
     pub sound : (a : LoopsAndGuards) → base.Fine g x a (nodes_of v) → Sound (lower.let_parts F h (L p) (L v) a)
 
-  parts_let : (x : Context) (p v : Node) (h : NodeHead) → Good x v (L v) → Holds (typing.typed (K x) Base v) → (m : Matched) → Holds (patterns.pattern g.items m (ty_of p) p) → types.fits g.items (ty_of p) (ty_of v) ≡ true → (not (scopes.is_place (form_of v)) || types.is_same (ty_of v) (ty_of p)) ≡ true →
+  parts_let : (x : Context) (p v : Node) (h : NodeHead) → Good x v (L v) → Holds (typing.typed (K x) Base v) → (m : Matched) → (m.may_move ≡ true → scopes.may_move (K x) v ≡ true) → Holds (patterns.pattern g.items m (ty_of p) p) → types.fits g.items (ty_of p) (ty_of v) ≡ true → (not (scopes.is_place (form_of v)) || types.is_same (ty_of v) (ty_of p)) ≡ true →
       Cells (cells g.items true p) → Cells (reached_cells g.items v) → PartsGood x p v h
-  parts_let x p v h k stands m pattern fit same cp cv = record {
+  parts_let x p v h k stands m may pattern fit same cp cv = record {
     ended = λ e a. rules.no_end_scope g h.id true (build.from_changed (lower.pending_if F (pends (L v)) innermost (L v).head) (then_lower ((L v).reaches a) (binds a)))
         (rules.no_end_first g ((L v).reaches a) (binds a) (k.reach_ended cv (no_place (and_second _ _ e)) (subst (base.Never g) (sym k.ty_is) (never_too (ty_of v) (and_first _ _ e))) a));
     leaves = λ a. rules.leaves_scope g x.loops h.id true _ (rules.leaves_changed g x.loops (lower.pending_if F (pends (L v)) innermost (L v).head) _ (base.leaves_then g x.loops ((L v).reaches a) (binds a) (k.reach_leaves cv a) (λ e. rules.bind_leaves g x.loops around_innermost ((L p).shape.bindings (lower.place_in (L v) a)))));
     sound = λ a f. branches.let_parts_sound g h (L v) (pends (L v)) ((L v).reaches a) (binds a) (λ b. k.reach_entry cv (of_pending (L v).shape.is_place (L v).shape.in_destination b)) (k.reaches cv a f)
-        (λ e. rules.bind_sound g around_innermost (lines.around_ok F (base.wanted g)) ((L p).shape.bindings (lower.place_in (L v) a)) (shaped_for p m (ty_of p) pattern cp (lower.place_in (L v) a) (typed_place a f e)).1);
+        (λ e. rules.bind_sound g around_innermost (lines.around_ok F (base.wanted g)) ((L p).shape.bindings (lower.place_in (L v) a)) (shaped_for p m (ty_of p) pattern cp (lower.place_in (L v) a) (typed_place a f e) (λ w. k.lets_go (may w) cv a f e)).1);
   }
     where
       pends : NodeLower → Bool
@@ -960,26 +973,30 @@ module _ (g : Ground) where
   receiver_given x receiver args (ty ∷ tys) one rest h c =
       rules.an_operand (nodes_of receiver) (nodes_among args) (L receiver) (lower.lower_all F args) ty tys (rules.operand_of g x receiver (L receiver) (one ty h.0) c ty (passed_fits x ty receiver h.0)) (rest tys h.1)
 
+  -- a place that may be moved out may be left gone
+  reached_goes : (x : Context) (n : Node) → Good x n (L n) → scopes.may_move (K x) n ≡ true → Cells (reached_cells g.items n) → (a : LoopsAndGuards) → base.Fine g x a (nodes_of n) → ((L n).reaches a).has_end ≡ true → base.Left g ((shape g.items n).place a.aliases)
+  reached_goes x n k w c a f e = subst (λ (z : Shape). base.Left g (z.place a.aliases)) k.shape_is (k.lets_go w c a f e)
+
   -- ---- the forms
   mutual
-    pub node_good : (x : Context) (n : Node) (st : Standing) → Holds (typing.typed (K x) st n) → base.Rise g (nodes_of n) → Good x n (L n)
-    node_good x (tree.node id at ty by form) st h r = form_good form x id at ty by h.1 r.1
+    pub node_good : (x : Context) (n : Node) (st : Standing) → moved_out.is_fair g st ≡ true → Holds (typing.typed (K x) st n) → base.Rise g (nodes_of n) → Good x n (L n)
+    node_good x (tree.node id at ty by form) st fair h r = form_good form x id at ty by (moved_out.freed g x st fair ty by form h.0) h.1 r.1
 
-    form_good : (form : Form) (x : Context) (id : ℕ) (at : Pos) (ty : TyId) (by : Option Use) → Holds (typing.row (K x) id ty form) → base.Rise g (nodes_in form) → Good x (tree.node id at ty by form) (lower.lower_form F form (head id ty by) (S_of form (head id ty by)))
-    form_good (tree.Number number) x id at ty by h r =
+    form_good : (form : Form) (x : Context) (id : ℕ) (at : Pos) (ty : TyId) (by : Option Use) → moved_out.Freed g x by form → Holds (typing.row (K x) id ty form) → base.Rise g (nodes_in form) → Good x (tree.node id at ty by form) (lower.lower_form F form (head id ty by) (S_of form (head id ty by)))
+    form_good (tree.Number number) x id at ty by u h r =
         effect_value x (tree.node id at ty by (tree.Number number)) (head id ty by) (S_of (tree.Number number) (head id ty by)) (λ site. effects.Put site (effects.Number number (kind_of g.items ty))) (record { id_is = refl; ty_is = refl; shape_is = refl; whole = λ a. refl; reached_so = λ c. c; cell = λ c m. (rw m at c).0 }) (number_made ty number h) (λ key k. number_put id ty number key k h)
-    form_good (tree.Truth truth) x id at ty by h r =
+    form_good (tree.Truth truth) x id at ty by u h r =
         effect_value x (tree.node id at ty by (tree.Truth truth)) (head id ty by) (S_of (tree.Truth truth) (head id ty by)) (λ site. effects.Put site (effects.Truth truth)) (record { id_is = refl; ty_is = refl; shape_is = refl; whole = λ a. refl; reached_so = λ c. c; cell = λ c m. (rw m at c).0 }) (λ v. base.never_and_made g ty v (bool_made ty h)) (λ key k. truth_put id ty truth key k h)
-    form_good tree.UnitValue x id at ty by h r =
+    form_good tree.UnitValue x id at ty by u h r =
         effect_value x (tree.node id at ty by tree.UnitValue) (head id ty by) (S_of tree.UnitValue (head id ty by)) (λ site. effects.Put site effects.UnitValue) (record { id_is = refl; ty_is = refl; shape_is = refl; whole = λ a. refl; reached_so = λ c. c; cell = λ c m. (rw m at c).0 }) (λ v. base.never_and_made g ty v (unit_made ty h)) (λ key k. unit_put_at id ty key k h)
-    form_good tree.Ask x id at ty by h r =
-        effect_value x (tree.node id at ty by tree.Ask) (head id ty by) (S_of tree.Ask (head id ty by)) effects.Ask (record { id_is = refl; ty_is = refl; shape_is = refl; whole = λ a. refl; reached_so = λ c. c; cell = λ c m. (rw m at c).0 }) (made_as ty (Ty.Int IntKind.I32) (i32_known g.items ty h) refl) (λ key k n u. typed_lines.ask_ok g.items g.bodies B _ ty (base.key_at g key ty (Ty.Int IntKind.I32) k (i32_known g.items ty h)) n u)
-    form_good (tree.Variable key) x id at ty by h r =
-        rules.place_good g x (tree.node id at ty by (tree.Variable key)) (head id ty by) (S_of (tree.Variable key) (head id ty by)) (λ around. build.nothing) (record { id_is = refl; ty_is = refl; shape_is = refl; marked = refl; is_place = refl; reached_so = λ o c. base.cells_second g _ (cells_in g.items (tree.Variable key)) c; cell = λ c m. (rw m at c).0; never = λ o c v. (rw v at c).0; leaves = λ c a. record { spares = tt }; sound = λ c a f. base.nothing_done g; place = λ c a f e. variable_place x key ty h a f.around })
-    form_good (tree.Captured closure part name) x id at ty by h r =
-        rules.place_good g x (tree.node id at ty by (tree.Captured closure part name)) (head id ty by) (S_of (tree.Captured closure part name) (head id ty by)) (λ around. build.nothing) (record { id_is = refl; ty_is = refl; shape_is = refl; marked = refl; is_place = refl; reached_so = λ o c. base.cells_second g _ (cells_in g.items (tree.Captured closure part name)) c; cell = λ c m. (rw m at c).0; never = λ o c v. (rw v at c).0; leaves = λ c a. record { spares = tt }; sound = λ c a f. base.nothing_done g; place = λ c a f e. captured_place x closure part name ty h a f.around })
-    form_good (tree.Field inner part) x id at ty by h r =
-        let b = node_good x inner Base h.0 r in
+    form_good tree.Ask x id at ty by u h r =
+        effect_value x (tree.node id at ty by tree.Ask) (head id ty by) (S_of tree.Ask (head id ty by)) effects.Ask (record { id_is = refl; ty_is = refl; shape_is = refl; whole = λ a. refl; reached_so = λ c. c; cell = λ c m. (rw m at c).0 }) (made_as ty (Ty.Int IntKind.I32) (i32_known g.items ty h) refl) (λ key k n u. (typed_lines.ask_ok g.items g.bodies B _ ty (base.key_at g key ty (Ty.Int IntKind.I32) k (i32_known g.items ty h)) n u, refl))
+    form_good (tree.Variable key) x id at ty by u h r =
+        rules.place_good g x (tree.node id at ty by (tree.Variable key)) (head id ty by) (S_of (tree.Variable key) (head id ty by)) (λ around. build.nothing) (record { id_is = refl; ty_is = refl; shape_is = refl; marked = refl; is_place = refl; reached_so = λ o c. base.cells_second g _ (cells_in g.items (tree.Variable key)) c; cell = λ c m. (rw m at c).0; never = λ o c v. (rw v at c).0; leaves = λ c a. record { spares = tt }; sound = λ c a f. base.nothing_done g; place = λ c a f e. variable_place x key ty h a f.around; moved = u; lets_go = λ w c a f e. moved_out.variable_goes g x key ty h w a f.around })
+    form_good (tree.Captured closure part name) x id at ty by u h r =
+        rules.place_good g x (tree.node id at ty by (tree.Captured closure part name)) (head id ty by) (S_of (tree.Captured closure part name) (head id ty by)) (λ around. build.nothing) (record { id_is = refl; ty_is = refl; shape_is = refl; marked = refl; is_place = refl; reached_so = λ o c. base.cells_second g _ (cells_in g.items (tree.Captured closure part name)) c; cell = λ c m. (rw m at c).0; never = λ o c v. (rw v at c).0; leaves = λ c a. record { spares = tt }; sound = λ c a f. base.nothing_done g; place = λ c a f e. captured_place x closure part name ty h a f.around; moved = u; lets_go = λ w c a f e. moved_out.captured_goes g x closure part name ty h a f.around })
+    form_good (tree.Field inner part) x id at ty by u h r =
+        let b = node_good x inner Base refl h.0 r in
         rules.place_good g x (tree.node id at ty by (tree.Field inner part)) (head id ty by) (S_of (tree.Field inner part) (head id ty by)) (L inner).reaches (record {
           id_is = refl;
           ty_is = refl;
@@ -992,9 +1009,12 @@ module _ (g : Ground) where
           leaves = λ c a. b.reach_leaves c a;
           sound = λ c a f. b.reaches c a (fine_in x a (tree.node id at ty by (tree.Field inner part)) (nodes_of inner) f);
           place = λ c a f e. field_place ((shape g.items inner).place a.aliases) (ty_of inner) part ty (reached_place x inner b c a (fine_in x a (tree.node id at ty by (tree.Field inner part)) (nodes_of inner) f) e) h.1.0 h.1.1;
+          moved = u;
+          lets_go = λ w c a f e. let d = fine_in x a (tree.node id at ty by (tree.Field inner part)) (nodes_of inner) f in
+              moved_out.field_goes g ((shape g.items inner).place a.aliases) (ty_of inner) part (reached_place x inner b c a d e) h.1.0 (base.not_true (has_drop_impl g.items (ty_of inner)) (and_first _ _ w)) (reached_goes x inner b (and_second (not (has_drop_impl g.items (ty_of inner))) _ w) c a d e);
         })
-    form_good (tree.Deref inner) x id at ty by h r =
-        let b = node_good x inner Base h.0 r in
+    form_good (tree.Deref inner) x id at ty by u h r =
+        let b = node_good x inner Base refl h.0 r in
         rules.place_good g x (tree.node id at ty by (tree.Deref inner)) (head id ty by) (S_of (tree.Deref inner) (head id ty by)) (L inner).reaches (record {
           id_is = refl;
           ty_is = refl;
@@ -1007,39 +1027,44 @@ module _ (g : Ground) where
           leaves = λ c a. b.reach_leaves c a;
           sound = λ c a f. b.reaches c a (fine_in x a (tree.node id at ty by (tree.Deref inner)) (nodes_of inner) f);
           place = λ c a f e. content_place ((shape g.items inner).place a.aliases) (ty_of inner) ty (reached_place x inner b c a (fine_in x a (tree.node id at ty by (tree.Deref inner)) (nodes_of inner) f) e) h.1;
+          moved = u;
+          lets_go = λ w c a f e. let d = fine_in x a (tree.node id at ty by (tree.Deref inner)) (nodes_of inner) f in
+              moved_out.content_goes g ((shape g.items inner).place a.aliases) (ty_of inner) (reached_place x inner b c a d e) (base.not_true (types.is_reference g.items (ty_of inner)) (and_first _ _ w)) (moved_out.only_there g (types.inside_of g.items (ty_of inner)) _ h.1) (reached_goes x inner b (and_second (not (types.is_reference g.items (ty_of inner))) _ w) c a d e);
         })
-    form_good (tree.Index inner index count) x id at ty by h r =
-        index_good x inner index (node_good x inner Base h.0 (base.rise_first g (nodes_of inner) (nodes_of index) r)) (node_good x index Taken h.1.0 (base.rise_second g (nodes_of inner) (nodes_of index) r)) id at ty by count h.1.1.0 h.1.1.1
+    form_good (tree.Index inner index count) x id at ty by u h r =
+        index_good x inner index (node_good x inner Base refl h.0 (base.rise_first g (nodes_of inner) (nodes_of index) r)) (node_good x index Taken refl h.1.0 (base.rise_second g (nodes_of inner) (nodes_of index) r)) id at ty by count h.1.1.0 h.1.1.1 u
         (λ o c. base.cells_second g _ (cells_in g.items (tree.Index inner index count)) c) (λ c m. (rw m at c).0) (λ o c v. (rw v at c).0)
-    form_good (tree.Not operand) x id at ty by h r =
-        let k = node_good x operand Taken h.0 r in
+    form_good (tree.Not operand) x id at ty by u h r =
+        let k = node_good x operand Taken refl h.0 r in
         operands_value x id at ty by (tree.Not operand) (S_of (tree.Not operand) (head id ty by)) (L operand ∷ []) (ty_of operand ∷ []) (λ site. effects.Not site (moved id (L operand).head.id)) (record { id_is = refl; ty_is = refl; shape_is = refl; whole = λ a. refl; reached_so = λ c. c; cell = λ c m. (rw m at c).0 }) (λ o c. one_operand x operand k (base.cells_second g _ (cells_in g.items (tree.Not operand)) c) (ty_of operand) (fits_itself (ty_of operand)))
         (never_last (tree.node id at ty by (tree.Not operand)) id ty (λ site. effects.Not site (moved id (L operand).head.id)) Ty.Bool (bool_known g.items ty h.1.1) refl)
-        (λ given key l. typed_lines.negated_truth g.items g.bodies B _ _ ty (ty_of operand) (base.key_at g key ty Ty.Bool l (bool_known g.items ty h.1.1)) (base.key_at g (L operand).head.id (ty_of operand) Ty.Bool given.0.0 (rules.bool_if_made g (ty_of operand) (is_bool_or (ty_of operand) h.1.0) given.0.1)))
-    form_good (tree.Negate operand) x id at ty by h r =
-        let k = node_good x operand Taken h.0 r in
+        (λ given key l. (typed_lines.negated_truth g.items g.bodies B _ _ ty (ty_of operand) (base.key_at g key ty Ty.Bool l (bool_known g.items ty h.1.1)) (base.key_at g (L operand).head.id (ty_of operand) Ty.Bool given.0.0 (rules.bool_if_made g (ty_of operand) (is_bool_or (ty_of operand) h.1.0) given.0.1)), refl))
+    form_good (tree.Negate operand) x id at ty by u h r =
+        let k = node_good x operand Taken refl h.0 r in
         let s = signed_known g.items ty h.1.1 in
         operands_value x id at ty by (tree.Negate operand) (S_of (tree.Negate operand) (head id ty by)) (L operand ∷ []) (ty ∷ []) (λ site. effects.Negate site (moved id (L operand).head.id)) (record { id_is = refl; ty_is = refl; shape_is = refl; whole = λ a. refl; reached_so = λ c. c; cell = λ c m. (rw m at c).0 }) (λ o c. one_operand x operand k (base.cells_second g _ (cells_in g.items (tree.Negate operand)) c) ty (inl (sym (same_id ty (ty_of operand) h.1.0))))
         (never_last (tree.node id at ty by (tree.Negate operand)) id ty (λ site. effects.Negate site (moved id (L operand).head.id)) (Ty.Int s.0) s.1 refl)
-        (λ given key l n u. typed_lines.negate_ok g.items g.bodies B _ _ ty ty s.0 (base.key_at g key ty (Ty.Int s.0) l s.1) (base.key_at g (L operand).head.id ty (Ty.Int s.0) given.0.0 s.1) s.2 n u)
-    form_good (tree.Arithmetic operator left right) x id at ty by h r =
-        let k = node_good x left (Wanted ty) h.0 (base.rise_first g (nodes_of left) (nodes_of right) r) in
-        let l = node_good x right (Wanted ty) h.1.0 (base.rise_second g (nodes_of left) (nodes_of right) r) in
+        (λ given key l n u. (typed_lines.negate_ok g.items g.bodies B _ _ ty ty s.0 (base.key_at g key ty (Ty.Int s.0) l s.1) (base.key_at g (L operand).head.id ty (Ty.Int s.0) given.0.0 s.1) s.2 n u, refl))
+    form_good (tree.Arithmetic operator left right) x id at ty by u h r =
+        let k = node_good x left (Wanted ty) refl h.0 (base.rise_first g (nodes_of left) (nodes_of right) r) in
+        let l = node_good x right (Wanted ty) refl h.1.0 (base.rise_second g (nodes_of left) (nodes_of right) r) in
         let s = int_at ty h.1.1.0 in
         operands_value x id at ty by (tree.Arithmetic operator left right) (S_of (tree.Arithmetic operator left right) (head id ty by)) (L left ∷ L right ∷ []) (ty ∷ ty ∷ []) (λ site. effects.Compute site operator (moved id (L left).head.id) (moved id (L right).head.id)) (record { id_is = refl; ty_is = refl; shape_is = refl; whole = λ a. refl; reached_so = λ c. c; cell = λ c m. (rw m at c).0 }) (λ o c. two_operands x left right k l (base.cells_second g _ (cells_in g.items (tree.Arithmetic operator left right)) c) ty ty (wanted_fits x ty left h.0) (wanted_fits x ty right h.1.0))
         (never_last (tree.node id at ty by (tree.Arithmetic operator left right)) id ty (λ site. effects.Compute site operator (moved id (L left).head.id) (moved id (L right).head.id)) (Ty.Int s.0) s.1 refl)
-        (λ given key q n u. typed_lines.math_ok g.items g.bodies B _ _ _ operator ty ty ty s.0 (base.key_at g key ty (Ty.Int s.0) q s.1) (base.key_at g (L left).head.id ty (Ty.Int s.0) given.0.0 s.1) (base.key_at g (L right).head.id ty (Ty.Int s.0) given.1.0.0 s.1) n u)
-    form_good (tree.Comparison operator left right) x id at ty by h r =
-        let k = node_good x left Taken h.0 (base.rise_first g (nodes_of left) (nodes_of right) r) in
-        let l = node_good x right Taken h.1.0 (base.rise_second g (nodes_of left) (nodes_of right) r) in
+        (λ given key q n u. (typed_lines.math_ok g.items g.bodies B _ _ _ operator ty ty ty s.0 (base.key_at g key ty (Ty.Int s.0) q s.1) (base.key_at g (L left).head.id ty (Ty.Int s.0) given.0.0 s.1) (base.key_at g (L right).head.id ty (Ty.Int s.0) given.1.0.0 s.1) n u, refl))
+    form_good (tree.Comparison operator left right) x id at ty by u h r =
+        let k = node_good x left Taken refl h.0 (base.rise_first g (nodes_of left) (nodes_of right) r) in
+        let l = node_good x right Taken refl h.1.0 (base.rise_second g (nodes_of left) (nodes_of right) r) in
         operands_value x id at ty by (tree.Comparison operator left right) (S_of (tree.Comparison operator left right) (head id ty by)) (L left ∷ L right ∷ []) (ty_of left ∷ ty_of right ∷ []) (λ site. effects.Compare site operator (moved id (L left).head.id) (moved id (L right).head.id)) (record { id_is = refl; ty_is = refl; shape_is = refl; whole = λ a. refl; reached_so = λ c. c; cell = λ c m. (rw m at c).0 }) (λ o c. two_operands x left right k l (base.cells_second g _ (cells_in g.items (tree.Comparison operator left right)) c) (ty_of left) (ty_of right) (fits_itself (ty_of left)) (fits_itself (ty_of right)))
         (never_last (tree.node id at ty by (tree.Comparison operator left right)) id ty (λ site. effects.Compare site operator (moved id (L left).head.id) (moved id (L right).head.id)) Ty.Bool (bool_known g.items ty h.1.1.1) refl)
-        (λ given key q. let t = compared_types (ty_of left) (ty_of right) given.0.1 given.1.0.1 h.1.1.0 in
-        typed_lines.compared g.items g.bodies B _ _ _ operator ty (ty_of left) (ty_of right) t.0 t.0 (base.key_at g key ty Ty.Bool q (bool_known g.items ty h.1.1.1)) (base.key_at g (L left).head.id (ty_of left) t.0 given.0.0 t.1) (base.key_at g (L right).head.id (ty_of right) t.0 given.1.0.0 t.2) t.3
-        (sized (L left).head.id (ty_of left) t.0 given.0.0 t.1) (sized (L right).head.id (ty_of right) t.0 given.1.0.0 t.2))
-    form_good (tree.And left right) x id at ty by h r =
-        let k = node_good x left Taken h.0 (base.rise_first g (nodes_of left) (nodes_of right) r) in
-        let l = node_good x right Taken h.1.0 (base.rise_second g (nodes_of left) (nodes_of right) r) in
+        (λ given key q. let t = compared_types (ty_of left) (ty_of right) given.0.1 given.1.0.1 h.1.1.0 in (
+          typed_lines.compared g.items g.bodies B _ _ _ operator ty (ty_of left) (ty_of right) t.0 t.0 (base.key_at g key ty Ty.Bool q (bool_known g.items ty h.1.1.1)) (base.key_at g (L left).head.id (ty_of left) t.0 given.0.0 t.1) (base.key_at g (L right).head.id (ty_of right) t.0 given.1.0.0 t.2) t.3
+              (sized (L left).head.id (ty_of left) t.0 given.0.0 t.1) (sized (L right).head.id (ty_of right) t.0 given.1.0.0 t.2),
+          refl,
+        ))
+    form_good (tree.And left right) x id at ty by u h r =
+        let k = node_good x left Taken refl h.0 (base.rise_first g (nodes_of left) (nodes_of right) r) in
+        let l = node_good x right Taken refl h.1.0 (base.rise_second g (nodes_of left) (nodes_of right) r) in
         let one = λ (o : Bool) (c : Cells (cells g.items o (tree.node id at ty by (tree.And left right)))). base.cells_first g (cells g.items true left) (cells g.items false right) (base.cells_second g _ (cells_in g.items (tree.And left right)) c) in
         let two = λ (o : Bool) (c : Cells (cells g.items o (tree.node id at ty by (tree.And left right)))). base.cells_second g (cells g.items true left) (cells g.items false right) (base.cells_second g _ (cells_in g.items (tree.And left right)) c) in
         scoped_value x (tree.node id at ty by (tree.And left right)) (head id ty by) (S_of (tree.And left right) (head id ty by)) (lower.conjunction F (head id ty by) (L left) (L right)) (record { id_is = refl; ty_is = refl; shape_is = refl; whole = λ a. refl; reached_so = λ c. c; cell = λ c m. (rw m at c).0 }) (λ o c v a. absurd (base.never_and_made g ty v (bool_made ty h.1.1.1.1)))
@@ -1048,9 +1073,9 @@ module _ (g : Ground) where
         rules.condition_sound g x left (L left) k (one o c) (is_bool_or (ty_of left) h.1.1.0) a (base.fine_first g x a (nodes_of left) (nodes_of right) d) _ _
         (rules.alone_sound g x right (L right) l false (two o c) a (base.fine_second g x a (nodes_of left) (nodes_of right) d) to (branches.dest_fits g to ty (L right).head.ty (fits_head x right l ty (bool_fits ty (ty_of right) h.1.1.1.1 h.1.1.1.0)) ar.made))
         (rules.answered g id (head id ty by) (λ site. effects.Put site (effects.Truth false)) to ar (rules.no_own g (head id ty by) (λ v. base.never_and_made g ty v (bool_made ty h.1.1.1.1))) (λ key q. truth_put id ty false key q h.1.1.1.1)))
-    form_good (tree.Or left right) x id at ty by h r =
-        let k = node_good x left Taken h.0 (base.rise_first g (nodes_of left) (nodes_of right) r) in
-        let l = node_good x right Taken h.1.0 (base.rise_second g (nodes_of left) (nodes_of right) r) in
+    form_good (tree.Or left right) x id at ty by u h r =
+        let k = node_good x left Taken refl h.0 (base.rise_first g (nodes_of left) (nodes_of right) r) in
+        let l = node_good x right Taken refl h.1.0 (base.rise_second g (nodes_of left) (nodes_of right) r) in
         let one = λ (o : Bool) (c : Cells (cells g.items o (tree.node id at ty by (tree.Or left right)))). base.cells_first g (cells g.items true left) (cells g.items false right) (base.cells_second g _ (cells_in g.items (tree.Or left right)) c) in
         let two = λ (o : Bool) (c : Cells (cells g.items o (tree.node id at ty by (tree.Or left right)))). base.cells_second g (cells g.items true left) (cells g.items false right) (base.cells_second g _ (cells_in g.items (tree.Or left right)) c) in
         scoped_value x (tree.node id at ty by (tree.Or left right)) (head id ty by) (S_of (tree.Or left right) (head id ty by)) (lower.disjunction F (head id ty by) (L left) (L right)) (record { id_is = refl; ty_is = refl; shape_is = refl; whole = λ a. refl; reached_so = λ c. c; cell = λ c m. (rw m at c).0 }) (λ o c v a. absurd (base.never_and_made g ty v (bool_made ty h.1.1.1.1)))
@@ -1059,77 +1084,80 @@ module _ (g : Ground) where
         rules.condition_sound g x left (L left) k (one o c) (is_bool_or (ty_of left) h.1.1.0) a (base.fine_first g x a (nodes_of left) (nodes_of right) d) _ _
         (rules.answered g id (head id ty by) (λ site. effects.Put site (effects.Truth true)) to ar (rules.no_own g (head id ty by) (λ v. base.never_and_made g ty v (bool_made ty h.1.1.1.1))) (λ key q. truth_put id ty true key q h.1.1.1.1))
         (rules.alone_sound g x right (L right) l false (two o c) a (base.fine_second g x a (nodes_of left) (nodes_of right) d) to (branches.dest_fits g to ty (L right).head.ty (fits_head x right l ty (bool_fits ty (ty_of right) h.1.1.1.1 h.1.1.1.0)) ar.made)))
-    form_good (tree.Assign target value_) x id at ty by h r =
-        assign_good x target value_ (node_good x target Stored h.0 (base.rise_first g (nodes_of target) (nodes_of value_) r)) (node_good x value_ (Wanted (ty_of target)) h.1.1.0 (base.rise_second g (nodes_of target) (nodes_of value_) r)) id at ty by (record { id_is = refl; ty_is = refl; shape_is = refl; whole = λ a. refl; reached_so = λ c. c; cell = λ c m. (rw m at c).0 })
+    form_good (tree.Assign target value_) x id at ty by u h r =
+        assign_good x target value_ (node_good x target Stored refl h.0 (base.rise_first g (nodes_of target) (nodes_of value_) r)) (node_good x value_ (Wanted (ty_of target)) refl h.1.1.0 (base.rise_second g (nodes_of target) (nodes_of value_) r)) id at ty by (record { id_is = refl; ty_is = refl; shape_is = refl; whole = λ a. refl; reached_so = λ c. c; cell = λ c m. (rw m at c).0 })
         (wanted_fits x (ty_of target) value_ h.1.1.0) h.1.1.1 (λ o c. base.cells_second g _ (cells_in g.items (tree.Assign target value_)) c)
-    form_good (tree.Call callee args) x id at ty by h r =
+    form_good (tree.Call callee args) x id at ty by u h r =
         let sig = found (slice_get g.items.bodies callee) _ h.0 in
         operands_value x id at ty by (tree.Call callee args) (S_of (tree.Call callee args) (head id ty by)) (lower.lower_all F args) sig.0.params (λ site. effects.Call site callee (lower.all_moved id (lower.lower_all F args))) (record { id_is = refl; ty_is = refl; shape_is = refl; whole = λ a. refl; reached_so = λ c. c; cell = λ c m. (rw m at c).0 }) (λ o c. args_given x args sig.0.params sig.2.1 r (base.cells_second g _ (cells_in g.items (tree.Call callee args)) c))
         (λ o c v. ((rw v at c).0, rules.call_last g id id callee (lower.all_moved id (lower.lower_all F args)) ty ((rw v at c).0) v))
         (λ given key k. called id callee key ty sig.0 (lower.lower_all F args) sig.1 sig.2.0 (not_drop_body callee h.1) given k)
-    form_good (tree.MethodCall callee receiver args) x id at ty by h r =
+    form_good (tree.MethodCall callee receiver args) x id at ty by u h r =
         let sig = found (slice_get g.items.bodies callee) _ h.0 in
-        operands_value x id at ty by (tree.MethodCall callee receiver args) (S_of (tree.MethodCall callee receiver args) (head id ty by)) (L receiver ∷ lower.lower_all F args) sig.0.params (λ site. effects.Call site callee (lower.all_moved id (L receiver ∷ lower.lower_all F args))) (record { id_is = refl; ty_is = refl; shape_is = refl; whole = λ a. refl; reached_so = λ c. c; cell = λ c m. (rw m at c).0 }) (λ o c. receiver_given x receiver args sig.0.params (λ t k. node_good x receiver (Passed t) k (base.rise_first g (nodes_of receiver) (nodes_among args) r)) (λ ts k. args_given x args ts k (base.rise_second g (nodes_of receiver) (nodes_among args) r) (base.cells_second g (cells g.items true receiver) (all_cells g.items args) (base.cells_second g _ (cells_in g.items (tree.MethodCall callee receiver args)) c))) sig.2.1 (base.cells_first g (cells g.items true receiver) (all_cells g.items args) (base.cells_second g _ (cells_in g.items (tree.MethodCall callee receiver args)) c)))
+        operands_value x id at ty by (tree.MethodCall callee receiver args) (S_of (tree.MethodCall callee receiver args) (head id ty by)) (L receiver ∷ lower.lower_all F args) sig.0.params (λ site. effects.Call site callee (lower.all_moved id (L receiver ∷ lower.lower_all F args))) (record { id_is = refl; ty_is = refl; shape_is = refl; whole = λ a. refl; reached_so = λ c. c; cell = λ c m. (rw m at c).0 }) (λ o c. receiver_given x receiver args sig.0.params (λ t k. node_good x receiver (Passed t) refl k (base.rise_first g (nodes_of receiver) (nodes_among args) r)) (λ ts k. args_given x args ts k (base.rise_second g (nodes_of receiver) (nodes_among args) r) (base.cells_second g (cells g.items true receiver) (all_cells g.items args) (base.cells_second g _ (cells_in g.items (tree.MethodCall callee receiver args)) c))) sig.2.1 (base.cells_first g (cells g.items true receiver) (all_cells g.items args) (base.cells_second g _ (cells_in g.items (tree.MethodCall callee receiver args)) c)))
         (λ o c v. ((rw v at c).0, rules.call_last g id id callee (lower.all_moved id (L receiver ∷ lower.lower_all F args)) ty ((rw v at c).0) v))
         (λ given key k. called id callee key ty sig.0 (L receiver ∷ lower.lower_all F args) sig.1 sig.2.0 (not_drop_body callee h.1) given k)
-    form_good (tree.ClosureCall callee closure args) x id at ty by h r =
+    form_good (tree.ClosureCall callee closure args) x id at ty by u h r =
         let sig = found (slice_get g.items.bodies callee) _ h.0 in
-        operands_value x id at ty by (tree.ClosureCall callee closure args) (S_of (tree.ClosureCall callee closure args) (head id ty by)) (L closure ∷ lower.lower_all F args) sig.0.params (λ site. effects.Call site callee (lower.all_moved id (L closure ∷ lower.lower_all F args))) (record { id_is = refl; ty_is = refl; shape_is = refl; whole = λ a. refl; reached_so = λ c. c; cell = λ c m. (rw m at c).0 }) (λ o c. receiver_given x closure args sig.0.params (λ t k. node_good x closure (Passed t) k (base.rise_first g (nodes_of closure) (nodes_among args) r)) (λ ts k. args_given x args ts k (base.rise_second g (nodes_of closure) (nodes_among args) r) (base.cells_second g (cells g.items true closure) (all_cells g.items args) (base.cells_second g _ (cells_in g.items (tree.ClosureCall callee closure args)) c))) sig.2.1 (base.cells_first g (cells g.items true closure) (all_cells g.items args) (base.cells_second g _ (cells_in g.items (tree.ClosureCall callee closure args)) c)))
+        operands_value x id at ty by (tree.ClosureCall callee closure args) (S_of (tree.ClosureCall callee closure args) (head id ty by)) (L closure ∷ lower.lower_all F args) sig.0.params (λ site. effects.Call site callee (lower.all_moved id (L closure ∷ lower.lower_all F args))) (record { id_is = refl; ty_is = refl; shape_is = refl; whole = λ a. refl; reached_so = λ c. c; cell = λ c m. (rw m at c).0 }) (λ o c. receiver_given x closure args sig.0.params (λ t k. node_good x closure (Passed t) refl k (base.rise_first g (nodes_of closure) (nodes_among args) r)) (λ ts k. args_given x args ts k (base.rise_second g (nodes_of closure) (nodes_among args) r) (base.cells_second g (cells g.items true closure) (all_cells g.items args) (base.cells_second g _ (cells_in g.items (tree.ClosureCall callee closure args)) c))) sig.2.1 (base.cells_first g (cells g.items true closure) (all_cells g.items args) (base.cells_second g _ (cells_in g.items (tree.ClosureCall callee closure args)) c)))
         (λ o c v. ((rw v at c).0, rules.call_last g id id callee (lower.all_moved id (L closure ∷ lower.lower_all F args)) ty ((rw v at c).0) v))
         (λ given key k. called id callee key ty sig.0 (L closure ∷ lower.lower_all F args) sig.1 sig.2.0 (g.entered callee h.1) given k)
-    form_good (tree.VirtualCall trait_no method receiver args) x id at ty by h r =
+    form_good (tree.VirtualCall trait_no method receiver args) x id at ty by u h r =
         let def = found (slice_get g.items.traits trait_no) _ h in
         let sig = found (slice_get def.0.methods method) _ def.2 in
-        operands_value x id at ty by (tree.VirtualCall trait_no method receiver args) (S_of (tree.VirtualCall trait_no method receiver args) (head id ty by)) (L receiver ∷ lower.lower_all F args) sig.0.params (λ site. effects.CallVirtual site trait_no method (lower.all_moved id (L receiver ∷ lower.lower_all F args))) (record { id_is = refl; ty_is = refl; shape_is = refl; whole = λ a. refl; reached_so = λ c. c; cell = λ c m. (rw m at c).0 }) (λ o c. receiver_given x receiver args sig.0.params (λ t k. node_good x receiver (Passed t) k (base.rise_first g (nodes_of receiver) (nodes_among args) r)) (λ ts k. args_given x args ts k (base.rise_second g (nodes_of receiver) (nodes_among args) r) (base.cells_second g (cells g.items true receiver) (all_cells g.items args) (base.cells_second g _ (cells_in g.items (tree.VirtualCall trait_no method receiver args)) c))) sig.2.1 (base.cells_first g (cells g.items true receiver) (all_cells g.items args) (base.cells_second g _ (cells_in g.items (tree.VirtualCall trait_no method receiver args)) c)))
+        operands_value x id at ty by (tree.VirtualCall trait_no method receiver args) (S_of (tree.VirtualCall trait_no method receiver args) (head id ty by)) (L receiver ∷ lower.lower_all F args) sig.0.params (λ site. effects.CallVirtual site trait_no method (lower.all_moved id (L receiver ∷ lower.lower_all F args))) (record { id_is = refl; ty_is = refl; shape_is = refl; whole = λ a. refl; reached_so = λ c. c; cell = λ c m. (rw m at c).0 }) (λ o c. receiver_given x receiver args sig.0.params (λ t k. node_good x receiver (Passed t) refl k (base.rise_first g (nodes_of receiver) (nodes_among args) r)) (λ ts k. args_given x args ts k (base.rise_second g (nodes_of receiver) (nodes_among args) r) (base.cells_second g (cells g.items true receiver) (all_cells g.items args) (base.cells_second g _ (cells_in g.items (tree.VirtualCall trait_no method receiver args)) c))) sig.2.1 (base.cells_first g (cells g.items true receiver) (all_cells g.items args) (base.cells_second g _ (cells_in g.items (tree.VirtualCall trait_no method receiver args)) c)))
         (λ o c v. ((rw v at c).0, rules.virtual_last g id id trait_no method (lower.all_moved id (L receiver ∷ lower.lower_all F args)) ty ((rw v at c).0) v))
         (λ given key k. called_virtually id trait_no method key ty sig.0 (L receiver ∷ lower.lower_all F args) (ap (option_and_then (λ def. slice_get def.methods method)) def.1 ∙ sig.1) sig.2.0 given k)
-    form_good (tree.Make adt variant fields) x id at ty by h r =
+    form_good (tree.Make adt variant fields) x id at ty by u h r =
         let v = found (types.variant_at g.items adt variant) _ h.1 in
         operands_value x id at ty by (tree.Make adt variant fields) (S_of (tree.Make adt variant fields) (head id ty by)) (lower.lower_fields F fields) (wants_of x fields v.0.fields v.2.1) (λ site. effects.Build site (OfVariant adt variant) (moved_fields id (in_number_order (field_keys fields)))) (record { id_is = refl; ty_is = refl; shape_is = refl; whole = λ a. refl; reached_so = λ c. c; cell = λ c m. (rw m at c).0 }) (λ o c. fields_given x fields v.0.fields v.2.1 r (base.cells_second g _ (cells_in g.items (tree.Make adt variant fields)) c))
         (never_last (tree.node id at ty by (tree.Make adt variant fields)) id ty (λ site. effects.Build site (OfVariant adt variant) (moved_fields id (in_number_order (field_keys fields)))) (Ty.Adt adt) (adt_is ty adt h.0) refl)
         (λ given key k. made_adt id ty adt variant fields v.0 key h.0 v.1 v.2.0 k (fields_keyed x fields v.0.fields v.2.1 r given))
-    form_good (tree.Tuple parts) x id at ty by h r =
+    form_good (tree.Tuple parts) x id at ty by u h r =
         let tys = found (types.tuple_of g.items ty) _ h in
         operands_value x id at ty by (tree.Tuple parts) (S_of (tree.Tuple parts) (head id ty by)) (lower.lower_all F parts) tys.0 (λ site. effects.Build site OfTuple (lower.all_moved id (lower.lower_all F parts))) (record { id_is = refl; ty_is = refl; shape_is = refl; whole = λ a. refl; reached_so = λ c. c; cell = λ c m. (rw m at c).0 }) (λ o c. parts_given x parts tys.0 tys.2 r (base.cells_second g _ (cells_in g.items (tree.Tuple parts)) c))
         (never_last (tree.node id at ty by (tree.Tuple parts)) id ty (λ site. effects.Build site OfTuple (lower.all_moved id (lower.lower_all F parts))) (Ty.Tuple tys.0) (tuple_known g.items ty tys.0 tys.1) refl)
-        (λ given key k. typed_lines.tuple_made g.items g.bodies B _ ty _ tys.0 (base.key_at g key ty (Ty.Tuple tys.0) k (tuple_known g.items ty tys.0 tys.1)) (given_moved id (lower.lower_all F parts) tys.0 given))
-    form_good (tree.Array elements) x id at ty by h r =
+        (λ given key k. (typed_lines.tuple_made g.items g.bodies B _ ty _ tys.0 (base.key_at g key ty (Ty.Tuple tys.0) k (tuple_known g.items ty tys.0 tys.1)) (given_moved id (lower.lower_all F parts) tys.0 given), base.moved_well g id (lower.keys_of (lower.lower_all F parts))))
+    form_good (tree.Array elements) x id at ty by u h r =
         let e = found (types.array_of g.items ty) _ h in
         operands_value x id at ty by (tree.Array elements) (S_of (tree.Array elements) (head id ty by)) (lower.lower_all F elements) (SameTypes e.0.0 elements) (λ site. effects.Build site OfArray (lower.all_moved id (lower.lower_all F elements))) (record { id_is = refl; ty_is = refl; shape_is = refl; whole = λ a. refl; reached_so = λ c. c; cell = λ c m. (rw m at c).0 }) (λ o c. elements_given x elements e.0.0 e.2.1 r (base.cells_second g _ (cells_in g.items (tree.Array elements)) c))
         (never_last (tree.node id at ty by (tree.Array elements)) id ty (λ site. effects.Build site OfArray (lower.all_moved id (lower.lower_all F elements))) (Ty.Array e.0.0 e.0.1) (array_known g.items ty e.0 e.1) refl)
-        (λ given key k. typed_lines.array_made g.items g.bodies B _ ty e.0.0 e.0.1 _ (base.key_at g key ty (Ty.Array e.0.0 e.0.1) k (array_known g.items ty e.0 e.1)) (count_moved id elements ∙ eqb-true (patterns.count_of elements) e.0.1 e.2.0) (given_elements id e.0.0 elements given))
-    form_good (tree.Closure closure captures) x id at ty by h r =
+        (λ given key k. (typed_lines.array_made g.items g.bodies B _ ty e.0.0 e.0.1 _ (base.key_at g key ty (Ty.Array e.0.0 e.0.1) k (array_known g.items ty e.0 e.1)) (count_moved id elements ∙ eqb-true (patterns.count_of elements) e.0.1 e.2.0) (given_elements id e.0.0 elements given), base.moved_well g id (lower.keys_of (lower.lower_all F elements))))
+    form_good (tree.Closure closure captures) x id at ty by u h r =
         let def = found (slice_get g.items.closures closure) _ h.1 in
         operands_value x id at ty by (tree.Closure closure captures) (S_of (tree.Closure closure captures) (head id ty by)) (lower.lower_all F captures) def.0.captures (λ site. effects.Build site (OfClosure closure) (lower.all_moved id (lower.lower_all F captures))) (record { id_is = refl; ty_is = refl; shape_is = refl; whole = λ a. refl; reached_so = λ c. c; cell = λ c m. (rw m at c).0 }) (λ o c. captures_given x captures def.0.captures def.2 r (base.cells_second g _ (cells_in g.items (tree.Closure closure captures)) c))
         (never_last (tree.node id at ty by (tree.Closure closure captures)) id ty (λ site. effects.Build site (OfClosure closure) (lower.all_moved id (lower.lower_all F captures))) (Ty.Closure closure) (closure_is ty closure h.0) refl)
-        (λ given key k. typed_lines.closure_made g.items g.bodies B _ ty closure def.0 _ (base.key_at g key ty (Ty.Closure closure) k (closure_is ty closure h.0)) def.1 (given_moved id (lower.lower_all F captures) def.0.captures given))
-    form_good (tree.NewBox content) x id at ty by h r =
+        (λ given key k. (typed_lines.closure_made g.items g.bodies B _ ty closure def.0 _ (base.key_at g key ty (Ty.Closure closure) k (closure_is ty closure h.0)) def.1 (given_moved id (lower.lower_all F captures) def.0.captures given), base.moved_well g id (lower.keys_of (lower.lower_all F captures))))
+    form_good (tree.NewBox content) x id at ty by u h r =
         let e = found (types.boxed_of g.items ty) _ h in
-        let k = node_good x content (Wanted e.0) e.2.0 r in
+        let k = node_good x content (Wanted e.0) refl e.2.0 r in
         operands_value x id at ty by (tree.NewBox content) (S_of (tree.NewBox content) (head id ty by)) (L content ∷ []) (e.0 ∷ []) (λ site. effects.NewBox site (moved id (L content).head.id)) (record { id_is = refl; ty_is = refl; shape_is = refl; whole = λ a. refl; reached_so = λ c. c; cell = λ c m. (rw m at c).0 }) (λ o c. one_operand x content k (base.cells_second g _ (cells_in g.items (tree.NewBox content)) c) e.0 (wanted_fits x e.0 content e.2.0))
         (never_last (tree.node id at ty by (tree.NewBox content)) id ty (λ site. effects.NewBox site (moved id (L content).head.id)) (Ty.Boxed e.0) (boxed_known g.items ty e.0 e.1) refl)
         (λ given key q. let t = g.known (g.local_of (L content).head.id) e.0 given.0.0 in
-        typed_lines.boxed g.items g.bodies B _ _ ty e.0 t.0 (base.key_at g key ty (Ty.Boxed e.0) q (boxed_known g.items ty e.0 e.1)) (base.key_at g (L content).head.id e.0 t.0 given.0.0 t.1) t.2)
-    form_good (tree.Print operand) x id at ty by h r =
-        unit_value x id at ty by (tree.Print operand) (S_of (tree.Print operand) (head id ty by)) operand effects.Print (record { id_is = refl; ty_is = refl; shape_is = refl; whole = λ a. refl; reached_so = λ c. c; cell = λ c m. (rw m at c).0 }) refl h.1.1 (node_good x operand Taken h.0 r) (λ o c. base.cells_second g _ (cells_in g.items (tree.Print operand)) c)
-        (λ k m. typed_lines.printed g.items g.bodies B _ (ty_of operand) (base.key_at g (L operand).head.id (ty_of operand) (Ty.Int IntKind.I32) k
-        (elim (either (types.is_i32 g.items (ty_of operand)) (types.is_never g.items (ty_of operand)) h.1.0) [ inl is ↦ i32_known g.items (ty_of operand) is | inr v ↦ absurd (made_not (ty_of operand) m v) ])))
-    form_good (tree.Forget operand) x id at ty by h r =
-        unit_value x id at ty by (tree.Forget operand) (S_of (tree.Forget operand) (head id ty by)) operand effects.Forget (record { id_is = refl; ty_is = refl; shape_is = refl; whole = λ a. refl; reached_so = λ c. c; cell = λ c m. (rw m at c).0 }) refl h.1 (node_good x operand Taken h.0 r) (λ o c. base.cells_second g _ (cells_in g.items (tree.Forget operand)) c)
-        (λ k m. let t = g.known (g.local_of (L operand).head.id) (ty_of operand) k in typed_lines.forgotten g.items g.bodies B _ (ty_of operand) t.0 (base.key_at g (L operand).head.id (ty_of operand) t.0 k t.1) t.2)
-    form_good (tree.DropValue operand) x id at ty by h r =
-        let k = node_good x operand Taken h.0 r in
+        (typed_lines.boxed g.items g.bodies B _ _ ty e.0 t.0 (base.key_at g key ty (Ty.Boxed e.0) q (boxed_known g.items ty e.0 e.1)) (base.key_at g (L content).head.id e.0 t.0 given.0.0 t.1) t.2, refl))
+    form_good (tree.Print operand) x id at ty by u h r =
+        unit_value x id at ty by (tree.Print operand) (S_of (tree.Print operand) (head id ty by)) operand effects.Print (record { id_is = refl; ty_is = refl; shape_is = refl; whole = λ a. refl; reached_so = λ c. c; cell = λ c m. (rw m at c).0 }) refl h.1.1 (node_good x operand Taken refl h.0 r) (λ o c. base.cells_second g _ (cells_in g.items (tree.Print operand)) c)
+        (λ k m. (
+          typed_lines.printed g.items g.bodies B _ (ty_of operand) (base.key_at g (L operand).head.id (ty_of operand) (Ty.Int IntKind.I32) k
+              (elim (either (types.is_i32 g.items (ty_of operand)) (types.is_never g.items (ty_of operand)) h.1.0) [ inl is ↦ i32_known g.items (ty_of operand) is | inr v ↦ absurd (made_not (ty_of operand) m v) ])),
+          refl,
+        ))
+    form_good (tree.Forget operand) x id at ty by u h r =
+        unit_value x id at ty by (tree.Forget operand) (S_of (tree.Forget operand) (head id ty by)) operand effects.Forget (record { id_is = refl; ty_is = refl; shape_is = refl; whole = λ a. refl; reached_so = λ c. c; cell = λ c m. (rw m at c).0 }) refl h.1 (node_good x operand Taken refl h.0 r) (λ o c. base.cells_second g _ (cells_in g.items (tree.Forget operand)) c)
+        (λ k m. let t = g.known (g.local_of (L operand).head.id) (ty_of operand) k in (typed_lines.forgotten g.items g.bodies B _ (ty_of operand) t.0 (base.key_at g (L operand).head.id (ty_of operand) t.0 k t.1) t.2, refl))
+    form_good (tree.DropValue operand) x id at ty by u h r =
+        let k = node_good x operand Taken refl h.0 r in
         let op = λ (o : Bool) (c : Cells (cells g.items o (tree.node id at ty by (tree.DropValue operand)))). rules.operand_of g x operand (L operand) k (base.cells_second g _ (cells_in g.items (tree.DropValue operand)) c) (ty_of operand) (fits_itself (ty_of operand)) in
         value x (tree.node id at ty by (tree.DropValue operand)) (head id ty by) (S_of (tree.DropValue operand) (head id ty by)) _ (record { id_is = refl; ty_is = refl; shape_is = refl; whole = λ a. refl; reached_so = λ c. c; cell = λ c m. (rw m at c).0 }) (λ o c v a own. absurd (base.never_and_made g ty v (unit_made ty h.1)))
         (λ o c a own to. rules.leaves_scope g x.loops id own _ (base.leaves_then g x.loops _ _ (rules.operand_leaves g x (nodes_of operand) (L operand) (ty_of operand) (op o c) a) (λ e. rules.leaves_deliver g x.loops id (head id ty by) (λ site. effects.Put site effects.UnitValue) to)))
         (λ o c a f own to ar. base.scoped g id own _ (base.and_then g _ _ (rules.operand_sound g x (nodes_of operand) (L operand) (ty_of operand) (op o c) a (fine_in x a (tree.node id at ty by (tree.DropValue operand)) (nodes_of operand) f)) (λ e. rules.unit_put g (head id ty by) to ar h.1)))
-    form_good tree.Panic x id at ty by h r =
-        value x (tree.node id at ty by tree.Panic) (head id ty by) (S_of tree.Panic (head id ty by)) _ (record { id_is = refl; ty_is = refl; shape_is = refl; whole = λ a. refl; reached_so = λ c. c; cell = λ c m. (rw m at c).0 }) (λ o c v a own. refl) (λ o c a own to. record { spares = tt }) (λ o c a f own to ar. lines.panics_sound F (base.wanted g) id Why.Explicit (λ u. (typed_lines.panic_ok g.items g.bodies B u).0))
-    form_good (tree.Borrow unique inner) x id at ty by h r =
-        borrow_good x inner (node_good x inner (Used (scopes.borrow_by unique)) h.0 r) id at ty by unique (record { id_is = refl; ty_is = refl; shape_is = refl; whole = λ a. refl; reached_so = λ c. c; cell = λ c m. (rw m at c).0 }) h.1.1 (λ o c. base.cells_second g _ (cells_in g.items (tree.Borrow unique inner)) c)
-    form_good (tree.Unsize trait_no operand) x id at ty by h r =
-        unsize_good x operand (node_good x operand Taken h.0 r) id at ty by trait_no (record { id_is = refl; ty_is = refl; shape_is = refl; whole = λ a. refl; reached_so = λ c. c; cell = λ c m. (rw m at c).0 }) (boxes ty (ty_of operand) trait_no h.1.1) (λ o c. base.cells_second g _ (cells_in g.items (tree.Unsize trait_no operand)) c)
-    form_good (tree.Block stmts tail) x id at ty by h r =
+    form_good tree.Panic x id at ty by u h r =
+        value x (tree.node id at ty by tree.Panic) (head id ty by) (S_of tree.Panic (head id ty by)) _ (record { id_is = refl; ty_is = refl; shape_is = refl; whole = λ a. refl; reached_so = λ c. c; cell = λ c m. (rw m at c).0 }) (λ o c v a own. refl) (λ o c a own to. record { spares = tt }) (λ o c a f own to ar. lines.panics_sound F (base.wanted g) id Why.Explicit (λ u. ((typed_lines.panic_ok g.items g.bodies B u).0, refl)))
+    form_good (tree.Borrow unique inner) x id at ty by u h r =
+        borrow_good x inner (node_good x inner (Used (scopes.borrow_by unique)) (moved_out.fair_borrow g unique) h.0 r) id at ty by unique (record { id_is = refl; ty_is = refl; shape_is = refl; whole = λ a. refl; reached_so = λ c. c; cell = λ c m. (rw m at c).0 }) h.1.1 (λ o c. base.cells_second g _ (cells_in g.items (tree.Borrow unique inner)) c)
+    form_good (tree.Unsize trait_no operand) x id at ty by u h r =
+        unsize_good x operand (node_good x operand Taken refl h.0 r) id at ty by trait_no (record { id_is = refl; ty_is = refl; shape_is = refl; whole = λ a. refl; reached_so = λ c. c; cell = λ c m. (rw m at c).0 }) (boxes ty (ty_of operand) trait_no h.1.1) (λ o c. base.cells_second g _ (cells_in g.items (tree.Unsize trait_no operand)) c)
+    form_good (tree.Block stmts tail) x id at ty by u h r =
         let rs = base.rise_first g (nodes_among stmts) (nodes_if_any tail) r in
         let b = λ (c : Cells (all_cells g.items stmts)). behind_context x stmts (λ d. typing.tail_of d tail) h.0 c in
         let one = λ (o : Bool) (c : Cells (cells g.items o (tree.node id at ty by (tree.Block stmts tail)))). base.cells_first g (all_cells g.items stmts) (cells_if_any g.items false tail) (base.cells_second g _ (cells_in g.items (tree.Block stmts tail)) c) in
@@ -1142,10 +1170,10 @@ module _ (g : Ground) where
         (λ o c a f own to ar. let d = fine_in x a (tree.node id at ty by (tree.Block stmts tail)) (nodes_among stmts ++ nodes_if_any tail) f in
         base.scoped g id own _ (base.and_then g _ _ ((st o c).sound a (base.fine_first g x a (nodes_among stmts) (nodes_if_any tail) d))
         (λ e. (tl o c).sound a ((b (one o c)).3 a (nodes_if_any tail) (base.fine_first g x a (nodes_among stmts) (nodes_if_any tail) d) (base.fine_second g x a (nodes_among stmts) (nodes_if_any tail) d)) to (block_type ty stmts tail h.1) ar)))
-    form_good (tree.If condition consequent absent) x id at ty by h r =
+    form_good (tree.If condition consequent absent) x id at ty by u h r =
         let rr = base.rise_first g (nodes_of condition ++ nodes_of consequent) [] r in
-        let k = node_good x condition Taken h.0 (base.rise_first g (nodes_of condition) (nodes_of consequent) rr) in
-        let l = node_good x consequent Taken h.1.1.0 (base.rise_second g (nodes_of condition) (nodes_of consequent) rr) in
+        let k = node_good x condition Taken refl h.0 (base.rise_first g (nodes_of condition) (nodes_of consequent) rr) in
+        let l = node_good x consequent Taken refl h.1.1.0 (base.rise_second g (nodes_of condition) (nodes_of consequent) rr) in
         let both_ = λ (o : Bool) (c : Cells (cells g.items o (tree.node id at ty by (tree.If condition consequent absent)))). base.cells_first g (cells g.items true condition ++ cells g.items false consequent) [] (base.cells_second g _ (cells_in g.items (tree.If condition consequent absent)) c) in
         let one = λ (o : Bool) (c : Cells (cells g.items o (tree.node id at ty by (tree.If condition consequent absent)))). base.cells_first g (cells g.items true condition) (cells g.items false consequent) (both_ o c) in
         let two = λ (o : Bool) (c : Cells (cells g.items o (tree.node id at ty by (tree.If condition consequent absent)))). base.cells_second g (cells g.items true condition) (cells g.items false consequent) (both_ o c) in
@@ -1155,11 +1183,11 @@ module _ (g : Ground) where
         rules.condition_sound g x condition (L condition) k (one o c) (is_bool_or (ty_of condition) h.1.0) a (base.fine_first g x a (nodes_of condition) (nodes_of consequent) d) _ _
         (rules.alone_sound g x consequent (L consequent) l false (two o c) a (base.fine_second g x a (nodes_of condition) (nodes_of consequent) d) to (branches.dest_fits g to ty (L consequent).head.ty (fits_head x consequent l ty (unit_fits ty (ty_of consequent) h.1.1.1.1 h.1.1.1.0)) ar.made))
         (rules.unit_put g (head id ty by) to ar h.1.1.1.1))
-    form_good (tree.If condition consequent (present otherwise)) x id at ty by h r =
+    form_good (tree.If condition consequent (present otherwise)) x id at ty by u h r =
         let rr = base.rise_first g (nodes_of condition ++ nodes_of consequent) (nodes_of otherwise) r in
-        let k = node_good x condition Taken h.0 (base.rise_first g (nodes_of condition) (nodes_of consequent) rr) in
-        let l = node_good x consequent Taken h.1.1.0 (base.rise_second g (nodes_of condition) (nodes_of consequent) rr) in
-        let q = node_good x otherwise Taken h.1.1.1.0 (base.rise_second g (nodes_of condition ++ nodes_of consequent) (nodes_of otherwise) r) in
+        let k = node_good x condition Taken refl h.0 (base.rise_first g (nodes_of condition) (nodes_of consequent) rr) in
+        let l = node_good x consequent Taken refl h.1.1.0 (base.rise_second g (nodes_of condition) (nodes_of consequent) rr) in
+        let q = node_good x otherwise Taken refl h.1.1.1.0 (base.rise_second g (nodes_of condition ++ nodes_of consequent) (nodes_of otherwise) r) in
         let fit = common_two ty (ty_of consequent) (ty_of otherwise) h.1.1.1.1 in
         let both_ = λ (o : Bool) (c : Cells (cells g.items o (tree.node id at ty by (tree.If condition consequent (present otherwise))))). base.cells_first g (cells g.items true condition ++ cells g.items false consequent) (cells g.items false otherwise) (base.cells_second g _ (cells_in g.items (tree.If condition consequent (present otherwise))) c) in
         let one = λ (o : Bool) (c : Cells (cells g.items o (tree.node id at ty by (tree.If condition consequent (present otherwise))))). base.cells_first g (cells g.items true condition) (cells g.items false consequent) (both_ o c) in
@@ -1174,14 +1202,14 @@ module _ (g : Ground) where
         rules.condition_sound g x condition (L condition) k (one o c) (is_bool_or (ty_of condition) h.1.0) a (base.fine_first g x a (nodes_of condition) (nodes_of consequent) d) _ _
         (rules.alone_sound g x consequent (L consequent) l false (two o c) a (base.fine_second g x a (nodes_of condition) (nodes_of consequent) d) to (branches.dest_fits g to ty (L consequent).head.ty (fits_head x consequent l ty fit.0) ar.made))
         (rules.alone_sound g x otherwise (L otherwise) q false (three o c) a (base.fine_second g x a (nodes_of condition ++ nodes_of consequent) (nodes_of otherwise) w) to (branches.dest_fits g to ty (L otherwise).head.ty (fits_head x otherwise q ty fit.1) ar.made)))
-    form_good (tree.IfLet pattern scrutinee consequent absent) x id at ty by h r =
+    form_good (tree.IfLet pattern scrutinee consequent absent) x id at ty by u h r =
         let y = with_entries (entries_of pattern) x in
         let n1 = nodes_of pattern ++ nodes_of scrutinee in
         let c1 = cells g.items true pattern ++ reached_cells g.items scrutinee in
         let r1 = base.rise_first g (n1 ++ nodes_of consequent) [] r in
         let r2 = base.rise_first g n1 (nodes_of consequent) r1 in
-        let k = node_good x scrutinee (Used Use.Borrow) h.0 (base.rise_second g (nodes_of pattern) (nodes_of scrutinee) r2) in
-        let l = node_good y consequent Taken h.1.1.0 (base.rise_second g n1 (nodes_of consequent) r1) in
+        let k = node_good x scrutinee (Used Use.Borrow) refl h.0 (base.rise_second g (nodes_of pattern) (nodes_of scrutinee) r2) in
+        let l = node_good y consequent Taken refl h.1.1.0 (base.rise_second g n1 (nodes_of consequent) r1) in
         let outer_ = λ (o : Bool) (c : Cells (cells g.items o (tree.node id at ty by (tree.IfLet pattern scrutinee consequent absent)))). base.cells_first g (c1 ++ cells g.items false consequent) [] (base.cells_second g _ (cells_in g.items (tree.IfLet pattern scrutinee consequent absent)) c) in
         let cp = λ (o : Bool) (c : Cells (cells g.items o (tree.node id at ty by (tree.IfLet pattern scrutinee consequent absent)))). base.cells_first g (cells g.items true pattern) (reached_cells g.items scrutinee) (base.cells_first g c1 (cells g.items false consequent) (outer_ o c)) in
         let cs = λ (o : Bool) (c : Cells (cells g.items o (tree.node id at ty by (tree.IfLet pattern scrutinee consequent absent)))). base.cells_second g (cells g.items true pattern) (reached_cells g.items scrutinee) (base.cells_first g c1 (cells g.items false consequent) (outer_ o c)) in
@@ -1193,15 +1221,15 @@ module _ (g : Ground) where
         branches.if_taken_sound g x (head id ty by) a (L pattern) scrutinee (L scrutinee) k (cs o c) (base.fine_second g x a (nodes_of pattern) (nodes_of scrutinee) d1) (shaped_at x pattern scrutinee k _ h.1.0.1 (cp o c)) _ _
         (rules.alone_sound g y consequent (L consequent) l false (cb o c) a (names.fine_more g x a pattern (nodes_of consequent) (base.fine_first g x a (nodes_of pattern) (nodes_of scrutinee) d1) (base.fine_second g x a n1 (nodes_of consequent) d) (names.keyed g pattern _ (ty_of scrutinee) h.1.0.1 (cp o c))) to (branches.dest_fits g to ty (L consequent).head.ty (fits_head y consequent l ty (unit_fits ty (ty_of consequent) h.1.1.1.1 h.1.1.1.0)) ar.made))
         (rules.unit_put g (head id ty by) to ar h.1.1.1.1))
-    form_good (tree.IfLet pattern scrutinee consequent (present otherwise)) x id at ty by h r =
+    form_good (tree.IfLet pattern scrutinee consequent (present otherwise)) x id at ty by u h r =
         let y = with_entries (entries_of pattern) x in
         let n1 = nodes_of pattern ++ nodes_of scrutinee in
         let c1 = cells g.items true pattern ++ reached_cells g.items scrutinee in
         let r1 = base.rise_first g (n1 ++ nodes_of consequent) (nodes_of otherwise) r in
         let r2 = base.rise_first g n1 (nodes_of consequent) r1 in
-        let k = node_good x scrutinee (Used Use.Borrow) h.0 (base.rise_second g (nodes_of pattern) (nodes_of scrutinee) r2) in
-        let l = node_good y consequent Taken h.1.1.0 (base.rise_second g n1 (nodes_of consequent) r1) in
-        let q = node_good x otherwise Taken h.1.1.1.0 (base.rise_second g (n1 ++ nodes_of consequent) (nodes_of otherwise) r) in
+        let k = node_good x scrutinee (Used Use.Borrow) refl h.0 (base.rise_second g (nodes_of pattern) (nodes_of scrutinee) r2) in
+        let l = node_good y consequent Taken refl h.1.1.0 (base.rise_second g n1 (nodes_of consequent) r1) in
+        let q = node_good x otherwise Taken refl h.1.1.1.0 (base.rise_second g (n1 ++ nodes_of consequent) (nodes_of otherwise) r) in
         let fit = common_two ty (ty_of consequent) (ty_of otherwise) h.1.1.1.1 in
         let outer_ = λ (o : Bool) (c : Cells (cells g.items o (tree.node id at ty by (tree.IfLet pattern scrutinee consequent (present otherwise))))). base.cells_first g (c1 ++ cells g.items false consequent) (cells g.items false otherwise) (base.cells_second g _ (cells_in g.items (tree.IfLet pattern scrutinee consequent (present otherwise))) c) in
         let cp = λ (o : Bool) (c : Cells (cells g.items o (tree.node id at ty by (tree.IfLet pattern scrutinee consequent (present otherwise))))). base.cells_first g (cells g.items true pattern) (reached_cells g.items scrutinee) (base.cells_first g c1 (cells g.items false consequent) (outer_ o c)) in
@@ -1217,30 +1245,30 @@ module _ (g : Ground) where
         branches.if_taken_sound g x (head id ty by) a (L pattern) scrutinee (L scrutinee) k (cs o c) (base.fine_second g x a (nodes_of pattern) (nodes_of scrutinee) d1) (shaped_at x pattern scrutinee k _ h.1.0.1 (cp o c)) _ _
         (rules.alone_sound g y consequent (L consequent) l false (cb o c) a (names.fine_more g x a pattern (nodes_of consequent) (base.fine_first g x a (nodes_of pattern) (nodes_of scrutinee) d1) (base.fine_second g x a n1 (nodes_of consequent) d) (names.keyed g pattern _ (ty_of scrutinee) h.1.0.1 (cp o c))) to (branches.dest_fits g to ty (L consequent).head.ty (fits_head y consequent l ty fit.0) ar.made))
         (rules.alone_sound g x otherwise (L otherwise) q false (co o c) a (base.fine_second g x a (n1 ++ nodes_of consequent) (nodes_of otherwise) w) to (branches.dest_fits g to ty (L otherwise).head.ty (fits_head x otherwise q ty fit.1) ar.made)))
-    form_good (tree.Match scrutinee arms) x id at ty by h r =
-        let k = node_good x scrutinee (Used Use.Borrow) h.0 (base.rise_first g (nodes_of scrutinee) (nodes_among arms) r) in
+    form_good (tree.Match scrutinee arms) x id at ty by u h r =
+        let k = node_good x scrutinee (Used Use.Borrow) refl h.0 (base.rise_first g (nodes_of scrutinee) (nodes_among arms) r) in
         let one = λ (o : Bool) (c : Cells (cells g.items o (tree.node id at ty by (tree.Match scrutinee arms)))). base.cells_first g (reached_cells g.items scrutinee) (all_cells g.items arms) (base.cells_second g _ (cells_in g.items (tree.Match scrutinee arms)) c) in
         let all = λ (o : Bool) (c : Cells (cells g.items o (tree.node id at ty by (tree.Match scrutinee arms)))). arms_good x (typing.matched_in false (K x) scrutinee) (ty_of scrutinee) ty arms h.1.0 (base.rise_second g (nodes_of scrutinee) (nodes_among arms) r) (base.cells_second g (reached_cells g.items scrutinee) (all_cells g.items arms) (base.cells_second g _ (cells_in g.items (tree.Match scrutinee arms)) c)) (and_first _ _ h.1.1.0) in
         value x (tree.node id at ty by (tree.Match scrutinee arms)) (head id ty by) (S_of (tree.Match scrutinee arms) (head id ty by)) (lower.matching F (head id ty by) (L scrutinee) (lower.lower_all F arms)) (record { id_is = refl; ty_is = refl; shape_is = refl; whole = λ a. refl; reached_so = λ c. c; cell = λ c m. (rw m at c).0 })
         (λ o c v a own. rules.no_end_owned g (head id ty by) own (then_lower (lower.scrutinised F a (L scrutinee)) (lower.arms_in_order F id (lower.lower_all F arms) (lower.place_in (L scrutinee) a) a (Into id)))
-        (rules.no_end_second g (lower.scrutinised F a (L scrutinee)) (lower.arms_in_order F id (lower.lower_all F arms) (lower.place_in (L scrutinee) a) a (Into id)) (branches.arms_ended g x (ty_of scrutinee) ty (nodes_among arms) (lower.lower_all F arms) (all o c) v (lower.place_in (L scrutinee) a) a (Into id))))
-        (λ o c a own to. rules.leaves_owned g x.loops (head id ty by) own _ (base.leaves_then g x.loops _ (lower.arms_in_order F id (lower.lower_all F arms) (lower.place_in (L scrutinee) a) a to) (branches.scrutinised_leaves g x scrutinee (L scrutinee) k (one o c) a) (λ e. record { spares = branches.arms_leave g x (ty_of scrutinee) ty (nodes_among arms) (lower.lower_all F arms) (all o c) (lower.place_in (L scrutinee) a) a to })))
+        (rules.no_end_second g (lower.scrutinised F a (L scrutinee)) (lower.arms_in_order F id (lower.lower_all F arms) (lower.place_in (L scrutinee) a) a (Into id)) (branches.arms_ended g x (ty_of scrutinee) ty (scopes.may_move (K x) scrutinee) (nodes_among arms) (lower.lower_all F arms) (all o c) v (lower.place_in (L scrutinee) a) a (Into id))))
+        (λ o c a own to. rules.leaves_owned g x.loops (head id ty by) own _ (base.leaves_then g x.loops _ (lower.arms_in_order F id (lower.lower_all F arms) (lower.place_in (L scrutinee) a) a to) (branches.scrutinised_leaves g x scrutinee (L scrutinee) k (one o c) a) (λ e. record { spares = branches.arms_leave g x (ty_of scrutinee) ty (scopes.may_move (K x) scrutinee) (nodes_among arms) (lower.lower_all F arms) (all o c) (lower.place_in (L scrutinee) a) a to })))
         (λ o c a f own to ar. let d = fine_in x a (tree.node id at ty by (tree.Match scrutinee arms)) (nodes_of scrutinee ++ nodes_among arms) f in
         let d1 = base.fine_first g x a (nodes_of scrutinee) (nodes_among arms) d in
         base.owned g (head id ty by) own _ (base.and_then g _ _ (branches.scrutinised_sound g x scrutinee (L scrutinee) k (one o c) a d1)
-        (λ e. branches.arms_sound g x id (ty_of scrutinee) ty (nodes_among arms) (lower.lower_all F arms) (all o c) (lower.place_in (L scrutinee) a)
-        (subst (base.Typed g (lower.place_in (L scrutinee) a)) k.ty_is (branches.scrutinee_place g x scrutinee (L scrutinee) k (one o c) a d1 e)) a (base.fine_second g x a (nodes_of scrutinee) (nodes_among arms) d) to ar.made)))
-    form_good (tree.Loop inner) x id at ty by h r =
+        (λ e. branches.arms_sound g x id (ty_of scrutinee) ty (scopes.may_move (K x) scrutinee) (nodes_among arms) (lower.lower_all F arms) (all o c) (lower.place_in (L scrutinee) a)
+        (subst (base.Typed g (lower.place_in (L scrutinee) a)) k.ty_is (branches.scrutinee_place g x scrutinee (L scrutinee) k (one o c) a d1 e)) (λ w. branches.scrutinee_goes g x scrutinee (L scrutinee) k (one o c) a d1 e w) a (base.fine_second g x a (nodes_of scrutinee) (nodes_among arms) d) to ar.made)))
+    form_good (tree.Loop inner) x id at ty by u h r =
         let l : LoopAround = record { loop = id; ty = ty; has_value = true } in
-        let k = node_good (within l x) inner Taken h.0 r in
+        let k = node_good (within l x) inner Taken refl h.0 r in
         scoped_value x (tree.node id at ty by (tree.Loop inner)) (head id ty by) (S_of (tree.Loop inner) (head id ty by)) (λ a to. build.looped id (lower.body_in F (L inner) (in_loop id to a))) (record { id_is = refl; ty_is = refl; shape_is = refl; whole = λ a. refl; reached_so = λ c. c; cell = λ c m. (rw m at c).0 })
         (λ o c v a. branches.not_left g l x.loops _ v (rules.leaves_back g (l ∷ x.loops) _ (k.leaves true (base.cells_second g _ (cells_in g.items (tree.Loop inner)) c) (in_loop id (Into id) a) true (Into (L inner).head.id))).spares)
         (λ o c a to. branches.looped_leaves g l x.loops _ (rules.leaves_back g (l ∷ x.loops) _ (k.leaves true (base.cells_second g _ (cells_in g.items (tree.Loop inner)) c) (in_loop id to a) true (Into (L inner).head.id))))
         (λ o c a f to ar. lines.looped_sound F (base.wanted g) id _ (rules.alone_sound g (within l x) inner (L inner) k true (base.cells_second g _ (cells_in g.items (tree.Loop inner)) c) (in_loop id to a) (names.fine_loop g x a (nodes_of inner) l to (fine_in x a (tree.node id at ty by (tree.Loop inner)) (nodes_of inner) f) ar.made) (Into (L inner).head.id) (λ v. k.cell (base.cells_second g _ (cells_in g.items (tree.Loop inner)) c) v)))
-    form_good (tree.While condition inner) x id at ty by h r =
+    form_good (tree.While condition inner) x id at ty by u h r =
         let l : LoopAround = record { loop = id; ty = ty; has_value = false } in
-        let k = node_good (within l x) condition Taken h.0 (base.rise_first g (nodes_of condition) (nodes_of inner) r) in
-        let q = node_good (within l x) inner Taken h.1.1.0 (base.rise_second g (nodes_of condition) (nodes_of inner) r) in
+        let k = node_good (within l x) condition Taken refl h.0 (base.rise_first g (nodes_of condition) (nodes_of inner) r) in
+        let q = node_good (within l x) inner Taken refl h.1.1.0 (base.rise_second g (nodes_of condition) (nodes_of inner) r) in
         let one = λ (o : Bool) (c : Cells (cells g.items o (tree.node id at ty by (tree.While condition inner)))). base.cells_first g (cells g.items true condition) (cells g.items true inner) (base.cells_second g _ (cells_in g.items (tree.While condition inner)) c) in
         let two = λ (o : Bool) (c : Cells (cells g.items o (tree.node id at ty by (tree.While condition inner)))). base.cells_second g (cells g.items true condition) (cells g.items true inner) (base.cells_second g _ (cells_in g.items (tree.While condition inner)) c) in
         scoped_value x (tree.node id at ty by (tree.While condition inner)) (head id ty by) (S_of (tree.While condition inner) (head id ty by)) (λ a to. build.looped id (lower.condition F (in_loop id to a) (L condition) (lower.body_in F (L inner) (in_loop id to a)) (lower.ends_loop F (head id ty by) to))) (record { id_is = refl; ty_is = refl; shape_is = refl; whole = λ a. refl; reached_so = λ c. c; cell = λ c m. (rw m at c).0 }) (λ o c v a. absurd (base.never_and_made g ty v (unit_made ty h.1.1.1.1)))
@@ -1249,15 +1277,15 @@ module _ (g : Ground) where
         lines.looped_sound F (base.wanted g) id _ (rules.condition_sound g (within l x) condition (L condition) k (one o c) (is_bool_or (ty_of condition) h.1.0) (in_loop id to a) (base.fine_first g (within l x) (in_loop id to a) (nodes_of condition) (nodes_of inner) d) _ _
         (rules.alone_sound g (within l x) inner (L inner) q true (two o c) (in_loop id to a) (base.fine_second g (within l x) (in_loop id to a) (nodes_of condition) (nodes_of inner) d) (Into (L inner).head.id) (λ v. q.cell (two o c) v))
         (lines.jump_sound F (base.wanted g) id (Breaks id) _ (rules.unit_put g (head id ty by) to ar h.1.1.1.1))))
-    form_good (tree.WhileLet pattern scrutinee inner) x id at ty by h r =
+    form_good (tree.WhileLet pattern scrutinee inner) x id at ty by u h r =
         let l : LoopAround = record { loop = id; ty = ty; has_value = false } in
         let z = within l x in
         let y = with_entries (entries_of pattern) z in
         let n1 = nodes_of pattern ++ nodes_of scrutinee in
         let c1 = cells g.items true pattern ++ reached_cells g.items scrutinee in
         let r1 = base.rise_first g n1 (nodes_of inner) r in
-        let k = node_good z scrutinee (Used Use.Borrow) h.0 (base.rise_second g (nodes_of pattern) (nodes_of scrutinee) r1) in
-        let q = node_good y inner Taken h.1.1.0 (base.rise_second g n1 (nodes_of inner) r) in
+        let k = node_good z scrutinee (Used Use.Borrow) refl h.0 (base.rise_second g (nodes_of pattern) (nodes_of scrutinee) r1) in
+        let q = node_good y inner Taken refl h.1.1.0 (base.rise_second g n1 (nodes_of inner) r) in
         let cp = λ (o : Bool) (c : Cells (cells g.items o (tree.node id at ty by (tree.WhileLet pattern scrutinee inner)))). base.cells_first g (cells g.items true pattern) (reached_cells g.items scrutinee) (base.cells_first g c1 (cells g.items true inner) (base.cells_second g _ (cells_in g.items (tree.WhileLet pattern scrutinee inner)) c)) in
         let cs = λ (o : Bool) (c : Cells (cells g.items o (tree.node id at ty by (tree.WhileLet pattern scrutinee inner)))). base.cells_second g (cells g.items true pattern) (reached_cells g.items scrutinee) (base.cells_first g c1 (cells g.items true inner) (base.cells_second g _ (cells_in g.items (tree.WhileLet pattern scrutinee inner)) c)) in
         let cb = λ (o : Bool) (c : Cells (cells g.items o (tree.node id at ty by (tree.WhileLet pattern scrutinee inner)))). base.cells_second g c1 (cells g.items true inner) (base.cells_second g _ (cells_in g.items (tree.WhileLet pattern scrutinee inner)) c) in
@@ -1269,43 +1297,43 @@ module _ (g : Ground) where
         lines.looped_sound F (base.wanted g) id _ (branches.if_taken_sound g z (head id ty by) b (L pattern) scrutinee (L scrutinee) k (cs o c) (base.fine_second g z b (nodes_of pattern) (nodes_of scrutinee) d1) (shaped_at z pattern scrutinee k _ h.1.0.1 (cp o c)) _ _
         (rules.alone_sound g y inner (L inner) q true (cb o c) b (names.fine_more g z b pattern (nodes_of inner) (base.fine_first g z b (nodes_of pattern) (nodes_of scrutinee) d1) (base.fine_second g z b n1 (nodes_of inner) d) (names.keyed g pattern _ (ty_of scrutinee) h.1.0.1 (cp o c))) (Into (L inner).head.id) (λ v. q.cell (cb o c) v))
         (lines.jump_sound F (base.wanted g) id (Breaks id) _ (rules.unit_put g (head id ty by) to ar h.1.1.1.1))))
-    form_good (tree.Break loop absent) x id at ty by h r =
+    form_good (tree.Break loop absent) x id at ty by u h r =
         let l = found (loop_with loop x.loops) _ h.0 in
         scoped_value x (tree.node id at ty by (tree.Break loop absent)) (head id ty by) (S_of (tree.Break loop absent) (head id ty by)) (λ a to. build.jump F id (Breaks loop) (lower.put_unit F (head id ty by) (loop_destination loop a.loops))) (record { id_is = refl; ty_is = refl; shape_is = refl; whole = λ a. refl; reached_so = λ c. c; cell = λ c m. (rw m at c).0 })
         (λ o c v a. base.and_false _)
         (λ o c a to. branches.jump_leaves g x.loops id (Breaks loop) _ (rules.leaves_deliver g x.loops id (head id ty by) (λ site. effects.Put site effects.UnitValue) (loop_destination loop a.loops)) (λ e. ((λ other is. subst (λ (z : LoopAround). base.Made g z.ty) (same_Some l.0 other (sym l.1 ∙ is)) (unit_made l.0.ty l.2)), tt)))
         (λ o c a f to ar. lines.jump_sound F (base.wanted g) id (Breaks loop) _ (base.delivered g id (head id ty by) (λ site. effects.Put site effects.UnitValue) (loop_destination loop a.loops) l.0.ty (f.around.loops loop l.0 l.1 (unit_made l.0.ty l.2)) (λ key k. unit_put_at id l.0.ty key k l.2)))
-    form_good (tree.Break loop (present value_)) x id at ty by h r =
+    form_good (tree.Break loop (present value_)) x id at ty by u h r =
         let l = found (loop_with loop x.loops) _ h.0 in
-        let k = node_good x value_ (Wanted l.0.ty) l.2.1 r in
+        let k = node_good x value_ (Wanted l.0.ty) refl l.2.1 r in
         let fit = wanted_fits x l.0.ty value_ l.2.1 in
         scoped_value x (tree.node id at ty by (tree.Break loop (present value_))) (head id ty by) (S_of (tree.Break loop (present value_)) (head id ty by)) (λ a to. build.jump F id (Breaks loop) ((L value_).evaluates a false (loop_destination loop a.loops))) (record { id_is = refl; ty_is = refl; shape_is = refl; whole = λ a. refl; reached_so = λ c. c; cell = λ c m. (rw m at c).0 })
         (λ o c v a. base.and_false _)
         (λ o c a to. branches.jump_leaves g x.loops id (Breaks loop) _ (k.leaves false (base.cells_second g _ (cells_in g.items (tree.Break loop (present value_))) c) a false (loop_destination loop a.loops)) (λ e. ((λ other is. subst (λ (z : LoopAround). base.Made g z.ty) (same_Some l.0 other (sym l.1 ∙ is)) (made_wanted x value_ k l.0.ty fit (rules.ends_made g x value_ (L value_) k false (base.cells_second g _ (cells_in g.items (tree.Break loop (present value_))) c) a false (loop_destination loop a.loops) e))), tt)))
         (λ o c a f to ar. lines.jump_sound F (base.wanted g) id (Breaks loop) _ (k.evaluates false (base.cells_second g _ (cells_in g.items (tree.Break loop (present value_))) c) a (fine_in x a (tree.node id at ty by (tree.Break loop (present value_))) (nodes_of value_) f) false (loop_destination loop a.loops) (branches.dest_fits g (loop_destination loop a.loops) l.0.ty (L value_).head.ty (fits_head x value_ k l.0.ty fit) (f.around.loops loop l.0 l.1))))
-    form_good (tree.Continue loop) x id at ty by h r =
+    form_good (tree.Continue loop) x id at ty by u h r =
         value x (tree.node id at ty by (tree.Continue loop)) (head id ty by) (S_of (tree.Continue loop) (head id ty by)) _ (record { id_is = refl; ty_is = refl; shape_is = refl; whole = λ a. refl; reached_so = λ c. c; cell = λ c m. (rw m at c).0 }) (λ o c v a own. refl) (λ o c a own to. record { spares = (tt, tt) }) (λ o c a f own to ar. lines.jump_sound F (base.wanted g) id (Continues loop) build.nothing (base.nothing_done g))
-    form_good (tree.Return absent) x id at ty by h r =
+    form_good (tree.Return absent) x id at ty by u h r =
         scoped_value x (tree.node id at ty by (tree.Return absent)) (head id ty by) (S_of (tree.Return absent) (head id ty by)) (λ a to. build.jump F id Returns (lower.put_unit F (head id ty by) a.answer)) (record { id_is = refl; ty_is = refl; shape_is = refl; whole = λ a. refl; reached_so = λ c. c; cell = λ c m. (rw m at c).0 }) (λ o c v a. base.and_false _)
         (λ o c a to. branches.jump_leaves g x.loops id Returns _ (rules.leaves_deliver g x.loops id (head id ty by) (λ site. effects.Put site effects.UnitValue) a.answer) (λ e. tt))
         (λ o c a f to ar. lines.jump_sound F (base.wanted g) id Returns _ (base.delivered g id (head id ty by) (λ site. effects.Put site effects.UnitValue) a.answer x.answer (f.around.answer (unit_made x.answer h.0)) (λ key k. unit_put_at id x.answer key k h.0)))
-    form_good (tree.Return (present value_)) x id at ty by h r =
-        let k = node_good x value_ (Wanted x.answer) h.0 r in
+    form_good (tree.Return (present value_)) x id at ty by u h r =
+        let k = node_good x value_ (Wanted x.answer) refl h.0 r in
         scoped_value x (tree.node id at ty by (tree.Return (present value_))) (head id ty by) (S_of (tree.Return (present value_)) (head id ty by)) (λ a to. build.jump F id Returns ((L value_).evaluates a false a.answer)) (record { id_is = refl; ty_is = refl; shape_is = refl; whole = λ a. refl; reached_so = λ c. c; cell = λ c m. (rw m at c).0 }) (λ o c v a. base.and_false _)
         (λ o c a to. branches.jump_leaves g x.loops id Returns _ (k.leaves false (base.cells_second g _ (cells_in g.items (tree.Return (present value_))) c) a false a.answer) (λ e. tt))
         (λ o c a f to ar. lines.jump_sound F (base.wanted g) id Returns _ (k.evaluates false (base.cells_second g _ (cells_in g.items (tree.Return (present value_))) c) a (fine_in x a (tree.node id at ty by (tree.Return (present value_))) (nodes_of value_) f) false a.answer (branches.dest_fits g a.answer x.answer (L value_).head.ty (fits_head x value_ k x.answer (wanted_fits x x.answer value_ h.0)) f.around.answer)))
-    form_good (tree.Let pattern initialiser) x id at ty by h r = absurd (untrue h)
-    form_good (tree.Evaluate expression) x id at ty by h r = absurd (untrue h)
-    form_good (tree.Arm pattern guard inner) x id at ty by h r = absurd (untrue h)
-    form_good tree.Wildcard x id at ty by h r = absurd (untrue h)
-    form_good (tree.Binding name) x id at ty by h r = absurd (untrue h)
-    form_good (tree.NumberPattern value) x id at ty by h r = absurd (untrue h)
-    form_good (tree.TruthPattern value) x id at ty by h r = absurd (untrue h)
-    form_good (tree.StructPattern fields) x id at ty by h r = absurd (untrue h)
-    form_good (tree.VariantPattern variant is_test fields) x id at ty by h r = absurd (untrue h)
-    form_good (tree.TuplePattern parts) x id at ty by h r = absurd (untrue h)
-    form_good (tree.ArrayPattern elements) x id at ty by h r = absurd (untrue h)
-    form_good (tree.OrPattern alternatives) x id at ty by h r = absurd (untrue h)
+    form_good (tree.Let pattern initialiser) x id at ty by u h r = absurd (untrue h)
+    form_good (tree.Evaluate expression) x id at ty by u h r = absurd (untrue h)
+    form_good (tree.Arm pattern guard inner) x id at ty by u h r = absurd (untrue h)
+    form_good tree.Wildcard x id at ty by u h r = absurd (untrue h)
+    form_good (tree.Binding name) x id at ty by u h r = absurd (untrue h)
+    form_good (tree.NumberPattern value) x id at ty by u h r = absurd (untrue h)
+    form_good (tree.TruthPattern value) x id at ty by u h r = absurd (untrue h)
+    form_good (tree.StructPattern fields) x id at ty by u h r = absurd (untrue h)
+    form_good (tree.VariantPattern variant is_test fields) x id at ty by u h r = absurd (untrue h)
+    form_good (tree.TuplePattern parts) x id at ty by u h r = absurd (untrue h)
+    form_good (tree.ArrayPattern elements) x id at ty by u h r = absurd (untrue h)
+    form_good (tree.OrPattern alternatives) x id at ty by u h r = absurd (untrue h)
 
     -- ---- lists of operands
     args_given : (x : Context) (ns : Nodes) (tys : List TyId) → Holds (typing.arguments (K x) tys ns) → base.Rise g (nodes_among ns) → Cells (all_cells g.items ns) → rules.Operands g x (nodes_among ns) (lower.lower_all F ns) tys
@@ -1314,7 +1342,7 @@ module _ (g : Ground) where
     args_given x (a_node first rest) [] h r c = absurd (untrue h)
     args_given x (a_node first rest) (ty ∷ tys) h r c =
         rules.an_operand (nodes_of first) (nodes_among rest) (L first) (lower.lower_all F rest) ty tys
-        (rules.operand_of g x first (L first) (node_good x first (Passed ty) h.0 (base.rise_first g (nodes_of first) (nodes_among rest) r)) (base.cells_first g (cells g.items true first) (all_cells g.items rest) c) ty (passed_fits x ty first h.0))
+        (rules.operand_of g x first (L first) (node_good x first (Passed ty) refl h.0 (base.rise_first g (nodes_of first) (nodes_among rest) r)) (base.cells_first g (cells g.items true first) (all_cells g.items rest) c) ty (passed_fits x ty first h.0))
         (args_given x rest tys h.1 (base.rise_second g (nodes_of first) (nodes_among rest) r) (base.cells_second g (cells g.items true first) (all_cells g.items rest) c))
 
     parts_given : (x : Context) (ns : Nodes) (tys : List TyId) → Holds (typing.made_parts (K x) tys ns) → base.Rise g (nodes_among ns) → Cells (all_cells g.items ns) → rules.Operands g x (nodes_among ns) (lower.lower_all F ns) tys
@@ -1323,14 +1351,14 @@ module _ (g : Ground) where
     parts_given x (a_node first rest) [] h r c = absurd (untrue h)
     parts_given x (a_node first rest) (ty ∷ tys) h r c =
         rules.an_operand (nodes_of first) (nodes_among rest) (L first) (lower.lower_all F rest) ty tys
-        (rules.operand_of g x first (L first) (node_good x first (Wanted ty) h.0 (base.rise_first g (nodes_of first) (nodes_among rest) r)) (base.cells_first g (cells g.items true first) (all_cells g.items rest) c) ty (wanted_fits x ty first h.0))
+        (rules.operand_of g x first (L first) (node_good x first (Wanted ty) refl h.0 (base.rise_first g (nodes_of first) (nodes_among rest) r)) (base.cells_first g (cells g.items true first) (all_cells g.items rest) c) ty (wanted_fits x ty first h.0))
         (parts_given x rest tys h.1 (base.rise_second g (nodes_of first) (nodes_among rest) r) (base.cells_second g (cells g.items true first) (all_cells g.items rest) c))
 
     elements_given : (x : Context) (ns : Nodes) (ty : TyId) → Holds (typing.elements_of (K x) ty ns) → base.Rise g (nodes_among ns) → Cells (all_cells g.items ns) → rules.Operands g x (nodes_among ns) (lower.lower_all F ns) (SameTypes ty ns)
     elements_given x no_node ty h r c = rules.no_operand
     elements_given x (a_node first rest) ty h r c =
         rules.an_operand (nodes_of first) (nodes_among rest) (L first) (lower.lower_all F rest) ty (SameTypes ty rest)
-        (rules.operand_of g x first (L first) (node_good x first (Wanted ty) h.0 (base.rise_first g (nodes_of first) (nodes_among rest) r)) (base.cells_first g (cells g.items true first) (all_cells g.items rest) c) ty (wanted_fits x ty first h.0))
+        (rules.operand_of g x first (L first) (node_good x first (Wanted ty) refl h.0 (base.rise_first g (nodes_of first) (nodes_among rest) r)) (base.cells_first g (cells g.items true first) (all_cells g.items rest) c) ty (wanted_fits x ty first h.0))
         (elements_given x rest ty h.1 (base.rise_second g (nodes_of first) (nodes_among rest) r) (base.cells_second g (cells g.items true first) (all_cells g.items rest) c))
 
     captures_given : (x : Context) (ns : Nodes) (tys : List TyId) → Holds (typing.captured (K x) tys ns) → base.Rise g (nodes_among ns) → Cells (all_cells g.items ns) → rules.Operands g x (nodes_among ns) (lower.lower_all F ns) tys
@@ -1339,7 +1367,7 @@ module _ (g : Ground) where
     captures_given x (a_node first rest) [] h r c = absurd (untrue h)
     captures_given x (a_node first rest) (ty ∷ tys) h r c =
         rules.an_operand (nodes_of first) (nodes_among rest) (L first) (lower.lower_all F rest) ty tys
-        (rules.operand_of g x first (L first) (node_good x first Taken h.0 (base.rise_first g (nodes_of first) (nodes_among rest) r)) (base.cells_first g (cells g.items true first) (all_cells g.items rest) c) ty (inl (sym (same_id ty (ty_of first) (and_second _ _ h.1.0)))))
+        (rules.operand_of g x first (L first) (node_good x first Taken refl h.0 (base.rise_first g (nodes_of first) (nodes_among rest) r)) (base.cells_first g (cells g.items true first) (all_cells g.items rest) c) ty (inl (sym (same_id ty (ty_of first) (and_second _ _ h.1.0)))))
         (captures_given x rest tys h.1.1 (base.rise_second g (nodes_of first) (nodes_among rest) r) (base.cells_second g (cells g.items true first) (all_cells g.items rest) c))
 
     fields_given : (x : Context) (fs : Fields) (tys : List TyId) (h : Holds (typing.made_fields (K x) tys fs)) → base.Rise g (nodes_of_fields fs) → Cells (cells_of_fields g.items fs) → rules.Operands g x (nodes_of_fields fs) (lower.lower_fields F fs) (wants_of x fs tys h)
@@ -1347,21 +1375,21 @@ module _ (g : Ground) where
     fields_given x (a_field number value_ rest) tys h r c =
         let want = found (slice_get tys number) _ h.0 in
         rules.an_operand (nodes_of value_) (nodes_of_fields rest) (L value_) (lower.lower_fields F rest) want.0 (wants_of x rest tys h.1)
-        (rules.operand_of g x value_ (L value_) (node_good x value_ (Wanted want.0) want.2 (base.rise_first g (nodes_of value_) (nodes_of_fields rest) r)) (base.cells_first g (cells g.items true value_) (cells_of_fields g.items rest) c) want.0 (wanted_fits x want.0 value_ want.2))
+        (rules.operand_of g x value_ (L value_) (node_good x value_ (Wanted want.0) refl want.2 (base.rise_first g (nodes_of value_) (nodes_of_fields rest) r)) (base.cells_first g (cells g.items true value_) (cells_of_fields g.items rest) c) want.0 (wanted_fits x want.0 value_ want.2))
         (fields_given x rest tys h.1 (base.rise_second g (nodes_of value_) (nodes_of_fields rest) r) (base.cells_second g (cells g.items true value_) (cells_of_fields g.items rest) c))
 
     fields_keyed : (x : Context) (fs : Fields) (tys : List TyId) (h : Holds (typing.made_fields (K x) tys fs)) → base.Rise g (nodes_of_fields fs) → rules.Given g (lower.lower_fields F fs) (wants_of x fs tys h) → taken_fields.OfFields g tys (field_keys fs)
     fields_keyed x no_field tys h r given = tt
     fields_keyed x (a_field number value_ rest) tys h r given =
         let want = found (slice_get tys number) _ h.0 in
-        let k = node_good x value_ (Wanted want.0) want.2 (base.rise_first g (nodes_of value_) (nodes_of_fields rest) r) in
+        let k = node_good x value_ (Wanted want.0) refl want.2 (base.rise_first g (nodes_of value_) (nodes_of_fields rest) r) in
         ((want.0, want.1, subst (λ (z : ℕ). base.KeyIs g z want.0) k.id_is given.0.0), fields_keyed x rest tys h.1 (base.rise_second g (nodes_of value_) (nodes_of_fields rest) r) given.1)
 
     -- ---- blocks
     tail_good : (y : Context) (tail : MaybeNode) → Holds (typing.tail_of (K y) tail) → base.Rise g (nodes_if_any tail) → Cells (cells_if_any g.items false tail) → (id : ℕ) (ty : TyId) (by : Option Use) → TailGood y tail id ty by
     tail_good y absent h r c id ty by = no_tail y id ty by
     tail_good y (present n) h r c id ty by =
-        let k = node_good y n Taken h r in record {
+        let k = node_good y n Taken refl h r in record {
           ended = λ s v a to. k.ended false c (subst (base.Never g) (sym k.ty_is) (subst (base.Never g) (same_id ty (ty_of n) s) v)) a true to;
           leaves = λ a to. rules.leaves_back g y.loops _ (k.leaves false c a true to);
           sound = λ a f to so ar. rules.alone_sound g y n (L n) k false c a f to (branches.dest_fits g to ty (L n).head.ty (fits_head y n k ty (inl (sym (same_id ty (ty_of n) so)))) ar.made);
@@ -1385,7 +1413,7 @@ module _ (g : Ground) where
 
     stmt_good : (x : Context) (form : Form) (id : ℕ) (at : Pos) (ty : TyId) (by : Option Use) → Holds (typing.statement (K x) form) → base.Rise g (nodes_of (tree.node id at ty by form)) → Cells (cells g.items true (tree.node id at ty by form)) → StmtGood x (tree.node id at ty by form)
     stmt_good x (tree.Evaluate expression) id at ty by h r c =
-        let k = node_good x expression Taken h r.1 in
+        let k = node_good x expression Taken refl h r.1 in
         let ce = base.cells_second g _ (cells g.items true expression) c in
         record {
           ended = λ e a own to. rules.no_end_scope g id true (build.from_changed (lower.pending_if F true innermost (L expression).head) (then_lower ((L expression).evaluates a false (Into (L expression).head.id)) (build.change (lower.completed F innermost (L expression).head))))
@@ -1402,7 +1430,7 @@ module _ (g : Ground) where
         }
     stmt_good x (tree.Let (tree.node idp atp typ byp (tree.Binding name)) (present v)) id at ty by h r c =
         let p = tree.node idp atp typ byp (tree.Binding name) in
-        let k = node_good x v (Wanted typ) h.0 (base.rise_second g (nodes_of p) (nodes_of v) r.1) in
+        let k = node_good x v (Wanted typ) refl h.0 (base.rise_second g (nodes_of p) (nodes_of v) r.1) in
         let cs = base.cells_second g _ (cells_in g.items (tree.Let p (present v))) c in
         let cv = base.cells_second g (cells g.items true p) (cells g.items false v) cs in
         let key : base.KeyIs g idp typ = (names.keyed g p typing.whole typ h.1.1.0 (base.cells_first g (cells g.items true p) (cells g.items false v) cs)).0 in
@@ -1417,42 +1445,42 @@ module _ (g : Ground) where
     stmt_good x (tree.Let (tree.node idp atp typ byp tree.Wildcard) (present v)) id at ty by h r c =
         let p = tree.node idp atp typ byp tree.Wildcard in
         let cs = base.cells_second g _ (cells_in g.items (tree.Let p (present v))) c in
-        let it = parts_let x p v (head id ty by) (node_good x v Base h.0 (base.rise_second g (nodes_of p) (nodes_of v) r.1)) h.0 (typing.matched_in true (K x) v) h.1.1.0 (and_first _ _ h.1.1.1.0) h.1.1.1.1.0 (base.cells_first g (cells g.items true p) (reached_cells g.items v) cs) (base.cells_second g (cells g.items true p) (reached_cells g.items v) cs) in
+        let it = parts_let x p v (head id ty by) (node_good x v Base refl h.0 (base.rise_second g (nodes_of p) (nodes_of v) r.1)) h.0 (typing.matched_in true (K x) v) (λ w. w) h.1.1.0 (and_first _ _ h.1.1.1.0) h.1.1.1.1.0 (base.cells_first g (cells g.items true p) (reached_cells g.items v) cs) (base.cells_second g (cells g.items true p) (reached_cells g.items v) cs) in
         record { ended = λ e a own to. it.ended e a; leaves = λ a own to. it.leaves a; sound = λ a f own to. it.sound a (base.fine_second g x a (nodes_of p) (nodes_of v) (fine_in x a (tree.node id at ty by (tree.Let p (present v))) (nodes_of p ++ nodes_of v) f)) }
     stmt_good x (tree.Let (tree.node idp atp typ byp (tree.NumberPattern value)) (present v)) id at ty by h r c =
         let p = tree.node idp atp typ byp (tree.NumberPattern value) in
         let cs = base.cells_second g _ (cells_in g.items (tree.Let p (present v))) c in
-        let it = parts_let x p v (head id ty by) (node_good x v Base h.0 (base.rise_second g (nodes_of p) (nodes_of v) r.1)) h.0 (typing.matched_in true (K x) v) h.1.1.0 (and_first _ _ h.1.1.1.0) h.1.1.1.1.0 (base.cells_first g (cells g.items true p) (reached_cells g.items v) cs) (base.cells_second g (cells g.items true p) (reached_cells g.items v) cs) in
+        let it = parts_let x p v (head id ty by) (node_good x v Base refl h.0 (base.rise_second g (nodes_of p) (nodes_of v) r.1)) h.0 (typing.matched_in true (K x) v) (λ w. w) h.1.1.0 (and_first _ _ h.1.1.1.0) h.1.1.1.1.0 (base.cells_first g (cells g.items true p) (reached_cells g.items v) cs) (base.cells_second g (cells g.items true p) (reached_cells g.items v) cs) in
         record { ended = λ e a own to. it.ended e a; leaves = λ a own to. it.leaves a; sound = λ a f own to. it.sound a (base.fine_second g x a (nodes_of p) (nodes_of v) (fine_in x a (tree.node id at ty by (tree.Let p (present v))) (nodes_of p ++ nodes_of v) f)) }
     stmt_good x (tree.Let (tree.node idp atp typ byp (tree.TruthPattern value)) (present v)) id at ty by h r c =
         let p = tree.node idp atp typ byp (tree.TruthPattern value) in
         let cs = base.cells_second g _ (cells_in g.items (tree.Let p (present v))) c in
-        let it = parts_let x p v (head id ty by) (node_good x v Base h.0 (base.rise_second g (nodes_of p) (nodes_of v) r.1)) h.0 (typing.matched_in true (K x) v) h.1.1.0 (and_first _ _ h.1.1.1.0) h.1.1.1.1.0 (base.cells_first g (cells g.items true p) (reached_cells g.items v) cs) (base.cells_second g (cells g.items true p) (reached_cells g.items v) cs) in
+        let it = parts_let x p v (head id ty by) (node_good x v Base refl h.0 (base.rise_second g (nodes_of p) (nodes_of v) r.1)) h.0 (typing.matched_in true (K x) v) (λ w. w) h.1.1.0 (and_first _ _ h.1.1.1.0) h.1.1.1.1.0 (base.cells_first g (cells g.items true p) (reached_cells g.items v) cs) (base.cells_second g (cells g.items true p) (reached_cells g.items v) cs) in
         record { ended = λ e a own to. it.ended e a; leaves = λ a own to. it.leaves a; sound = λ a f own to. it.sound a (base.fine_second g x a (nodes_of p) (nodes_of v) (fine_in x a (tree.node id at ty by (tree.Let p (present v))) (nodes_of p ++ nodes_of v) f)) }
     stmt_good x (tree.Let (tree.node idp atp typ byp (tree.StructPattern fields_)) (present v)) id at ty by h r c =
         let p = tree.node idp atp typ byp (tree.StructPattern fields_) in
         let cs = base.cells_second g _ (cells_in g.items (tree.Let p (present v))) c in
-        let it = parts_let x p v (head id ty by) (node_good x v Base h.0 (base.rise_second g (nodes_of p) (nodes_of v) r.1)) h.0 (typing.matched_in true (K x) v) h.1.1.0 (and_first _ _ h.1.1.1.0) h.1.1.1.1.0 (base.cells_first g (cells g.items true p) (reached_cells g.items v) cs) (base.cells_second g (cells g.items true p) (reached_cells g.items v) cs) in
+        let it = parts_let x p v (head id ty by) (node_good x v Base refl h.0 (base.rise_second g (nodes_of p) (nodes_of v) r.1)) h.0 (typing.matched_in true (K x) v) (λ w. w) h.1.1.0 (and_first _ _ h.1.1.1.0) h.1.1.1.1.0 (base.cells_first g (cells g.items true p) (reached_cells g.items v) cs) (base.cells_second g (cells g.items true p) (reached_cells g.items v) cs) in
         record { ended = λ e a own to. it.ended e a; leaves = λ a own to. it.leaves a; sound = λ a f own to. it.sound a (base.fine_second g x a (nodes_of p) (nodes_of v) (fine_in x a (tree.node id at ty by (tree.Let p (present v))) (nodes_of p ++ nodes_of v) f)) }
     stmt_good x (tree.Let (tree.node idp atp typ byp (tree.VariantPattern variant is_test fields_)) (present v)) id at ty by h r c =
         let p = tree.node idp atp typ byp (tree.VariantPattern variant is_test fields_) in
         let cs = base.cells_second g _ (cells_in g.items (tree.Let p (present v))) c in
-        let it = parts_let x p v (head id ty by) (node_good x v Base h.0 (base.rise_second g (nodes_of p) (nodes_of v) r.1)) h.0 (typing.matched_in true (K x) v) h.1.1.0 (and_first _ _ h.1.1.1.0) h.1.1.1.1.0 (base.cells_first g (cells g.items true p) (reached_cells g.items v) cs) (base.cells_second g (cells g.items true p) (reached_cells g.items v) cs) in
+        let it = parts_let x p v (head id ty by) (node_good x v Base refl h.0 (base.rise_second g (nodes_of p) (nodes_of v) r.1)) h.0 (typing.matched_in true (K x) v) (λ w. w) h.1.1.0 (and_first _ _ h.1.1.1.0) h.1.1.1.1.0 (base.cells_first g (cells g.items true p) (reached_cells g.items v) cs) (base.cells_second g (cells g.items true p) (reached_cells g.items v) cs) in
         record { ended = λ e a own to. it.ended e a; leaves = λ a own to. it.leaves a; sound = λ a f own to. it.sound a (base.fine_second g x a (nodes_of p) (nodes_of v) (fine_in x a (tree.node id at ty by (tree.Let p (present v))) (nodes_of p ++ nodes_of v) f)) }
     stmt_good x (tree.Let (tree.node idp atp typ byp (tree.TuplePattern parts_)) (present v)) id at ty by h r c =
         let p = tree.node idp atp typ byp (tree.TuplePattern parts_) in
         let cs = base.cells_second g _ (cells_in g.items (tree.Let p (present v))) c in
-        let it = parts_let x p v (head id ty by) (node_good x v Base h.0 (base.rise_second g (nodes_of p) (nodes_of v) r.1)) h.0 (typing.matched_in true (K x) v) h.1.1.0 (and_first _ _ h.1.1.1.0) h.1.1.1.1.0 (base.cells_first g (cells g.items true p) (reached_cells g.items v) cs) (base.cells_second g (cells g.items true p) (reached_cells g.items v) cs) in
+        let it = parts_let x p v (head id ty by) (node_good x v Base refl h.0 (base.rise_second g (nodes_of p) (nodes_of v) r.1)) h.0 (typing.matched_in true (K x) v) (λ w. w) h.1.1.0 (and_first _ _ h.1.1.1.0) h.1.1.1.1.0 (base.cells_first g (cells g.items true p) (reached_cells g.items v) cs) (base.cells_second g (cells g.items true p) (reached_cells g.items v) cs) in
         record { ended = λ e a own to. it.ended e a; leaves = λ a own to. it.leaves a; sound = λ a f own to. it.sound a (base.fine_second g x a (nodes_of p) (nodes_of v) (fine_in x a (tree.node id at ty by (tree.Let p (present v))) (nodes_of p ++ nodes_of v) f)) }
     stmt_good x (tree.Let (tree.node idp atp typ byp (tree.ArrayPattern elements)) (present v)) id at ty by h r c =
         let p = tree.node idp atp typ byp (tree.ArrayPattern elements) in
         let cs = base.cells_second g _ (cells_in g.items (tree.Let p (present v))) c in
-        let it = parts_let x p v (head id ty by) (node_good x v Base h.0 (base.rise_second g (nodes_of p) (nodes_of v) r.1)) h.0 (typing.matched_in true (K x) v) h.1.1.0 (and_first _ _ h.1.1.1.0) h.1.1.1.1.0 (base.cells_first g (cells g.items true p) (reached_cells g.items v) cs) (base.cells_second g (cells g.items true p) (reached_cells g.items v) cs) in
+        let it = parts_let x p v (head id ty by) (node_good x v Base refl h.0 (base.rise_second g (nodes_of p) (nodes_of v) r.1)) h.0 (typing.matched_in true (K x) v) (λ w. w) h.1.1.0 (and_first _ _ h.1.1.1.0) h.1.1.1.1.0 (base.cells_first g (cells g.items true p) (reached_cells g.items v) cs) (base.cells_second g (cells g.items true p) (reached_cells g.items v) cs) in
         record { ended = λ e a own to. it.ended e a; leaves = λ a own to. it.leaves a; sound = λ a f own to. it.sound a (base.fine_second g x a (nodes_of p) (nodes_of v) (fine_in x a (tree.node id at ty by (tree.Let p (present v))) (nodes_of p ++ nodes_of v) f)) }
     stmt_good x (tree.Let (tree.node idp atp typ byp (tree.OrPattern alternatives)) (present v)) id at ty by h r c =
         let p = tree.node idp atp typ byp (tree.OrPattern alternatives) in
         let cs = base.cells_second g _ (cells_in g.items (tree.Let p (present v))) c in
-        let it = parts_let x p v (head id ty by) (node_good x v Base h.0 (base.rise_second g (nodes_of p) (nodes_of v) r.1)) h.0 (typing.matched_in true (K x) v) h.1.1.0 (and_first _ _ h.1.1.1.0) h.1.1.1.1.0 (base.cells_first g (cells g.items true p) (reached_cells g.items v) cs) (base.cells_second g (cells g.items true p) (reached_cells g.items v) cs) in
+        let it = parts_let x p v (head id ty by) (node_good x v Base refl h.0 (base.rise_second g (nodes_of p) (nodes_of v) r.1)) h.0 (typing.matched_in true (K x) v) (λ w. w) h.1.1.0 (and_first _ _ h.1.1.1.0) h.1.1.1.1.0 (base.cells_first g (cells g.items true p) (reached_cells g.items v) cs) (base.cells_second g (cells g.items true p) (reached_cells g.items v) cs) in
         record { ended = λ e a own to. it.ended e a; leaves = λ a own to. it.leaves a; sound = λ a f own to. it.sound a (base.fine_second g x a (nodes_of p) (nodes_of v) (fine_in x a (tree.node id at ty by (tree.Let p (present v))) (nodes_of p ++ nodes_of v) f)) }
     stmt_good x (tree.Let (tree.node idp atp typ byp (tree.Number value)) (present v)) id at ty by h r c = absurd (untrue h.1.1.0.1)
     stmt_good x (tree.Let (tree.node idp atp typ byp (tree.Truth value)) (present v)) id at ty by h r c = absurd (untrue h.1.1.0.1)
@@ -1551,7 +1579,7 @@ module _ (g : Ground) where
     stmt_good x (tree.OrPattern alternatives) id at ty by h r c = absurd (untrue h)
 
     -- ---- arms
-    arms_good : (x : Context) (m : Matched) (scrutinee want : TyId) (ns : Nodes) → Holds (typing.arms_of (K x) m scrutinee ns) → base.Rise g (nodes_among ns) → Cells (all_cells g.items ns) → list_all (types.fits g.items want) (typing.types_in ns) ≡ true → branches.Arms g x scrutinee want (nodes_among ns) (lower.lower_all F ns)
+    arms_good : (x : Context) (m : Matched) (scrutinee want : TyId) (ns : Nodes) → Holds (typing.arms_of (K x) m scrutinee ns) → base.Rise g (nodes_among ns) → Cells (all_cells g.items ns) → list_all (types.fits g.items want) (typing.types_in ns) ≡ true → branches.Arms g x scrutinee want m.may_move (nodes_among ns) (lower.lower_all F ns)
     arms_good x m scrutinee want no_node h r c fit = branches.no_arm
     arms_good x m scrutinee want (a_node (tree.node id at ty by form) rest) h r c fit =
         let n = tree.node id at ty by form in
@@ -1560,7 +1588,7 @@ module _ (g : Ground) where
         (base.fits g want ty (and_first (types.fits g.items want ty) _ fit))
         (arms_good x m scrutinee want rest h.1 (base.rise_second g (nodes_of n) (nodes_among rest) r) (base.cells_second g (cells g.items true n) (all_cells g.items rest) c) (and_second (types.fits g.items want ty) _ fit))
 
-    arm_good : (x : Context) (m : Matched) (scrutinee : TyId) (form : Form) (id : ℕ) (at : Pos) (ty : TyId) (by : Option Use) → Holds (typing.arm (K x) m scrutinee (tree.node id at ty by form)) → base.Rise g (nodes_in form) → Cells (cells_in g.items form) → branches.ArmGood g x (tree.node id at ty by form) (L (tree.node id at ty by form)) scrutinee
+    arm_good : (x : Context) (m : Matched) (scrutinee : TyId) (form : Form) (id : ℕ) (at : Pos) (ty : TyId) (by : Option Use) → Holds (typing.arm (K x) m scrutinee (tree.node id at ty by form)) → base.Rise g (nodes_in form) → Cells (cells_in g.items form) → branches.ArmGood g x (tree.node id at ty by form) (L (tree.node id at ty by form)) scrutinee m.may_move
     arm_good x m scrutinee (tree.Arm p guard inner) id at ty by h r c =
         let y = with_entries (entries_of p) x in
         let z = with_entries (scopes.in_guard (entries_of p)) x in
@@ -1569,17 +1597,17 @@ module _ (g : Ground) where
         let c1 = base.cells_first g (cells g.items true p ++ cells_if_any g.items true guard) (cells g.items false inner) c in
         let cp = base.cells_first g (cells g.items true p) (cells_if_any g.items true guard) c1 in
         let ci = base.cells_second g (cells g.items true p ++ cells_if_any g.items true guard) (cells g.items false inner) c in
-        let k = node_good y inner Taken h.1.1.1.1.0 (base.rise_second g (nodes_of p ++ nodes_if_any guard) (nodes_of inner) r) in
+        let k = node_good y inner Taken refl h.1.1.1.1.0 (base.rise_second g (nodes_of p ++ nodes_if_any guard) (nodes_of inner) r) in
         let same = same_id ty (ty_of inner) h.1.1.1.1.1 in
         let q = guard_good z guard h.1.1.1.0 (base.rise_second g (nodes_of p) (nodes_if_any guard) r1) (base.cells_second g (cells g.items true p) (cells_if_any g.items true guard) c1) in
         record {
           ended = λ v matched a to. branches.arm_ended g (head id ty by) (L p) (lower.lower_if_any F guard) (L inner) matched a to (k.ended false ci (subst (base.Never g) (same ∙ sym k.ty_is) v) a true to);
           leaves = λ matched a to. branches.arm_leaves g y z (head id ty by) (L p) (lower.lower_if_any F guard) (nodes_if_any guard) inner (L inner) matched a to q k ci refl;
-          sound = λ matched t a f to d.
+          sound = λ matched t go a f to d.
               let all = fine_in x a n ((nodes_of p ++ nodes_if_any guard) ++ nodes_of inner) f in
               let front = base.fine_first g x a (nodes_of p ++ nodes_if_any guard) (nodes_of inner) all in
               let fp = base.fine_first g x a (nodes_of p) (nodes_if_any guard) front in
-              let it = shaped_for p m scrutinee h.1.1.0 cp matched t in
+              let it = shaped_for p m scrutinee h.1.1.0 cp matched t go in
               let matches = subst (λ (s : Shape). names.Matches (s.bindings matched) (entries_of p)) (sym (shape_same p)) (names.named g p m scrutinee h.1.1.0 matched) in
               branches.arm_sound g y z (head id ty by) (L p) (lower.lower_if_any F guard) (nodes_if_any guard) inner (L inner) matched a to it.0 it.1 q
               (names.fine_guard g x a p (nodes_if_any guard) ((L p).shape.bindings matched) r1 front matches it.1)
@@ -1641,4 +1669,4 @@ module _ (g : Ground) where
 
     guard_good : (z : Context) (guard : MaybeNode) → Holds (typing.guarded (K z) guard) → base.Rise g (nodes_if_any guard) → Cells (cells_if_any g.items true guard) → branches.GuardOk g z (nodes_if_any guard) (lower.lower_if_any F guard)
     guard_good z absent h r c = branches.without
-    guard_good z (present n) h r c = branches.with_one n (L n) (node_good z n Taken h.0 r) c (is_bool_or (ty_of n) h.1) refl
+    guard_good z (present n) h r c = branches.with_one n (L n) (node_good z n Taken refl h.0 r) c (is_bool_or (ty_of n) h.1) refl

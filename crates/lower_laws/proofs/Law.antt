@@ -14,17 +14,37 @@ use Rattle.lower_laws.specs.Meets.{site_of, halt_by, halt_of, is_refused, RunsRe
 use Rattle.lower_laws.proofs.Elsewhere.{kept-elsewhere}
 use Rattle.lower_laws.proofs.WalkLaw.{free-walks-meet}
 use Rattle.typed_tree.specs.Tree.{BodyTree}
-use Rattle.src_meaning.specs.Programs.{reached_by, refused_of}
+use Rattle.src_meaning.specs.Programs.{free_run, reached_by, refused_of}
 use Rattle.lower_rules.specs.Laws.{NamesItsLoops}
 use Rattle.lower_rules.specs.Lower.{body_of, node_of}
 use Rattle.lower_rules.proofs.Bodies.{lowered_walks_as_it_runs_freely, lowered_is_ranked, lowered_keeps_to_cleanup}
-use Rattle.lower_laws.specs.Refused.{LoweredPathsMeetItsRefusals}
+use Rattle.lower_rules.specs.CodeLaws.{without_place}
+use Rattle.cfg_meaning.specs.Walk.{renamed}
+use Rattle.lower_laws.specs.Refused.{LoweredPathsMeetItsRefusals, rule_of_run, ruled_by}
 use Rattle.lower_laws.proofs.Clean.{none-reached}
 
 -- a walk that halts at a bad use, with all choices taken, is refused there
 told : (rule : UseRule) (site : EffectSite) (w : AbstractState) → w.choices ≡ [] → refused_of (Halts (halt_by rule site) w) ≡ Some site
 told U1 site w e = simp (e)
 told U2 site w e = simp (e)
+
+told_rule : (rule : UseRule) (site : EffectSite) (w : AbstractState) → w.choices ≡ [] → rule_of_run (Halts (halt_by rule site) w) ≡ Some rule
+told_rule U1 site w e = simp (e)
+told_rule U2 site w e = simp (e)
+
+-- the rule of a run is told without a place
+same_rule : (out : Out AbstractState) → rule_of_run (renamed without_place out) ≡ rule_of_run out
+same_rule (Go w) = refl
+same_rule (Unwind w) = refl
+same_rule (Halts Aborted w) = refl
+same_rule (Halts OutOfTicks w) = refl
+same_rule (Halts Stuck w) = refl
+same_rule (Halts (StuckAt body block) w) = refl
+same_rule (Halts (BadUse site) w) = refl
+same_rule (Halts (BadStore site) w) = refl
+same_rule (Halts NoChoice w) = refl
+same_rule (Halts Infeasible w) = refl
+same_rule (Halts Unreachable w) = refl
 
 -- and back: where a walk is refused at a site, it has halted there, and has taken all choices
 pub record Refusal (halt : Halt) (w : AbstractState) (site : EffectSite) : Type 0 where
@@ -67,6 +87,9 @@ refusal NoChoice w site h = absurd (none-some site h)
 refusal Infeasible w site h = absurd (none-some site h)
 refusal Unreachable w site h = absurd (none-some site h)
 
+abbrev halting : Halt → AbstractState → Out AbstractState
+halting halt w = Halts halt w
+
 module _ (items : ItemTable) (tree : BodyTree) (names : NamesItsLoops tree) where
   abbrev body : Body
   body = body_of items tree
@@ -80,14 +103,21 @@ module _ (items : ItemTable) (tree : BodyTree) (names : NamesItsLoops tree) wher
   abbrev Reached : List Bool → EffectSite → Type 0
   Reached given site =
       (path : List ℕ) × (bad : bad_uses.BadUse) × RunsReach items body path given bad × (site ≡ site_of node bad.action)
+      × (ruled_by items tree given ≡ Some bad.rule)
 
   walked : (given : List Bool) → refused_of (free_walk items node body given) ≡ reached_by items tree given
   walked given = (lowered_walks_as_it_runs_freely items tree names given).1
 
-  refused : (path : List ℕ) (given : List Bool) (bad : bad_uses.BadUse) → RunsReach items body path given bad → reached_by items tree given ≡ Some (site_of node bad.action)
+  walked_by : (given : List Bool) → rule_of_run (free_walk items node body given) ≡ ruled_by items tree given
+  walked_by given = sym (same_rule (free_walk items node body given)) ∙ ap rule_of_run (lowered_walks_as_it_runs_freely items tree names given).0 ∙ same_rule (free_run items tree given)
+
+  refused : (path : List ℕ) (given : List Bool) (bad : bad_uses.BadUse) → RunsReach items body path given bad → (reached_by items tree given ≡ Some (site_of node bad.action)) × (ruled_by items tree given ≡ Some bad.rule)
   refused path given bad reaches =
       let it = meets.walks path given [] bad reaches in
-      sym (walked given) ∙ ap refused_of (ap (free_walk items node body) (sym (append-nil given)) ∙ it.1) ∙ told bad.rule (site_of node bad.action) it.0 it.2
+      let halts = ap (free_walk items node body) (sym (append-nil given)) ∙ it.1 in (
+        sym (walked given) ∙ ap refused_of halts ∙ told bad.rule (site_of node bad.action) it.0 it.2,
+        sym (walked_by given) ∙ ap rule_of_run halts ∙ told_rule bad.rule (site_of node bad.action) it.0 it.2,
+      )
 
   reached : (given : List Bool) (site : EffectSite) → reached_by items tree given ≡ Some site → Reached given site
   reached given site is = by (free_walk items node body given) refl (walked given ∙ is)
@@ -104,8 +134,13 @@ module _ (items : ItemTable) (tree : BodyTree) (names : NamesItsLoops tree) wher
           let reaches = it.3 in
           let taken = it.4 in
           let same = it.5 in
-          let all : own ≡ given = sym (taken ∙ ap (λ (z : List Bool). own ++ z) r.taken ∙ append-nil own) in
-          (path, bad, subst (λ (z : List Bool). RunsReach items body path z bad) all reaches, r.at bad node same)
+          let all : own ≡ given = sym (taken ∙ ap (λ (z : List Bool). own ++ z) r.taken ∙ append-nil own) in (
+            path,
+            bad,
+            subst (λ (z : List Bool). RunsReach items body path z bad) all reaches,
+            r.at bad node same,
+            sym (walked_by given) ∙ ap rule_of_run (e ∙ ap (λ (z : Halt). halting z w) same) ∙ told_rule bad.rule (site_of node bad.action) w r.taken,
+          )
 
   accepted : MeetsNone items body → (given : List Bool) → reached_by items tree given ≡ None
   accepted none given = by (reached_by items tree given) refl

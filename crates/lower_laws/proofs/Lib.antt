@@ -12,6 +12,7 @@ mod Patterns
 mod Names
 mod Branches
 mod Fields
+mod MovedOut
 mod Forms
 mod LineCells
 pub mod Facts

@@ -384,11 +384,22 @@ module _ (g : Ground) where
           (subst (λ (z : Place). base.Typed g z d.ty) (sym w.0 ∙ ap (λ (k : ℕ). place_of_key k aliases) at) typed)
       by again false q h = again h
 
+  lets_in_scope_go : (key : ℕ) (e : InScope) (aliases : Aliases) (old : List InScope) → (entry_with key old ≡ Some e → base.Left g (place_of_key key aliases)) → (es : List InScope) → OfEntries (Whole aliases) es → entry_with key (es ++ old) ≡ Some e → base.Left g (place_of_key key aliases)
+  lets_in_scope_go key e aliases old older [] w is = older is
+  lets_in_scope_go key e aliases old older (d ∷ es) w is = by (lets_in_scope_go key e aliases old older es w.1) (d.key == key) refl is
+    where
+      by : (entry_with key (es ++ old) ≡ Some e → base.Left g (place_of_key key aliases)) → (x : Bool) → (d.key == key) ≡ x → cond x (Some d) (entry_with key (es ++ old)) ≡ Some e → base.Left g (place_of_key key aliases)
+      by again true q h = subst (base.Left g) (sym w.0 ∙ ap (λ (k : ℕ). place_of_key k aliases) (eqb-true d.key key q)) (base.left_whole g d.key)
+      by again false q h = again h
+
   pub around_more : (x : Context) (a : LoopsAndGuards) (p : Node) → base.AroundOk g x a → Keyed (entries_of p) → base.AliasesOver g a.aliases (nodes_of p) → base.AroundOk g (with_entries (entries_of p) x) a
   around_more x a p ok keyed over = record {
     names = λ key e is. in_scope key e a.aliases x.entries (ok.names key e) (entries_of p) keyed (of_entries (Whole a.aliases) (nodes_of p) (wholes a.aliases (nodes_of p) over)) is;
     self = ok.self;
     captures = ok.captures;
+    lets_go = λ key e is out. lets_in_scope_go key e a.aliases x.entries (λ q. ok.lets_go key e q out) (entries_of p) (of_entries (Whole a.aliases) (nodes_of p) (wholes a.aliases (nodes_of p) over)) is;
+    self_lets_go = ok.self_lets_go;
+    captured_out = ok.captured_out;
     answer = ok.answer;
     loops = ok.loops;
   }
@@ -411,6 +422,18 @@ module _ (g : Ground) where
       by again false q h =
           subst (λ (x : Bool). base.Typed g (if x then b.site.place else place_of_key key (aliases_with bounds aliases)) e.ty) (sym (ap (λ (k : ℕ). key == k) m.0 ∙ differ_too d.key key q)) (again h)
 
+  lets_guarded_go : (key : ℕ) (e : InScope) (aliases : Aliases) (old : List InScope) → e.is_in_guard ≡ false → (entry_with key old ≡ Some e → base.Left g (place_of_key key aliases)) → (bounds : List BoundName) (es : List InScope) → Matches bounds es → entry_with key (scopes.in_guard es ++ old) ≡ Some e → base.Left g (place_of_key key (aliases_with bounds aliases))
+  lets_guarded_go key e aliases old out older [] [] m is = older is
+  lets_guarded_go key e aliases old out older [] (d ∷ es) m is = absurd m
+  lets_guarded_go key e aliases old out older (b ∷ bounds) [] m is = absurd m
+  lets_guarded_go key e aliases old out older (b ∷ bounds) (d ∷ es) m is = by (lets_guarded_go key e aliases old out older bounds es m.2) (d.key == key) refl is
+    where
+      by : (entry_with key (scopes.in_guard es ++ old) ≡ Some e → base.Left g (place_of_key key (aliases_with bounds aliases))) → (x : Bool) → (d.key == key) ≡ x → cond x (Some (record d { is_in_guard = true })) (entry_with key (scopes.in_guard es ++ old)) ≡ Some e →
+          base.Left g (if key == b.key then b.site.place else place_of_key key (aliases_with bounds aliases))
+      by again true q h = absurd (untrue (sym out ∙ ap (λ (z : InScope). z.is_in_guard) (sym (same_Some (record d { is_in_guard = true }) e h))))
+      by again false q h =
+          subst (λ (x : Bool). base.Left g (if x then b.site.place else place_of_key key (aliases_with bounds aliases))) (sym (ap (λ (k : ℕ). key == k) m.0 ∙ differ_too d.key key q)) (again h)
+
   self_past : (key : ℕ) (aliases : Aliases) (bounds : List BoundName) (es : List InScope) → Matches bounds es → OfEntries (λ k. nat_lt key k ≡ true) es → place_of_key key (aliases_with bounds aliases) ≡ place_of_key key aliases
   self_past key aliases [] [] m h = refl
   self_past key aliases [] (d ∷ es) m h = absurd m
@@ -429,6 +452,11 @@ module _ (g : Ground) where
         (sym (self_past e.key a.aliases bounds (entries_of p) m (of_entries (λ k. nat_lt e.key k ≡ true) (nodes_of p) (overs e.key (nodes_of p) (self_under x.closure e (nodes_of p) over is)))))
         (ok.self e is);
     captures = ok.captures;
+    lets_go = λ key e is out. lets_guarded_go key e a.aliases x.entries out (λ q. ok.lets_go key e q out) bounds (entries_of p) m is;
+    self_lets_go = λ e is. subst (base.Left g)
+        (sym (self_past e.key a.aliases bounds (entries_of p) m (of_entries (λ k. nat_lt e.key k ≡ true) (nodes_of p) (overs e.key (nodes_of p) (self_under x.closure e (nodes_of p) over is)))))
+        (ok.self_lets_go e is);
+    captured_out = ok.captured_out;
     answer = ok.answer;
     loops = ok.loops;
   }
@@ -460,6 +488,9 @@ module _ (g : Ground) where
       names = f.around.names;
       self = f.around.self;
       captures = f.around.captures;
+      lets_go = f.around.lets_go;
+      self_lets_go = f.around.self_lets_go;
+      captured_out = f.around.captured_out;
       answer = f.around.answer;
       loops = λ loop k is. by loop k (l.loop == loop) refl is;
     };

@@ -1,21 +1,25 @@
 -- Patterns that are well typed: their tests and what their names take, at places of their types; and the names that they
 -- bring into scope.
-use Rattle.std.proofs.Common.{◌≡◌, inl, inr, ℕ, suc, ◌+◌, ◌≤◌, ◌==◌, nat_lt, Bool, true, false, List, [], ◌∷◌, ◌++◌, length, Option, Some, None, ℤ, slice_get, slice_index_or, if◌then◌else◌, cond, position, refl, sym, ap, subst, ◌∙◌, arith}
+use Rattle.std.proofs.Common.{◌≡◌, inl, inr, ℕ, suc, ◌+◌, ◌≤◌, ◌==◌, ◌&&◌, ◌||◌, not, nat_lt, Bool, true, false, List, [], ◌∷◌, ◌++◌, length, Option, Some, None, ℤ, slice_get, slice_index_or, if◌then◌else◌, cond, position, refl, sym, ap, subst, ◌∙◌, arith}
 use Rattle.std.proofs.lemmas.Bool.{ltb-true}
 use Rattle.std.proofs.lemmas.Bool.Decides.{eqb_tells}
 use Rattle.std.proofs.lemmas.Option.{none-some, same_Some, slice_get-get_or, slice_get_past}
-use Rattle.std.specs.Prelude.{replicate}
+use Rattle.std.specs.Prelude.{replicate, is_some}
 use Rattle.std.specs.List.{find, position_or_len}
 use Rattle.std.proofs.lemmas.List.Folds.{find_at}
 use Rattle.std.specs.Option.{option_map_or}
 use Rattle.cfg_graph.specs.declared.terminator.Term.{Term}
+use Rattle.cfg_graph.specs.Moves.Gone.{has_index}
+use Rattle.cfg_graph.specs.Places.{named_step}
 use Rattle.mir_base.specs.declared.int_kind.IntKind.{IntKind}
 use Rattle.mir_ty.specs.declared.adt.Adt.{Adt}
 use Rattle.mir_ty.specs.declared.adt.Variant.{Variant}
 use Rattle.mir_ty.specs.declared.ty.Ty.{Ty}
 use Rattle.mir_ty.specs.declared.ty.TyId.{TyId}
+use Rattle.mir_ty.specs.Facts.{is_copy, has_drop_impl, ty_has_drop_impl, adt_has_drop_impl}
 use Rattle.mir_ty.specs.ItemTable.{type_at}
 use Rattle.mir_ty.specs.Parts.{field_ty, parts_of}
+use Rattle.store_model.specs.Concrete.Drops.{with_drop_body}
 use Rattle.store_model.specs.Places.Place.{Step, ToPart, ToField, Place, whole_local, step_ty}
 use Rattle.store_model.specs.Places.Place as places
 use Rattle.store_model.specs.Places.TypeForms as forms
@@ -24,14 +28,15 @@ use Rattle.typed_tree.specs.Tree as tree
 use Rattle.typed_tree.specs.Tree.{Node, Form, Nodes, no_node, a_node, Fields, no_field, a_field}
 use Rattle.src_meaning.specs.Locals.OfBody.{cells, all_cells, cells_of_fields, bool_ty}
 use Rattle.src_meaning.specs.Scopes.{Entry}
-use Rattle.src_meaning.specs.Shape.{head, BoundName, IsNumber, IsTruth, PatternTests, no_test, a_test, followed_by, kind_of, shape, shape_of, in_fields, in_parts, alternatives_at, extended}
+use Rattle.src_meaning.specs.Shape.{head, moves, BoundName, IsNumber, IsTruth, PatternTests, no_test, a_test, followed_by, kind_of, shape, shape_of, in_fields, in_parts, alternatives_at, extended}
 use Rattle.well_typed.specs.Claim.{Holds}
 use Rattle.well_typed.specs.Patterns as patterns
 use Rattle.well_typed.specs.Patterns.{Matched, binding_name, binding_entry, entries_of}
+use Rattle.well_typed.specs.Places as scopes
 use Rattle.well_typed.specs.Types as types
 use Rattle.lower_rules.specs.Build as build
 use Rattle.lower_rules.specs.Build.{LoweringFrame}
-use Rattle.lower_rules.proofs.KnownTypes.{never_known, int_known, bool_known, adt_known, tuple_known, array_known}
+use Rattle.lower_rules.proofs.KnownTypes.{never_known, unit_known, int_known, bool_known, adt_known, tuple_known, array_known}
 use Rattle.lower_rules.proofs.Lines as lines
 use Rattle.lower_rules.proofs.TypedLines as typed_lines
 use Rattle.lower_rules.proofs.TypedPlaces as typed_places
@@ -161,17 +166,23 @@ module _ (g : Ground) where
           let known = int_known g.items ty kind e in
           let same : kind_of g.items ty ≡ kind = simp (known) in
           subst (λ (z : IntKind). lines.OneTestOk F (base.wanted g) (IsNumber (record { node = id; place = place }) value z)) (sym same) (
-            typed_lines.number_compared g.items g.bodies (base.B g) _ _ (bool_ty g.items) ty value kind (base.key_at g id (bool_ty g.items) Ty.Bool k (bool_there id k))
-                (subst (λ (z : Ty). base.At g place ty z) (same_Some t.0 (Ty.Int kind) (sym t.1.known ∙ known)) t.1) h,
-            λ y n. typed_lines.if_ok g.items g.bodies (base.B g) _ (bool_ty g.items) (base.key_at g id (bool_ty g.items) Ty.Bool k (bool_there id k)) y n,
+            (
+              typed_lines.number_compared g.items g.bodies (base.B g) _ _ (bool_ty g.items) ty value kind (base.key_at g id (bool_ty g.items) Ty.Bool k (bool_there id k))
+                  (subst (λ (z : Ty). base.At g place ty z) (same_Some t.0 (Ty.Int kind) (sym t.1.known ∙ known)) t.1) h,
+              refl,
+            ),
+            λ y n. (typed_lines.if_ok g.items g.bodies (base.B g) _ (bool_ty g.items) (base.key_at g id (bool_ty g.items) Ty.Bool k (bool_there id k)) y n, refl),
           )
 
   truth_test : (id : ℕ) (ty : TyId) (value : Bool) (place : Place) → Typed place ty → KeyIs id (bool_ty g.items) → types.is_bool g.items ty ≡ true → lines.OneTestOk F (base.wanted g) (IsTruth (record { node = id; place = place }) value)
   truth_test id ty value place t k is =
       let known = bool_known g.items ty is in (
-        typed_lines.truth_compared g.items g.bodies (base.B g) _ _ (bool_ty g.items) ty value (base.key_at g id (bool_ty g.items) Ty.Bool k (bool_there id k))
-            (subst (λ (z : Ty). base.At g place ty z) (same_Some t.0 Ty.Bool (sym t.1.known ∙ known)) t.1),
-        λ y n. typed_lines.if_ok g.items g.bodies (base.B g) _ (bool_ty g.items) (base.key_at g id (bool_ty g.items) Ty.Bool k (bool_there id k)) y n,
+        (
+          typed_lines.truth_compared g.items g.bodies (base.B g) _ _ (bool_ty g.items) ty value (base.key_at g id (bool_ty g.items) Ty.Bool k (bool_there id k))
+              (subst (λ (z : Ty). base.At g place ty z) (same_Some t.0 Ty.Bool (sym t.1.known ∙ known)) t.1),
+          refl,
+        ),
+        λ y n. (typed_lines.if_ok g.items g.bodies (base.B g) _ (bool_ty g.items) (base.key_at g id (bool_ty g.items) Ty.Bool k (bool_there id k)) y n, refl),
       )
 
   -- a variant that an enum has
@@ -188,7 +199,7 @@ module _ (g : Ground) where
       by None q h l = absurd (untrue h)
       by (Some adt) q h l =
           let x = within adt.variants v l in
-          typed_lines.case_ok g.items g.bodies (base.B g) _ ty n v adt x.0 (subst (λ (z : Ty). base.At g place ty z) (same_Some t.0 (Ty.Adt n) (sym t.1.known ∙ adt_known g.items ty n e)) t.1) q h x.1 y m
+          (typed_lines.case_ok g.items g.bodies (base.B g) _ ty n v adt x.0 (subst (λ (z : Ty). base.At g place ty z) (same_Some t.0 (Ty.Adt n) (sym t.1.known ∙ adt_known g.items ty n e)) t.1) q h x.1 y m, refl)
 
   variant_shaped : (x : Bool) (fields : Fields) (variant id : ℕ) (ty : TyId) (by : Option Use) (place : Place) → ((y m : ℕ) → base.TermOk g (Term.Case (build.place_of F (record { node = id; place = place })) variant y m)) →
       Shaped ((in_fields g.items fields (ToField variant)).tests place) ((in_fields g.items fields (ToField variant)).bindings place) →
@@ -213,103 +224,148 @@ module _ (g : Ground) where
       let is = same_Some (Ty.Array a.0 a.1) ty (sym (array_known g.items id a d) ∙ e) in
       subst (λ (z : Ty). Steps z 0 (replicate a.1 a.0)) is (steps_from (Ty.Array a.0 a.1) 0 (replicate a.1 a.0) (λ i j f. ap (λ (k : ℕ). slice_get (replicate a.1 a.0) k) (zero_on i) ∙ f))
 
-  mutual
-    pub pattern_ok : (p : Node) (m : Matched) (want : TyId) → Holds (patterns.pattern g.items m want p) → Cells (cells g.items true p) → (place : Place) → Typed place want → Shaped ((shape g.items p).tests place) ((shape g.items p).bindings place)
-    pattern_ok (tree.node id at ty by form) m want h c place t = row_ok form id ty by m h.1 c place (subst (λ (z : TyId). Typed place z) (sym (same_id ty want h.0)) t)
+  -- ---- what names take may be left gone, where the place that is taken apart may
+  abbrev Frees : Bool → Place → Type 0
+  Frees may place = may ≡ true → base.Left g place
 
-    row_ok : (form : Form) (id : ℕ) (ty : TyId) (by : Option Use) (m : Matched) → Holds (patterns.pattern_row g.items m ty by form) → Cells (cells g.items true (tree.node id record { line = 0; col = 0 } ty by form)) → (place : Place) → Typed place ty →
+  -- a name that takes its part
+  may_take : (ty : TyId) (by : Option Use) (may : Bool) → scopes.is_by (scopes.taking g.items ty) by ≡ true → (is_copy g.items ty || (may && not (types.is_dyn g.items ty))) ≡ true → moves by ≡ true → may ≡ true
+  may_take ty None may used so m = absurd (untrue m)
+  may_take ty (Some Use.Copy) may used so m = absurd (untrue m)
+  may_take ty (Some Use.Borrow) may used so m = absurd (untrue m)
+  may_take ty (Some Use.BorrowMut) may used so m = absurd (untrue m)
+  may_take ty (Some Use.Test) may used so m = absurd (untrue m)
+  may_take ty (Some Use.Store) may used so m = absurd (untrue m)
+  may_take ty (Some Use.Move) may used so m = copies (is_copy g.items ty) used so
+    where
+      copies : (b : Bool) → scopes.is_use (if b then Use.Copy else Use.Move) Use.Move ≡ true → (b || (may && not (types.is_dyn g.items ty))) ≡ true → may ≡ true
+      copies true u t = absurd (untrue u)
+      copies false u t = and_first may _ t
+
+  -- a struct or an enum without a `Drop` impl does not hold its parts back
+  lets_fields_go : (place : Place) (step : Step) (id : TyId) (n : ℕ) (may : Bool) → Typed place id → types.adt_of g.items id ≡ Some n → has_index (named_step (build.step_of F step) ∷ []) ≡ false → Frees may place → Frees (not (has_drop_impl g.items id) && may) (extended step place)
+  lets_fields_go place step id n may t e no_index free w =
+      let is = adt_known g.items id n e in
+      let at = subst (λ (z : Ty). base.At g place id z) (same_Some t.0 (Ty.Adt n) (sym t.1.known ∙ is)) t.1 in
+      base.left_on g place step id (Ty.Adt n) at no_index
+      (drop_same (slice_get g.items.adts n) ∙ sym (ap (λ (o : Option Ty). option_map_or (ty_has_drop_impl g.items) o false) is) ∙ base.not_true (has_drop_impl g.items id) (and_first _ _ w))
+      (free (and_second (not (has_drop_impl g.items id)) may w))
+    where
+      body_same : (o : Option ℕ) → is_some (with_drop_body n o) ≡ is_some o
+      body_same None = refl
+      body_same (Some body) = refl
+
+      drop_same : (o : Option Adt) → is_some (with_drop_body n (option_map_or (λ (adt : Adt). adt.drop_body) o None)) ≡ adt_has_drop_impl o
+      drop_same None = refl
+      drop_same (Some adt) = body_same adt.drop_body
+
+  tuple_lets_go : (id : TyId) (ty : Ty) → type_at g.items id ≡ Some ty → (tys : List TyId) → patterns.tuple_types g.items id ≡ Some tys → base.holds_back g (Some ty) ≡ false
+  tuple_lets_go id ty e tys so = on (types.is_unit g.items id) refl so
+    where
+      on : (b : Bool) → types.is_unit g.items id ≡ b → (if b then Some [] else types.tuple_of g.items id) ≡ Some tys → base.holds_back g (Some ty) ≡ false
+      on true u d = subst (λ (z : Ty). base.holds_back g (Some z) ≡ false) (same_Some Ty.Unit ty (sym (unit_known g.items id u) ∙ e)) refl
+      on false u d = subst (λ (z : Ty). base.holds_back g (Some z) ≡ false) (same_Some (Ty.Tuple tys) ty (sym (tuple_known g.items id tys d) ∙ e)) refl
+
+  array_lets_go : (id : TyId) (ty : Ty) → type_at g.items id ≡ Some ty → (a : TyId × ℕ) → types.array_of g.items id ≡ Some a → base.holds_back g (Some ty) ≡ false
+  array_lets_go id ty e a d = subst (λ (z : Ty). base.holds_back g (Some z) ≡ false) (same_Some (Ty.Array a.0 a.1) ty (sym (array_known g.items id a d) ∙ e)) refl
+
+  mutual
+    pub pattern_ok : (p : Node) (m : Matched) (want : TyId) → Holds (patterns.pattern g.items m want p) → Cells (cells g.items true p) → (place : Place) → Typed place want → Frees m.may_move place → Shaped ((shape g.items p).tests place) ((shape g.items p).bindings place)
+    pattern_ok (tree.node id at ty by form) m want h c place t free = row_ok form id ty by m h.1 c place (subst (λ (z : TyId). Typed place z) (sym (same_id ty want h.0)) t) free
+
+    row_ok : (form : Form) (id : ℕ) (ty : TyId) (by : Option Use) (m : Matched) → Holds (patterns.pattern_row g.items m ty by form) → Cells (cells g.items true (tree.node id record { line = 0; col = 0 } ty by form)) → (place : Place) → Typed place ty → Frees m.may_move place →
         Shaped ((shape_of g.items form (head id ty by)).tests place) ((shape_of g.items form (head id ty by)).bindings place)
-    row_ok tree.Wildcard id ty by m h c place t = (tt, tt)
-    row_ok (tree.Binding name) id ty by m h c place t = (tt, ((base.by_never g ty (λ v. (rw v at c).0) (λ v. (rw v at c).0), t), tt))
-    row_ok (tree.NumberPattern value) id ty by m h c place t = ((number_test id ty value place t (base.by_never g ty (λ v. absurd (number_made v h.1)) (λ v. (rw v at c).0)) h.1, tt), tt)
+    row_ok tree.Wildcard id ty by m h c place t free = (tt, tt)
+    row_ok (tree.Binding name) id ty by m h c place t free = (tt, ((base.by_never g ty (λ v. (rw v at c).0) (λ v. (rw v at c).0), t, λ w. free (may_take ty by m.may_move h.0 h.1 w)), tt))
+    row_ok (tree.NumberPattern value) id ty by m h c place t free = ((number_test id ty value place t (base.by_never g ty (λ v. absurd (number_made v h.1)) (λ v. (rw v at c).0)) h.1, tt), tt)
       where
         number_made : base.Never g ty → types.is_number_of g.items ty value ≡ true → ⊥
         number_made v is = let e = never_known g.items ty v in untrue (rw e at is)
-    row_ok (tree.TruthPattern value) id ty by m h c place t = ((truth_test id ty value place t (base.by_never g ty (λ v. absurd (truth_made v h.1)) (λ v. (rw v at c).0)) h.1, tt), tt)
+    row_ok (tree.TruthPattern value) id ty by m h c place t free = ((truth_test id ty value place t (base.by_never g ty (λ v. absurd (truth_made v h.1)) (λ v. (rw v at c).0)) h.1, tt), tt)
       where
         truth_made : base.Never g ty → types.is_bool g.items ty ≡ true → ⊥
         truth_made v is = let e = never_known g.items ty v in untrue (rw e at is)
-    row_ok (tree.StructPattern fields) id ty by m h c place t =
+    row_ok (tree.StructPattern fields) id ty by m h c place t free =
         let n = found (types.adt_of g.items ty) _ h.1.0 in
-        fields_ok fields _ ty 0 ToPart h.1.1.1 (base.cells_second g _ (cells_of_fields g.items fields) c) place (struct_leads place ty n.0 t n.1 (base.not_true (types.is_enum g.items n.0) n.2))
-    row_ok (tree.VariantPattern variant is_test fields) id ty by m h c place t =
+        fields_ok fields _ ty 0 ToPart h.1.1.1 (base.cells_second g _ (cells_of_fields g.items fields) c) place (struct_leads place ty n.0 t n.1 (base.not_true (types.is_enum g.items n.0) n.2)) (λ k. lets_fields_go place (ToPart k) ty n.0 m.may_move t n.1 refl free)
+    row_ok (tree.VariantPattern variant is_test fields) id ty by m h c place t free =
         let n = found (types.adt_of g.items ty) _ h.1.0 in
         let so = and_first (types.is_enum g.items n.0) _ n.2.0 in
         variant_shaped is_test fields variant id ty by place (variant_test_ok id ty n.0 variant place t n.1 so (and_second (types.is_enum g.items n.0) _ n.2.0))
-        (fields_ok fields _ ty variant (ToField variant) h.1.1.1 (base.cells_second g _ (cells_of_fields g.items fields) c) place (variant_leads place ty n.0 variant t n.1 so))
-    row_ok (tree.TuplePattern parts) id ty by m h c place t =
+        (fields_ok fields _ ty variant (ToField variant) h.1.1.1 (base.cells_second g _ (cells_of_fields g.items fields) c) place (variant_leads place ty n.0 variant t n.1 so) (λ k. lets_fields_go place (ToField variant k) ty n.0 m.may_move t n.1 refl free))
+    row_ok (tree.TuplePattern parts) id ty by m h c place t free =
         let tys = found (patterns.tuple_types g.items ty) _ h.1 in
-        parts_ok parts m tys.0 0 t.0 ty tys.2 (base.cells_second g _ (all_cells g.items parts) c) place t.1 (tuple_steps ty t.0 t.1.known tys.0 tys.1)
-    row_ok (tree.ArrayPattern elements) id ty by m h c place t =
+        parts_ok parts m tys.0 0 t.0 ty tys.2 (base.cells_second g _ (all_cells g.items parts) c) place t.1 (tuple_steps ty t.0 t.1.known tys.0 tys.1) (tuple_lets_go ty t.0 t.1.known tys.0 tys.1) free
+    row_ok (tree.ArrayPattern elements) id ty by m h c place t free =
         let a = found (types.array_of g.items ty) _ h.1 in
-        parts_ok elements m (replicate a.0.1 a.0.0) 0 t.0 ty a.2 (base.cells_second g _ (all_cells g.items elements) c) place t.1 (array_steps ty t.0 t.1.known a.0 a.1)
-    row_ok (tree.OrPattern alternatives) id ty by m h c place t = ((any_ok alternatives m ty h.1.1 (base.cells_second g _ (all_cells g.items alternatives) c) place t, tt), tt)
-    row_ok (tree.Number value) id ty by m h c place t = absurd (untrue h)
-    row_ok (tree.Truth value) id ty by m h c place t = absurd (untrue h)
-    row_ok tree.UnitValue id ty by m h c place t = absurd (untrue h)
-    row_ok (tree.Variable key) id ty by m h c place t = absurd (untrue h)
-    row_ok (tree.Captured closure part name) id ty by m h c place t = absurd (untrue h)
-    row_ok (tree.Field base part) id ty by m h c place t = absurd (untrue h)
-    row_ok (tree.Index base index count) id ty by m h c place t = absurd (untrue h)
-    row_ok (tree.Deref base) id ty by m h c place t = absurd (untrue h)
-    row_ok (tree.Not operand) id ty by m h c place t = absurd (untrue h)
-    row_ok (tree.Negate operand) id ty by m h c place t = absurd (untrue h)
-    row_ok (tree.Arithmetic operator left right) id ty by m h c place t = absurd (untrue h)
-    row_ok (tree.Comparison operator left right) id ty by m h c place t = absurd (untrue h)
-    row_ok (tree.And left right) id ty by m h c place t = absurd (untrue h)
-    row_ok (tree.Or left right) id ty by m h c place t = absurd (untrue h)
-    row_ok (tree.Assign target value) id ty by m h c place t = absurd (untrue h)
-    row_ok (tree.Call callee args) id ty by m h c place t = absurd (untrue h)
-    row_ok (tree.MethodCall callee receiver args) id ty by m h c place t = absurd (untrue h)
-    row_ok (tree.VirtualCall trait_no method receiver args) id ty by m h c place t = absurd (untrue h)
-    row_ok (tree.ClosureCall callee closure args) id ty by m h c place t = absurd (untrue h)
-    row_ok (tree.Make adt variant fields) id ty by m h c place t = absurd (untrue h)
-    row_ok (tree.Tuple parts) id ty by m h c place t = absurd (untrue h)
-    row_ok (tree.Array elements) id ty by m h c place t = absurd (untrue h)
-    row_ok (tree.Closure closure captures) id ty by m h c place t = absurd (untrue h)
-    row_ok (tree.NewBox content) id ty by m h c place t = absurd (untrue h)
-    row_ok (tree.Print operand) id ty by m h c place t = absurd (untrue h)
-    row_ok tree.Ask id ty by m h c place t = absurd (untrue h)
-    row_ok (tree.DropValue operand) id ty by m h c place t = absurd (untrue h)
-    row_ok (tree.Forget operand) id ty by m h c place t = absurd (untrue h)
-    row_ok tree.Panic id ty by m h c place t = absurd (untrue h)
-    row_ok (tree.Borrow unique base) id ty by m h c place t = absurd (untrue h)
-    row_ok (tree.Unsize trait_no operand) id ty by m h c place t = absurd (untrue h)
-    row_ok (tree.Block stmts tail) id ty by m h c place t = absurd (untrue h)
-    row_ok (tree.Let pattern initialiser) id ty by m h c place t = absurd (untrue h)
-    row_ok (tree.Evaluate expression) id ty by m h c place t = absurd (untrue h)
-    row_ok (tree.If condition consequent otherwise) id ty by m h c place t = absurd (untrue h)
-    row_ok (tree.IfLet pattern scrutinee consequent otherwise) id ty by m h c place t = absurd (untrue h)
-    row_ok (tree.Match scrutinee arms) id ty by m h c place t = absurd (untrue h)
-    row_ok (tree.Arm pattern guard inner) id ty by m h c place t = absurd (untrue h)
-    row_ok (tree.Loop inner) id ty by m h c place t = absurd (untrue h)
-    row_ok (tree.While condition inner) id ty by m h c place t = absurd (untrue h)
-    row_ok (tree.WhileLet pattern scrutinee inner) id ty by m h c place t = absurd (untrue h)
-    row_ok (tree.Break loop value) id ty by m h c place t = absurd (untrue h)
-    row_ok (tree.Continue loop) id ty by m h c place t = absurd (untrue h)
-    row_ok (tree.Return value) id ty by m h c place t = absurd (untrue h)
+        parts_ok elements m (replicate a.0.1 a.0.0) 0 t.0 ty a.2 (base.cells_second g _ (all_cells g.items elements) c) place t.1 (array_steps ty t.0 t.1.known a.0 a.1) (array_lets_go ty t.0 t.1.known a.0 a.1) free
+    row_ok (tree.OrPattern alternatives) id ty by m h c place t free = ((any_ok alternatives m ty h.1.1 (base.cells_second g _ (all_cells g.items alternatives) c) place t free, tt), tt)
+    row_ok (tree.Number value) id ty by m h c place t free = absurd (untrue h)
+    row_ok (tree.Truth value) id ty by m h c place t free = absurd (untrue h)
+    row_ok tree.UnitValue id ty by m h c place t free = absurd (untrue h)
+    row_ok (tree.Variable key) id ty by m h c place t free = absurd (untrue h)
+    row_ok (tree.Captured closure part name) id ty by m h c place t free = absurd (untrue h)
+    row_ok (tree.Field base part) id ty by m h c place t free = absurd (untrue h)
+    row_ok (tree.Index base index count) id ty by m h c place t free = absurd (untrue h)
+    row_ok (tree.Deref base) id ty by m h c place t free = absurd (untrue h)
+    row_ok (tree.Not operand) id ty by m h c place t free = absurd (untrue h)
+    row_ok (tree.Negate operand) id ty by m h c place t free = absurd (untrue h)
+    row_ok (tree.Arithmetic operator left right) id ty by m h c place t free = absurd (untrue h)
+    row_ok (tree.Comparison operator left right) id ty by m h c place t free = absurd (untrue h)
+    row_ok (tree.And left right) id ty by m h c place t free = absurd (untrue h)
+    row_ok (tree.Or left right) id ty by m h c place t free = absurd (untrue h)
+    row_ok (tree.Assign target value) id ty by m h c place t free = absurd (untrue h)
+    row_ok (tree.Call callee args) id ty by m h c place t free = absurd (untrue h)
+    row_ok (tree.MethodCall callee receiver args) id ty by m h c place t free = absurd (untrue h)
+    row_ok (tree.VirtualCall trait_no method receiver args) id ty by m h c place t free = absurd (untrue h)
+    row_ok (tree.ClosureCall callee closure args) id ty by m h c place t free = absurd (untrue h)
+    row_ok (tree.Make adt variant fields) id ty by m h c place t free = absurd (untrue h)
+    row_ok (tree.Tuple parts) id ty by m h c place t free = absurd (untrue h)
+    row_ok (tree.Array elements) id ty by m h c place t free = absurd (untrue h)
+    row_ok (tree.Closure closure captures) id ty by m h c place t free = absurd (untrue h)
+    row_ok (tree.NewBox content) id ty by m h c place t free = absurd (untrue h)
+    row_ok (tree.Print operand) id ty by m h c place t free = absurd (untrue h)
+    row_ok tree.Ask id ty by m h c place t free = absurd (untrue h)
+    row_ok (tree.DropValue operand) id ty by m h c place t free = absurd (untrue h)
+    row_ok (tree.Forget operand) id ty by m h c place t free = absurd (untrue h)
+    row_ok tree.Panic id ty by m h c place t free = absurd (untrue h)
+    row_ok (tree.Borrow unique base) id ty by m h c place t free = absurd (untrue h)
+    row_ok (tree.Unsize trait_no operand) id ty by m h c place t free = absurd (untrue h)
+    row_ok (tree.Block stmts tail) id ty by m h c place t free = absurd (untrue h)
+    row_ok (tree.Let pattern initialiser) id ty by m h c place t free = absurd (untrue h)
+    row_ok (tree.Evaluate expression) id ty by m h c place t free = absurd (untrue h)
+    row_ok (tree.If condition consequent otherwise) id ty by m h c place t free = absurd (untrue h)
+    row_ok (tree.IfLet pattern scrutinee consequent otherwise) id ty by m h c place t free = absurd (untrue h)
+    row_ok (tree.Match scrutinee arms) id ty by m h c place t free = absurd (untrue h)
+    row_ok (tree.Arm pattern guard inner) id ty by m h c place t free = absurd (untrue h)
+    row_ok (tree.Loop inner) id ty by m h c place t free = absurd (untrue h)
+    row_ok (tree.While condition inner) id ty by m h c place t free = absurd (untrue h)
+    row_ok (tree.WhileLet pattern scrutinee inner) id ty by m h c place t free = absurd (untrue h)
+    row_ok (tree.Break loop value) id ty by m h c place t free = absurd (untrue h)
+    row_ok (tree.Continue loop) id ty by m h c place t free = absurd (untrue h)
+    row_ok (tree.Return value) id ty by m h c place t free = absurd (untrue h)
 
-    fields_ok : (fs : Fields) (m : Matched) (ty : TyId) (v : ℕ) (step : ℕ → Step) → Holds (patterns.field_patterns g.items m ty v fs) → Cells (cells_of_fields g.items fs) → (place : Place) → LeadTo step v place ty →
+    fields_ok : (fs : Fields) (m : Matched) (ty : TyId) (v : ℕ) (step : ℕ → Step) → Holds (patterns.field_patterns g.items m ty v fs) → Cells (cells_of_fields g.items fs) → (place : Place) → LeadTo step v place ty → ((n : ℕ) → Frees m.may_move (extended (step n) place)) →
         Shaped ((in_fields g.items fs step).tests place) ((in_fields g.items fs step).bindings place)
-    fields_ok no_field m ty v step h c place leads = (tt, tt)
-    fields_ok (a_field number value rest) m ty v step h c place leads =
+    fields_ok no_field m ty v step h c place leads free = (tt, tt)
+    fields_ok (a_field number value rest) m ty v step h c place leads free =
         let want = found (field_ty g.items ty v number) _ h.0 in
-        let p = pattern_ok value m want.0 want.2 (base.cells_first g (cells g.items true value) (cells_of_fields g.items rest) c) (extended (step number) place) (leads number want.0 want.1) in
-        let q = fields_ok rest m ty v step h.1 (base.cells_second g (cells g.items true value) (cells_of_fields g.items rest) c) place leads in
+        let p = pattern_ok value m want.0 want.2 (base.cells_first g (cells g.items true value) (cells_of_fields g.items rest) c) (extended (step number) place) (leads number want.0 want.1) (free number) in
+        let q = fields_ok rest m ty v step h.1 (base.cells_second g (cells g.items true value) (cells_of_fields g.items rest) c) place leads free in
         (followed_ok _ _ p.0 q.0, bounds_append _ _ p.1 q.1)
 
-    parts_ok : (ns : Nodes) (m : Matched) (tys : List TyId) (n : ℕ) (ty : Ty) (id : TyId) → Holds (patterns.part_patterns g.items m tys ns) → Cells (all_cells g.items ns) → (place : Place) → base.At g place id ty → Steps ty n tys →
+    parts_ok : (ns : Nodes) (m : Matched) (tys : List TyId) (n : ℕ) (ty : Ty) (id : TyId) → Holds (patterns.part_patterns g.items m tys ns) → Cells (all_cells g.items ns) → (place : Place) → base.At g place id ty → Steps ty n tys → base.holds_back g (Some ty) ≡ false → Frees m.may_move place →
         Shaped ((in_parts g.items ns n).tests place) ((in_parts g.items ns n).bindings place)
-    parts_ok no_node m tys n ty id h c place t steps = (tt, tt)
-    parts_ok (a_node first rest) m [] n ty id h c place t steps = absurd (untrue h)
-    parts_ok (a_node first rest) m (want ∷ tys) n ty id h c place t steps =
-        let p = pattern_ok first m want h.0 (base.cells_first g (cells g.items true first) (all_cells g.items rest) c) (extended (ToPart n) place) (part_typed place n id ty want t steps.0) in
-        let q = parts_ok rest m tys (suc n) ty id h.1 (base.cells_second g (cells g.items true first) (all_cells g.items rest) c) place t steps.1 in
+    parts_ok no_node m tys n ty id h c place t steps out free = (tt, tt)
+    parts_ok (a_node first rest) m [] n ty id h c place t steps out free = absurd (untrue h)
+    parts_ok (a_node first rest) m (want ∷ tys) n ty id h c place t steps out free =
+        let p = pattern_ok first m want h.0 (base.cells_first g (cells g.items true first) (all_cells g.items rest) c) (extended (ToPart n) place) (part_typed place n id ty want t steps.0) (λ w. base.left_on g place (ToPart n) id ty t refl out (free w)) in
+        let q = parts_ok rest m tys (suc n) ty id h.1 (base.cells_second g (cells g.items true first) (all_cells g.items rest) c) place t steps.1 out free in
         (followed_ok _ _ p.0 q.0, bounds_append _ _ p.1 q.1)
 
-    any_ok : (ns : Nodes) (m : Matched) (ty : TyId) → Holds (patterns.each_pattern g.items m ty ns) → Cells (all_cells g.items ns) → (place : Place) → Typed place ty → lines.AnyTestsOk F (base.wanted g) (alternatives_at g.items ns place)
-    any_ok no_node m ty h c place t = tt
-    any_ok (a_node first rest) m ty h c place t = (
-      (pattern_ok first m ty h.0 (base.cells_first g (cells g.items true first) (all_cells g.items rest) c) place t).0,
-      any_ok rest m ty h.1 (base.cells_second g (cells g.items true first) (all_cells g.items rest) c) place t,
+    any_ok : (ns : Nodes) (m : Matched) (ty : TyId) → Holds (patterns.each_pattern g.items m ty ns) → Cells (all_cells g.items ns) → (place : Place) → Typed place ty → Frees m.may_move place → lines.AnyTestsOk F (base.wanted g) (alternatives_at g.items ns place)
+    any_ok no_node m ty h c place t free = tt
+    any_ok (a_node first rest) m ty h c place t free = (
+      (pattern_ok first m ty h.0 (base.cells_first g (cells g.items true first) (all_cells g.items rest) c) place t free).0,
+      any_ok rest m ty h.1 (base.cells_second g (cells g.items true first) (all_cells g.items rest) c) place t free,
     )

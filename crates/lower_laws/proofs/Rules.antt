@@ -17,6 +17,7 @@ use Rattle.src_meaning.specs.Forms.{Destination, Into, Coerced, LoopsAndGuards, 
 use Rattle.src_meaning.specs.Locals.OfBody.{cells, reached_cells, is_place_form}
 use Rattle.src_meaning.specs.Scopes.{Entry, Scope, Scopes, innermost, nearest_temporary, with_entry, with_pending, becomes_entry}
 use Rattle.src_meaning.specs.Shape.{NodeHead, Shape, BoundName, shape, Aliases, site_at, operand_at, operand_of_bound, moves, copied_or_moved}
+use Rattle.well_typed.specs.Places as scopes
 use Rattle.well_typed.specs.Places.{LoopAround, Context, ty_of, form_of}
 use Rattle.well_typed.specs.Types as types
 use Rattle.lower_rules.specs.Build as build
@@ -146,6 +147,9 @@ module _ (g : Ground) where
   no_own h not_so v = absurd (not_so v)
 
   -- ---- nodes
+  abbrev pub MayMove : Context → tree.Node → Type 0
+  MayMove x n = scopes.may_move (record x { items = g.items }) n ≡ true
+
   pub record Good (x : Context) (n : tree.Node) (m : NodeLower) : Type 0 where
     pub id_is : m.head.id ≡ number_of n
     pub ty_is : m.head.ty ≡ ty_of n
@@ -159,6 +163,7 @@ module _ (g : Ground) where
     pub reaches : CellsOk (reached_cells g.items n) → (a : LoopsAndGuards) → Fine x a (nodes_of n) → Sound (m.reaches a)
     pub place : CellsOk (reached_cells g.items n) → (a : LoopsAndGuards) → Fine x a (nodes_of n) → (m.reaches a).has_end ≡ true → Typed (m.shape.place a.aliases) m.head.ty
     pub reach_entry : CellsOk (reached_cells g.items n) → m.shape.is_place ≡ false → base.EntryOk g (entry_of m.head)
+    pub lets_go : MayMove x n → CellsOk (reached_cells g.items n) → (a : LoopsAndGuards) → Fine x a (nodes_of n) → (m.reaches a).has_end ≡ true → base.Left g (m.shape.place a.aliases)
 
   abbrev InThat : ((Scope → Scope) → Scopes → Scopes) → Type 0
   InThat in_that = (f : Scope → Scope) → lines.KeepsOk F (base.wanted g) f → (S : Scopes) → lines.ScopesOk F (base.wanted g) S → lines.ScopesOk F (base.wanted g) (in_that f S)
@@ -217,6 +222,7 @@ module _ (g : Ground) where
         (λ w. absurd (untrue (sym (no_end_first (lower.made_in F h e a false (Into h.id)) (change (lower.completed F nearest_temporary h)) (ended true (v.reached_so c) w a false (Into h.id))) ∙ d)))
         (λ m. subst (λ (z : Place). Typed z h.ty) (sym (v.whole a.aliases)) (base.key_typed g h.id h.ty (v.cell (v.reached_so c) m)));
     reach_entry = λ c p d. v.cell (v.reached_so c) (made_by_drop h.ty d);
+    lets_go = λ w c a f d. subst (base.Left g) (sym (v.whole a.aliases)) (base.left_whole g h.id);
   }
     where
       ended : (o : Bool) → CellsOk (cells g.items o n) → Never h.ty → (a : LoopsAndGuards) (own : Bool) (to : Destination) → (lower.made_in F h e a own to).has_end ≡ false
@@ -238,9 +244,12 @@ module _ (g : Ground) where
     pub leaves : CellsOk (reached_cells g.items n) → (a : LoopsAndGuards) → Leaves x.loops (r a)
     pub sound : CellsOk (reached_cells g.items n) → (a : LoopsAndGuards) → Fine x a (nodes_of n) → Sound (r a)
     pub place : CellsOk (reached_cells g.items n) → (a : LoopsAndGuards) → Fine x a (nodes_of n) → (r a).has_end ≡ true → Typed (s.place a.aliases) h.ty
+    -- where its value is moved it may be moved out, and then its place may be left gone
+    pub moved : moves h.by ≡ true → MayMove x n
+    pub lets_go : MayMove x n → CellsOk (reached_cells g.items n) → (a : LoopsAndGuards) → Fine x a (nodes_of n) → (r a).has_end ≡ true → base.Left g (s.place a.aliases)
 
-  put_part : (h : NodeHead) (place : Place) (key : ℕ) → Typed place h.ty → KeyIs key h.ty → lines.ActOk F (base.wanted g) h.id (effects.Put (site_in h.id key) (operand_at h place))
-  put_part h place key t k = by (moves h.by)
+  put_part : (h : NodeHead) (place : Place) (key : ℕ) → Typed place h.ty → KeyIs key h.ty → (moves h.by ≡ true → base.Left g place) → lines.ActOk F (base.wanted g) h.id (effects.Put (site_in h.id key) (operand_at h place))
+  put_part h place key t k free = by (moves h.by) free
     where
       dest : base.At g (whole_local key) h.ty t.0
       dest = base.key_at g key h.ty t.0 k t.1.known
@@ -248,9 +257,9 @@ module _ (g : Ground) where
       sized : forms.is_dyn (Some t.0) ≡ false
       sized = base.key_sized g key h.ty t.0 k t.1.known
 
-      by : (b : Bool) → base.StmtOk g (Stmt.Put (build.place_of F (site_in h.id key)) (build.operand_of F (copied_or_moved b (site_at h place))))
-      by true = typed_lines.put_moved g.items g.bodies (base.B g) _ _ h.ty t.0 dest t.1 sized
-      by false = typed_lines.put_copied g.items g.bodies (base.B g) _ _ h.ty t.0 dest t.1 sized
+      by : (b : Bool) → (b ≡ true → base.Left g place) → base.StmtOk g (Stmt.Put (build.place_of F (site_in h.id key)) (build.operand_of F (copied_or_moved b (site_at h place))))
+      by true free = (typed_lines.put_moved g.items g.bodies (base.B g) _ _ h.ty t.0 dest t.1 sized, base.one_moved g place (free refl))
+      by false free = (typed_lines.put_copied g.items g.bodies (base.B g) _ _ h.ty t.0 dest t.1 sized, refl)
 
   pub place_good : (x : Context) (n : tree.Node) (h : NodeHead) (s : Shape) (r : Reaches) → PlaceIs x n h s r → Good x n (lower.a_place F h s r)
   place_good x n h s r v = record {
@@ -264,12 +273,13 @@ module _ (g : Ground) where
     leaves = λ o c a own to. leaves_owned x.loops h own _ (base.leaves_then g x.loops _ _ (v.leaves (v.reached_so o c) a) (λ e. leaves_deliver x.loops h.id h (put a) (to_own_key (source.is_never g.items h.ty) h.id to)));
     evaluates = λ o c a f own to d. base.owned g h own _ (base.and_then g (r a) _ (v.sound (v.reached_so o c) a f)
         (λ e. answered h.id h (put a) (to_own_key (source.is_never g.items h.ty) h.id to) (arrives h to d) (v.never o c)
-        (λ key k. put_part h (s.place a.aliases) key (v.place (v.reached_so o c) a f e) k)));
+        (λ key k. put_part h (s.place a.aliases) key (v.place (v.reached_so o c) a f e) k (λ m. v.lets_go (v.moved m) (v.reached_so o c) a f e))));
     reach_ended = λ c form w a. absurd (untrue (sym form ∙ v.is_place));
     reach_leaves = v.leaves;
     reaches = v.sound;
     place = v.place;
     reach_entry = λ c p. absurd (untrue (sym p ∙ v.marked));
+    lets_go = v.lets_go;
   }
     where
       put : LoopsAndGuards → EffectSite → Action
@@ -349,7 +359,7 @@ module _ (g : Ground) where
   -- ---- `()` is put
   pub unit_put : (h : NodeHead) (to : Destination) → Arrives h to → types.is_unit g.items h.ty ≡ true → Sound (lower.put_unit F h to)
   unit_put h to arrives is = answered h.id h (λ site. effects.Put site effects.UnitValue) to arrives (no_own h (unit_made h.ty is))
-      (λ key k. typed_lines.put_unit g.items g.bodies (base.B g) _ h.ty (base.key_at g key h.ty Ty.Unit k (unit_known g.items h.ty is)))
+      (λ key k. (typed_lines.put_unit g.items g.bodies (base.B g) _ h.ty (base.key_at g key h.ty Ty.Unit k (unit_known g.items h.ty is)), refl))
     where
       unit_made : (id : TyId) → types.is_unit g.items id ≡ true → Never id → ⊥
       unit_made id is v = let e = unit_known g.items id is in untrue (rw e at v)
@@ -359,7 +369,7 @@ module _ (g : Ground) where
   alone_sound x n m k o c a f to d = lines.back_sound F (base.wanted g) _ (k.evaluates o c a f true to d)
 
   pub if_ok : (key : ℕ) (id : TyId) → KeyIs key id → type_at g.items id ≡ Some Ty.Bool → lines.TestOk F (base.wanted g) (if_true F (moved key key) key)
-  if_ok key id k e = lines.if_ok F (base.wanted g) (moved key key) key (λ y n. typed_lines.if_ok g.items g.bodies (base.B g) _ id (base.key_at g key id Ty.Bool k e) y n)
+  if_ok key id k e = lines.if_ok F (base.wanted g) (moved key key) key (λ y n. (typed_lines.if_ok g.items g.bodies (base.B g) _ id (base.key_at g key id Ty.Bool k e) y n, refl))
 
   -- a condition is of type `bool`, unless it is of type `!`
   abbrev pub IsBool : TyId → Type 0
@@ -381,24 +391,27 @@ module _ (g : Ground) where
 
   -- ---- names that are bound, each from its part
   abbrev pub BoundOk : BoundName → Type 0
-  BoundOk b = KeyIs b.key b.ty × Typed b.site.place b.ty
+  BoundOk b = KeyIs b.key b.ty × Typed b.site.place b.ty × (b.takes ≡ true → base.Left g b.site.place)
 
   abbrev pub BoundsOk : List BoundName → Type 0
   BoundsOk [] = Unit {0}
   BoundsOk (b ∷ bounds) = BoundOk b × BoundsOk bounds
 
   put_bound : (b : BoundName) → BoundOk b → lines.ActOk F (base.wanted g) b.key (effects.Put (site_of_key b.key) (operand_of_bound b))
-  put_bound b ok = by b.takes
+  put_bound b ok = by b.takes ok.2
     where
-      dest : base.At g (whole_local b.key) b.ty ok.1.0
-      dest = base.key_at g b.key b.ty ok.1.0 ok.0 ok.1.1.known
+      t : Typed b.site.place b.ty
+      t = ok.1
 
-      sized : forms.is_dyn (Some ok.1.0) ≡ false
-      sized = base.key_sized g b.key b.ty ok.1.0 ok.0 ok.1.1.known
+      dest : base.At g (whole_local b.key) b.ty t.0
+      dest = base.key_at g b.key b.ty t.0 ok.0 t.1.known
 
-      by : (t : Bool) → base.StmtOk g (Stmt.Put (build.place_of F (site_of_key b.key)) (build.operand_of F (copied_or_moved t b.site)))
-      by true = typed_lines.put_moved g.items g.bodies (base.B g) _ _ b.ty ok.1.0 dest ok.1.1 sized
-      by false = typed_lines.put_copied g.items g.bodies (base.B g) _ _ b.ty ok.1.0 dest ok.1.1 sized
+      sized : forms.is_dyn (Some t.0) ≡ false
+      sized = base.key_sized g b.key b.ty t.0 ok.0 t.1.known
+
+      by : (takes : Bool) → (takes ≡ true → base.Left g b.site.place) → base.StmtOk g (Stmt.Put (build.place_of F (site_of_key b.key)) (build.operand_of F (copied_or_moved takes b.site)))
+      by true free = (typed_lines.put_moved g.items g.bodies (base.B g) _ _ b.ty t.0 dest t.1 sized, base.one_moved g b.site.place (free refl))
+      by false free = (typed_lines.put_copied g.items g.bodies (base.B g) _ _ b.ty t.0 dest t.1 sized, refl)
 
   pub bind_sound : (in_that : (Scope → Scope) → Scopes → Scopes) → InThat in_that → (bounds : List BoundName) → BoundsOk bounds → Sound (lower.bind F in_that bounds)
   bind_sound in_that keeps [] ok = base.nothing_done g

@@ -11,6 +11,8 @@ use Rattle.cfg_graph.specs.declared.graph.Kind.{Kind}
 use Rattle.cfg_graph.specs.declared.statement.Stmt.{Stmt}
 use Rattle.cfg_graph.specs.declared.terminator.Term.{Term}
 use Rattle.cfg_graph.specs.Edges.{targets, lowers, is_turn}
+use Rattle.cfg_graph.specs.Ready.{moves_out_well, moves_well}
+use Rattle.cfg_graph.specs.Uses.{operands_of_stmt, operands_of_term}
 use Rattle.cfg_graph.specs.WellFormed.Broken.{broken}
 use Rattle.cfg_graph.specs.WellFormed.Cleanup.{edges_lower}
 use Rattle.cfg_graph.specs.WellFormed.LineFaults.{term_numbers_exist}
@@ -217,7 +219,7 @@ module _ (p : ProgramTree) (w : WellTyped p) (n : ℕ) (body : BodyTree) (at_n :
       bound : (b : Bool) → base.Sound g (lower.names_of_param F b ((shape p.items param.pattern).bindings (whole_local (param_key param))))
       bound true = base.nothing_done g
       bound false = rules.bind_sound g innermost (rules.inner g) _
-          (pattern_lines.pattern_ok g param.pattern whole param.ty h.0.1.0 (pattern_cells param.pattern param.ty h.0.1.0 c.0 (base.cells_first g (cells_in p.items (form_of param.pattern)) (cells_of_params params) d)) (whole_local (param_key param)) (base.key_typed g (param_key param) param.ty c.0)).1
+          (pattern_lines.pattern_ok g param.pattern whole param.ty h.0.1.0 (pattern_cells param.pattern param.ty h.0.1.0 c.0 (base.cells_first g (cells_in p.items (form_of param.pattern)) (cells_of_params params) d)) (whole_local (param_key param)) (base.key_typed g (param_key param) param.ty c.0) (λ w. base.left_whole g (param_key param))).1
 
   abbrev entries_of_params : List ParamTree → List InScope
   entries_of_params params = flat_map (λ q. entries_of q.pattern) params
@@ -320,14 +322,17 @@ module _ (p : ProgramTree) (w : WellTyped p) (n : ℕ) (body : BodyTree) (at_n :
 
   -- what is known of a closure's value
   abbrev SelfOk : Option InScope → Type 0
-  SelfOk closure = (e : InScope) → closure ≡ Some e → base.KeyIs g e.key e.ty × ((ty : Ty) → type_at p.items e.ty ≡ Some ty → is_enum p.items ty ≡ false) × base.Over g e.key (nodes_of body.block)
+  SelfOk closure = (e : InScope) → closure ≡ Some e → base.KeyIs g e.key e.ty × ((ty : Ty) → type_at p.items e.ty ≡ Some ty → (is_enum p.items ty ≡ false) × (base.holds_back g (Some ty) ≡ false)) × base.Over g e.key (nodes_of body.block)
 
   block_fine : (closure : Option InScope) → SelfOk closure → (params : List ParamTree) → names.Keyed g (entries_of_params params) → base.Fine g (context closure params) around (nodes_of body.block)
   block_fine closure self params keyed = record {
     around = record {
       names = in_scope (entries_of_params params) keyed;
       self = λ e is. base.key_typed g e.key e.ty (self e is).0;
-      captures = λ e ty is known. (self e is).1 ty known;
+      captures = λ e ty is known. ((self e is).1 ty known).0;
+      lets_go = λ key e is out. base.left_whole g key;
+      self_lets_go = λ e is. base.left_whole g e.key;
+      captured_out = λ e ty is known. ((self e is).1 ty known).1;
       answer = λ m. answer_cell;
       loops = λ loop l is. absurd (none-some l is);
     };
@@ -341,7 +346,7 @@ module _ (p : ProgramTree) (w : WellTyped p) (n : ℕ) (body : BodyTree) (at_n :
 
   block_sound : (closure : Option InScope) → SelfOk closure → (params : List ParamTree) → names.Keyed g (entries_of_params params) → Holds (typing.typed (context closure params) (Wanted body.answer) body.block) → base.Sound g ((lower.lower F body.block).evaluates around false (Into (answer_key body)))
   block_sound closure self params keyed h =
-      let k = forms_of.node_good g (context closure params) body.block (Wanted body.answer) h (base.rise_second g (param_nodes body.params) (nodes_of body.block) rise) in
+      let k = forms_of.node_good g (context closure params) body.block (Wanted body.answer) refl h (base.rise_second g (param_nodes body.params) (nodes_of body.block) rise) in
       k.evaluates false (own_cells body.block typed.2.1.1.1.1.1.0 block_cells) around (block_fine closure self params keyed) false (Into (answer_key body))
       (λ m. elim (forms_of.wanted_fits g (context closure params) body.answer body.block h) [
         | inl same ↦ subst (base.KeyIs g (answer_key body)) (sym (k.ty_is ∙ same)) answer_cell
@@ -354,7 +359,7 @@ module _ (p : ProgramTree) (w : WellTyped p) (n : ℕ) (body : BodyTree) (at_n :
   -- the place of a closure's value
   self_ok : (def : ClosureDef) (self : ParamTree) (params : List ParamTree) → closure_with p.items n ≡ Some def → body.params ≡ self ∷ params → SelfOk (Some (record { key = param_key self; ty = self.ty; is_in_guard = false }))
   self_ok def self params is ps e same =
-      subst (λ (z : InScope). base.KeyIs g z.key z.ty × ((ty : Ty) → type_at p.items z.ty ≡ Some ty → is_enum p.items ty ≡ false) × base.Over g z.key (nodes_of body.block))
+      subst (λ (z : InScope). base.KeyIs g z.key z.ty × ((ty : Ty) → type_at p.items z.ty ≡ Some ty → (is_enum p.items ty ≡ false) × (base.holds_back g (Some ty) ≡ false)) × base.Over g z.key (nodes_of body.block))
       (same_Some (record { key = param_key self; ty = self.ty; is_in_guard = false }) e same) (cell, not_enum, over)
     where
       cell : base.KeyIs g (param_key self) self.ty
@@ -381,8 +386,8 @@ module _ (p : ProgramTree) (w : WellTyped p) (n : ℕ) (body : BodyTree) (at_n :
           let sig = same_Some begins.0 typed.0 (sym begins.1 ∙ ap (slice_get p.items.bodies) (eqb-true def.body n (pattern_lines.found_so (λ (def : ClosureDef). def.body == n) p.items.closures def is)) ∙ typed.1) in
           first_ty typed.0.params (subst (λ (z : List ParamTree). Holds (ParamsAre typed.0.params z)) ps params_are) begins.2.0 (ap (λ (s : Sig). slice_get s.params 0) (sym sig) ∙ ap (λ (l : List TyId). slice_get l 0) begins.2.3)
 
-      not_enum : (ty : Ty) → type_at p.items self.ty ≡ Some ty → is_enum p.items ty ≡ false
-      not_enum ty known = subst (λ (z : Ty). is_enum p.items z ≡ false) (same_Some (Ty.Closure begins.2.2) ty (sym (ap (type_at p.items) own_ty ∙ begins.2.4) ∙ known)) refl
+      not_enum : (ty : Ty) → type_at p.items self.ty ≡ Some ty → (is_enum p.items ty ≡ false) × (base.holds_back g (Some ty) ≡ false)
+      not_enum ty known = subst (λ (z : Ty). (is_enum p.items z ≡ false) × (base.holds_back g (Some z) ≡ false)) (same_Some (Ty.Closure begins.2.2) ty (sym (ap (type_at p.items) own_ty ∙ begins.2.4) ∙ known)) (refl, refl)
 
   entire_block : base.Sound g ((lower.lower F body.block).evaluates around false (Into (answer_key body)))
   entire_block = of (closure_with p.items n) refl body.params refl typed.2.1.1.1.1.1.1
@@ -405,14 +410,14 @@ module _ (p : ProgramTree) (w : WellTyped p) (n : ℕ) (body : BodyTree) (at_n :
   last = ending (Term.Goto 1) (answer_key body)
 
   begun_ok : lines.Ok F W (lower.start F body)
-  begun_ok = lines.closed_ok F W Kind.Plain (ending Term.Return (answer_key body)) (reserved (record { blocks = []; chains = [] })) (lines.reserved_ok F W (record { blocks = []; chains = [] }) none) (tt, typed_lines.return_ok p.items (length p.bodies) (base.B g))
+  begun_ok = lines.closed_ok F W Kind.Plain (ending Term.Return (answer_key body)) (reserved (record { blocks = []; chains = [] })) (lines.reserved_ok F W (record { blocks = []; chains = [] }) none) (tt, (typed_lines.return_ok p.items (length p.bodies) (base.B g), refl))
     where
       none : lines.Ok F W (record { blocks = []; chains = [] })
       none = record { blocks = λ n m e. absurd (none-some (Some m) e) }
 
   built_ok : lines.Ok F W (lower.built F body)
   built_ok =
-      let x = function_sound.lines (body_ways 1) refl (lower.answer_scope F body) last (lower.start F body) (((λ d. answer_cell), tt), tt, tt) begun_ok (tt, typed_lines.goto_ok p.items (length p.bodies) (base.B g) 1) in
+      let x = function_sound.lines (body_ways 1) refl (lower.answer_scope F body) last (lower.start F body) (((λ d. answer_cell), tt), tt, tt) begun_ok (tt, (typed_lines.goto_ok p.items (length p.bodies) (base.B g) 1, refl)) in
       let code = (lower.entire_function F body).build (body_ways 1) (lower.answer_scope F body) last (lower.start F body) in
       lines.filled_ok F W Kind.Plain 0 code.0 code.1 x.0 x.1
 
@@ -440,7 +445,7 @@ module _ (p : ProgramTree) (w : WellTyped p) (n : ℕ) (body : BodyTree) (at_n :
   of_blocks k block e = let h = from_mapped _ (lower.built F body).blocks k block e in by_made h.0 h.1 h.2
     where
       by_made : (o : Option MadeBlock) → slice_get (lower.built F body).blocks k ≡ Some o → (unwrap_or o lower.unmade).block ≡ block → Clean block
-      by_made None q h = subst Clean h ((λ line stmt d. absurd (none-some stmt d)), typed_lines.return_ok p.items (length p.bodies) (base.B g))
+      by_made None q h = subst Clean h ((λ line stmt d. absurd (none-some stmt d)), (typed_lines.return_ok p.items (length p.bodies) (base.B g), refl))
       by_made (Some m) q h = subst Clean h (line_in m.block.stmts m.block.term m.nodes (built_ok.blocks k m q), term_in m.block.stmts m.block.term m.nodes (built_ok.blocks k m q))
 
   -- ---- edges
@@ -499,9 +504,25 @@ module _ (p : ProgramTree) (w : WellTyped p) (n : ℕ) (body : BodyTree) (at_n :
   pub no_fault : LinesHaveNoFault p.items (length p.bodies) (body_of p.items body)
   no_fault k block e =
       let it = of_blocks k block e in (
-        (λ line stmt d. it.0 line stmt d),
-        none_broken _ _ _ _ _ (both_so _ _ (numbers_same block.term it.1.0) (edges_exist k block e)) it.1.1 it.1.2 (edges_rank k block e) (lowered_keeps_to_cleanup p.items body named k block e).0,
+        (λ line stmt d. (it.0 line stmt d).0),
+        none_broken _ _ _ _ _ (both_so _ _ (numbers_same block.term it.1.0.0) (edges_exist k block e)) it.1.0.1 it.1.0.2 (edges_rank k block e) (lowered_keeps_to_cleanup p.items body named k block e).0,
       )
+
+  -- ---- moves
+  stmts_so : (test : Stmt → Bool) (stmts : List Stmt) → ((line : ℕ) (stmt : Stmt) → slice_get stmts line ≡ Some stmt → test stmt ≡ true) → list_all test stmts ≡ true
+  stmts_so test [] h = refl
+  stmts_so test (stmt ∷ stmts) h = both_so _ _ (h 0 stmt refl) (stmts_so test stmts (λ line later e. h (suc line) later e))
+
+  blocks_so : (test : Block → Bool) (blocks : List Block) → ((k : ℕ) (block : Block) → slice_get blocks k ≡ Some block → test block ≡ true) → list_all test blocks ≡ true
+  blocks_so test [] h = refl
+  blocks_so test (block ∷ blocks) h = both_so _ _ (h 0 block refl) (blocks_so test blocks (λ k later e. h (suc k) later e))
+
+  pub moves_are_well : moves_well p.items (body_of p.items body) ≡ true
+  moves_are_well =
+      both_so _ _
+      (blocks_so (λ block. list_all (λ stmt. list_all (moves_out_well p.items (body_of p.items body)) (operands_of_stmt stmt)) block.stmts) (body_of p.items body).blocks
+      (λ k block e. stmts_so (λ stmt. list_all (moves_out_well p.items (body_of p.items body)) (operands_of_stmt stmt)) block.stmts (λ line stmt d. ((of_blocks k block e).0 line stmt d).1)))
+      (blocks_so (λ block. list_all (moves_out_well p.items (body_of p.items body)) (operands_of_term block.term)) (body_of p.items body).blocks (λ k block e. (of_blocks k block e).1.1))
 
 pub lowered_lines_have_no_fault : LoweredLinesHaveNoFault
 lowered_lines_have_no_fault program w n body at clean = no_fault program w n body at clean

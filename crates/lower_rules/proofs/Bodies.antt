@@ -43,8 +43,9 @@ use Rattle.lower_rules.specs.Lower as lower
 use Rattle.lower_rules.specs.Lower.{frame, entire_function, start, built, blocks_of, nodes_of, body_of, node_in, node_of, graph_of}
 use Rattle.lower_rules.proofs.Forms.{function_at, function_lowers}
 use Rattle.lower_rules.proofs.Jumps.{no_jumps}
-use Rattle.lower_rules.proofs.Rules as rules
-use Rattle.lower_rules.proofs.Rules.{Given, AllGiven, Ranked, LeadsOn, JumpWays, IsUsed, BlockGiven, closed_ranked}
+use Rattle.lower_rules.proofs.LaidBlocks as laid
+use Rattle.lower_rules.proofs.LaidBranches as branch_rules
+use Rattle.lower_rules.proofs.LaidBlocks.{Given, AllGiven, Ranked, LeadsOn, JumpWays, IsUsed, BlockGiven, closed_ranked}
 use Rattle.lower_rules.proofs.Scopes.{function_after}
 
 mapped : {A B : Type 0} (g : A → B) (xs : List A) (n : ℕ) (x : A) → slice_get xs n ≡ Some x → slice_get (map g xs) n ≡ Some (g x)
@@ -99,18 +100,18 @@ module _ (items : ItemTable) (tree : BodyTree) (named : NamesItsLoops tree) wher
   abbrev t : CodeTarget
   t = target_of items tree (body_of items tree) (node_of items tree)
 
-  lowered : rules.Lowered t P (function_at t tree)
+  lowered : laid.Lowered t P (function_at t tree)
   lowered = function_lowers t tree
 
   first_free : slice_get r.1.blocks 0 ≡ Some None
   first_free = (lowered.grows (body_ways 1) S last begun).keeps 0 (omega arith)
 
   -- ---- the blocks of the body are those that were made
-  nodes_at : (n : ℕ) (all pre xs : List ℕ) → slice_get (nodes_of z) n ≡ Some all → all ≡ pre ++ xs → rules.NodesAt t n (length pre) xs
+  nodes_at : (n : ℕ) (all pre xs : List ℕ) → slice_get (nodes_of z) n ≡ Some all → all ≡ pre ++ xs → laid.NodesAt t n (length pre) xs
   nodes_at n all pre [] e h = tt
   nodes_at n all pre (x ∷ xs) e h = (
     ap (λ o. unwrap_or (slice_get (unwrap_or o []) (length pre)) 0) e ∙ ap (λ list. unwrap_or (slice_get list (length pre)) 0) h ∙ ap (λ o. unwrap_or o 0) (seam pre),
-    subst (λ l. rules.NodesAt t n l xs) (length-append pre (x ∷ []) ∙ add-one (length pre)) (nodes_at n all (pre ++ x ∷ []) xs e (h ∙ with_one pre)),
+    subst (λ l. laid.NodesAt t n l xs) (length-append pre (x ∷ []) ∙ add-one (length pre)) (nodes_at n all (pre ++ x ∷ []) xs e (h ∙ with_one pre)),
   )
     where
       seam : (pre : List ℕ) → slice_get (pre ++ x ∷ xs) (length pre) ≡ Some x
@@ -121,26 +122,26 @@ module _ (items : ItemTable) (tree : BodyTree) (named : NamesItsLoops tree) wher
       with_one [] = refl
       with_one (y ∷ pre) = ap (λ z. y ∷ z) (with_one pre)
 
-  later : rules.Later t z
+  later : laid.Later t z
   later n m e = (mapped _ z.blocks n (Some m) e, nodes_at n m.nodes [] m.nodes (mapped _ z.blocks n (Some m) e) refl)
 
-  later_code : rules.Later t r.1
-  later_code = rules.filled_later t Kind.Plain 0 r.0 r.1 first_free later
+  later_code : laid.Later t r.1
+  later_code = branch_rules.filled_later t Kind.Plain 0 r.0 r.1 first_free later
 
-  later_start : rules.Later t begun
-  later_start = rules.later_before t begun r.1 (lowered.grows (body_ways 1) S last begun) later_code
+  later_start : laid.Later t begun
+  later_start = laid.later_before t begun r.1 (lowered.grows (body_ways 1) S last begun) later_code
 
-  no_chain : rules.ChainsStand t begun
+  no_chain : laid.ChainsStand t begun
   no_chain es n e = absurd (none-some n e)
 
   used : JumpWays IsUsed (body_ways 1) P.jumps
-  used = (refl, subst (λ jumps. rules.AllWays IsUsed (body_ways 1) jumps) (sym (no_jumps F tree named)) tt)
+  used = (refl, subst (λ jumps. laid.AllWays IsUsed (body_ways 1) jumps) (sym (no_jumps F tree named)) tt)
 
   -- block 1 returns
   abbrev returning : MadeBlock
   returning = made Kind.Plain 1 (ending Term.Return (answer_key tree))
 
-  return_at : (slice_get (body_of items tree).blocks 1 ≡ Some returning.block) × rules.NodesAt t 1 0 returning.nodes
+  return_at : (slice_get (body_of items tree).blocks 1 ≡ Some returning.block) × laid.NodesAt t 1 0 returning.nodes
   return_at = later_start 1 returning refl
 
   return_step : StepAt t 1
@@ -150,15 +151,15 @@ module _ (items : ItemTable) (tree : BodyTree) (named : NamesItsLoops tree) wher
   first_local = first_found (λ k. k == answer_key tree) (answer_key tree) _ _ (equal_itself (answer_key tree))
 
   -- block 0 is the first
-  first_at : (slice_get (body_of items tree).blocks 0 ≡ Some (made Kind.Plain (length r.1.blocks) r.0).block) × rules.Stands t r.0 (0, 0)
-  first_at = rules.filled_stands t Kind.Plain 0 r.0 r.1 first_free later
+  first_at : (slice_get (body_of items tree).blocks 0 ≡ Some (made Kind.Plain (length r.1.blocks) r.0).block) × laid.Stands t r.0 (0, 0)
+  first_at = branch_rules.filled_stands t Kind.Plain 0 r.0 r.1 first_free later
 
   code_joins : Joins t (FunctionAt t tree 1) S (0, 0) S (1, 0)
   code_joins = by_end P.has_end ((lowered.holds (body_ways 1) S last begun used later_code no_chain).1 (0, 0) first_at.1)
     where
-      by_end : (x : Bool) → rules.CodeEnds t x P (function_at t tree) (body_ways 1) S last (0, 0) → Joins t (FunctionAt t tree 1) S (0, 0) S (1, 0)
+      by_end : (x : Bool) → laid.CodeEnds t x P (function_at t tree) (body_ways 1) S last (0, 0) → Joins t (FunctionAt t tree 1) S (0, 0) S (1, 0)
       by_end true h =
-          (h.0, subst (λ S'. FunctionAt t tree 1 S (0, 0) S' h.0) (function_after F tree S) h.2, goes 1 (rules.ends_with t (Term.Goto 1) (answer_key tree) h.0 h.1) return_step)
+          (h.0, subst (λ S'. FunctionAt t tree 1 S (0, 0) S' h.0) (function_after F tree S) h.2, goes 1 (laid.ends_with t (Term.Goto 1) (answer_key tree) h.0 h.1) return_step)
       by_end false h = ((1, 0), h S (1, 0), stays)
 
   holds_code : BodyAt t tree
@@ -169,7 +170,7 @@ module _ (items : ItemTable) (tree : BodyTree) (named : NamesItsLoops tree) wher
   reserved_begins : Ranked (reserved (record { blocks = []; chains = [] }))
   reserved_begins = record { blocks = λ n m e. not_made n m e; chains = λ es n e. absurd (none-some n e); begun = omega arith }
     where
-      not_made : (n : ℕ) (m : MadeBlock) → ◌≡◌ {A = Option (Option MadeBlock)} (slice_get (None ∷ []) n) (Some (Some m)) → rules.MadeWell n m
+      not_made : (n : ℕ) (m : MadeBlock) → ◌≡◌ {A = Option (Option MadeBlock)} (slice_get (None ∷ []) n) (Some (Some m)) → laid.MadeWell n m
       not_made zero m e = absurd (none-some m (same_Some None (Some m) e))
       not_made (suc n) m e = absurd (none-some (Some m) e)
 
@@ -177,14 +178,14 @@ module _ (items : ItemTable) (tree : BodyTree) (named : NamesItsLoops tree) wher
   begun_ranked = closed_ranked Kind.Plain (ending Term.Return (answer_key tree)) (reserved (record { blocks = []; chains = [] })) reserved_begins tt
 
   code_ranked : Ranked r.1 × LeadsOn r.0 r.1
-  code_ranked = lowered.ranks (body_ways 1) S last begun ((omega arith, omega arith), subst (λ jumps. rules.AllWays (BlockGiven (length begun.blocks)) (body_ways 1) jumps) (sym (no_jumps F tree named)) tt) begun_ranked ((omega arith, omega arith), tt)
+  code_ranked = lowered.ranks (body_ways 1) S last begun ((omega arith, omega arith), subst (λ jumps. laid.AllWays (BlockGiven (length begun.blocks)) (body_ways 1) jumps) (sym (no_jumps F tree named)) tt) begun_ranked ((omega arith, omega arith), tt)
 
   -- a block but the first has its number as its rank, if it is no turn block; all edges lead below its rank, and not to block 0
   abbrev Well : ℕ → Block → Type 0
   Well n block = AllGiven block.rank (targets block.term) × (0 < n → is_turn block ≡ false → block.rank ≤ n)
 
   made_well : (n : ℕ) (m : MadeBlock) → slice_get z.blocks n ≡ Some (Some m) → Well n m.block
-  made_well n m e = by_place (rules.set_cases t r.1.blocks 0 n (Some (made Kind.Plain (length r.1.blocks) r.0)) (Some m) e)
+  made_well n m e = by_place (branch_rules.set_cases t r.1.blocks 0 n (Some (made Kind.Plain (length r.1.blocks) r.0)) (Some m) e)
     where
       by_place : (slice_get r.1.blocks n ≡ Some (Some m)) ⊎ ((n ≡ 0) × (Some (made Kind.Plain (length r.1.blocks) r.0) ≡ Some m)) → Well n m.block
       by_place (inl e) = let h = code_ranked.0.blocks n m e in (h.1, λ l plain. let i = h.0 plain in omega arith)
@@ -211,7 +212,7 @@ module _ (items : ItemTable) (tree : BodyTree) (named : NamesItsLoops tree) wher
   AllStand [] = Unit {0}
   AllStand (m ∷ ms) = (m < length t.body.blocks) × AllStand ms
 
-  all_stand : (x : Bool) (ms : List ℕ) → rules.AllKind t x ms → AllStand ms
+  all_stand : (x : Bool) (ms : List ℕ) → laid.AllKind t x ms → AllStand ms
   all_stand x [] h = tt
   all_stand x (m ∷ ms) h = (slice_get_within t.body.blocks m h.0.0 h.0.1, all_stand x ms h.1)
 
@@ -228,21 +229,21 @@ module _ (items : ItemTable) (tree : BodyTree) (named : NamesItsLoops tree) wher
   both true b e d = d
   both false b e d = e
 
-  all_kind : (p : Block → Bool) (x : Bool) → ((block : Block) → is_cleanup block ≡ x → p block ≡ true) → (ns : List ℕ) → rules.AllKind t x ns →
+  all_kind : (p : Block → Bool) (x : Bool) → ((block : Block) → is_cleanup block ≡ x → p block ≡ true) → (ns : List ℕ) → laid.AllKind t x ns →
       list_all (λ n. option_map_or p (slice_get t.body.blocks n) true) ns ≡ true
   all_kind p x holds [] h = refl
   all_kind p x holds (n ∷ ns) h = both _ _ (ap (λ o. option_map_or p o true) h.0.1 ∙ holds h.0.0 h.0.2) (all_kind p x holds ns h.1)
 
-  none_clean : (ns : List ℕ) → rules.AllKind t false ns → list_all (λ n. option_map_or (λ block. not (is_cleanup block)) (slice_get t.body.blocks n) true) ns ≡ true
+  none_clean : (ns : List ℕ) → laid.AllKind t false ns → list_all (λ n. option_map_or (λ block. not (is_cleanup block)) (slice_get t.body.blocks n) true) ns ≡ true
   none_clean ns h = all_kind (λ block. not (is_cleanup block)) false (λ block e. ap not e) ns h
 
-  all_clean : (ns : List ℕ) → rules.AllKind t true ns → list_all (λ n. option_map_or is_cleanup (slice_get t.body.blocks n) true) ns ≡ true
+  all_clean : (ns : List ℕ) → laid.AllKind t true ns → list_all (λ n. option_map_or is_cleanup (slice_get t.body.blocks n) true) ns ≡ true
   all_clean ns h = all_kind is_cleanup true (λ block e. e) ns h
 
   abbrev ended : Kind → Term → Block
   ended kind term = record { kind = kind; rank = 0; stmts = []; term = term }
 
-  keeps_plain : (term : Term) → rules.LeadsWell t term → keeps_to_cleanup t.body (ended Kind.Plain term) ≡ true
+  keeps_plain : (term : Term) → laid.LeadsWell t term → keeps_to_cleanup t.body (ended Kind.Plain term) ≡ true
   keeps_plain (Term.Goto n) h = both _ _ (none_clean (onward (Term.Goto n)) h.0) (all_clean (unwind_targets (Term.Goto n)) h.1)
   keeps_plain (Term.If on y n) h = both _ _ (none_clean (onward (Term.If on y n)) h.0) (all_clean (unwind_targets (Term.If on y n)) h.1)
   keeps_plain (Term.Case on variant y n) h = both _ _ (none_clean (onward (Term.Case on variant y n)) h.0) (all_clean (unwind_targets (Term.Case on variant y n)) h.1)
@@ -257,7 +258,7 @@ module _ (items : ItemTable) (tree : BodyTree) (named : NamesItsLoops tree) wher
   keeps_plain Term.Return h = refl
   keeps_plain Term.Resume h = absurd (let never : true ≡ false = h.2 in cc)
 
-  keeps_clean : (term : Term) → rules.CleansUp t term → (keeps_to_cleanup t.body (ended Kind.Cleanup term) ≡ true) × AllStand (targets term)
+  keeps_clean : (term : Term) → laid.CleansUp t term → (keeps_to_cleanup t.body (ended Kind.Cleanup term) ≡ true) × AllStand (targets term)
   keeps_clean (Term.Goto n) h = (all_clean (n ∷ []) (h, tt), (slice_get_within t.body.blocks n h.0 h.1, tt))
   keeps_clean (Term.If on y n) h = absurd h
   keeps_clean (Term.Case on variant y n) h = absurd h
@@ -274,36 +275,36 @@ module _ (items : ItemTable) (tree : BodyTree) (named : NamesItsLoops tree) wher
   keeps_clean Term.Return h = absurd h
   keeps_clean Term.Resume h = (refl, tt)
 
-  keeps : (block : Block) → rules.EndsWell t (is_cleanup block) block.term → (keeps_to_cleanup t.body block ≡ true) × AllStand (targets block.term)
+  keeps : (block : Block) → laid.EndsWell t (is_cleanup block) block.term → (keeps_to_cleanup t.body block ≡ true) × AllStand (targets block.term)
   keeps block h = by_kind block.kind h
     where
-      by_kind : (kind : Kind) → rules.EndsWell t (is_cleanup_kind kind) block.term → (keeps_to_cleanup t.body (ended kind block.term) ≡ true) × AllStand (targets block.term)
+      by_kind : (kind : Kind) → laid.EndsWell t (is_cleanup_kind kind) block.term → (keeps_to_cleanup t.body (ended kind block.term) ≡ true) × AllStand (targets block.term)
       by_kind Kind.Plain h = (keeps_plain block.term h, stand_append (onward block.term) (unwind_targets block.term) (all_stand false (onward block.term) h.0) (all_stand true (unwind_targets block.term) h.1))
       by_kind Kind.Turn h = (keeps_plain block.term h, stand_append (onward block.term) (unwind_targets block.term) (all_stand false (onward block.term) h.0) (all_stand true (unwind_targets block.term) h.1))
       by_kind Kind.Cleanup h = keeps_clean block.term h
 
-  start_tidy : rules.Tidy t begun
-  start_tidy = rules.closed_tidy t Kind.Plain (ending Term.Return (answer_key tree)) (reserved (record { blocks = []; chains = [] }))
-      (rules.reserved_tidy t (record { blocks = []; chains = [] }) (record { blocks = λ n m e. absurd (none-some (Some m) e); chains = λ es n e. absurd (none-some n e) })) ((tt, tt, refl, tt), tt)
+  start_tidy : laid.Tidy t begun
+  start_tidy = laid.closed_tidy t Kind.Plain (ending Term.Return (answer_key tree)) (reserved (record { blocks = []; chains = [] }))
+      (branch_rules.reserved_tidy t (record { blocks = []; chains = [] }) (record { blocks = λ n m e. absurd (none-some (Some m) e); chains = λ es n e. absurd (none-some n e) })) ((tt, tt, refl, tt), tt)
 
-  return_plain : rules.KindAt t false 1
+  return_plain : laid.KindAt t false 1
   return_plain = (returning.block, return_at.0, refl)
 
-  code_tidy : rules.TidyAfter t r
-  code_tidy = lowered.tidies (body_ways 1) S last begun (return_plain, subst (λ jumps. rules.AllWays (rules.PlainWay t) (body_ways 1) jumps) (sym (no_jumps F tree named)) tt) later_code start_tidy (((return_plain, tt), tt, refl, tt), tt)
+  code_tidy : laid.TidyAfter t r
+  code_tidy = lowered.tidies (body_ways 1) S last begun (return_plain, subst (λ jumps. laid.AllWays (laid.PlainWay t) (body_ways 1) jumps) (sym (no_jumps F tree named)) tt) later_code start_tidy (((return_plain, tt), tt, refl, tt), tt)
 
-  block_tidy : (n : ℕ) (block : Block) → slice_get (body_of items tree).blocks n ≡ Some block → rules.BlockWell t block
+  block_tidy : (n : ℕ) (block : Block) → slice_get (body_of items tree).blocks n ≡ Some block → laid.BlockWell t block
   block_tidy n block e = let h = from_mapped _ z.blocks n block e in by_made h.0 h.1 h.2
     where
-      by_made : (o : Option MadeBlock) → slice_get z.blocks n ≡ Some o → (unwrap_or o lower.unmade).block ≡ block → rules.BlockWell t block
-      by_made None e h = subst (rules.BlockWell t) h ((tt, tt, refl, tt), tt)
-      by_made (Some m) e h = subst (rules.BlockWell t) h ((rules.filled_tidy t Kind.Plain 0 r.0 r.1 code_tidy.0 code_tidy.1).blocks n m e)
+      by_made : (o : Option MadeBlock) → slice_get z.blocks n ≡ Some o → (unwrap_or o lower.unmade).block ≡ block → laid.BlockWell t block
+      by_made None e h = subst (laid.BlockWell t) h ((tt, tt, refl, tt), tt)
+      by_made (Some m) e h = subst (laid.BlockWell t) h ((branch_rules.filled_tidy t Kind.Plain 0 r.0 r.1 code_tidy.0 code_tidy.1).blocks n m e)
 
   -- ---- what elaboration asks of all bodies
   abbrev with_blocks : List Block → Body
   with_blocks blocks = record { params = 0; locals = []; blocks = blocks }
 
-  frees_none : (stmts : List Stmt) → rules.FreesNone t stmts → frees_nothing (with_blocks (record { kind = Kind.Plain; rank = 0; stmts = stmts; term = Term.Return } ∷ [])) ≡ true
+  frees_none : (stmts : List Stmt) → laid.FreesNone t stmts → frees_nothing (with_blocks (record { kind = Kind.Plain; rank = 0; stmts = stmts; term = Term.Return } ∷ [])) ≡ true
   frees_none [] h = refl
   frees_none (Stmt.Put to from ∷ stmts) h = frees_none stmts h.1
   frees_none (Stmt.Compare to op left right ∷ stmts) h = frees_none stmts h.1
@@ -324,7 +325,7 @@ module _ (items : ItemTable) (tree : BodyTree) (named : NamesItsLoops tree) wher
   first_true true b e = refl
   first_true false b e = e
 
-  blocks_free_none : (blocks : List Block) → ((n : ℕ) (block : Block) → slice_get blocks n ≡ Some block → rules.FreesNone t block.stmts) → frees_nothing (with_blocks blocks) ≡ true
+  blocks_free_none : (blocks : List Block) → ((n : ℕ) (block : Block) → slice_get blocks n ≡ Some block → laid.FreesNone t block.stmts) → frees_nothing (with_blocks blocks) ≡ true
   blocks_free_none [] h = refl
   blocks_free_none (block ∷ blocks) h = both _ _ (first_true _ _ (frees_none block.stmts (h 0 block refl))) (blocks_free_none blocks (λ n block e. h (suc n) block e))
 
@@ -338,7 +339,7 @@ module _ (items : ItemTable) (tree : BodyTree) (named : NamesItsLoops tree) wher
   blocks_begin_once (block ∷ blocks) h = both _ _ (ap not (not_first block.rank (targets block.term) (h 0 block refl))) (blocks_begin_once blocks (λ n block e. h (suc n) block e))
 
   -- a place that is dropped may be left gone, or is stored into at once
-  clean_drops : (term : Term) → rules.CleansUp t term → rules.DropsWell t term
+  clean_drops : (term : Term) → laid.CleansUp t term → laid.DropsWell t term
   clean_drops (Term.Goto n) h = tt
   clean_drops (Term.If on y n) h = absurd h
   clean_drops (Term.Case on variant y n) h = absurd h
@@ -351,9 +352,9 @@ module _ (items : ItemTable) (tree : BodyTree) (named : NamesItsLoops tree) wher
   clean_drops (Term.Panic why u) h = absurd h
   clean_drops Term.Return h = absurd h
   clean_drops Term.Resume h = tt
-  clean_drops (Term.DropAt place n u) h = subst (λ u. rules.DropsWell t (Term.DropAt place n u)) (sym h.1) h.2
+  clean_drops (Term.DropAt place n u) h = subst (λ u. laid.DropsWell t (Term.DropAt place n u)) (sym h.1) h.2
 
-  ends_drop : (x : Bool) (term : Term) → rules.EndsWell t x term → rules.DropsWell t term
+  ends_drop : (x : Bool) (term : Term) → laid.EndsWell t x term → laid.DropsWell t term
   ends_drop true term h = clean_drops term h
   ends_drop false term h = h.3
 
@@ -375,11 +376,11 @@ module _ (items : ItemTable) (tree : BodyTree) (named : NamesItsLoops tree) wher
       ((b : Block) → q (record b { term = Term.Return }) ≡ true) →
       ((b : Block) → q (record b { term = Term.Resume }) ≡ true) →
       ((b : Block) (place : Place) (n : ℕ) (u : Unwind) → place.steps ≡ [] → q (record b { term = Term.DropAt place n u }) ≡ true) →
-      ((b : Block) (place : Place) (n m : ℕ) → rules.StoresFirst t place n → rules.StoresFirst t place m → q (record b { term = Term.DropAt place n (Unwind.Block m) }) ≡ true) →
-      (blocks : List Block) → ((n : ℕ) (block : Block) → slice_get blocks n ≡ Some block → rules.DropsWell t block.term) → list_all q blocks ≡ true
+      ((b : Block) (place : Place) (n m : ℕ) → laid.StoresFirst t place n → laid.StoresFirst t place m → q (record b { term = Term.DropAt place n (Unwind.Block m) }) ≡ true) →
+      (blocks : List Block) → ((n : ℕ) (block : Block) → slice_get blocks n ≡ Some block → laid.DropsWell t block.term) → list_all q blocks ≡ true
   all_drops q goto_ if_ case_ math_ negate_ bounds_ call_ virtual_ ask_ panic_ return_ resume_ whole refilled blocks h = all_blocks q blocks (λ n block e. by_term block block.term (h n block e))
     where
-      by_term : (b : Block) (term : Term) → rules.DropsWell t term → q (record b { term = term }) ≡ true
+      by_term : (b : Block) (term : Term) → laid.DropsWell t term → q (record b { term = term }) ≡ true
       by_term b (Term.Goto n) h = goto_ b n
       by_term b (Term.If on y n) h = if_ b on y n
       by_term b (Term.Case on variant y n) h = case_ b on variant y n
@@ -431,7 +432,7 @@ module _ (items : ItemTable) (tree : BodyTree) (named : NamesItsLoops tree) wher
   begins : begins_once (body_of items tree) ≡ true
   begins = blocks_begin_once (body_of items tree).blocks (λ n block e. (block_well n block e).0)
 
-  refilled_by : (place : Place) (next : ℕ) (unwind : Unwind) → rules.DropsWell t (Term.DropAt place next unwind) →
+  refilled_by : (place : Place) (next : ℕ) (unwind : Unwind) → laid.DropsWell t (Term.DropAt place next unwind) →
       (place.steps ≡ []) ⊎ IsRefilledIn (body_of items tree) place next
   refilled_by place next (Unwind.Block m) (inl h) = inl h
   refilled_by place next (Unwind.Block m) (inr h) =
@@ -450,7 +451,7 @@ module _ (items : ItemTable) (tree : BodyTree) (named : NamesItsLoops tree) wher
       Some block → block.term ≡ Term.DropAt place next unwind → (place.steps ≡ []) ⊎ IsRefilledIn (body_of items tree)
       place next
   refilled_at n next block place unwind e is =
-      refilled_by place next unwind (subst (rules.DropsWell t) is (ends_drop (is_cleanup block) block.term (block_tidy n
+      refilled_by place next unwind (subst (laid.DropsWell t) is (ends_drop (is_cleanup block) block.term (block_tidy n
       block e).0))
 
   holds : HoldsBody items tree (body_of items tree) (node_of items tree)

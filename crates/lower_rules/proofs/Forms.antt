@@ -26,9 +26,12 @@ use Rattle.lower_rules.specs.Build as build
 use Rattle.lower_rules.specs.Build.{LoweringFrame, BlockRest, Building, ending, closed, closing, way_of, jumps_if, Lowers, change, nothing, from_changed, back_in, then_lower, joined, branches, looped, outer, act, drop_one, leave, in_scope, jump, panics, if_true, tests}
 use Rattle.lower_rules.specs.Lower as lower
 use Rattle.lower_rules.specs.Lower.{Evaluates, Reaches, LowersArm, NodeLower, LowerIfAny, no_lower, a_lower}
-use Rattle.lower_rules.proofs.Rules as built
+use Rattle.lower_rules.proofs.LaidBlocks as laid
+use Rattle.lower_rules.proofs.LaidEffects as effect_rules
+use Rattle.lower_rules.proofs.LaidScopes as scope_rules
+use Rattle.lower_rules.proofs.LaidBranches as branch_rules
 use Rattle.lower_rules.proofs.Scopes.{if_taken_after, is_local}
-use Rattle.lower_rules.proofs.Rules.{Grows, grows_not, grows_on, closed_grows, closed_length, closed_ranked, Given, given_more, AllGiven, Ranked, LeadsOn, JumpWays, IsUsed, BlockGiven, ways_more, ways_first, ways_second}
+use Rattle.lower_rules.proofs.LaidBlocks.{Grows, grows_not, grows_on, closed_grows, closed_length, closed_ranked, Given, given_more, AllGiven, Ranked, LeadsOn, JumpWays, IsUsed, BlockGiven, ways_more, ways_first, ways_second}
 
 -- ---- the names of a pattern stand at their own nodes
 abbrev pub AllNamed : List BoundName → Type 0
@@ -112,21 +115,21 @@ module _ (items : ItemTable) where
 
 module _ (t : CodeTarget) where
   abbrev f : LoweringFrame
-  f = built.f t
+  f = laid.f t
 
   abbrev L : Lowers → (Ways → CodeSpot) → Type 0
-  L P sp = built.Lowered t P sp
+  L P sp = laid.Lowered t P sp
 
   -- what is built for an arm, given the block for what is done where it is not taken
   pub record LoweredArm (a : LowersArm) (spot : CodePos → Ways → CodeSpot) : Type 0 where
     pub grows : (c : Ways) (S : Scopes) (r : ℕ) (k : BlockRest) (s : Building) → Grows s (a.build c S r k s).1
-    pub holds : (c : Ways) (S : Scopes) (r : ℕ) (k : BlockRest) (s : Building) → JumpWays IsUsed c a.jumps → built.Later t (a.build c S r k s).1 → built.ChainsStand t s → StepAt t r →
-        built.ChainsStand t (a.build c S r k s).1 × ((b : CodePos) → built.Stands t (a.build c S r k s).0 b → (S' : Scopes) (b' : CodePos) →
-        (a.has_end ≡ true → (S' ≡ S) × ((m : CodePos) → built.Stands t k m → Leads t m b')) → spot (r, 0) c S b S' b')
+    pub holds : (c : Ways) (S : Scopes) (r : ℕ) (k : BlockRest) (s : Building) → JumpWays IsUsed c a.jumps → laid.Later t (a.build c S r k s).1 → laid.ChainsStand t s → StepAt t r →
+        laid.ChainsStand t (a.build c S r k s).1 × ((b : CodePos) → laid.Stands t (a.build c S r k s).0 b → (S' : Scopes) (b' : CodePos) →
+        (a.has_end ≡ true → (S' ≡ S) × ((m : CodePos) → laid.Stands t k m → Leads t m b')) → spot (r, 0) c S b S' b')
     pub ranks : (c : Ways) (S : Scopes) (r : ℕ) (k : BlockRest) (s : Building) → JumpWays (BlockGiven (length s.blocks)) c a.jumps → Ranked s → LeadsOn k s → Given (length s.blocks) r →
         Ranked (a.build c S r k s).1 × LeadsOn (a.build c S r k s).0 (a.build c S r k s).1
-    pub tidies : (c : Ways) (S : Scopes) (r : ℕ) (k : BlockRest) (s : Building) → JumpWays (built.PlainWay t) c a.jumps → built.Later t (a.build c S r k s).1 → built.Tidy t s → built.RestWell t k →
-        built.KindAt t false r → built.TidyAfter t (a.build c S r k s)
+    pub tidies : (c : Ways) (S : Scopes) (r : ℕ) (k : BlockRest) (s : Building) → JumpWays (laid.PlainWay t) c a.jumps → laid.Later t (a.build c S r k s).1 → laid.Tidy t s → laid.RestWell t k →
+        laid.KindAt t false r → laid.TidyAfter t (a.build c S r k s)
 
   abbrev pub LowersE : Evaluates → EvaluatesAt → Type 0
   LowersE e P = (around : LoopsAndGuards) (own : Bool) (to : Destination) → L (e around own to) (λ c. P around c own to)
@@ -156,15 +159,15 @@ module _ (t : CodeTarget) where
   -- ---- values and destinations
   -- all sites of what is delivered have the number of one node
   abbrev OneNode : ℕ → NodeHead → (EffectSite → Action) → Type 0
-  OneNode n h action = (key : ℕ) → built.ActionOf t n (action (site_in h.id key))
+  OneNode n h action = (key : ℕ) → effect_rules.ActionOf t n (action (site_in h.id key))
 
   deliver_at_lowers : (n : ℕ) (h : NodeHead) (action : EffectSite → Action) → OneNode n h action → (to : Destination) → L (lower.deliver_at f n h action to) (λ c. Delivers t h action to)
-  deliver_at_lowers n h action one (Into key) = into_key (built.act_lowered t n (action (site_in h.id key)) (one key))
+  deliver_at_lowers n h action one (Into key) = into_key (effect_rules.act_lowered t n (action (site_in h.id key)) (one key))
     where
       into_key : L (act f n (action (site_in h.id key))) (λ c. Acts t (action (site_in h.id key))) → L (lower.deliver_at f n h action (Into key)) (λ c. Delivers t h action (Into key))
       into_key l = record { grows = l.grows; holds = λ c S k s. l.holds c S k s; ranks = l.ranks; tidies = l.tidies }
   deliver_at_lowers n h action one (Coerced key trait_no to) = coerced_key
-      (built.then_lowered t _ _ _ _ (built.act_lowered t n (action (site_in h.id key)) (one key)) (built.act_lowered t h.id (effects.Unsize (site_in h.id to) trait_no (moved h.id key)) (refl, refl)))
+      (effect_rules.then_lowered t _ _ _ _ (effect_rules.act_lowered t n (action (site_in h.id key)) (one key)) (effect_rules.act_lowered t h.id (effects.Unsize (site_in h.id to) trait_no (moved h.id key)) (refl, refl)))
     where
       coerced_key : L (lower.deliver_at f n h action (Coerced key trait_no to)) (λ c. Then (Acts t (action (site_in h.id key))) (Acts t (effects.Unsize (site_in h.id to) trait_no (moved h.id key)))) →
           L (lower.deliver_at f n h action (Coerced key trait_no to)) (λ c. Delivers t h action (Coerced key trait_no to))
@@ -174,37 +177,37 @@ module _ (t : CodeTarget) where
   deliver_lowers h action one to = deliver_at_lowers h.id h action one to
 
   own_lowers : (h : NodeHead) (own : Bool) (P : Lowers) (sp : Ways → CodeSpot) → L P sp → L (lower.in_own_scope f h own P) (λ c. InOwnScope t h own (sp c))
-  own_lowers h true P sp l = built.in_scope_lowered t h.id true P sp l
+  own_lowers h true P sp l = scope_rules.in_scope_lowered t h.id true P sp l
   own_lowers h false P sp l = l
 
   operand_lowers : (around : LoopsAndGuards) (m : NodeLower) (d : NodeCode) → LowersAs m d → L (lower.operand f around m) (λ c. OperandAt t around c d)
   operand_lowers around _ _ (lowers_as h s e r a P Q A sn se sr sa) =
-      built.changed_lowered t _ _ _ (built.then_lowered t _ _ _ _ (se around false (Into h.id)) (built.change_lowered t _))
+      effect_rules.changed_lowered t _ _ _ (effect_rules.then_lowered t _ _ _ _ (se around false (Into h.id)) (effect_rules.change_lowered t _))
 
   operands_lower : (around : LoopsAndGuards) (ms : List NodeLower) (ds : List NodeCode) → AllLower ms ds → L (lower.operands f around ms) (λ c. OperandsAt t around c ds)
-  operands_lower around _ _ none_lower = built.nothing_lowered t
-  operands_lower around _ _ (one_lowers m d ms ds one all) = built.then_lowered t _ _ _ _ (operand_lowers around m d one) (operands_lower around ms ds all)
+  operands_lower around _ _ none_lower = effect_rules.nothing_lowered t
+  operands_lower around _ _ (one_lowers m d ms ds one all) = effect_rules.then_lowered t _ _ _ _ (operand_lowers around m d one) (operands_lower around ms ds all)
 
   acting_lowers : (h : NodeHead) (around : LoopsAndGuards) (own : Bool) (ms : List NodeLower) (ds : List NodeCode) → AllLower ms ds → (P : Lowers) (sp : Ways → CodeSpot) → L P sp →
       L (lower.acting f h around own ms P) (λ c. ActingAt t h around c own ds (sp c))
   acting_lowers h around own ms ds all P sp l =
       subst (λ keys. L (lower.acting f h around own ms P) (λ c. InScope t h.id own (Then (OperandsAt t around c ds) (After (taken t keys) (sp c))))) (same_keys ms ds all)
-      (built.in_scope_lowered t h.id own _ _ (built.then_lowered t _ _ _ _ (operands_lower around ms ds all) (built.changed_lowered t (taken t (lower.keys_of ms)) P sp l)))
+      (scope_rules.in_scope_lowered t h.id own _ _ (effect_rules.then_lowered t _ _ _ _ (operands_lower around ms ds all) (effect_rules.changed_lowered t (taken t (lower.keys_of ms)) P sp l)))
 
   dropping_lowers : (h : NodeHead) (around : LoopsAndGuards) (own : Bool) (m : NodeLower) (d : NodeCode) → LowersAs m d → (P : Lowers) (sp : Ways → CodeSpot) → L P sp →
       L (lower.dropping f h around own m P) (λ c. DroppingAt t h around c own d (sp c))
-  dropping_lowers h around own m d one P sp l = built.in_scope_lowered t h.id own _ _ (built.then_lowered t _ _ _ _ (operand_lowers around m d one) l)
+  dropping_lowers h around own m d one P sp l = scope_rules.in_scope_lowered t h.id own _ _ (effect_rules.then_lowered t _ _ _ _ (operand_lowers around m d one) l)
 
   temporary_lowers : (h : NodeHead) (s : Shape) (e : Evaluates) (P : EvaluatesAt) → LowersE e P → LowersR (lower.temporary f h s e) (TemporaryAt t h s P)
-  temporary_lowers h s e P l around = built.changed_lowered t _ _ _ (built.then_lowered t _ _ _ _ (l around false (Into h.id)) (built.change_lowered t _))
+  temporary_lowers h s e P l around = effect_rules.changed_lowered t _ _ _ (effect_rules.then_lowered t _ _ _ _ (l around false (Into h.id)) (effect_rules.change_lowered t _))
 
-  one_of : (x : Bool) (n : ℕ) (site : EffectSite) → site.node ≡ n → built.OperandOf t n (copied_or_moved x site)
+  one_of : (x : Bool) (n : ℕ) (site : EffectSite) → site.node ≡ n → effect_rules.OperandOf t n (copied_or_moved x site)
   one_of true n site e = e
   one_of false n site e = e
 
   use_lowers : (h : NodeHead) (s : Shape) (r : Reaches) (Q : ReachesAt) → LowersR r Q → LowersE (lower.use_of_place f h s r) (UseAt t h s Q)
   use_lowers h s r Q l around own to =
-      own_lowers h own _ _ (built.then_lowered t _ _ _ _ (l around)
+      own_lowers h own _ _ (effect_rules.then_lowered t _ _ _ _ (l around)
       (deliver_lowers h (λ site. effects.Put site (operand_at h (s.place around.aliases))) (λ key. (refl, one_of (moves h.by) h.id (site_at h (s.place around.aliases)) refl)) to))
 
   unit_lowers : (h : NodeHead) (to : Destination) → L (lower.put_unit f h to) (λ c. PutsUnit t h to)
@@ -212,22 +215,22 @@ module _ (t : CodeTarget) where
 
   assigning_lowers : (h : NodeHead) (place value : NodeLower) (dp dv : NodeCode) → LowersAs place dp → LowersAs value dv → LowersE (lower.assigning f h place value) (AssignAt t h dp dv)
   assigning_lowers h _ value _ dv (lowers_as ph ps pe pr pa pP pQ pA pn spe spr spa) lv around own to =
-      built.in_scope_lowered t h.id own _ _ (built.then_lowered t _ _ _ _ (operand_lowers around value dv lv)
-      (built.then_lowered t _ _ _ _ (spr around)
-      (built.then_lowered t _ _ _ _ (by_key lv) (unit_lowers h to))))
+      scope_rules.in_scope_lowered t h.id own _ _ (effect_rules.then_lowered t _ _ _ _ (operand_lowers around value dv lv)
+      (effect_rules.then_lowered t _ _ _ _ (spr around)
+      (effect_rules.then_lowered t _ _ _ _ (by_key lv) (unit_lowers h to))))
     where
       by_key : {m : NodeLower} {d : NodeCode} → LowersAs m d → L (build.replaces f (needs_drop t.items ph.ty) (site_at ph (ps.place around.aliases)) m.head.id)
           (λ c. ReplacesAt t (needs_drop t.items ph.ty) (site_at ph (ps.place around.aliases)) d.head.id)
-      by_key (lowers_as vh s e r a P Q A sn se sr sa) = built.replaces_lowered t (needs_drop t.items ph.ty) (site_at ph (ps.place around.aliases)) vh.id
+      by_key (lowers_as vh s e r a P Q A sn se sr sa) = branch_rules.replaces_lowered t (needs_drop t.items ph.ty) (site_at ph (ps.place around.aliases)) vh.id
 
   alone_lowers : (around : LoopsAndGuards) (m : NodeLower) (d : NodeCode) → LowersAs m d → (to : Destination) → L (lower.alone f around m to) (λ c. AloneAt t around c d to)
-  alone_lowers around _ _ (lowers_as h s e r a P Q A sn se sr sa) to = built.back_lowered t _ _ (se around true to)
+  alone_lowers around _ _ (lowers_as h s e r a P Q A sn se sr sa) to = effect_rules.back_lowered t _ _ (se around true to)
 
   condition_lowers : (around : LoopsAndGuards) (m : NodeLower) (d : NodeCode) → LowersAs m d → (P Q : Lowers) (sp sq : Ways → CodeSpot) → L P sp → L Q sq → ((S : Scopes) → P.after S ≡ Q.after S) →
       L (lower.condition f around m P Q) (λ c. ConditionAt t around c d (sp c) (sq c))
   condition_lowers around _ _ (lowers_as h s e r a Pe Qr A sn se sr sa) P Q sp sq lp lq same =
-      built.then_lowered t _ _ _ _ (built.back_lowered t _ _ (se around true (Into h.id)))
-      (built.branches_lowered t h.id (IfAt t (moved h.id h.id)) (if_true f (moved h.id h.id) h.id) (built.if_made t (moved h.id h.id) h.id refl) P Q sp sq lp lq same)
+      effect_rules.then_lowered t _ _ _ _ (effect_rules.back_lowered t _ _ (se around true (Into h.id)))
+      (branch_rules.branches_lowered t h.id (IfAt t (moved h.id h.id)) (if_true f (moved h.id h.id) h.id) (scope_rules.if_made t (moved h.id h.id) h.id refl) P Q sp sq lp lq same)
 
   act_after : (x : Bool) (n : ℕ) (by : build.Done) (S : Scopes) → (build.act_by f x n by).after S ≡ S
   act_after true n by S = refl
@@ -252,18 +255,18 @@ module _ (t : CodeTarget) where
 
   -- ---- patterns
   bind_lowers : (in_that : (Scope → Scope) → Scopes → Scopes) (bounds : List BoundName) → AllNamed bounds → L (lower.bind f in_that bounds) (λ c. BindsAt t in_that bounds)
-  bind_lowers in_that [] named = built.nothing_lowered t
+  bind_lowers in_that [] named = effect_rules.nothing_lowered t
   bind_lowers in_that (b ∷ bounds) named =
-      built.then_lowered t _ _ _ _ (built.act_lowered t b.key (effects.Put (site_of_key b.key) (operand_of_bound b)) (refl, one_of b.takes b.key b.site named.0))
-      (built.changed_lowered t (in_that (with_entry (bound_entry b))) _ _ (bind_lowers in_that bounds named.1))
+      effect_rules.then_lowered t _ _ _ _ (effect_rules.act_lowered t b.key (effects.Put (site_of_key b.key) (operand_of_bound b)) (refl, one_of b.takes b.key b.site named.0))
+      (effect_rules.changed_lowered t (in_that (with_entry (bound_entry b))) _ _ (bind_lowers in_that bounds named.1))
 
   touched_lowers : (x : Bool) (site : EffectSite) → L (lower.touched f x site) (λ c. TouchedAt t x site)
-  touched_lowers true site = built.act_lowered t site.node (effects.Touch site) refl
-  touched_lowers false site = built.nothing_lowered t
+  touched_lowers true site = effect_rules.act_lowered t site.node (effects.Touch site) refl
+  touched_lowers false site = effect_rules.nothing_lowered t
 
   scrutinised_lowers : (around : LoopsAndGuards) (m : NodeLower) (d : NodeCode) → LowersAs m d → L (lower.scrutinised f around m) (λ c. ScrutinisedAt t around c d)
   scrutinised_lowers around _ _ (lowers_as h s e r a P Q A sn se sr sa) =
-      built.then_lowered t _ _ _ _ (sr around) (touched_lowers s.is_place (site_at h (s.place around.aliases)))
+      effect_rules.then_lowered t _ _ _ _ (sr around) (touched_lowers s.is_place (site_at h (s.place around.aliases)))
 
   outer_innermost : (change : Scope → Scope) (S : Scopes) → outer f (innermost change S) ≡ outer f S
   outer_innermost change [] = refl
@@ -280,16 +283,16 @@ module _ (t : CodeTarget) where
       (P Q : Lowers) (sp sq : Ways → CodeSpot) → L P sp → L Q sq → ((S : Scopes) → P.after S ≡ S) → ((S : Scopes) → S ≡ Q.after S) →
       L (lower.if_taken f h around pattern scrutinee P Q) (λ c. IfTakenAt t h around c dp ds (sp c) (sq c))
   if_taken_lowers h around _ _ (lowers_as ph ps pe pr pa pP pQ pA pn spe spr spa) _ _ (lowers_as mh s e r a Pe Qr A sn se sr sa) P Q sp sq lp lq same same2 =
-      built.changed_lowered t (with_scope h.id true) _ _ (built.then_lowered t _ _ _ _ (scrutinised_lowers around _ _ (lowers_as mh s e r a Pe Qr A sn se sr sa))
-      (built.branches_lowered t h.id (TestsAt t (ps.tests (s.place around.aliases))) (tests f (ps.tests (s.place around.aliases))) (built.tests_made t (ps.tests (s.place around.aliases))) _ _ _ _
-      (built.then_lowered t _ _ _ _ (built.then_lowered t _ _ _ _ (bind_lowers innermost (ps.bindings (s.place around.aliases)) (pn (s.place around.aliases))) lp) (built.leave_lowered t))
-      (built.then_lowered t _ _ _ _ (built.leave_lowered t) lq)
+      effect_rules.changed_lowered t (with_scope h.id true) _ _ (effect_rules.then_lowered t _ _ _ _ (scrutinised_lowers around _ _ (lowers_as mh s e r a Pe Qr A sn se sr sa))
+      (branch_rules.branches_lowered t h.id (TestsAt t (ps.tests (s.place around.aliases))) (tests f (ps.tests (s.place around.aliases))) (scope_rules.tests_made t (ps.tests (s.place around.aliases))) _ _ _ _
+      (effect_rules.then_lowered t _ _ _ _ (effect_rules.then_lowered t _ _ _ _ (bind_lowers innermost (ps.bindings (s.place around.aliases)) (pn (s.place around.aliases))) lp) (scope_rules.leave_lowered t))
+      (effect_rules.then_lowered t _ _ _ _ (scope_rules.leave_lowered t) lq)
       (λ S. ap (outer f) (same _) ∙ bind_outer (ps.bindings (s.place around.aliases)) S ∙ same2 (outer f S))))
 
   taken_lowers : (h : NodeHead) (around : LoopsAndGuards) (bounds : List BoundName) → AllNamed bounds → (m : NodeLower) (d : NodeCode) → LowersAs m d → (to : Destination) →
       L (lower.taken_arm f h around bounds m to) (λ c. TakenArmAt t h around c bounds d to)
   taken_lowers h around bounds named m d one to =
-      built.in_scope_lowered t h.id false _ _ (built.then_lowered t _ _ _ _ (bind_lowers innermost bounds named) (alone_lowers around m d one to))
+      scope_rules.in_scope_lowered t h.id false _ _ (effect_rules.then_lowered t _ _ _ _ (bind_lowers innermost bounds named) (alone_lowers around m d one to))
 
   taken_after : (h : NodeHead) (around : LoopsAndGuards) (bounds : List BoundName) (m : NodeLower) (to : Destination) (S : Scopes) → (lower.taken_arm f h around bounds m to).after S ≡ S
   taken_after h around bounds m to S = bind_outer bounds (with_scope h.id false S)
@@ -309,7 +312,7 @@ module _ (t : CodeTarget) where
       grows = λ c S r k s. lp.grows c S k s;
       holds = λ c S r k s u later chains step.
           let it = lp.holds c S k s u later chains in
-          (it.0, λ b st S' b' on. built.may_join t P.has_end P sp c S S k b (it.1 b st) (same S) S' b' on);
+          (it.0, λ b st S' b' on. branch_rules.may_join t P.has_end P sp c S S k b (it.1 b st) (same S) S' b' on);
       ranks = λ c S r k s w h l g. lp.ranks c S k s w h l;
       tidies = λ c S r k s w later h l g. lp.tidies c S k s w later h l;
     }
@@ -337,8 +340,8 @@ module _ (t : CodeTarget) where
       abbrev guard_spot : CodePos → Ways → CodeSpot
       guard_spot rest c = Then (BackIn (sa c)) (IfTakenElse t (moved key key) (Joins t (sp c)) rest)
 
-      guard_ends : (x : Bool) (c : Ways) (S : Scopes) (k1 : BlockRest) (b rest : CodePos) → built.CodeEnds t x asked (λ c. BackIn (sa c)) c S k1 b → (S' : Scopes) (b' : CodePos) →
-          (x ≡ true → (m : CodePos) → built.Stands t k1 m → IfTakenElse t (moved key key) (Joins t (sp c)) rest S m S' b') → guard_spot rest c S b S' b'
+      guard_ends : (x : Bool) (c : Ways) (S : Scopes) (k1 : BlockRest) (b rest : CodePos) → laid.CodeEnds t x asked (λ c. BackIn (sa c)) c S k1 b → (S' : Scopes) (b' : CodePos) →
+          (x ≡ true → (m : CodePos) → laid.Stands t k1 m → IfTakenElse t (moved key key) (Joins t (sp c)) rest S m S' b') → guard_spot rest c S b S' b'
       guard_ends true c S k1 b rest h S' b' on =
           inr (asked.after S, h.0, h.2, subst (λ z. IfTakenElse t (moved key key) (Joins t (sp c)) rest z h.0 S' b') (sym (back S)) (on refl h.0 h.1))
       guard_ends false c S k1 b rest h S' b' on = inl h
@@ -348,21 +351,21 @@ module _ (t : CodeTarget) where
       and_true false z e d = e
 
       guard_holds : (x : Bool) (c : Ways) (S : Scopes) (r : ℕ) →
-          ((k : BlockRest) (s : Building) → built.Later t (asked.build c S k s).1 → built.ChainsStand t s → built.CodeStands t x asked (λ c. BackIn (sa c)) c S k (asked.build c S k s)) →
-          JumpWays IsUsed c (jumps_if x P.jumps) → (k : BlockRest) (s : Building) → built.Later t (guard_code x c S r k s).1 → built.ChainsStand t s → StepAt t r →
-          built.ChainsStand t (guard_code x c S r k s).1 × ((b : CodePos) → built.Stands t (guard_code x c S r k s).0 b → (S' : Scopes) (b' : CodePos) →
-          (x && P.has_end ≡ true → (S' ≡ S) × ((m : CodePos) → built.Stands t k m → Leads t m b')) → guard_spot (r, 0) c S b S' b')
+          ((k : BlockRest) (s : Building) → laid.Later t (asked.build c S k s).1 → laid.ChainsStand t s → laid.CodeStands t x asked (λ c. BackIn (sa c)) c S k (asked.build c S k s)) →
+          JumpWays IsUsed c (jumps_if x P.jumps) → (k : BlockRest) (s : Building) → laid.Later t (guard_code x c S r k s).1 → laid.ChainsStand t s → StepAt t r →
+          laid.ChainsStand t (guard_code x c S r k s).1 × ((b : CodePos) → laid.Stands t (guard_code x c S r k s).0 b → (S' : Scopes) (b' : CodePos) →
+          (x && P.has_end ≡ true → (S' ≡ S) × ((m : CodePos) → laid.Stands t k m → Leads t m b')) → guard_spot (r, 0) c S b S' b')
       guard_holds true c S r ha u k s later chains step =
-          let l1 = built.later_before t (done c S k s) _ (la.grows c S (test_code c S r k s).0 (done c S k s)) later in
-          let l0 = built.later_before t (P.build c S k s).1 (done c S k s) (closed_grows Kind.Plain (P.build c S k s).0 (P.build c S k s).1) l1 in
+          let l1 = laid.later_before t (done c S k s) _ (la.grows c S (test_code c S r k s).0 (done c S k s)) later in
+          let l0 = laid.later_before t (P.build c S k s).1 (done c S k s) (closed_grows Kind.Plain (P.build c S k s).0 (P.build c S k s).1) l1 in
           let p = lp.holds c S k s u l0 chains in
-          let test = built.if_made t (moved key key) key refl (done_at c S k s) r (done c S k s) in
-          let tested = test.1 p.0 l1 (built.plain_stands t (P.build c S k s).0 (P.build c S k s).1 l1) step in
+          let test = scope_rules.if_made t (moved key key) key refl (done_at c S k s) r (done c S k s) in
+          let tested = test.1 p.0 l1 (laid.plain_stands t (P.build c S k s).0 (P.build c S k s).1 l1) step in
           let g = ha (test_code c S r k s).0 (done c S k s) later tested.0 in
-          let p_ends = p.1 (done_at c S k s, 0) (built.closed_stands t Kind.Plain (P.build c S k s).0 (P.build c S k s).1 l1) in (
+          let p_ends = p.1 (done_at c S k s, 0) (laid.closed_stands t Kind.Plain (P.build c S k s).0 (P.build c S k s).1 l1) in (
             g.0,
             λ b st S' b' on. guard_ends true c S (test_code c S r k s).0 b (r, 0) (g.1 b st) S' b'
-                (λ e m sm. ((done_at c S k s, 0), tested.1 m sm, built.may_join t P.has_end P sp c S S k (done_at c S k s, 0) p_ends (same S) S' b' on)),
+                (λ e m sm. ((done_at c S k s, 0), tested.1 m sm, branch_rules.may_join t P.has_end P sp c S S k (done_at c S k s, 0) p_ends (same S) S' b' on)),
           )
       guard_holds false c S r ha u k s later chains step =
           let g = ha k s later chains in
@@ -379,14 +382,14 @@ module _ (t : CodeTarget) where
           ((g.0, (let g1 = g.1 in let a = more.longer in omega arith)), ((p.0.begun, omega arith), tt))
       guard_ranks false c S r k s wa wp h l g = la.ranks c S k s wa h l
 
-      guard_tidies : (x : Bool) (c : Ways) (S : Scopes) (r : ℕ) (k : BlockRest) (s : Building) → JumpWays (built.PlainWay t) c asked.jumps → JumpWays (built.PlainWay t) c (jumps_if x P.jumps) →
-          built.Later t (guard_code x c S r k s).1 → built.Tidy t s → built.RestWell t k → built.KindAt t false r → built.TidyAfter t (guard_code x c S r k s)
+      guard_tidies : (x : Bool) (c : Ways) (S : Scopes) (r : ℕ) (k : BlockRest) (s : Building) → JumpWays (laid.PlainWay t) c asked.jumps → JumpWays (laid.PlainWay t) c (jumps_if x P.jumps) →
+          laid.Later t (guard_code x c S r k s).1 → laid.Tidy t s → laid.RestWell t k → laid.KindAt t false r → laid.TidyAfter t (guard_code x c S r k s)
       guard_tidies true c S r k s wa wp later h l g =
-          let l1 = built.later_before t (done c S k s) _ (la.grows c S (test_code c S r k s).0 (done c S k s)) later in
-          let l0 = built.later_before t (P.build c S k s).1 (done c S k s) (closed_grows Kind.Plain (P.build c S k s).0 (P.build c S k s).1) l1 in
+          let l1 = laid.later_before t (done c S k s) _ (la.grows c S (test_code c S r k s).0 (done c S k s)) later in
+          let l0 = laid.later_before t (P.build c S k s).1 (done c S k s) (closed_grows Kind.Plain (P.build c S k s).0 (P.build c S k s).1) l1 in
           let p = lp.tidies c S k s wp l0 h l in
-          la.tidies c S (test_code c S r k s).0 (done c S k s) wa later (built.closed_tidy t Kind.Plain (P.build c S k s).0 (P.build c S k s).1 p.0 p.1)
-          (((g, (built.kind_stands t Kind.Plain (P.build c S k s).0 (P.build c S k s).1 l1, tt)), tt, refl, tt), tt)
+          la.tidies c S (test_code c S r k s).0 (done c S k s) wa later (laid.closed_tidy t Kind.Plain (P.build c S k s).0 (P.build c S k s).1 p.0 p.1)
+          (((g, (laid.kind_stands t Kind.Plain (P.build c S k s).0 (P.build c S k s).1 l1, tt)), tt, refl, tt), tt)
       guard_tidies false c S r k s wa wp later h l g = la.tidies c S k s wa later h l
 
     guarded_lowers : (around : LoopsAndGuards) (bounds : List BoundName) (g : LowerIfAny) (d : CodeIfAny) → IfAnyLowers g d →
@@ -394,7 +397,7 @@ module _ (t : CodeTarget) where
     guarded_lowers around bounds _ _ without = unguarded around bounds
     guarded_lowers around bounds _ _ (with_one _ _ (lowers_as h s e r a Pe Qr A sn se sr sa)) =
         let asked = back_in (e (in_guard bounds around) true (Into h.id)) in
-        let la = built.back_lowered t _ _ (se (in_guard bounds around) true (Into h.id)) in
+        let la = effect_rules.back_lowered t _ _ (se (in_guard bounds around) true (Into h.id)) in
         record {
           grows = λ c S r k s. guard_grows asked (λ c. Pe (in_guard bounds around) c true (Into h.id)) h.id la (λ S. refl) asked.has_end c S r k s;
           holds = λ c S r k s u later chains step.
@@ -407,8 +410,8 @@ module _ (t : CodeTarget) where
               (ways_second (BlockGiven (length s.blocks)) c asked.jumps (jumps_if asked.has_end P.jumps) w) h2 l g;
           tidies = λ c S r k s w later h2 l g.
               guard_tidies asked (λ c. Pe (in_guard bounds around) c true (Into h.id)) h.id la (λ S. refl) asked.has_end c S r k s
-              (ways_first (built.PlainWay t) c asked.jumps (jumps_if asked.has_end P.jumps) w)
-              (ways_second (built.PlainWay t) c asked.jumps (jumps_if asked.has_end P.jumps) w) later h2 l g;
+              (ways_first (laid.PlainWay t) c asked.jumps (jumps_if asked.has_end P.jumps) w)
+              (ways_second (laid.PlainWay t) c asked.jumps (jumps_if asked.has_end P.jumps) w) later h2 l g;
         }
 
   arm_lowers : (h : NodeHead) (pattern : NodeLower) (dp : NodeCode) → LowersAs pattern dp → (g : LowerIfAny) (dg : CodeIfAny) → IfAnyLowers g dg → (m : NodeLower) (d : NodeCode) → LowersAs m d →
@@ -417,30 +420,30 @@ module _ (t : CodeTarget) where
     grows = λ c S r k s.
         let b = code_of.build c S r k s in
         grows_on s b.1 _ (code_lowered.grows c S r k s) (grows_on b.1 (closed Kind.Plain b.0 b.1) _ (closed_grows Kind.Plain b.0 b.1)
-        (built.tests_made t (ps.tests matched) (length b.1.blocks) r (closed Kind.Plain b.0 b.1)).0);
+        (scope_rules.tests_made t (ps.tests matched) (length b.1.blocks) r (closed Kind.Plain b.0 b.1)).0);
     holds = λ c S r k s u later chains step.
         let b = code_of.build c S r k s in
         let made = closed Kind.Plain b.0 b.1 in
-        let test = built.tests_made t (ps.tests matched) (length b.1.blocks) r made in
-        let l1 = built.later_before t made _ test.0 later in
-        let l0 = built.later_before t b.1 made (closed_grows Kind.Plain b.0 b.1) l1 in
+        let test = scope_rules.tests_made t (ps.tests matched) (length b.1.blocks) r made in
+        let l1 = laid.later_before t made _ test.0 later in
+        let l0 = laid.later_before t b.1 made (closed_grows Kind.Plain b.0 b.1) l1 in
         let it = code_lowered.holds c S r k s u l0 chains step in
-        let tested = test.1 it.0 later (built.plain_stands t b.0 b.1 l1) step in
-        (tested.0, λ at st S' b' on. ((length b.1.blocks, 0), tested.1 at st, it.1 (length b.1.blocks, 0) (built.closed_stands t Kind.Plain b.0 b.1 l1) S' b' on));
+        let tested = test.1 it.0 later (laid.plain_stands t b.0 b.1 l1) step in
+        (tested.0, λ at st S' b' on. ((length b.1.blocks, 0), tested.1 at st, it.1 (length b.1.blocks, 0) (laid.closed_stands t Kind.Plain b.0 b.1 l1) S' b' on));
     ranks = λ c S r k s w h2 l g.
         let b = code_of.build c S r k s in
         let it = code_lowered.ranks c S r k s w h2 l g in
         let j = closed_length Kind.Plain b.0 b.1 in
-        (built.tests_made t (ps.tests matched) (length b.1.blocks) r (closed Kind.Plain b.0 b.1)).2 (closed_ranked Kind.Plain b.0 b.1 it.0 it.1) (it.0.begun, omega arith)
-        (built.given_on t (length s.blocks) (length (closed Kind.Plain b.0 b.1).blocks) r (let a = (code_lowered.grows c S r k s).longer in omega arith) g);
+        (scope_rules.tests_made t (ps.tests matched) (length b.1.blocks) r (closed Kind.Plain b.0 b.1)).2 (closed_ranked Kind.Plain b.0 b.1 it.0 it.1) (it.0.begun, omega arith)
+        (scope_rules.given_on t (length s.blocks) (length (closed Kind.Plain b.0 b.1).blocks) r (let a = (code_lowered.grows c S r k s).longer in omega arith) g);
     tidies = λ c S r k s w later h2 l g.
         let b = code_of.build c S r k s in
         let made = closed Kind.Plain b.0 b.1 in
-        let test = built.tests_made t (ps.tests matched) (length b.1.blocks) r made in
-        let l1 = built.later_before t made _ test.0 later in
-        let l0 = built.later_before t b.1 made (closed_grows Kind.Plain b.0 b.1) l1 in
+        let test = scope_rules.tests_made t (ps.tests matched) (length b.1.blocks) r made in
+        let l1 = laid.later_before t made _ test.0 later in
+        let l0 = laid.later_before t b.1 made (closed_grows Kind.Plain b.0 b.1) l1 in
         let it = code_lowered.tidies c S r k s w l0 h2 l g in
-        test.3 later (built.closed_tidy t Kind.Plain b.0 b.1 it.0 it.1) (built.kind_stands t Kind.Plain b.0 b.1 l1) g;
+        test.3 later (laid.closed_tidy t Kind.Plain b.0 b.1 it.0 it.1) (laid.kind_stands t Kind.Plain b.0 b.1 l1) g;
   }
     where
       bounds : List BoundName
@@ -456,39 +459,39 @@ module _ (t : CodeTarget) where
   -- the last arm first: behind it a panic
   module _ (number : ℕ) (matched : Place) (around : LoopsAndGuards) (to : Destination) where
     arms_grow : (ms : List NodeLower) (ds : List NodeCode) → AllLower ms ds → (c : Ways) (S : Scopes) (k : BlockRest) (s : Building) → Grows s (lower.arms_from f number ms matched around to c S k s).1
-    arms_grow _ _ none_lower c S k s = built.unwind_grows t (panic_drops t S) s
+    arms_grow _ _ none_lower c S k s = effect_rules.unwind_grows t (panic_drops t S) s
     arms_grow _ _ (one_lowers _ _ ms ds (lowers_as h sh e r a P Q A sn se sr sa) all) c S k s =
         let b = lower.arms_from f number ms matched around to c S k s in
         grows_on s b.1 _ (arms_grow ms ds all c S k s) (grows_on b.1 (closed Kind.Plain b.0 b.1) _ (closed_grows Kind.Plain b.0 b.1)
         ((sa matched around to).grows c S (length b.1.blocks) k (closed Kind.Plain b.0 b.1)))
 
     arms_hold : (ms : List NodeLower) (ds : List NodeCode) → AllLower ms ds → (c : Ways) (S : Scopes) (k : BlockRest) (s : Building) → JumpWays IsUsed c (lower.arm_jumps f ms matched around to) →
-        built.Later t (lower.arms_from f number ms matched around to c S k s).1 → built.ChainsStand t s →
-        built.ChainsStand t (lower.arms_from f number ms matched around to c S k s).1 × ((b : CodePos) → built.Stands t (lower.arms_from f number ms matched around to c S k s).0 b → (S' : Scopes) (b' : CodePos) →
-        (lower.arms_end f ms matched around to ≡ true → (S' ≡ S) × ((m : CodePos) → built.Stands t k m → Leads t m b')) → ArmsInOrderAt t ds matched around c to S b S' b')
+        laid.Later t (lower.arms_from f number ms matched around to c S k s).1 → laid.ChainsStand t s →
+        laid.ChainsStand t (lower.arms_from f number ms matched around to c S k s).1 × ((b : CodePos) → laid.Stands t (lower.arms_from f number ms matched around to c S k s).0 b → (S' : Scopes) (b' : CodePos) →
+        (lower.arms_end f ms matched around to ≡ true → (S' ≡ S) × ((m : CodePos) → laid.Stands t k m → Leads t m b')) → ArmsInOrderAt t ds matched around c to S b S' b')
     arms_hold _ _ none_lower c S k s u later chains =
-        let made = built.unwind_made t (panic_drops t S) s chains later in
-        (made.0, λ b st S' b' on. ((build.unwind_to f (panic_drops t S) s).0, built.ends_with t _ number b st, made.1))
+        let made = effect_rules.unwind_made t (panic_drops t S) s chains later in
+        (made.0, λ b st S' b' on. ((build.unwind_to f (panic_drops t S) s).0, laid.ends_with t _ number b st, made.1))
     arms_hold _ _ (one_lowers _ _ ms ds (lowers_as h sh e r a P Q A sn se sr sa) all) c S k s u later chains =
         let b = lower.arms_from f number ms matched around to c S k s in
         let made = closed Kind.Plain b.0 b.1 in
         let arm = sa matched around to in
-        let l1 = built.later_before t made _ (arm.grows c S (length b.1.blocks) k made) later in
-        let l0 = built.later_before t b.1 made (closed_grows Kind.Plain b.0 b.1) l1 in
+        let l1 = laid.later_before t made _ (arm.grows c S (length b.1.blocks) k made) later in
+        let l0 = laid.later_before t b.1 made (closed_grows Kind.Plain b.0 b.1) l1 in
         let rest = arms_hold ms ds all c S k s (ways_second IsUsed c (a matched around to).jumps (lower.arm_jumps f ms matched around to) u) l0 chains in
-        let it = arm.holds c S (length b.1.blocks) k made (ways_first IsUsed c (a matched around to).jumps (lower.arm_jumps f ms matched around to) u) later rest.0 (built.plain_stands t b.0 b.1 l1) in (
+        let it = arm.holds c S (length b.1.blocks) k made (ways_first IsUsed c (a matched around to).jumps (lower.arm_jumps f ms matched around to) u) later rest.0 (laid.plain_stands t b.0 b.1 l1) in (
           it.0,
           λ at st S' b' on. (
             (length b.1.blocks, 0),
             it.1 at st S' b' (λ e. on (true_first (a matched around to).has_end (lower.arms_end f ms matched around to) e)),
-            rest.1 (length b.1.blocks, 0) (built.closed_stands t Kind.Plain b.0 b.1 l1) S' b' (λ e. on (true_second (a matched around to).has_end (lower.arms_end f ms matched around to) e)),
+            rest.1 (length b.1.blocks, 0) (laid.closed_stands t Kind.Plain b.0 b.1 l1) S' b' (λ e. on (true_second (a matched around to).has_end (lower.arms_end f ms matched around to) e)),
           ),
         )
 
     arms_rank : (ms : List NodeLower) (ds : List NodeCode) → AllLower ms ds → (c : Ways) (S : Scopes) (k : BlockRest) (s : Building) →
         JumpWays (BlockGiven (length s.blocks)) c (lower.arm_jumps f ms matched around to) → Ranked s → LeadsOn k s →
         Ranked (lower.arms_from f number ms matched around to c S k s).1 × LeadsOn (lower.arms_from f number ms matched around to c S k s).0 (lower.arms_from f number ms matched around to c S k s).1
-    arms_rank _ _ none_lower c S k s w h l = built.unwind_ranked t (panic_drops t S) s h
+    arms_rank _ _ none_lower c S k s w h l = effect_rules.unwind_ranked t (panic_drops t S) s h
     arms_rank _ _ (one_lowers _ _ ms ds (lowers_as hd sh e r a P Q A sn se sr sa) all) c S k s w h l =
         let b = lower.arms_from f number ms matched around to c S k s in
         let made = closed Kind.Plain b.0 b.1 in
@@ -500,59 +503,59 @@ module _ (t : CodeTarget) where
         (ways_first (BlockGiven (length s.blocks)) c (a matched around to).jumps (lower.arm_jumps f ms matched around to) w))
         (closed_ranked Kind.Plain b.0 b.1 rest.0 rest.1) (given_more (length s.blocks) (length made.blocks) (let i = g.longer in omega arith) (targets k.term) l) (rest.0.begun, omega arith)
 
-    arms_tidy : (ms : List NodeLower) (ds : List NodeCode) → AllLower ms ds → (c : Ways) (S : Scopes) (k : BlockRest) (s : Building) → JumpWays (built.PlainWay t) c (lower.arm_jumps f ms matched around to) →
-        built.Later t (lower.arms_from f number ms matched around to c S k s).1 → built.Tidy t s → built.RestWell t k → built.TidyAfter t (lower.arms_from f number ms matched around to c S k s)
-    arms_tidy _ _ none_lower c S k s w later h l = let u = built.unwind_tidy t (panic_drops t S) s h later in (u.0, ((tt, u.1, refl, tt), tt))
+    arms_tidy : (ms : List NodeLower) (ds : List NodeCode) → AllLower ms ds → (c : Ways) (S : Scopes) (k : BlockRest) (s : Building) → JumpWays (laid.PlainWay t) c (lower.arm_jumps f ms matched around to) →
+        laid.Later t (lower.arms_from f number ms matched around to c S k s).1 → laid.Tidy t s → laid.RestWell t k → laid.TidyAfter t (lower.arms_from f number ms matched around to c S k s)
+    arms_tidy _ _ none_lower c S k s w later h l = let u = effect_rules.unwind_tidy t (panic_drops t S) s h later in (u.0, ((tt, u.1, refl, tt), tt))
     arms_tidy _ _ (one_lowers _ _ ms ds (lowers_as hd sh e r a P Q A sn se sr sa) all) c S k s w later h l =
         let b = lower.arms_from f number ms matched around to c S k s in
         let made = closed Kind.Plain b.0 b.1 in
         let arm = sa matched around to in
-        let l1 = built.later_before t made _ (arm.grows c S (length b.1.blocks) k made) later in
-        let l0 = built.later_before t b.1 made (closed_grows Kind.Plain b.0 b.1) l1 in
-        let rest = arms_tidy ms ds all c S k s (ways_second (built.PlainWay t) c (a matched around to).jumps (lower.arm_jumps f ms matched around to) w) l0 h l in
-        arm.tidies c S (length b.1.blocks) k made (ways_first (built.PlainWay t) c (a matched around to).jumps (lower.arm_jumps f ms matched around to) w) later
-        (built.closed_tidy t Kind.Plain b.0 b.1 rest.0 rest.1) l (built.kind_stands t Kind.Plain b.0 b.1 l1)
+        let l1 = laid.later_before t made _ (arm.grows c S (length b.1.blocks) k made) later in
+        let l0 = laid.later_before t b.1 made (closed_grows Kind.Plain b.0 b.1) l1 in
+        let rest = arms_tidy ms ds all c S k s (ways_second (laid.PlainWay t) c (a matched around to).jumps (lower.arm_jumps f ms matched around to) w) l0 h l in
+        arm.tidies c S (length b.1.blocks) k made (ways_first (laid.PlainWay t) c (a matched around to).jumps (lower.arm_jumps f ms matched around to) w) later
+        (laid.closed_tidy t Kind.Plain b.0 b.1 rest.0 rest.1) l (laid.kind_stands t Kind.Plain b.0 b.1 l1)
 
     arms_lower : (ms : List NodeLower) (ds : List NodeCode) → AllLower ms ds → L (lower.arms_in_order f number ms matched around to) (λ c. ArmsInOrderAt t ds matched around c to)
     arms_lower ms ds all = record {
-      grows = λ c S k s. let j = joined x number k s in grows_on s j.1 _ (built.joined_grows t x number k s) (arms_grow ms ds all c S j.0 j.1);
+      grows = λ c S k s. let j = joined x number k s in grows_on s j.1 _ (branch_rules.joined_grows t x number k s) (arms_grow ms ds all c S j.0 j.1);
       holds = λ c S k s u later chains.
           let j = joined x number k s in
-          let l1 = built.later_before t j.1 _ (arms_grow ms ds all c S j.0 j.1) later in
-          let it = arms_hold ms ds all c S j.0 j.1 u later (built.joined_chains t x number k s chains) in
+          let l1 = laid.later_before t j.1 _ (arms_grow ms ds all c S j.0 j.1) later in
+          let it = arms_hold ms ds all c S j.0 j.1 u later (branch_rules.joined_chains t x number k s chains) in
           (it.0, λ b st. joined_ends x refl c S k s b l1 (it.1 b st));
       ranks = λ c S k s w h l.
           let j = joined x number k s in
-          let r = built.joined_ranked t x number k s h l in
-          arms_rank ms ds all c S j.0 j.1 (ways_more (length s.blocks) (length j.1.blocks) (built.joined_grows t x number k s).longer c (lower.arm_jumps f ms matched around to) w) r.0 r.1;
+          let r = branch_rules.joined_ranked t x number k s h l in
+          arms_rank ms ds all c S j.0 j.1 (ways_more (length s.blocks) (length j.1.blocks) (branch_rules.joined_grows t x number k s).longer c (lower.arm_jumps f ms matched around to) w) r.0 r.1;
       tidies = λ c S k s w later h l.
           let j = joined x number k s in
-          let r = built.joined_tidy t x number k s (built.later_before t j.1 _ (arms_grow ms ds all c S j.0 j.1) later) h l in
+          let r = branch_rules.joined_tidy t x number k s (laid.later_before t j.1 _ (arms_grow ms ds all c S j.0 j.1) later) h l in
           arms_tidy ms ds all c S j.0 j.1 w later r.0 r.1;
     }
       where
         x : Bool
         x = lower.arms_end f ms matched around to
 
-        joined_ends : (y : Bool) → x ≡ y → (c : Ways) (S : Scopes) (k : BlockRest) (s : Building) (b : CodePos) → built.Later t (joined y number k s).1 →
-            ((S' : Scopes) (b' : CodePos) → (x ≡ true → (S' ≡ S) × ((m : CodePos) → built.Stands t (joined y number k s).0 m → Leads t m b')) → ArmsInOrderAt t ds matched around c to S b S' b') →
-            built.CodeEnds t y (lower.arms_in_order f number ms matched around to) (λ c. ArmsInOrderAt t ds matched around c to) c S k b
+        joined_ends : (y : Bool) → x ≡ y → (c : Ways) (S : Scopes) (k : BlockRest) (s : Building) (b : CodePos) → laid.Later t (joined y number k s).1 →
+            ((S' : Scopes) (b' : CodePos) → (x ≡ true → (S' ≡ S) × ((m : CodePos) → laid.Stands t (joined y number k s).0 m → Leads t m b')) → ArmsInOrderAt t ds matched around c to S b S' b') →
+            laid.CodeEnds t y (lower.arms_in_order f number ms matched around to) (λ c. ArmsInOrderAt t ds matched around c to) c S k b
         joined_ends true e c S k s b later arms =
-            ((length s.blocks, 0), built.closed_stands t Kind.Plain k s later, arms S (length s.blocks, 0) (λ d. (refl, built.joined_on t number k s later)))
+            ((length s.blocks, 0), laid.closed_stands t Kind.Plain k s later, arms S (length s.blocks, 0) (λ d. (refl, branch_rules.joined_on t number k s later)))
         joined_ends false e c S k s b later arms = λ S' b'. arms S' b' (λ d. absurd (let never : false ≡ true = sym e ∙ d in cc))
 
   matching_lowers : (h : NodeHead) (m : NodeLower) (d : NodeCode) → LowersAs m d → (ms : List NodeLower) (ds : List NodeCode) → AllLower ms ds → LowersE (lower.matching f h m ms) (MatchAt t h d ds)
   matching_lowers h _ _ (lowers_as mh s e r a P Q A sn se sr sa) ms ds all around own to =
-      own_lowers h own _ _ (built.then_lowered t _ _ _ _ (scrutinised_lowers around _ _ (lowers_as mh s e r a P Q A sn se sr sa)) (arms_lower h.id (s.place around.aliases) around to ms ds all))
+      own_lowers h own _ _ (effect_rules.then_lowered t _ _ _ _ (scrutinised_lowers around _ _ (lowers_as mh s e r a P Q A sn se sr sa)) (arms_lower h.id (s.place around.aliases) around to ms ds all))
 
   -- ---- blocks and statements
   statements_lower : (around : LoopsAndGuards) (ms : List NodeLower) (ds : List NodeCode) → AllLower ms ds → L (lower.statements f around ms) (λ c. StatementsAt t around c ds)
-  statements_lower around _ _ none_lower = built.nothing_lowered t
+  statements_lower around _ _ none_lower = effect_rules.nothing_lowered t
   statements_lower around _ _ (one_lowers _ _ ms ds (lowers_as h s e r a P Q A sn se sr sa) all) =
-      built.then_lowered t _ _ _ _ (se around false (Into h.id)) (statements_lower around ms ds all)
+      effect_rules.then_lowered t _ _ _ _ (se around false (Into h.id)) (statements_lower around ms ds all)
 
   unit_if_lowers : (x : Bool) (h : NodeHead) (to : Destination) → L (lower.put_unit_if f x h to) (λ c. PutsUnitIf t x h to)
-  unit_if_lowers true h to = built.nothing_lowered t
+  unit_if_lowers true h to = effect_rules.nothing_lowered t
   unit_if_lowers false h to = unit_lowers h to
 
   tail_lowers : (h : NodeHead) (m : LowerIfAny) (d : CodeIfAny) → IfAnyLowers m d → (around : LoopsAndGuards) (to : Destination) → L (lower.tail_of f h m around to) (λ c. TailAt t h d around c to)
@@ -561,43 +564,43 @@ module _ (t : CodeTarget) where
 
   block_lowers : (h : NodeHead) (ms : List NodeLower) (ds : List NodeCode) → AllLower ms ds → (m : LowerIfAny) (d : CodeIfAny) → IfAnyLowers m d → LowersE (lower.block f h ms m) (BlockAt t h ds d)
   block_lowers h ms ds all m d l around own to =
-      built.in_scope_lowered t h.id own _ _ (built.then_lowered t _ _ _ _ (statements_lower around ms ds all) (tail_lowers h m d l around to))
+      scope_rules.in_scope_lowered t h.id own _ _ (effect_rules.then_lowered t _ _ _ _ (statements_lower around ms ds all) (tail_lowers h m d l around to))
 
   evaluating_lowers : (h : NodeHead) (m : NodeLower) (d : NodeCode) → LowersAs m d → LowersR (lower.evaluating f h m) (EvaluatingAt t h d)
   evaluating_lowers h _ _ (lowers_as mh s e r a P Q A sn se sr sa) around =
-      built.in_scope_lowered t h.id true _ _ (built.changed_lowered t _ _ _ (built.then_lowered t _ _ _ _ (se around false (Into mh.id)) (built.change_lowered t _)))
+      scope_rules.in_scope_lowered t h.id true _ _ (effect_rules.changed_lowered t _ _ _ (effect_rules.then_lowered t _ _ _ _ (se around false (Into mh.id)) (effect_rules.change_lowered t _)))
 
   let_name_lowers : (h x : NodeHead) (m : NodeLower) (d : NodeCode) → LowersAs m d → LowersR (lower.let_name f h x m) (LetNameAt t h x d)
   let_name_lowers h x _ _ (lowers_as mh s e r a P Q A sn se sr sa) around =
-      built.in_scope_lowered t h.id true _ _ (built.changed_lowered t _ _ _ (built.then_lowered t _ _ _ _ (se around false (Into x.id)) (built.change_lowered t (named t x))))
+      scope_rules.in_scope_lowered t h.id true _ _ (effect_rules.changed_lowered t _ _ _ (effect_rules.then_lowered t _ _ _ _ (se around false (Into x.id)) (effect_rules.change_lowered t (named t x))))
 
   let_parts_lowers : (h : NodeHead) (pattern : NodeLower) (dp : NodeCode) → LowersAs pattern dp → (m : NodeLower) (d : NodeCode) → LowersAs m d → LowersR (lower.let_parts f h pattern m) (LetPartsAt t h dp d)
   let_parts_lowers h _ _ (lowers_as ph ps pe pr pa pP pQ pA pn spe spr spa) _ _ (lowers_as mh s e r a P Q A sn se sr sa) around =
-      built.in_scope_lowered t h.id true _ _ (built.changed_lowered t _ _ _ (built.then_lowered t _ _ _ _ (sr around)
+      scope_rules.in_scope_lowered t h.id true _ _ (effect_rules.changed_lowered t _ _ _ (effect_rules.then_lowered t _ _ _ _ (sr around)
       (bind_lowers around_innermost (ps.bindings (s.place around.aliases)) (pn (s.place around.aliases)))))
 
   emptied_lowers : (x : Bool) (key : ℕ) → L (lower.emptied f x key) (λ c. EmptiedAt t x key)
-  emptied_lowers true key = nothing_as (built.nothing_lowered t)
+  emptied_lowers true key = nothing_as (effect_rules.nothing_lowered t)
     where
       nothing_as : L nothing (λ c. Nothing) → L (lower.emptied f true key) (λ c. EmptiedAt t true key)
       nothing_as l = record { grows = l.grows; holds = λ c S k s. l.holds c S k s; ranks = l.ranks; tidies = l.tidies }
   emptied_lowers false key = record {
-    grows = λ c S k s. built.two_grow t (drop_term (site_of_key key)) key (panic_drops t S) k s;
+    grows = λ c S k s. effect_rules.two_grow t (drop_term (site_of_key key)) key (panic_drops t S) k s;
     holds = λ c S k s u later chains.
-        let made = built.two_made t (drop_term (site_of_key key)) key (panic_drops t S) k s chains later in
-        let before = built.two_later t (drop_term (site_of_key key)) key (panic_drops t S) k s later in
-        (made.0, λ b st. ((length s.blocks, 0), built.closed_stands t Kind.Plain k s before, (refl, built.drop_one_at t (site_of_key key) (panic_drops t S) k s made.1 before b st)));
-    ranks = λ c S k s w h l. built.two_ranked t (drop_term (site_of_key key)) key (panic_drops t S) k s (λ n u. refl) h l;
-    tidies = λ c S k s w later h l. built.two_tidy t (drop_term (site_of_key key)) key (panic_drops t S) k s (built.whole_drops t (t.local_of key)) later h l;
+        let made = effect_rules.two_made t (drop_term (site_of_key key)) key (panic_drops t S) k s chains later in
+        let before = effect_rules.two_later t (drop_term (site_of_key key)) key (panic_drops t S) k s later in
+        (made.0, λ b st. ((length s.blocks, 0), laid.closed_stands t Kind.Plain k s before, (refl, scope_rules.drop_one_at t (site_of_key key) (panic_drops t S) k s made.1 before b st)));
+    ranks = λ c S k s w h l. effect_rules.two_ranked t (drop_term (site_of_key key)) key (panic_drops t S) k s (λ n u. refl) h l;
+    tidies = λ c S k s w later h l. effect_rules.two_tidy t (drop_term (site_of_key key)) key (panic_drops t S) k s (scope_rules.whole_drops t (t.local_of key)) later h l;
   }
     where
       drop_term : EffectSite → ℕ → Unwind → Term
       drop_term site = Term.DropAt (build.place_of f site)
 
   declared_lowers : (bounds : List BoundName) → L (lower.declared f bounds) (λ c. DeclaredAt t bounds)
-  declared_lowers [] = built.nothing_lowered t
+  declared_lowers [] = effect_rules.nothing_lowered t
   declared_lowers (b ∷ bounds) =
-      built.then_lowered t _ _ _ _ (emptied_lowers (needs_drop t.items b.ty) b.key) (built.changed_lowered t (innermost (with_entry (bound_entry b))) _ _ (declared_lowers bounds))
+      effect_rules.then_lowered t _ _ _ _ (emptied_lowers (needs_drop t.items b.ty) b.key) (effect_rules.changed_lowered t (innermost (with_entry (bound_entry b))) _ _ (declared_lowers bounds))
 
   let_value_lowers : (x : Bool) (h : NodeHead) (pattern : NodeLower) (dp : NodeCode) → LowersAs pattern dp → (m : NodeLower) (d : NodeCode) → LowersAs m d →
       LowersR (lower.let_value f x h pattern m) (LetValueAt t x h dp d)
@@ -617,13 +620,13 @@ module _ (t : CodeTarget) where
   element_lowers : (h : NodeHead) (s : Shape) (base : NodeLower) (db : NodeCode) → LowersAs base db → (index : NodeLower) (di : NodeCode) → LowersAs index di → (count : ℕ) →
       LowersR (lower.reach_element f h s base index count) (ElementAt t h s db di count)
   element_lowers h s _ _ (lowers_as bh bs be br ba bP bQ bA bn sbe sbr sba) _ _ (lowers_as ih is_ ie ir ia iP iQ iA in_ sie sir sia) count around =
-      built.then_lowered t _ _ _ _ (sbr around) (built.then_lowered t _ _ _ _ (sie around false (Into ih.id))
-      (built.then_lowered t _ _ _ _ (built.act_lowered t h.id (effects.Touch (site_at h (array_around t (s.place around.aliases)))) refl)
-      (built.act_lowered t ih.id (effects.Bounds (effects.Copied (site_of_key ih.id)) count) refl)))
+      effect_rules.then_lowered t _ _ _ _ (sbr around) (effect_rules.then_lowered t _ _ _ _ (sie around false (Into ih.id))
+      (effect_rules.then_lowered t _ _ _ _ (effect_rules.act_lowered t h.id (effects.Touch (site_at h (array_around t (s.place around.aliases)))) refl)
+      (effect_rules.act_lowered t ih.id (effects.Bounds (effects.Copied (site_of_key ih.id)) count) refl)))
 
   borrowing_lowers : (h : NodeHead) (unique : Bool) (base : NodeLower) (db : NodeCode) → LowersAs base db → LowersE (lower.borrowing f h unique base) (BorrowAt t h unique db)
   borrowing_lowers h unique _ _ (lowers_as bh bs be br ba bP bQ bA bn sbe sbr sba) around own to =
-      own_lowers h own _ _ (built.then_lowered t _ _ _ _ (sbr around)
+      own_lowers h own _ _ (effect_rules.then_lowered t _ _ _ _ (sbr around)
       (deliver_at_lowers bh.id h (λ site. effects.Borrow (record site { node = bh.id }) unique (site_at bh (bs.place around.aliases))) (λ key. (refl, refl)) to))
 
   -- ---- the forms
@@ -664,23 +667,23 @@ module _ (t : CodeTarget) where
   single m d l = one_lowers m d [] [] l none_lower
 
   on_one_lowers : (h : NodeHead) (s : Shape) → Named s → (m : NodeLower) (d : NodeCode) → LowersAs m d → (action : EffectSite → effects.Operand → Action) →
-      ((key k : ℕ) → built.ActionOf t h.id (action (site_in h.id key) (moved h.id k))) → LowersAs (lower.on_one f h s m action) (code.on_one t h s d action)
+      ((key k : ℕ) → effect_rules.ActionOf t h.id (action (site_in h.id key) (moved h.id k))) → LowersAs (lower.on_one f h s m action) (code.on_one t h s d action)
   on_one_lowers h s named m d l action one =
       on_operands_lowers h s named (m ∷ []) (d ∷ []) (single m d l) _ _ (ap (λ z. λ (site : EffectSite). action site (moved h.id z)) (key_same m d l)) (λ key. one key m.head.id)
 
   on_two_lowers : (h : NodeHead) (s : Shape) → Named s → (m m' : NodeLower) (d d' : NodeCode) → LowersAs m d → LowersAs m' d' → (action : EffectSite → effects.Operand → effects.Operand → Action) →
-      ((key k k' : ℕ) → built.ActionOf t h.id (action (site_in h.id key) (moved h.id k) (moved h.id k'))) → LowersAs (lower.on_two f h s m m' action) (code.on_two t h s d d' action)
+      ((key k k' : ℕ) → effect_rules.ActionOf t h.id (action (site_in h.id key) (moved h.id k) (moved h.id k'))) → LowersAs (lower.on_two f h s m m' action) (code.on_two t h s d d' action)
   on_two_lowers h s named m m' d d' l l' action one =
       on_operands_lowers h s named (m ∷ m' ∷ []) (d ∷ d' ∷ []) (one_lowers m d _ _ l (single m' d' l')) _ _
       (ap (λ z. λ (site : EffectSite). action site (moved h.id z) (moved h.id m'.head.id)) (key_same m d l)
       ∙ ap (λ z. λ (site : EffectSite). action site (moved h.id d.head.id) (moved h.id z)) (key_same m' d' l'))
       (λ key. one key m.head.id m'.head.id)
 
-  all_of : (n : ℕ) (keys : List ℕ) → built.OperandsOf t n (map (moved n) keys)
+  all_of : (n : ℕ) (keys : List ℕ) → effect_rules.OperandsOf t n (map (moved n) keys)
   all_of n [] = tt
   all_of n (key ∷ keys) = (refl, all_of n keys)
 
-  fields_of_node : (n : ℕ) (fields : List (ℕ × ℕ)) → built.OperandsOf t n (moved_fields n fields)
+  fields_of_node : (n : ℕ) (fields : List (ℕ × ℕ)) → effect_rules.OperandsOf t n (moved_fields n fields)
   fields_of_node n [] = tt
   fields_of_node n (field ∷ fields) = (refl, fields_of_node n fields)
 
@@ -692,30 +695,30 @@ module _ (t : CodeTarget) where
   either_same false P Q S p q = q
 
   on_all_lowers : (h : NodeHead) (s : Shape) → Named s → (ms : List NodeLower) (ds : List NodeCode) → AllLower ms ds → (action : EffectSite → List effects.Operand → Action) →
-      ((key : ℕ) (os : List effects.Operand) → built.OperandsOf t h.id os → built.ActionOf t h.id (action (site_in h.id key) os)) → LowersAs (lower.on_all f h s ms action) (code.on_all t h s ds action)
+      ((key : ℕ) (os : List effects.Operand) → effect_rules.OperandsOf t h.id os → effect_rules.ActionOf t h.id (action (site_in h.id key) os)) → LowersAs (lower.on_all f h s ms action) (code.on_all t h s ds action)
   on_all_lowers h s named ms ds all action one =
       on_operands_lowers h s named ms ds all _ _ (ap (λ keys. λ (site : EffectSite). action site (map (moved h.id) keys)) (same_keys ms ds all)) (λ key. one key _ (all_of h.id (lower.keys_of ms)))
 
-  gives_unit_lowers : (h : NodeHead) (s : Shape) → Named s → (m : NodeLower) (d : NodeCode) → LowersAs m d → (action : effects.Operand → Action) → ((k : ℕ) → built.ActionOf t h.id (action (moved h.id k))) →
+  gives_unit_lowers : (h : NodeHead) (s : Shape) → Named s → (m : NodeLower) (d : NodeCode) → LowersAs m d → (action : effects.Operand → Action) → ((k : ℕ) → effect_rules.ActionOf t h.id (action (moved h.id k))) →
       LowersAs (lower.gives_unit f h s m action) (code.gives_unit t h s d action)
   gives_unit_lowers h s named _ _ (lowers_as mh ms e r a P Q A sn se sr sa) action one =
       a_value_lowers h s named _ _ (λ around own to. acting_lowers h around own _ _ (single _ _ (lowers_as mh ms e r a P Q A sn se sr sa)) _ _
-      (built.then_lowered t _ _ _ _ (built.act_lowered t h.id (action (moved h.id mh.id)) (one mh.id)) (unit_lowers h to)))
+      (effect_rules.then_lowered t _ _ _ _ (effect_rules.act_lowered t h.id (action (moved h.id mh.id)) (one mh.id)) (unit_lowers h to)))
 
   a_statement_lowers : (h : NodeHead) (s : Shape) → Named s → (r : Reaches) (Q : ReachesAt) → LowersR r Q → LowersAs (lower.a_statement f h s r) (code.a_statement t h s Q)
   a_statement_lowers h s named r Q l = a_value_lowers h s named _ _ (λ around own to. l around)
 
   a_pattern_lowers : (h : NodeHead) (s : Shape) → Named s → LowersAs (lower.a_pattern f h s) (code.a_pattern t h s)
-  a_pattern_lowers h s named = a_value_lowers h s named _ _ (λ around own to. built.nothing_lowered t)
+  a_pattern_lowers h s named = a_value_lowers h s named _ _ (λ around own to. effect_rules.nothing_lowered t)
 
   arm_form : (h : NodeHead) (s : Shape) → Named s → (a : Place → LoopsAndGuards → Destination → LowersArm) (A : ArmsAt) → LowersA a A →
       LowersAs (record (lower.a_pattern f h s) { arm = a }) (record (code.a_pattern t h s) { arm = A })
   arm_form h s named a A l =
-      lowers_as h s _ _ _ _ _ _ named (made_lowers h (λ around own to. nothing) (λ around c own to. Nothing) (λ around own to. built.nothing_lowered t))
-      (temporary_lowers h s _ _ (made_lowers h (λ around own to. nothing) (λ around c own to. Nothing) (λ around own to. built.nothing_lowered t))) l
+      lowers_as h s _ _ _ _ _ _ named (made_lowers h (λ around own to. nothing) (λ around c own to. Nothing) (λ around own to. effect_rules.nothing_lowered t))
+      (temporary_lowers h s _ _ (made_lowers h (λ around own to. nothing) (λ around c own to. Nothing) (λ around own to. effect_rules.nothing_lowered t))) l
 
   body_lowers : (m : NodeLower) (d : NodeCode) → LowersAs m d → (around : LoopsAndGuards) → L (lower.body_in f m around) (λ c. code.body_in t d around c)
-  body_lowers _ _ (lowers_as h s e r a P Q A sn se sr sa) around = built.back_lowered t _ _ (se around true (Into h.id))
+  body_lowers _ _ (lowers_as h s e r a P Q A sn se sr sa) around = effect_rules.back_lowered t _ _ (se around true (Into h.id))
 
   shortcut_lowers : (h : NodeHead) (truth : Bool) (to : Destination) → L (lower.shortcut f h truth to) (λ c. code.shortcut t h truth to)
   shortcut_lowers h truth to = deliver_lowers h (λ site. effects.Put site (effects.Truth truth)) (λ key. (refl, tt)) to
@@ -727,7 +730,7 @@ module _ (t : CodeTarget) where
   coerced_lowers h trait_no _ _ (lowers_as mh s e r a P Q A sn se sr sa) around own to = se around own (coerced mh.id trait_no to)
 
   ends_loop_lowers : (h : NodeHead) (to : Destination) → L (lower.ends_loop f h to) (λ c. code.ends_loop t h to c)
-  ends_loop_lowers h to = built.jump_lowered t h.id (Breaks h.id) _ _ (unit_lowers h to)
+  ends_loop_lowers h to = scope_rules.jump_lowered t h.id (Breaks h.id) _ _ (unit_lowers h to)
 
   mutual
     pub lowers : (n : tree.Node) → LowersAs (lower.lower f n) (code.code t n)
@@ -737,8 +740,8 @@ module _ (t : CodeTarget) where
     lowers_form (tree.Number value) h s n = effect_lowers h s n (λ site. effects.Put site (effects.Number value (kind_of t.items h.ty))) (λ key. (refl, tt))
     lowers_form (tree.Truth value) h s n = effect_lowers h s n (λ site. effects.Put site (effects.Truth value)) (λ key. (refl, tt))
     lowers_form tree.UnitValue h s n = effect_lowers h s n (λ site. effects.Put site effects.UnitValue) (λ key. (refl, tt))
-    lowers_form (tree.Variable key) h s n = a_place_lowers h s n _ _ (λ around. built.nothing_lowered t)
-    lowers_form (tree.Captured closure part name) h s n = a_place_lowers h s n _ _ (λ around. built.nothing_lowered t)
+    lowers_form (tree.Variable key) h s n = a_place_lowers h s n _ _ (λ around. effect_rules.nothing_lowered t)
+    lowers_form (tree.Captured closure part name) h s n = a_place_lowers h s n _ _ (λ around. effect_rules.nothing_lowered t)
     lowers_form (tree.Field base part) h s n = a_place_lowers h s n _ _ (reach_of _ _ (lowers base))
     lowers_form (tree.Index base index count) h s n = a_place_lowers h s n _ _ (element_lowers h s _ _ (lowers base) _ _ (lowers index) count)
     lowers_form (tree.Deref base) h s n = a_place_lowers h s n _ _ (reach_of _ _ (lowers base))
@@ -772,7 +775,7 @@ module _ (t : CodeTarget) where
     lowers_form tree.Ask h s n = effect_lowers h s n effects.Ask (λ key. refl)
     lowers_form (tree.DropValue operand) h s n = a_value_lowers h s n _ _ (λ around own to. dropping_lowers h around own _ _ (lowers operand) _ _ (unit_lowers h to))
     lowers_form (tree.Forget operand) h s n = gives_unit_lowers h s n _ _ (lowers operand) effects.Forget (λ k. refl)
-    lowers_form tree.Panic h s n = a_value_lowers h s n _ _ (λ around own to. built.panics_lowered t h.id Why.Explicit)
+    lowers_form tree.Panic h s n = a_value_lowers h s n _ _ (λ around own to. scope_rules.panics_lowered t h.id Why.Explicit)
     lowers_form (tree.Borrow unique base) h s n = a_value_lowers h s n _ _ (borrowing_lowers h unique _ _ (lowers base))
     lowers_form (tree.Unsize trait_no operand) h s n = a_value_lowers h s n _ _ (coerced_lowers h trait_no _ _ (lowers operand))
     lowers_form (tree.Block stmts tail) h s n = a_value_lowers h s n _ _ (block_lowers h _ _ (all_lower stmts) _ _ (if_any_lowers tail))
@@ -787,21 +790,21 @@ module _ (t : CodeTarget) where
     lowers_form (tree.Match scrutinee arms) h s n = a_value_lowers h s n _ _ (matching_lowers h _ _ (lowers scrutinee) _ _ (all_lower arms))
     lowers_form (tree.Arm pattern guard m) h s n = arm_form h s n _ _ (arm_lowers h _ _ (lowers pattern) _ _ (if_any_lowers guard) _ _ (lowers m))
     lowers_form (tree.Loop m) h s n =
-        a_scope_lowers h s n _ _ (λ around to. built.looped_lowered t h.id _ _ (body_lowers _ _ (lowers m) (in_loop h.id to around)) (λ S. refl))
+        a_scope_lowers h s n _ _ (λ around to. branch_rules.looped_lowered t h.id _ _ (body_lowers _ _ (lowers m) (in_loop h.id to around)) (λ S. refl))
     lowers_form (tree.While condition m) h s n =
-        a_scope_lowers h s n _ _ (λ around to. built.looped_lowered t h.id _ _
+        a_scope_lowers h s n _ _ (λ around to. branch_rules.looped_lowered t h.id _ _
         (condition_lowers (in_loop h.id to around) _ _ (lowers condition) _ _ _ _ (body_lowers _ _ (lowers m) (in_loop h.id to around)) (ends_loop_lowers h to) (λ S. sym (unit_after_scopes h to S)))
         (λ S. either_same (lower.body_in f (lower.lower f m) (in_loop h.id to around)).has_end (lower.body_in f (lower.lower f m) (in_loop h.id to around)) (lower.ends_loop f h to) S refl (unit_after_scopes h to S)))
     lowers_form (tree.WhileLet pattern scrutinee m) h s n =
-        a_scope_lowers h s n _ _ (λ around to. built.looped_lowered t h.id _ _
+        a_scope_lowers h s n _ _ (λ around to. branch_rules.looped_lowered t h.id _ _
         (if_taken_lowers h (in_loop h.id to around) _ _ (lowers pattern) _ _ (lowers scrutinee) _ _ _ _ (body_lowers _ _ (lowers m) (in_loop h.id to around)) (ends_loop_lowers h to)
         (λ S. refl) (λ S. sym (unit_after_scopes h to S)))
         (if_taken_after f h (in_loop h.id to around) (lower.lower f pattern) (lower.lower f scrutinee) (is_local f scrutinee) (lower.body_in f (lower.lower f m) (in_loop h.id to around)) (lower.ends_loop f h to) (λ S. refl) (unit_after_scopes h to)))
     lowers_form (tree.Break loop value) h s n =
-        a_scope_lowers h s n _ _ (λ around to. built.jump_lowered t h.id (Breaks loop) _ _ (jump_value_lowers h _ _ (if_any_lowers value) around (loop_destination loop around.loops)))
-    lowers_form (tree.Continue loop) h s n = a_value_lowers h s n _ _ (λ around own to. built.jump_lowered t h.id (Continues loop) _ _ (built.nothing_lowered t))
+        a_scope_lowers h s n _ _ (λ around to. scope_rules.jump_lowered t h.id (Breaks loop) _ _ (jump_value_lowers h _ _ (if_any_lowers value) around (loop_destination loop around.loops)))
+    lowers_form (tree.Continue loop) h s n = a_value_lowers h s n _ _ (λ around own to. scope_rules.jump_lowered t h.id (Continues loop) _ _ (effect_rules.nothing_lowered t))
     lowers_form (tree.Return value) h s n =
-        a_scope_lowers h s n _ _ (λ around to. built.jump_lowered t h.id Returns _ _ (jump_value_lowers h _ _ (if_any_lowers value) around around.answer))
+        a_scope_lowers h s n _ _ (λ around to. scope_rules.jump_lowered t h.id Returns _ _ (jump_value_lowers h _ _ (if_any_lowers value) around around.answer))
     lowers_form tree.Wildcard h s n = a_pattern_lowers h s n
     lowers_form (tree.Binding name) h s n = a_pattern_lowers h s n
     lowers_form (tree.NumberPattern value) h s n = a_pattern_lowers h s n
@@ -826,14 +829,14 @@ module _ (t : CodeTarget) where
 
   -- ---- bodies
   names_lower : (x : Bool) (bounds : List BoundName) → AllNamed bounds → L (lower.names_of_param f x bounds) (λ c. code.NamesAt t x bounds)
-  names_lower true bounds named = built.nothing_lowered t
+  names_lower true bounds named = effect_rules.nothing_lowered t
   names_lower false bounds named = bind_lowers innermost bounds named
 
   params_lower : (params : List ParamTree) → L (lower.params_entered f params) (λ c. code.ParamsAt t params)
-  params_lower [] = built.nothing_lowered t
+  params_lower [] = effect_rules.nothing_lowered t
   params_lower (param ∷ params) =
-      built.changed_lowered t (innermost (with_entry (record { key = param_key param; ty = param.ty }))) _ _
-      (built.then_lowered t _ _ _ _
+      effect_rules.changed_lowered t (innermost (with_entry (record { key = param_key param; ty = param.ty }))) _ _
+      (effect_rules.then_lowered t _ _ _ _
       (names_lower (shape t.items param.pattern).is_binding ((shape t.items param.pattern).bindings (whole_local (param_key param))) (node_named t.items param.pattern (whole_local (param_key param))))
       (params_lower params))
 
@@ -847,5 +850,5 @@ module _ (t : CodeTarget) where
 
   pub function_lowers : (body : BodyTree) → L (lower.entire_function f body) (function_at body)
   function_lowers body =
-      built.in_scope_lowered t (answer_key body) true _ _
-      (built.then_lowered t _ _ _ _ (params_lower body.params) (given_lowers _ _ (lowers body.block) (code.around_body t body) (Into (answer_key body))))
+      scope_rules.in_scope_lowered t (answer_key body) true _ _
+      (effect_rules.then_lowered t _ _ _ _ (params_lower body.params) (given_lowers _ _ (lowers body.block) (code.around_body t body) (Into (answer_key body))))

@@ -7,7 +7,10 @@ pub mod FormSizes
 pub mod Jumps
 pub mod KnownTypes
 pub mod Lines
-pub mod Rules
+pub mod LaidBlocks
+pub mod LaidEffects
+pub mod LaidScopes
+pub mod LaidBranches
 pub mod Scopes
 pub mod Sizes
 pub mod Stops

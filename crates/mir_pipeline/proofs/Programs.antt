@@ -1,7 +1,8 @@
 -- The typed program of a text is well typed, so its jumps name loops around them, the numbers of its nodes rise, and its
--- graph has no fault.
+-- graph has no fault and is, but for references, prepared for drop elaboration.
 use Rattle.std.proofs.Common.{ℕ, List, Result, Ok, Err, IfOk}
-use Rattle.lower_laws.proofs.AcceptedWhole.{accepted_graphs_are_well_formed}
+use Rattle.lower_laws.proofs.AcceptedWhole.{are_lowerable, accepted_graphs_are_well_formed}
+use Rattle.lower_ready.proofs.Prepared.{graphs_are_prepared}
 use Rattle.lower_rules.proofs.Typed.{bodies_name_loops}
 use Rattle.lower_rules.specs.Laws.{AllNameTheirLoops}
 use Rattle.lower_laws.proofs.Exact.{bodies_rise}
@@ -31,4 +32,5 @@ has_graph text program p = (
   name_their_loops text program p,
   bodies_rise program.items 0 program.items.bodies program.bodies (is_typed text program p).well_typed.1,
   accepted_graphs_are_well_formed program (is_typed text program p),
+  graphs_are_prepared program (is_typed text program p).well_typed (are_lowerable program (is_typed text program p)),
 )

@@ -12,13 +12,15 @@ use Rattle.cfg_graph.specs.declared.graph.Graph.{Graph}
 use Rattle.cfg_graph.specs.declared.terminator.Term.{Term}
 use Rattle.cfg_graph.specs.Moves.BadUses.{UseRule}
 use Rattle.cfg_graph.specs.WellFormed.Faults.{IsCounted, IsWellFormed}
-use Rattle.cfg_build.specs.Claims.{EachBody, RunsAsItsSource, WalksAsItRunsFreely}
+use Rattle.cfg_build.specs.Claims.{EachBody, IsSmall, RunsAsItsSource, WalksAsItRunsFreely}
 use Rattle.cfg_build.specs.declared.programs.Lowered.{Lowered}
 use Rattle.lower_laws.specs.Refused.{MeetsExactly}
 use Rattle.lower_laws.proofs.Exact.{lowered-paths-meet-exactly}
 use Rattle.lower_laws.specs.Told as told
 use Rattle.lower_laws.specs.Told.{LineOfBody, has_site}
 use Rattle.lower_laws.proofs.UseLaw.{lowered_uses_have_sites}
+use Rattle.lower_ready.specs.Prepared.{IsPreparedButForReferences}
+use Rattle.lower_rules.proofs.FormSizes.{lowered_is_small}
 use Rattle.move_errors.specs.Refusal.{named_use}
 use Rattle.move_errors.specs.declared.errors.BadUse.{BadUse}
 use Rattle.move_paths.specs.Uses.{use_of}
@@ -100,11 +102,13 @@ each P program holds n tree there =
 -- the graph that was made of a program
 pub is_graph : (program : ProgramTree) → HasGraph program → (same : Lowered) → same.graph ≡ graph_of program → same.sites ≡ program_sites program →
     IsCounted same.graph → IsGraphOf program same
-is_graph program (named, rises, well_formed) same made listed counted =
+is_graph program (named, rises, well_formed, prepared) same made listed counted =
     record {
       graph = made;
       sites = listed;
       well_formed = subst IsWellFormed (sym made) well_formed;
+      prepared = subst IsPreparedButForReferences (sym made) prepared;
+      small = subst (EachBody IsSmall program) (sym made) (each IsSmall program (λ n tree there. lowered_is_small program.items tree));
       counted = counted;
       values = subst (RunsAsItsSource program) (sym made) (lowered_runs_as_its_source program named);
       free =

@@ -5,7 +5,7 @@ use Rattle.typed_tree.specs.View.{body_of, program_of}
 use Rattle.typed_tree.specs.declared.body.TBody.{TBody}
 use Rattle.lower_rules.specs.Lower as low
 use Rattle.lower_rules.specs.Listed.{of_bodies, program_sites}
-use Rattle.cfg_build.proofs.Claimed.{runs, walks, ordered, prepared, formed, meet, exact, small}
+use Rattle.cfg_build.proofs.Claimed.{runs, walks, ordered, scheduled, prepared, formed, meet, exact, small}
 use Rattle.cfg_build.proofs.programs.lower.Goals as goal
 
 pub returns : goal.returns
@@ -24,6 +24,7 @@ returns c =
       values = runs program graph is;
       free = walks program graph is;
       edges = ordered program graph is;
+      drops = scheduled program graph is;
       prepared = prepared program graph is;
       well_formed = formed program graph is;
       paths = meet program graph is;

@@ -1,0 +1,465 @@
+-- What the lowering builds of effects, chains of drops and terminators holds the code: one lemma a rule of `Build`.
+use Rattle.std.proofs.Common.{◌≡◌, inl, inr, ℕ, suc, ◌+◌, ◌==◌, ◌&&◌, not, Bool, true, false, List, [], ◌∷◌, ◌++◌, length, map, Option, Some, None, if◌then◌else◌, refl, sym, ap, ◌∙◌, subst, arith}
+use Rattle.std.proofs.lemmas.Bool.{eqb-true}
+use Rattle.std.proofs.lemmas.Option.{same_Some}
+use Rattle.cfg_graph.specs.declared.graph.Kind.{Kind}
+use Rattle.cfg_graph.specs.declared.statement.Stmt.{Stmt}
+use Rattle.cfg_graph.specs.declared.terminator.Term.{Term}
+use Rattle.cfg_graph.specs.declared.terminator.Unwind.{Unwind}
+use Rattle.cfg_graph.specs.Edges.{targets, unwind_block}
+use Rattle.cfg_graph.specs.Places.{named_step}
+use Rattle.cfg_meaning.specs.Actions as actions
+use Rattle.store_model.specs.Effects as effects
+use Rattle.store_model.specs.Effects.{EffectSite, Action}
+use Rattle.store_model.specs.Places.Place.{Step, ToPart, ToField, ToContent, ToElement, whole_local}
+use Rattle.src_meaning.specs.Locals.Effects.{step_at, site_at, operand_at, action_at}
+use Rattle.src_meaning.specs.Scopes.{Entry, Scopes, entry_site}
+use Rattle.lower_rules.specs.Spots.{CodeTarget, CodePos, Ways, CodeSpot, Then, Changes, After, Nothing, BackIn, action_of_term, panic_drops, goes, CleanAt, Cleans, IsLast, ActionTermAt, Acts, by_statement, by_terminator, by_last_statement, by_last_terminator}
+use Rattle.lower_rules.specs.Build as build
+use Rattle.lower_rules.specs.Build.{BlockRest, Building, ending, made, closed, same_entries, chain_among, kept_chain, chain_or, jumps_if, Lowers, ByStmt, ByTerm, change, nothing, from_changed, back_in, then_build, then_lower, step_of, place_of, chain, unwind_to, unwinding, is_last, act_by, act}
+use Rattle.lower_rules.proofs.LaidBlocks.{AllGiven, AllKind, BlockGiven, ChainAt, ChainsStand, CodeEnds, CodeStands, Given, Grows, IsUsed, JumpWays, KindAt, Later, LeadsOn, LeadsWell, Lowered, NoFree, PlainWay, Ranked, RestEnds, RestWell, Stands, Tidy, TidyAfter, closed_grows, closed_length, closed_ranked, closed_stands, closed_tidy, ends_with, f, grows_not, grows_on, kind_stands, later_before, plain_stands, step_stands, ways_first, ways_more, ways_second}
+
+module _ (t : CodeTarget) where
+  -- ---- one after the other
+  module _ (P Q : Lowers) (sp sq : Ways → CodeSpot) (lp : (Lowered t) P sp) (lq : (Lowered t) Q sq) where
+    then_grows : (x : Bool) (c : Ways) (S : Scopes) (k : BlockRest) (s : Building) → Grows s (then_build x P Q c S k s).1
+    then_grows true c S k s =
+        grows_on s (Q.build c (P.after S) k s).1 _ (lq.grows c (P.after S) k s) (lp.grows c S (Q.build c (P.after S) k s).0 (Q.build c (P.after S) k s).1)
+    then_grows false c S k s = lp.grows c S k s
+
+    then_code : (x y : Bool) (c : Ways) (S : Scopes) (k k1 : BlockRest) (b : CodePos) → CodeEnds t true P sp c S k1 b → ((m : CodePos) → Stands t k1 m → CodeEnds t y Q sq c (P.after S) k m) →
+        CodeEnds t y (then_lower P Q) (λ c. Then (sp c) (sq c)) c S k b
+    then_code x true c S k k1 b first second =
+        let rest = second first.0 first.1 in (rest.0, rest.1, inr (P.after S, first.0, first.2, rest.2))
+    then_code x false c S k k1 b first second = λ S' b'. inr (P.after S, first.0, first.2, second first.0 first.1 S' b')
+
+    then_holds : (x : Bool) (c : Ways) (S : Scopes) →
+        ((k : BlockRest) (s : Building) → Later t (P.build c S k s).1 → ChainsStand t s → CodeStands t x P sp c S k (P.build c S k s)) → JumpWays IsUsed c (jumps_if x Q.jumps) →
+        (k : BlockRest) (s : Building) → Later t (then_build x P Q c S k s).1 → ChainsStand t s →
+        CodeStands t (x && Q.has_end) (then_lower P Q) (λ c. Then (sp c) (sq c)) c S k (then_build x P Q c S k s)
+    then_holds true c S hp u k s later chains =
+        let r = Q.build c (P.after S) k s in
+        let second = lq.holds c (P.after S) k s u (later_before t r.1 _ (lp.grows c S r.0 r.1) later) chains in
+        let first = hp r.0 r.1 later second.0 in
+        (first.0, λ b st. then_code true Q.has_end c S k r.0 b (first.1 b st) second.1)
+    then_holds false c S hp u k s later chains =
+        let first = hp k s later chains in (first.0, λ b st S' b'. inl (first.1 b st))
+
+    then_ranks : (x : Bool) (c : Ways) (S : Scopes) (k : BlockRest) (s : Building) → JumpWays (BlockGiven (length s.blocks)) c P.jumps →
+        JumpWays (BlockGiven (length s.blocks)) c (jumps_if x Q.jumps) → Ranked s → LeadsOn k s → Ranked (then_build x P Q c S k s).1 × LeadsOn (then_build x P Q c S k s).0 (then_build x P Q c S k s).1
+    then_ranks true c S k s wp wq h l =
+        let r = Q.build c (P.after S) k s in
+        let second = lq.ranks c (P.after S) k s wq h l in
+        lp.ranks c S r.0 r.1 (ways_more (length s.blocks) (length r.1.blocks) (lq.grows c (P.after S) k s).longer c P.jumps wp) second.0 second.1
+    then_ranks false c S k s wp wq h l = lp.ranks c S k s wp h l
+
+    then_tidies : (x : Bool) (c : Ways) (S : Scopes) (k : BlockRest) (s : Building) → JumpWays (PlainWay t) c P.jumps → JumpWays (PlainWay t) c (jumps_if x Q.jumps) → Later t (then_build x P Q c S k s).1 → Tidy t s →
+        RestWell t k → TidyAfter t (then_build x P Q c S k s)
+    then_tidies true c S k s wp wq later h l =
+        let r = Q.build c (P.after S) k s in
+        let second = lq.tidies c (P.after S) k s wq (later_before t r.1 _ (lp.grows c S r.0 r.1) later) h l in
+        lp.tidies c S r.0 r.1 wp later second.0 second.1
+    then_tidies false c S k s wp wq later h l = lp.tidies c S k s wp later h l
+
+    pub then_lowered : (Lowered t) (then_lower P Q) (λ c. Then (sp c) (sq c))
+    then_lowered = record {
+      grows = then_grows P.has_end;
+      holds = λ c S k s u later chains.
+          then_holds P.has_end c S (λ k s later chains. lp.holds c S k s (ways_first IsUsed c P.jumps (jumps_if P.has_end Q.jumps) u) later chains)
+          (ways_second IsUsed c P.jumps (jumps_if P.has_end Q.jumps) u) k s later chains;
+      ranks = λ c S k s w h l.
+          then_ranks P.has_end c S k s (ways_first (BlockGiven (length s.blocks)) c P.jumps (jumps_if P.has_end Q.jumps) w)
+          (ways_second (BlockGiven (length s.blocks)) c P.jumps (jumps_if P.has_end Q.jumps) w) h l;
+      tidies = λ c S k s w later h l.
+          then_tidies P.has_end c S k s (ways_first (PlainWay t) c P.jumps (jumps_if P.has_end Q.jumps) w) (ways_second (PlainWay t) c P.jumps (jumps_if P.has_end Q.jumps) w) later h l;
+    }
+
+  pub change_lowered : (g : Scopes → Scopes) → Lowered t (change g) (λ c. Changes g)
+  change_lowered g = record {
+    grows = λ c S k s. grows_not s;
+    holds = λ c S k s u later chains. (chains, λ b st. (b, st, (refl, refl)));
+    ranks = λ c S k s w h l. (h, l);
+    tidies = λ c S k s w later h l. (h, l);
+  }
+
+  pub nothing_lowered : (Lowered t) nothing (λ c. Nothing)
+  nothing_lowered = change_lowered (λ S. S)
+
+  changed_ends : (x : Bool) (g : Scopes → Scopes) (P : Lowers) (sp : Ways → CodeSpot) (c : Ways) (S : Scopes) (k : BlockRest) (b : CodePos) → CodeEnds t x P sp c (g S) k b →
+      CodeEnds t x (from_changed g P) (λ c. After g (sp c)) c S k b
+  changed_ends true g P sp c S k b h = h
+  changed_ends false g P sp c S k b h = h
+
+  pub changed_lowered : (g : Scopes → Scopes) (P : Lowers) (sp : Ways → CodeSpot) → Lowered t P sp → Lowered t (from_changed g P) (λ c. After g (sp c))
+  changed_lowered g P sp lp = record {
+    grows = λ c S k s. lp.grows c (g S) k s;
+    holds = λ c S k s u later chains. let it = lp.holds c (g S) k s u later chains in (it.0, λ b st. changed_ends P.has_end g P sp c S k b (it.1 b st));
+    ranks = λ c S k s w h l. lp.ranks c (g S) k s w h l;
+    tidies = λ c S k s w later h l. lp.tidies c (g S) k s w later h l;
+  }
+
+  back_ends : (x : Bool) (P : Lowers) (sp : Ways → CodeSpot) (c : Ways) (S : Scopes) (k : BlockRest) (b : CodePos) → CodeEnds t x P sp c S k b → CodeEnds t x (back_in P) (λ c. BackIn (sp c)) c S k b
+  back_ends true P sp c S k b h = (h.0, h.1, inr (refl, P.after S, h.2))
+  back_ends false P sp c S k b h = λ S' b'. inl h
+
+  pub back_lowered : (P : Lowers) (sp : Ways → CodeSpot) → Lowered t P sp → Lowered t (back_in P) (λ c. BackIn (sp c))
+  back_lowered P sp lp = record {
+    grows = lp.grows;
+    holds = λ c S k s u later chains. let it = lp.holds c S k s u later chains in (it.0, λ b st. back_ends P.has_end P sp c S k b (it.1 b st));
+    ranks = lp.ranks;
+    tidies = lp.tidies;
+  }
+
+  -- ---- effects as statements and terminators
+  step_same : (step : Step) → named_step (step_of (f t) step) ≡ step_at t.local_of step
+  step_same (ToPart n) = refl
+  step_same (ToField variant n) = refl
+  step_same ToContent = refl
+  step_same (ToElement index) = refl
+
+  steps_same : (steps : List Step) → map named_step (map (step_of (f t)) steps) ≡ map (step_at t.local_of) steps
+  steps_same [] = refl
+  steps_same (step ∷ steps) = λ i. step_same step i ∷ steps_same steps i
+
+  pub site_same : (n : ℕ) (site : EffectSite) → site.node ≡ n → actions.site_of n (place_of (f t) site) ≡ site_at t.local_of site
+  site_same n site e = λ i. record { node = sym e i; place = record { local = t.local_of site.place.local; steps = steps_same site.place.steps i } }
+
+  -- all sites have the number of one node; nothing is freed
+  abbrev pub OperandOf : ℕ → effects.Operand → Type 0
+  OperandOf n (effects.Copied site) = site.node ≡ n
+  OperandOf n (effects.Moved site) = site.node ≡ n
+  OperandOf n (effects.Number value kind) = Unit {0}
+  OperandOf n (effects.Truth value) = Unit {0}
+  OperandOf n effects.UnitValue = Unit {0}
+
+  abbrev pub OperandsOf : ℕ → List effects.Operand → Type 0
+  OperandsOf n [] = Unit {0}
+  OperandsOf n (o ∷ os) = OperandOf n o × OperandsOf n os
+
+  abbrev pub ActionOf : ℕ → Action → Type 0
+  ActionOf n (effects.Put to from) = (to.node ≡ n) × OperandOf n from
+  ActionOf n (effects.Compare to operator left right) = (to.node ≡ n) × OperandOf n left × OperandOf n right
+  ActionOf n (effects.Not to operand) = (to.node ≡ n) × OperandOf n operand
+  ActionOf n (effects.Build to kind parts) = (to.node ≡ n) × OperandsOf n parts
+  ActionOf n (effects.NewBox to content) = (to.node ≡ n) × OperandOf n content
+  ActionOf n (effects.Unsize to trait_no operand) = (to.node ≡ n) × OperandOf n operand
+  ActionOf n (effects.Borrow to unique base) = (to.node ≡ n) × (base.node ≡ n)
+  ActionOf n (effects.Touch base) = base.node ≡ n
+  ActionOf n (effects.Print operand) = OperandOf n operand
+  ActionOf n (effects.Forget operand) = OperandOf n operand
+  ActionOf n (effects.Free box) = ⊥
+  ActionOf n (effects.Compute to operator left right) = (to.node ≡ n) × OperandOf n left × OperandOf n right
+  ActionOf n (effects.Negate to operand) = (to.node ≡ n) × OperandOf n operand
+  ActionOf n (effects.Bounds index count) = OperandOf n index
+  ActionOf n (effects.Call to g args) = (to.node ≡ n) × OperandsOf n args
+  ActionOf n (effects.CallVirtual to trait_no method args) = (to.node ≡ n) × OperandsOf n args
+  ActionOf n (effects.Ask to) = to.node ≡ n
+
+  pub operand_same : (n : ℕ) (o : effects.Operand) → OperandOf n o → actions.operand_of n (build.operand_of (f t) o) ≡ operand_at t.local_of o
+  operand_same n (effects.Copied site) e = ap effects.Copied (site_same n site e)
+  operand_same n (effects.Moved site) e = ap effects.Moved (site_same n site e)
+  operand_same n (effects.Number value kind) e = refl
+  operand_same n (effects.Truth value) e = refl
+  operand_same n effects.UnitValue e = refl
+
+  operands_same : (n : ℕ) (os : List effects.Operand) → OperandsOf n os → actions.operands_of n (build.operands_of (f t) os) ≡ map (operand_at t.local_of) os
+  operands_same n [] e = refl
+  operands_same n (o ∷ os) e = λ i. operand_same n o e.0 i ∷ operands_same n os e.1 i
+
+  -- ---- chains
+  keys_clean : (es ds : List Entry) → same_entries es ds ≡ true → (b : CodePos) → CleanAt t ds b → CleanAt t es b
+  keys_clean [] [] e b h = h
+  keys_clean [] (d ∷ ds) e b h = absurd (let never : false ≡ true = e in cc)
+  keys_clean (x ∷ es) [] e b h = absurd (let never : false ≡ true = e in cc)
+  keys_clean (x ∷ es) (d ∷ ds) e b h =
+      let both = and_true (x.key == d.key) (same_entries es ds) e in (
+        h.0,
+        h.1,
+        h.2,
+        h.3 ∙ ap (λ k. site_at t.local_of (record { node = k; place = whole_local k })) (sym (eqb-true x.key d.key both.0)),
+        h.4,
+        keys_clean es ds both.1 (h.1, 0) h.5,
+      )
+    where
+      and_true : (a b : Bool) → (a && b) ≡ true → (a ≡ true) × (b ≡ true)
+      and_true true b e = (refl, e)
+      and_true false b e = absurd (let never : false ≡ true = e in cc)
+
+  kept_grows : (es : List Entry) (k : BlockRest) (s : Building) → Grows s (kept_chain es k s).1
+  kept_grows es k s = let g = closed_grows Kind.Cleanup k s in record { longer = g.longer; keeps = g.keeps }
+
+  -- a new chain is kept, and those before it stand
+  kept_stand : (es : List Entry) (k : BlockRest) (s : Building) → ChainsStand t s → (Stands t k (length s.blocks, 0) → CleanAt t es (length s.blocks, 0)) → Later t (kept_chain es k s).1 →
+      ChainsStand t (kept_chain es k s).1 × ChainAt t es (kept_chain es k s).0
+  kept_stand es k s h clean later = (chains, here)
+    where
+      here : (ChainAt t) es (length s.blocks)
+      here = (step_stands t Kind.Cleanup k s refl later, clean (closed_stands t Kind.Cleanup k s later))
+
+      by_entries : (x : Bool) (ds : List Entry) (n : ℕ) → same_entries ds es ≡ x → (if x then Some (length s.blocks) else chain_among ds s.chains) ≡ Some n → ChainAt t ds n
+      by_entries true ds n same e =
+          subst (λ i. ChainAt t ds i) (same_Some (length s.blocks) n e) (here.0, keys_clean ds es same (length s.blocks, 0) here.1)
+      by_entries false ds n same e = h ds n e
+
+      chains : (ChainsStand t) (kept_chain es k s).1
+      chains ds n e = by_entries (same_entries ds es) ds n refl e
+
+  kept_ranked : (es : List Entry) (k : BlockRest) (s : Building) → Ranked s → LeadsOn k s → Ranked (kept_chain es k s).1 × Given (length (kept_chain es k s).1.blocks) (kept_chain es k s).0
+  kept_ranked es k s h l =
+      let c = closed_ranked Kind.Cleanup k s h l in
+      let j = closed_length Kind.Cleanup k s in
+      let g : Given (length (closed Kind.Cleanup k s).blocks) (length s.blocks) = (h.begun, omega arith) in
+      (record { blocks = c.blocks; chains = λ ds n e. by_entries g (same_entries ds es) ds n e; begun = c.begun }, g)
+    where
+      by_entries : Given (length (closed Kind.Cleanup k s).blocks) (length s.blocks) → (x : Bool) (ds : List Entry) (n : ℕ) → (if x then Some (length s.blocks) else chain_among ds s.chains) ≡ Some n →
+          Given (length (closed Kind.Cleanup k s).blocks) n
+      by_entries g true ds n e = subst (Given (length (closed Kind.Cleanup k s).blocks)) (same_Some (length s.blocks) n e) g
+      by_entries g false ds n e = let i = h.chains ds n e in let j = closed_length Kind.Cleanup k s in (i.0, (let i1 = i.1 in omega arith))
+
+  kept_tidy : (es : List Entry) (k : BlockRest) (s : Building) → Tidy t s → RestEnds t true k → Later t (kept_chain es k s).1 → Tidy t (kept_chain es k s).1 × KindAt t true (kept_chain es k s).0
+  kept_tidy es k s h l later =
+      let c = closed_tidy t Kind.Cleanup k s h l in
+      (record { blocks = c.blocks; chains = λ ds n e. by_entries (same_entries ds es) ds n e }, kind_stands t Kind.Cleanup k s later)
+    where
+      by_entries : (x : Bool) (ds : List Entry) (n : ℕ) → (if x then Some (length s.blocks) else chain_among ds s.chains) ≡ Some n → KindAt t true n
+      by_entries true ds n e = subst (KindAt t true) (same_Some (length s.blocks) n e) (kind_stands t Kind.Cleanup k s later)
+      by_entries false ds n e = h.chains ds n e
+
+  abbrev drop_rest : Entry → ℕ × Building → BlockRest
+  drop_rest x rest = ending (Term.DropAt (place_of (f t) (entry_site x)) rest.0 Unwind.Abort) x.key
+
+  abbrev after_chain : Entry → List Entry → Building → ℕ × Building
+  after_chain x es s = let rest = chain (f t) es s in kept_chain (x ∷ es) (drop_rest x rest) rest.1
+
+  pub chain_grows : (es : List Entry) (s : Building) → Grows s (chain (f t) es s).1
+  chain_grows [] s = by_kept (chain_among [] s.chains)
+    where
+      by_kept : (o : Option ℕ) → Grows s (chain_or o s (kept_chain [] (ending Term.Resume 0))).1
+      by_kept (Some n) = grows_not s
+      by_kept None = kept_grows [] (ending Term.Resume 0) s
+  chain_grows (x ∷ es) s = by_kept (chain_grows es s) (chain_among (x ∷ es) s.chains)
+    where
+      by_kept : Grows s (chain (f t) es s).1 → (o : Option ℕ) → Grows s (chain_or o s (after_chain x es)).1
+      by_kept ih (Some n) = grows_not s
+      by_kept ih None = grows_on s (chain (f t) es s).1 _ ih (kept_grows (x ∷ es) (drop_rest x (chain (f t) es s)) (chain (f t) es s).1)
+
+  pub chain_made : (es : List Entry) (s : Building) → ChainsStand t s → Later t (chain (f t) es s).1 → ChainsStand t (chain (f t) es s).1 × ChainAt t es (chain (f t) es s).0
+  chain_made [] s h = by_kept (chain_among [] s.chains) refl
+    where
+      by_kept : (o : Option ℕ) → chain_among [] s.chains ≡ o → Later t (chain_or o s (kept_chain [] (ending Term.Resume 0))).1 →
+          ChainsStand t (chain_or o s (kept_chain [] (ending Term.Resume 0))).1 × ChainAt t [] (chain_or o s (kept_chain [] (ending Term.Resume 0))).0
+      by_kept (Some n) e later = (h, h [] n e)
+      by_kept None e later = kept_stand [] (ending Term.Resume 0) s h (λ st. ends_with t Term.Resume 0 (length s.blocks, 0) st) later
+  chain_made (x ∷ es) s h = by_kept (chain_made es s h) (chain_among (x ∷ es) s.chains) refl
+    where
+      by_kept : (Later t (chain (f t) es s).1 → ChainsStand t (chain (f t) es s).1 × ChainAt t es (chain (f t) es s).0) → (o : Option ℕ) → chain_among (x ∷ es) s.chains ≡ o →
+          Later t (chain_or o s (after_chain x es)).1 → ChainsStand t (chain_or o s (after_chain x es)).1 × ChainAt t (x ∷ es) (chain_or o s (after_chain x es)).0
+      by_kept ih (Some n) e later = (h, h (x ∷ es) n e)
+      by_kept ih None e later =
+          let r = chain (f t) es s in
+          let rest = ih (later_before t r.1 _ (kept_grows (x ∷ es) (drop_rest x r) r.1) later) in
+          kept_stand (x ∷ es) (drop_rest x r) r.1 rest.0
+          (λ st. (
+            place_of (f t) (entry_site x),
+            r.0,
+            ends_with t (Term.DropAt (place_of (f t) (entry_site x)) r.0 Unwind.Abort) x.key (length r.1.blocks, 0) st,
+            site_same (t.node (length r.1.blocks) 0) (entry_site x) (sym st.2.2),
+            rest.1.0,
+            rest.1.1,
+          )) later
+
+  pub chain_ranked : (es : List Entry) (s : Building) → Ranked s → Ranked (chain (f t) es s).1 × Given (length (chain (f t) es s).1.blocks) (chain (f t) es s).0
+  chain_ranked [] s h = by_kept (chain_among [] s.chains) refl
+    where
+      by_kept : (o : Option ℕ) → chain_among [] s.chains ≡ o → Ranked (chain_or o s (kept_chain [] (ending Term.Resume 0))).1
+          × Given (length (chain_or o s (kept_chain [] (ending Term.Resume 0))).1.blocks) (chain_or o s (kept_chain [] (ending Term.Resume 0))).0
+      by_kept (Some n) e = (h, h.chains [] n e)
+      by_kept None e = kept_ranked [] (ending Term.Resume 0) s h tt
+  chain_ranked (x ∷ es) s h = by_kept (chain_ranked es s h) (chain_among (x ∷ es) s.chains) refl
+    where
+      by_kept : Ranked (chain (f t) es s).1 × Given (length (chain (f t) es s).1.blocks) (chain (f t) es s).0 → (o : Option ℕ) → chain_among (x ∷ es) s.chains ≡ o →
+          Ranked (chain_or o s (after_chain x es)).1 × Given (length (chain_or o s (after_chain x es)).1.blocks) (chain_or o s (after_chain x es)).0
+      by_kept ih (Some n) e = (h, h.chains (x ∷ es) n e)
+      by_kept ih None e = kept_ranked (x ∷ es) (drop_rest x (chain (f t) es s)) (chain (f t) es s).1 ih.0 (ih.1, tt)
+
+  pub chain_tidy : (es : List Entry) (s : Building) → Tidy t s → Later t (chain (f t) es s).1 → Tidy t (chain (f t) es s).1 × KindAt t true (chain (f t) es s).0
+  chain_tidy [] s h = by_kept (chain_among [] s.chains) refl
+    where
+      by_kept : (o : Option ℕ) → chain_among [] s.chains ≡ o → Later t (chain_or o s (kept_chain [] (ending Term.Resume 0))).1 →
+          Tidy t (chain_or o s (kept_chain [] (ending Term.Resume 0))).1 × KindAt t true (chain_or o s (kept_chain [] (ending Term.Resume 0))).0
+      by_kept (Some n) e later = (h, h.chains [] n e)
+      by_kept None e later = kept_tidy [] (ending Term.Resume 0) s h (tt, tt) later
+  chain_tidy (x ∷ es) s h = by_kept (chain_tidy es s h) (chain_among (x ∷ es) s.chains) refl
+    where
+      by_kept : (Later t (chain (f t) es s).1 → Tidy t (chain (f t) es s).1 × KindAt t true (chain (f t) es s).0) → (o : Option ℕ) → chain_among (x ∷ es) s.chains ≡ o →
+          Later t (chain_or o s (after_chain x es)).1 → Tidy t (chain_or o s (after_chain x es)).1 × KindAt t true (chain_or o s (after_chain x es)).0
+      by_kept ih (Some n) e later = (h, h.chains (x ∷ es) n e)
+      by_kept ih None e later =
+          let r = chain (f t) es s in
+          let rest = ih (later_before t r.1 _ (kept_grows (x ∷ es) (drop_rest x r) r.1) later) in
+          kept_tidy (x ∷ es) (drop_rest x r) r.1 rest.0 ((rest.1, refl, refl), tt) later
+
+  -- where a panic goes on
+  pub unwind_grows : (es : List Entry) (s : Building) → Grows s (unwind_to (f t) es s).1
+  unwind_grows [] s = grows_not s
+  unwind_grows (x ∷ es) s = chain_grows (x ∷ es) s
+
+  pub unwind_made : (es : List Entry) (s : Building) → ChainsStand t s → Later t (unwind_to (f t) es s).1 → ChainsStand t (unwind_to (f t) es s).1 × Cleans t es (unwind_to (f t) es s).0
+  unwind_made [] s h later = (h, refl)
+  unwind_made (x ∷ es) s h later = chain_made (x ∷ es) s h later
+
+  pub unwind_ranked : (es : List Entry) (s : Building) → Ranked s → Ranked (unwind_to (f t) es s).1 × AllGiven (length (unwind_to (f t) es s).1.blocks) (unwind_block (unwind_to (f t) es s).0 ++ [])
+  unwind_ranked [] s h = (h, tt)
+  unwind_ranked (x ∷ es) s h = let c = chain_ranked (x ∷ es) s h in (c.0, (c.1, tt))
+
+  pub unwind_tidy : (es : List Entry) (s : Building) → Tidy t s → Later t (unwind_to (f t) es s).1 → Tidy t (unwind_to (f t) es s).1 × AllKind t true (unwind_block (unwind_to (f t) es s).0 ++ [])
+  unwind_tidy [] s h later = (h, tt)
+  unwind_tidy (x ∷ es) s h later = let c = chain_tidy (x ∷ es) s h later in (c.0, (c.1, tt))
+
+  -- ---- a terminator with its two ways on
+  abbrev two_ways : (ℕ → Unwind → Term) → ℕ → List Entry → BlockRest → Building → BlockRest × Building
+  two_ways term node es k s = unwinding (f t) (term (length s.blocks)) node es (closed Kind.Plain k s)
+
+  pub two_grow : (term : ℕ → Unwind → Term) (node : ℕ) (es : List Entry) (k : BlockRest) (s : Building) → Grows s (two_ways term node es k s).1
+  two_grow term node es k s = grows_on s (closed Kind.Plain k s) _ (closed_grows Kind.Plain k s) (unwind_grows es (closed Kind.Plain k s))
+
+  pub two_later : (term : ℕ → Unwind → Term) (node : ℕ) (es : List Entry) (k : BlockRest) (s : Building) → Later t (two_ways term node es k s).1 → Later t (closed Kind.Plain k s)
+  two_later term node es k s later = later_before t (closed Kind.Plain k s) _ (unwind_grows es (closed Kind.Plain k s)) later
+
+  pub two_made : (term : ℕ → Unwind → Term) (node : ℕ) (es : List Entry) (k : BlockRest) (s : Building) → ChainsStand t s → Later t (two_ways term node es k s).1 →
+      ChainsStand t (two_ways term node es k s).1 × Cleans t es (unwind_to (f t) es (closed Kind.Plain k s)).0
+  two_made term node es k s h later = unwind_made es (closed Kind.Plain k s) h later
+
+  pub two_ranked : (term : ℕ → Unwind → Term) (node : ℕ) (es : List Entry) (k : BlockRest) (s : Building) → ((n : ℕ) (u : Unwind) → targets (term n u) ≡ n ∷ unwind_block u ++ []) → Ranked s → LeadsOn k s →
+      Ranked (two_ways term node es k s).1 × LeadsOn (two_ways term node es k s).0 (two_ways term node es k s).1
+  two_ranked term node es k s e h l =
+      let u = unwind_ranked es (closed Kind.Plain k s) (closed_ranked Kind.Plain k s h l) in
+      let j = closed_length Kind.Plain k s in
+      let g = unwind_grows es (closed Kind.Plain k s) in (
+        u.0,
+        subst (AllGiven (length (two_ways term node es k s).1.blocks)) (sym (e (length s.blocks) (unwind_to (f t) es (closed Kind.Plain k s)).0))
+            ((h.begun, (let i = g.longer in omega arith)), u.1),
+      )
+
+  abbrev pub TwoWays : (ℕ → Unwind → Term) → Type 0
+  TwoWays term = (n : ℕ) (u : Unwind) → KindAt t false n → AllKind t true (unwind_block u ++ []) → LeadsWell t (term n u)
+
+  pub two_tidy : (term : ℕ → Unwind → Term) (node : ℕ) (es : List Entry) (k : BlockRest) (s : Building) → TwoWays term → Later t (two_ways term node es k s).1 → Tidy t s → RestWell t k →
+      TidyAfter t (two_ways term node es k s)
+  two_tidy term node es k s e later h l =
+      let u = unwind_tidy es (closed Kind.Plain k s) (closed_tidy t Kind.Plain k s h l) later in
+      (u.0, (e (length s.blocks) (unwind_to (f t) es (closed Kind.Plain k s)).0 (kind_stands t Kind.Plain k s (two_later term node es k s later)) u.1, tt))
+
+  stmt_lowered : (n : ℕ) (action : Action) (stmt : Stmt) → NoFree t stmt → actions.action_of n stmt ≡ action_at t.local_of action → Lowered t (act_by (f t) false n (ByStmt stmt)) (λ c. Acts t action)
+  stmt_lowered n action stmt free e = record {
+    grows = λ c S k s. grows_not s;
+    holds = λ c S k s u later chains.
+        (chains, λ b st. ((b.0, suc b.1), (st.0, st.1, st.2.2), by_statement (b.0, suc b.1) (st.0, stmt, st.1, st.2.0, ap (λ i. actions.action_of i stmt) st.2.1 ∙ e, refl)));
+    ranks = λ c S k s w h l. (h, l);
+    tidies = λ c S k s w later h l. (h, (l.0, (free, l.1)));
+  }
+
+  stmt_last : (n : ℕ) (action : Action) (stmt : Stmt) → NoFree t stmt → actions.action_of n stmt ≡ action_at t.local_of action → IsLast t action → Lowered t (act_by (f t) true n (ByStmt stmt)) (λ c. Acts t action)
+  stmt_last n action stmt free e last = record {
+    grows = λ c S k s. grows_not s;
+    holds = λ c S k s u later chains.
+        (chains, λ b st S' b'. by_last_statement (b.0, suc b.1) S' b' (st.0, stmt, st.1, st.2.0, ap (λ i. actions.action_of i stmt) st.2.1 ∙ e, refl) last);
+    ranks = λ c S k s w h l. (h, (w.0, tt));
+    tidies = λ c S k s w later h l. (h, (((w.0, tt), tt, refl, tt), (free, tt)));
+  }
+
+  -- the effect of a terminator
+  abbrev TermOf : ℕ → Action → (ℕ → Unwind → Term) → Type 0
+  TermOf n action term = ((m : ℕ) (u : Unwind) → action_of_term n (term m u) ≡ Some (action_at t.local_of action, m, u)) × ((m : ℕ) (u : Unwind) → targets (term m u) ≡ m ∷ unwind_block u ++ []) × TwoWays term
+
+  term_stands : (n : ℕ) (action : Action) (term : ℕ → Unwind → Term) → TermOf n action term → (S : Scopes) (k : BlockRest) (s : Building) →
+      Cleans t (panic_drops t S) (unwind_to (f t) (panic_drops t S) (closed Kind.Plain k s)).0 → (b : CodePos) → Stands t (two_ways term n (panic_drops t S) k s).0 b → ActionTermAt t action S (length s.blocks) b
+  term_stands n action term e S k s clean b st = (
+    st.0,
+    (unwind_to (f t) (panic_drops t S) (closed Kind.Plain k s)).0,
+    st.1,
+    st.2.0,
+    ap (λ i. action_of_term i st.0.term) st.2.2 ∙ ap (action_of_term n) st.2.1 ∙ e.0 (length s.blocks) _,
+    clean,
+  )
+
+  term_lowered : (n : ℕ) (action : Action) (term : ℕ → Unwind → Term) → TermOf n action term → Lowered t (act_by (f t) false n (ByTerm term)) (λ c. Acts t action)
+  term_lowered n action term e = record {
+    grows = λ c S k s. two_grow term n (panic_drops t S) k s;
+    holds = λ c S k s u later chains.
+        let made = two_made term n (panic_drops t S) k s chains later in
+        let before = two_later term n (panic_drops t S) k s later in (
+          made.0,
+          λ b st. (
+            (length s.blocks, 0),
+            closed_stands t Kind.Plain k s before,
+            by_terminator (length s.blocks) (length s.blocks, 0) (term_stands n action term e S k s made.1 b st) (plain_stands t k s before, refl),
+          ),
+        );
+    ranks = λ c S k s w h l. two_ranked term n (panic_drops t S) k s e.1 h l;
+    tidies = λ c S k s w later h l. two_tidy term n (panic_drops t S) k s e.2 later h l;
+  }
+
+  term_last : (n : ℕ) (action : Action) (term : ℕ → Unwind → Term) → TermOf n action term → IsLast t action → Lowered t (act_by (f t) true n (ByTerm term)) (λ c. Acts t action)
+  term_last n action term e last = record {
+    grows = λ c S k s. two_grow term n (panic_drops t S) (ending (Term.Goto c.returns.block) n) s;
+    holds = λ c S k s u later chains.
+        let made = two_made term n (panic_drops t S) (ending (Term.Goto c.returns.block) n) s chains later in
+        (made.0, λ b st S' b'. by_last_terminator (length s.blocks) S' b' (term_stands n action term e S (ending (Term.Goto c.returns.block) n) s made.1 b st) last);
+    ranks = λ c S k s w h l. two_ranked term n (panic_drops t S) (ending (Term.Goto c.returns.block) n) s e.1 h (w.0, tt);
+    tidies = λ c S k s w later h l. two_tidy term n (panic_drops t S) (ending (Term.Goto c.returns.block) n) s e.2 later h (((w.0, tt), tt, refl, tt), tt);
+  }
+
+  -- whether it is the last or not
+  by_stmt : (n : ℕ) (action : Action) (stmt : Stmt) → NoFree t stmt → actions.action_of n stmt ≡ action_at t.local_of action → Lowered t (act_by (f t) (is_last (f t) action) n (ByStmt stmt)) (λ c. Acts t action)
+  by_stmt n action stmt free e = by_last (is_last (f t) action) refl
+    where
+      by_last : (x : Bool) → is_last (f t) action ≡ x → Lowered t (act_by (f t) x n (ByStmt stmt)) (λ c. Acts t action)
+      by_last true last = stmt_last n action stmt free e last
+      by_last false last = stmt_lowered n action stmt free e
+
+  by_term : (n : ℕ) (action : Action) (term : ℕ → Unwind → Term) → TermOf n action term → Lowered t (act_by (f t) (is_last (f t) action) n (ByTerm term)) (λ c. Acts t action)
+  by_term n action term e = by_last (is_last (f t) action) refl
+    where
+      by_last : (x : Bool) → is_last (f t) action ≡ x → Lowered t (act_by (f t) x n (ByTerm term)) (λ c. Acts t action)
+      by_last true last = term_last n action term e last
+      by_last false last = term_lowered n action term e
+
+  -- ---- any effect
+  pub act_lowered : (n : ℕ) (action : Action) → ActionOf n action → Lowered t (act (f t) n action) (λ c. Acts t action)
+  act_lowered n (effects.Put to from) one = by_stmt n (effects.Put to from) _ tt (λ i. effects.Put (site_same n to one.0 i) (operand_same n from one.1 i))
+  act_lowered n (effects.Compare to operator left right) one =
+      by_stmt n (effects.Compare to operator left right) _ tt (λ i. effects.Compare (site_same n to one.0 i) operator (operand_same n left one.1 i) (operand_same n right one.2 i))
+  act_lowered n (effects.Not to operand) one = by_stmt n (effects.Not to operand) _ tt (λ i. effects.Not (site_same n to one.0 i) (operand_same n operand one.1 i))
+  act_lowered n (effects.Build to effects.OfTuple parts) one =
+      by_stmt n (effects.Build to effects.OfTuple parts) _ tt (λ i. effects.Build (site_same n to one.0 i) effects.OfTuple (operands_same n parts one.1 i))
+  act_lowered n (effects.Build to effects.OfArray parts) one =
+      by_stmt n (effects.Build to effects.OfArray parts) _ tt (λ i. effects.Build (site_same n to one.0 i) effects.OfArray (operands_same n parts one.1 i))
+  act_lowered n (effects.Build to (effects.OfVariant adt variant) parts) one =
+      by_stmt n (effects.Build to (effects.OfVariant adt variant) parts) _ tt (λ i. effects.Build (site_same n to one.0 i) (effects.OfVariant adt variant) (operands_same n parts one.1 i))
+  act_lowered n (effects.Build to (effects.OfClosure closure) parts) one =
+      by_stmt n (effects.Build to (effects.OfClosure closure) parts) _ tt (λ i. effects.Build (site_same n to one.0 i) (effects.OfClosure closure) (operands_same n parts one.1 i))
+  act_lowered n (effects.NewBox to content) one = by_stmt n (effects.NewBox to content) _ tt (λ i. effects.NewBox (site_same n to one.0 i) (operand_same n content one.1 i))
+  act_lowered n (effects.Unsize to trait_no operand) one =
+      by_stmt n (effects.Unsize to trait_no operand) _ tt (λ i. effects.Unsize (site_same n to one.0 i) trait_no (operand_same n operand one.1 i))
+  act_lowered n (effects.Borrow to unique base) one = by_stmt n (effects.Borrow to unique base) _ tt (λ i. effects.Borrow (site_same n to one.0 i) unique (site_same n base one.1 i))
+  act_lowered n (effects.Touch base) one = by_stmt n (effects.Touch base) _ tt (ap effects.Touch (site_same n base one))
+  act_lowered n (effects.Print operand) one = by_stmt n (effects.Print operand) _ tt (ap effects.Print (operand_same n operand one))
+  act_lowered n (effects.Forget operand) one = by_stmt n (effects.Forget operand) _ tt (ap effects.Forget (operand_same n operand one))
+  act_lowered n (effects.Free box) one = absurd one
+  act_lowered n (effects.Compute to operator left right) one =
+      by_term n (effects.Compute to operator left right) (Term.Math (place_of (f t) to) operator (build.operand_of (f t) left) (build.operand_of (f t) right))
+      ((λ m u. λ i. Some (effects.Compute (site_same n to one.0 i) operator (operand_same n left one.1 i) (operand_same n right one.2 i), m, u)), (λ m u. refl), λ m u p g. ((p, tt), g, refl, tt))
+  act_lowered n (effects.Negate to operand) one =
+      by_term n (effects.Negate to operand) (Term.Negate (place_of (f t) to) (build.operand_of (f t) operand))
+      ((λ m u. λ i. Some (effects.Negate (site_same n to one.0 i) (operand_same n operand one.1 i), m, u)), (λ m u. refl), λ m u p g. ((p, tt), g, refl, tt))
+  act_lowered n (effects.Bounds index count) one =
+      by_term n (effects.Bounds index count) (Term.Bounds (build.operand_of (f t) index) count) ((λ m u. λ i. Some (effects.Bounds (operand_same n index one i) count, m, u)), (λ m u. refl), λ m u p g. ((p, tt), g, refl, tt))
+  act_lowered n (effects.Call to g args) one =
+      by_term n (effects.Call to g args) (Term.Call (place_of (f t) to) g (build.operands_of (f t) args))
+      ((λ m u. λ i. Some (effects.Call (site_same n to one.0 i) g (operands_same n args one.1 i), m, u)), (λ m u. refl), λ m u p g. ((p, tt), g, refl, tt))
+  act_lowered n (effects.CallVirtual to trait_no method args) one =
+      by_term n (effects.CallVirtual to trait_no method args) (Term.Virtual (place_of (f t) to) trait_no method (build.operands_of (f t) args))
+      ((λ m u. λ i. Some (effects.CallVirtual (site_same n to one.0 i) trait_no method (operands_same n args one.1 i), m, u)), (λ m u. refl), λ m u p g. ((p, tt), g, refl, tt))
+  act_lowered n (effects.Ask to) one =
+      by_term n (effects.Ask to) (Term.Ask (place_of (f t) to)) ((λ m u. λ i. Some (effects.Ask (site_same n to one i), m, u)), (λ m u. refl), λ m u p g. ((p, tt), g, refl, tt))
