@@ -130,7 +130,7 @@ module _ {V : Type 0} (items : ItemTable) (needs : ℕ → Bool) (q : Effects V)
       answer = body.answer;
     }
 
-    param_named : (params : List ParamTree) (key : ℕ) (x : InScope) →
+    pub param_named : (params : List ParamTree) (key : ℕ) (x : InScope) →
         entry_with key (flat_map (λ p. pattern_rules.entries_of p.pattern) params) ≡ Some x → NamedParam params key
     param_named [] key x e = absurd (none-some x e)
     param_named (param ∷ params) key x e = by (named.found_in items needs q clear keeps fuel key

@@ -70,13 +70,6 @@ module _ (items : ItemTable) (body : BodyTree) where
   put_unit n key id c a b =
       subst (λ o. (C o && option_map_or (λ id. is_unit (type_at items id)) (I o) false) ≡ true) (sym c) (both_true a b)
 
-  pub put_copied : (n key : ℕ) (site : EffectSite) (id : TyId) → Cell key id → Alone items id →
-      Acts items body (effects.Put (site_in n key) (Copied site))
-  put_copied n key site id c a = subst (λ o. C o ≡ true) (sym c) a
-
-  pub put_moved : (n key : ℕ) (site : EffectSite) → Acts items body (effects.Put (site_in n key) (Moved site))
-  put_moved n key site = refl
-
   -- ---- operators
 
   pub not_acts : (n to key : ℕ) (ty id : TyId) → Cell to ty → Cell key id → Alone items ty →
@@ -119,13 +112,6 @@ module _ (items : ItemTable) (body : BodyTree) where
       (subst (λ o. ((alone items ty && is_bool (type_at items ty))
       && (alone items id && (C o && are_compared (type_at items id) (T o)))) ≡ true) (sym cr)
       (both_true (both_true a b) (both_true ai (both_true ai s)))))
-
-  -- what a pattern tests goes to a cell of type `bool`
-  pub tests_into : (key : ℕ) (site : EffectSite) (value : Operand) (ty : TyId) → Cell key ty → Alone items ty →
-      is_bool (type_at items ty) ≡ true →
-      Acts items body (effects.Compare (site_of_key key) Cmp.Eq (Copied site) value)
-  tests_into key site value ty c a b =
-      subst (λ o. ((C o && is_bool (T o)) && true) ≡ true) (sym c) (both_true (both_true a b) refl)
 
   pub is_true : (n key : ℕ) (id : TyId) → Cell key id → Alone items id → is_bool (type_at items id) ≡ true →
       Tests items body (effects.IsTrue (moved n key))

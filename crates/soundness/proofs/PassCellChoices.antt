@@ -22,6 +22,7 @@ use Rattle.well_typed.specs.Types as types
 use Rattle.soundness.proofs.Checked.{Checking}
 use Rattle.soundness.proofs.Facts.{Facts}
 use Rattle.soundness.proofs.Leaving.{Shown}
+use Rattle.soundness.proofs.PassCellNames.{Names, PlaceOk}
 use Rattle.soundness.proofs.PassCellActs.{Cell}
 use Rattle.soundness.proofs.PassCellEffects.{marked_run, may_end, Acts, Tests, Drops, Made, does_well}
 use Rattle.soundness.proofs.PassCellNodes as nodes
@@ -68,14 +69,14 @@ module _ (items : ItemTable) (body : BodyTree) (told : Told items) (fuel : ℕ) 
   abbrev more_valued : (c : Context) (valued valued' : Type 0) → (valued → valued') → (r : Run V) →
       Shown may_end (Post items body c valued) r → Shown may_end (Post items body c valued') r
   more_valued = rules.more_valued items (marked_run items body) may_end (Acts items body) (Tests items body)
-      (Drops items body) (Made items body) (does_well items body) (Cell items body) (May items body)
+      (Drops items body) (Made items body) (does_well items body) (Cell items body) (May items body) (Names items body)
 
   abbrev alone_well : (c : Context) (around : LoopsAndGuards) (m : Meaning V) (to : Destination) →
       AroundWell items body c around → Well items body c m → Dest items body m.head.ty to → (S : Scopes) (v : V) →
       Fine items body S → Shown may_end (Post items body c (IsMade items body m.head.ty))
       (forms.alone items (marked_run items body) around m to S v)
   alone_well = rules.alone_well items (marked_run items body) may_end (Acts items body) (Tests items body)
-      (Drops items body) (Made items body) (does_well items body) (Cell items body) (May items body)
+      (Drops items body) (Made items body) (does_well items body) (Cell items body) (May items body) (Names items body)
 
   pub if_alone_well : (condition : Node) (consequent : Node) (x : Standpoint) (id : ℕ) (ty : TyId) (by : Option Use) →
       Holds (typing.row (K x) id ty (tree.If condition consequent absent)) →
@@ -92,7 +93,8 @@ module _ (items : ItemTable) (body : BodyTree) (told : Told items) (fuel : ℕ) 
       (evaluation.if_else items (marked_run items body) fuel (head id ty by) (M condition) (M consequent) None)
       (λ around to ok g S w f. branches.condition_well items (marked_run items body) may_end (Acts items body)
       (Tests items body) (Drops items body) (Made items body) (does_well items body) (Cell items body)
-      (May items body) (K x) (IsMade items body ty) around (M condition) ok
+      (May items body)
+      (Names items body) (K x) (IsMade items body ty) around (M condition) ok
       well_condition d
       (λ made. stand.bool_cell items body told fuel condition d made h.1.0)
       (forms.alone items (marked_run items body) around (M consequent) to)
@@ -103,7 +105,7 @@ module _ (items : ItemTable) (body : BodyTree) (told : Told items) (fuel : ℕ) 
       (nodes.as_dest items body (head id ty by) to g))
       (λ m. (facts.unit_is items ty h.1.1.1.1).1.1))
       (λ T w' l. rules.deliver_well items (marked_run items body) may_end (Acts items body) (Tests items body)
-      (Drops items body) (Made items body) (does_well items body) (Cell items body) (May items body) (K x)
+      (Drops items body) (Made items body) (does_well items body) (Cell items body) (May items body) (Names items body) (K x)
       (IsMade items body ty) (head id ty by) (λ site. effects.Put site effects.UnitValue) to
       (nodes.unit_delivers items body fuel (head id ty by) to h.1.1.1.1 g) T w' l) S w f)
 
@@ -129,7 +131,8 @@ module _ (items : ItemTable) (body : BodyTree) (told : Told items) (fuel : ℕ) 
       (Some (M otherwise)))
       (λ around to ok g S w f. branches.condition_well items (marked_run items body) may_end (Acts items body)
       (Tests items body) (Drops items body) (Made items body) (does_well items body) (Cell items body)
-      (May items body) (K x) (IsMade items body ty) around (M condition) ok
+      (May items body)
+      (Names items body) (K x) (IsMade items body ty) around (M condition) ok
       well_condition d
       (λ made. stand.bool_cell items body told fuel condition d made h.1.0)
       (forms.alone items (marked_run items body) around (M consequent) to)
@@ -147,10 +150,11 @@ module _ (items : ItemTable) (body : BodyTree) (told : Told items) (fuel : ℕ) 
       (by : Option Use) →
       Holds (typing.row (K x) id ty (tree.IfLet pattern scrutinee consequent absent)) →
       H (cells_in items (tree.IfLet pattern scrutinee consequent absent)) →
+      at_nodes.Placed items body told fuel scrutinee →
       Reach items body (K x) (M scrutinee) →
       Well items body (K (with_names (patterns.entries_of pattern) x)) (M consequent) →
       W x (Of (tree.IfLet pattern scrutinee consequent absent) id ty by)
-  if_let_alone_well pattern scrutinee consequent x id ty by h k reach_scrutinee well_consequent =
+  if_let_alone_well pattern scrutinee consequent x id ty by h k placed reach_scrutinee well_consequent =
       let k3 = left ((cells items true pattern ++ reached_cells items scrutinee) ++ cells items false consequent) [] k
       in
       let k2 = left (cells items true pattern ++ reached_cells items scrutinee) (cells items false consequent) k3 in
@@ -161,22 +165,23 @@ module _ (items : ItemTable) (body : BodyTree) (told : Told items) (fuel : ℕ) 
       None)
       (λ around to ok g S w f. branches.if_taken_well items (marked_run items body) may_end (Acts items body)
       (Tests items body) (Drops items body) (Made items body) (does_well items body) (Cell items body)
-      (May items body) (K x) (IsMade items body ty) (head id ty by) around (M pattern) (M scrutinee)
+      (May items body)
+      (Names items body) (K x) (IsMade items body ty) (head id ty by) around (M pattern) (M scrutinee)
       (forms.alone items (marked_run items body) around (M consequent) to)
       (forms.put_unit items (marked_run items body) (head id ty by) to) ok
-      reach_scrutinee refl
-      (at_nodes.tests_meant items body told fuel pattern (typing.matched_in false (K x) scrutinee) (ty_of scrutinee)
-      h.1.0.1 kp (place_of (M scrutinee) around))
-      (at_nodes.bounds_meant items body told fuel pattern (typing.matched_in false (K x) scrutinee) (ty_of scrutinee)
+      reach_scrutinee (at_nodes.touched items body told fuel scrutinee placed around ok.0)
+      (λ reached. at_nodes.tests_meant items body told fuel pattern (typing.matched_in false (K x) scrutinee) (ty_of scrutinee)
+      h.1.0.1 kp (place_of (M scrutinee) around) (placed reached around ok.0))
+      (λ reached. at_nodes.bounds_meant items body told fuel pattern (typing.matched_in false (K x) scrutinee) (ty_of scrutinee)
       h.1.0.1 (λ o. at_nodes.used_plain items body told fuel x Use.Borrow scrutinee h.0) kp
-      (place_of (M scrutinee) around))
+      (place_of (M scrutinee) around) (placed reached around ok.0))
       (at_nodes.alone_to items body told fuel (with_names (patterns.entries_of pattern) x) consequent (head id ty by)
       around to ok
       well_consequent
       (at_nodes.unit_head items body told fuel consequent ty to h.1.1.1.0 h.1.1.1.1
       (nodes.as_dest items body (head id ty by) to g)) (λ m. (facts.unit_is items ty h.1.1.1.1).1.1))
       (λ T w' l. rules.deliver_well items (marked_run items body) may_end (Acts items body) (Tests items body)
-      (Drops items body) (Made items body) (does_well items body) (Cell items body) (May items body) (K x)
+      (Drops items body) (Made items body) (does_well items body) (Cell items body) (May items body) (Names items body) (K x)
       (IsMade items body ty) (head id ty by) (λ site. effects.Put site effects.UnitValue) to
       (nodes.unit_delivers items body fuel (head id ty by) to h.1.1.1.1 g) T w' l) S w f)
 
@@ -184,11 +189,12 @@ module _ (items : ItemTable) (body : BodyTree) (told : Told items) (fuel : ℕ) 
       (id : ℕ) (ty : TyId) (by : Option Use) →
       Holds (typing.row (K x) id ty (tree.IfLet pattern scrutinee consequent (present otherwise))) →
       H (cells_in items (tree.IfLet pattern scrutinee consequent (present otherwise))) →
+      at_nodes.Placed items body told fuel scrutinee →
       Reach items body (K x) (M scrutinee) →
       Well items body (K (with_names (patterns.entries_of pattern) x)) (M consequent) →
       Well items body (K x) (M otherwise) →
       W x (Of (tree.IfLet pattern scrutinee consequent (present otherwise)) id ty by)
-  if_let_else_well pattern scrutinee consequent otherwise x id ty by h k reach_scrutinee well_consequent
+  if_let_else_well pattern scrutinee consequent otherwise x id ty by h k placed reach_scrutinee well_consequent
       well_otherwise =
       let k3 = left ((cells items true pattern ++ reached_cells items scrutinee) ++ cells items false consequent)
       (cells items false otherwise) k in
@@ -204,15 +210,16 @@ module _ (items : ItemTable) (body : BodyTree) (told : Told items) (fuel : ℕ) 
       (Some (M otherwise)))
       (λ around to ok g S w f. branches.if_taken_well items (marked_run items body) may_end (Acts items body)
       (Tests items body) (Drops items body) (Made items body) (does_well items body) (Cell items body)
-      (May items body) (K x) (IsMade items body ty) (head id ty by) around (M pattern) (M scrutinee)
+      (May items body)
+      (Names items body) (K x) (IsMade items body ty) (head id ty by) around (M pattern) (M scrutinee)
       (forms.alone items (marked_run items body) around (M consequent) to)
       (forms.alone items (marked_run items body) around (M otherwise) to) ok
-      reach_scrutinee refl
-      (at_nodes.tests_meant items body told fuel pattern (typing.matched_in false (K x) scrutinee) (ty_of scrutinee)
-      h.1.0.1 kp (place_of (M scrutinee) around))
-      (at_nodes.bounds_meant items body told fuel pattern (typing.matched_in false (K x) scrutinee) (ty_of scrutinee)
+      reach_scrutinee (at_nodes.touched items body told fuel scrutinee placed around ok.0)
+      (λ reached. at_nodes.tests_meant items body told fuel pattern (typing.matched_in false (K x) scrutinee) (ty_of scrutinee)
+      h.1.0.1 kp (place_of (M scrutinee) around) (placed reached around ok.0))
+      (λ reached. at_nodes.bounds_meant items body told fuel pattern (typing.matched_in false (K x) scrutinee) (ty_of scrutinee)
       h.1.0.1 (λ o. at_nodes.used_plain items body told fuel x Use.Borrow scrutinee h.0) kp
-      (place_of (M scrutinee) around))
+      (place_of (M scrutinee) around) (placed reached around ok.0))
       (at_nodes.alone_to items body told fuel (with_names (patterns.entries_of pattern) x) consequent (head id ty by)
       around to ok
       well_consequent
@@ -225,19 +232,21 @@ module _ (items : ItemTable) (body : BodyTree) (told : Told items) (fuel : ℕ) 
 
   pub match_well : (scrutinee : Node) (arms : Nodes) (x : Standpoint) (id : ℕ) (ty : TyId) (by : Option Use) →
       Holds (typing.row (K x) id ty (tree.Match scrutinee arms)) →
-      Reach items body (K x) (M scrutinee) →
+      at_nodes.Placed items body told fuel scrutinee → Reach items body (K x) (M scrutinee) →
       branches.AllArms items (marked_run items body) may_end (Acts items body) (Tests items body) (Drops items body)
-      (Made items body) (does_well items body) (Cell items body) (May items body) (IsMade items body ty) (K x)
+      (Made items body) (does_well items body) (Cell items body) (May items body) (Names items body) (PlaceOk items body (ty_of scrutinee)) (IsMade items body ty) (K x)
       (Ms arms) →
       W x (Of (tree.Match scrutinee arms) id ty by)
-  match_well scrutinee arms x id ty by h reach_scrutinee all_arms =
+  match_well scrutinee arms x id ty by h placed reach_scrutinee all_arms =
       nodes.value_well items body fuel (K x) (head id ty by)
       (shape_of items (tree.Match scrutinee arms) (head id ty by))
       (forms.matching items (marked_run items body) (head id ty by) (M scrutinee) (Ms arms))
       (λ around own to ok g S w f. branches.matching_well items (marked_run items body) may_end (Acts items body)
       (Tests items body) (Drops items body) (Made items body) (does_well items body) (Cell items body)
-      (May items body) (K x) (IsMade items body ty) (head id ty by) (M scrutinee) (Ms arms) around own to ok
-      reach_scrutinee refl
+      (May items body)
+      (Names items body) (PlaceOk items body (ty_of scrutinee)) (K x) (IsMade items body ty) (head id ty by) (M scrutinee) (Ms arms) around own to ok
+      reach_scrutinee (at_nodes.touched items body told fuel scrutinee placed around ok.0)
+      (λ reached. placed reached around ok.0)
       all_arms
       (at_nodes.arms_fit items body told fuel arms ty to
       (facts.left_of (list_all (types.fits items ty) (typing.types_in arms)) _ h.1.1.0)
@@ -253,13 +262,14 @@ module _ (items : ItemTable) (body : BodyTree) (told : Told items) (fuel : ℕ) 
       (evaluation.endless items (marked_run items body) fuel (head id ty by) (M body_))
       (λ around to ok g S w f. statements.turns_well items (marked_run items body) may_end (Acts items body)
       (Tests items body) (Drops items body) (Made items body) (does_well items body) (Cell items body)
-      (May items body) (K x) (at_nodes.around_a items body told fuel id ty true) fuel
+      (May items body)
+      (Names items body) (K x) (at_nodes.around_a items body told fuel id ty true) fuel
       (evaluation.body_in items (marked_run items body) fuel (M body_) (in_loop id to around))
       (IsMade items body (M body_).head.ty)
       (λ T w' l. alone_well (within (at_nodes.around_a items body told fuel id ty true) (K x)) (in_loop id to around)
       (M body_) (Into (M body_).head.id)
       (statements.around_loop items (marked_run items body) may_end (Acts items body) (Tests items body)
-      (Drops items body) (Made items body) (does_well items body) (Cell items body) (May items body) (K x) around
+      (Drops items body) (Made items body) (does_well items body) (Cell items body) (May items body) (Names items body) (K x) around
       (at_nodes.around_a items body told fuel id ty true) to ok (nodes.as_dest items body (head id ty by) to g))
       well_body
       (stand.own_dest items body told fuel body_ (in_a_loop (at_nodes.around_a items body told fuel id ty true) x) Taken
@@ -281,16 +291,17 @@ module _ (items : ItemTable) (body : BodyTree) (told : Told items) (fuel : ℕ) 
       (evaluation.while_true items (marked_run items body) fuel (head id ty by) (M condition) (M body_))
       (λ around to ok g S w f. let ok' = statements.around_loop items (marked_run items body) may_end (Acts items body)
       (Tests items body) (Drops items body) (Made items body) (does_well items body) (Cell items body)
-      (May items body) (K x) around (at_nodes.around_a items body told fuel id ty false) to ok
+      (May items body)
+      (Names items body) (K x) around (at_nodes.around_a items body told fuel id ty false) to ok
       (nodes.as_dest items body (head id ty by) to g) in
       statements.turns_well items (marked_run items body) may_end (Acts items body) (Tests items body)
-      (Drops items body) (Made items body) (does_well items body) (Cell items body) (May items body) (K x)
+      (Drops items body) (Made items body) (does_well items body) (Cell items body) (May items body) (Names items body) (K x)
       (at_nodes.around_a items body told fuel id ty false) fuel
       (forms.condition items (marked_run items body) (in_loop id to around) (M condition)
       (evaluation.body_in items (marked_run items body) fuel (M body_) (in_loop id to around))
       (forms.ends_loop items (marked_run items body) (head id ty by) to)) (Unit {0})
       (λ T w' l. branches.condition_well items (marked_run items body) may_end (Acts items body) (Tests items body)
-      (Drops items body) (Made items body) (does_well items body) (Cell items body) (May items body)
+      (Drops items body) (Made items body) (does_well items body) (Cell items body) (May items body) (Names items body)
       (within (at_nodes.around_a items body told fuel id ty false) (K x)) (Unit {0}) (in_loop id to around)
       (M condition) ok'
       well_condition d
@@ -306,7 +317,7 @@ module _ (items : ItemTable) (body : BodyTree) (told : Told items) (fuel : ℕ) 
       (stand.own_dest items body told fuel body_ (in_a_loop (at_nodes.around_a items body told fuel id ty false) x)
       Taken h.1.1.0 kb) U u m))
       (λ U u m. statements.ends_well items (marked_run items body) may_end (Acts items body) (Tests items body)
-      (Drops items body) (Made items body) (does_well items body) (Cell items body) (May items body) (K x)
+      (Drops items body) (Made items body) (does_well items body) (Cell items body) (May items body) (Names items body) (K x)
       (Unit {0}) (at_nodes.around_a items body told fuel id ty false) (head id ty by) to refl
       (nodes.unit_delivers items body fuel (head id ty by) to h.1.1.1.1 g) U u m) T w' l) S w f)
 
@@ -314,11 +325,12 @@ module _ (items : ItemTable) (body : BodyTree) (told : Told items) (fuel : ℕ) 
       (by : Option Use) →
       Holds (typing.row (K x) id ty (tree.WhileLet pattern scrutinee body_)) →
       H (cells_in items (tree.WhileLet pattern scrutinee body_)) →
+      at_nodes.Placed items body told fuel scrutinee →
       Reach items body (K (in_a_loop (at_nodes.around_a items body told fuel id ty false) x)) (M scrutinee) →
       Well items body (K (with_names (patterns.entries_of pattern)
       (in_a_loop (at_nodes.around_a items body told fuel id ty false) x))) (M body_) →
       W x (Of (tree.WhileLet pattern scrutinee body_) id ty by)
-  while_let_well pattern scrutinee body_ x id ty by h k reach_scrutinee well_body =
+  while_let_well pattern scrutinee body_ x id ty by h k placed reach_scrutinee well_body =
       let k2 = left (cells items true pattern ++ reached_cells items scrutinee) (cells items true body_) k in
       let kb = right (cells items true pattern ++ reached_cells items scrutinee) (cells items true body_) k in
       let kp = left (cells items true pattern) (reached_cells items scrutinee) k2 in
@@ -327,29 +339,30 @@ module _ (items : ItemTable) (body : BodyTree) (told : Told items) (fuel : ℕ) 
       (evaluation.while_taken items (marked_run items body) fuel (head id ty by) (M pattern) (M scrutinee) (M body_))
       (λ around to ok g S w f. let ok' = statements.around_loop items (marked_run items body) may_end (Acts items body)
       (Tests items body) (Drops items body) (Made items body) (does_well items body) (Cell items body)
-      (May items body) (K x) around (at_nodes.around_a items body told fuel id ty false) to ok
+      (May items body)
+      (Names items body) (K x) around (at_nodes.around_a items body told fuel id ty false) to ok
       (nodes.as_dest items body (head id ty by) to g) in
       statements.turns_well items (marked_run items body) may_end (Acts items body) (Tests items body)
-      (Drops items body) (Made items body) (does_well items body) (Cell items body) (May items body) (K x)
+      (Drops items body) (Made items body) (does_well items body) (Cell items body) (May items body) (Names items body) (K x)
       (at_nodes.around_a items body told fuel id ty false) fuel
       (forms.if_taken items (marked_run items body) (head id ty by) (in_loop id to around) (M pattern) (M scrutinee)
       (evaluation.body_in items (marked_run items body) fuel (M body_) (in_loop id to around))
       (forms.ends_loop items (marked_run items body) (head id ty by) to)) (Unit {0})
       (λ T w' l. branches.if_taken_well items (marked_run items body) may_end (Acts items body) (Tests items body)
-      (Drops items body) (Made items body) (does_well items body) (Cell items body) (May items body)
+      (Drops items body) (Made items body) (does_well items body) (Cell items body) (May items body) (Names items body)
       (within (at_nodes.around_a items body told fuel id ty false) (K x)) (Unit {0}) (head id ty by)
       (in_loop id to around) (M pattern) (M scrutinee)
       (evaluation.body_in items (marked_run items body) fuel (M body_) (in_loop id to around))
       (forms.ends_loop items (marked_run items body) (head id ty by) to) ok'
-      reach_scrutinee refl
-      (at_nodes.tests_meant items body told fuel pattern
+      reach_scrutinee (at_nodes.touched items body told fuel scrutinee placed (in_loop id to around) ok'.0)
+      (λ reached. at_nodes.tests_meant items body told fuel pattern
       (typing.matched_in false (K (in_a_loop (at_nodes.around_a items body told fuel id ty false) x)) scrutinee)
-      (ty_of scrutinee) h.1.0.1 kp (place_of (M scrutinee) (in_loop id to around)))
-      (at_nodes.bounds_meant items body told fuel pattern
+      (ty_of scrutinee) h.1.0.1 kp (place_of (M scrutinee) (in_loop id to around)) (placed reached (in_loop id to around) ok'.0))
+      (λ reached. at_nodes.bounds_meant items body told fuel pattern
       (typing.matched_in false (K (in_a_loop (at_nodes.around_a items body told fuel id ty false) x)) scrutinee)
       (ty_of scrutinee) h.1.0.1
       (λ o. at_nodes.used_plain items body told fuel (in_a_loop (at_nodes.around_a items body told fuel id ty false) x)
-      Use.Borrow scrutinee h.0) kp (place_of (M scrutinee) (in_loop id to around)))
+      Use.Borrow scrutinee h.0) kp (place_of (M scrutinee) (in_loop id to around)) (placed reached (in_loop id to around) ok'.0))
       (λ U u m. more_valued (within (at_nodes.around_a items body told fuel id ty false) (K x))
       (IsMade items body (M body_).head.ty) (Unit {0}) (λ made. tt)
       (evaluation.body_in items (marked_run items body) fuel (M body_) (in_loop id to around) U u)
@@ -360,6 +373,6 @@ module _ (items : ItemTable) (body : BodyTree) (told : Told items) (fuel : ℕ) 
       (with_names (patterns.entries_of pattern) (in_a_loop (at_nodes.around_a items body told fuel id ty false) x))
       Taken h.1.1.0 kb) U u m))
       (λ U u m. statements.ends_well items (marked_run items body) may_end (Acts items body) (Tests items body)
-      (Drops items body) (Made items body) (does_well items body) (Cell items body) (May items body) (K x)
+      (Drops items body) (Made items body) (does_well items body) (Cell items body) (May items body) (Names items body) (K x)
       (Unit {0}) (at_nodes.around_a items body told fuel id ty false) (head id ty by) to refl
       (nodes.unit_delivers items body fuel (head id ty by) to h.1.1.1.1 g) U u m) T w' l) S w f)

@@ -18,7 +18,7 @@ use Rattle.soundness.proofs.Checked.{Checking, with_facts, chosen_with}
 use Rattle.soundness.proofs.CheckedBodies.{checks_of, is_reference_param}
 use Rattle.soundness.proofs.Facts.{Facts}
 use Rattle.soundness.proofs.Leaving.{ShownOut}
-use Rattle.soundness.proofs.PassCellTests.{cells_act, cells_test, mark_of, cell_marks}
+use Rattle.soundness.proofs.PassCellTests.{cells_act, cells_test, cells_drop, mark_of, cell_marks}
 use Rattle.soundness.proofs.PassMarks.{marked, chosen_marked, marked_effects}
 use Rattle.soundness.proofs.PassWell.{MadeBy, Chosen, DoesWell}
 
@@ -231,9 +231,9 @@ module _ (items : ItemTable) (body : BodyTree) where
   abbrev pub Tests : Test → Type 0
   Tests test = cells_test items (local_ty items body) (is_reference_param items body) (test_at local test) ≡ true
 
-  -- drops are looked at elsewhere
   abbrev pub Drops : Mode → EffectSite → Type 0
-  Drops mode site = Unit {0}
+  Drops mode site =
+      cells_drop items (local_ty items body) (is_reference_param items body) mode (site_at local site).place ≡ true
 
   -- what is stored is of no type `!`
   abbrev pub Made : EffectSite → Type 0
@@ -321,9 +321,9 @@ module _ (items : ItemTable) (body : BodyTree) where
         (cells_test items (local_ty items body) (is_reference_param items body) (test_at local test)) e v _
         (known_choice _ _ (free.choose items (local_ty items body) (test_at local test) v.free)
         (test_quiet items (local_ty items body) (test_at local test) v.free));
-    drops = λ mode site v e. either_mark ((checks_of items body).drop_ok mode (site_at local site) v.free v.facts) true
-        refl
-        v _ _ _ (known (Unit {0}) _ _ (free.drop items (local_ty items body) mode (site_at local site) v.free)
+    drops = λ mode site v e. either_mark ((checks_of items body).drop_ok mode (site_at local site) v.free v.facts)
+        (cells_drop items (local_ty items body) (is_reference_param items body) mode (site_at local site).place) e v _ _
+        _ (known (Unit {0}) _ _ (free.drop items (local_ty items body) mode (site_at local site) v.free)
         (drop_quiet items (local_ty items body) mode (site_at local site) v.free));
     ticks = λ v. ticked v.facts v.free v.free.choices;
     aborts = λ v. tt;

@@ -1,16 +1,18 @@
 -- In each body of a well typed program a marked run, which tests what cells hold and much else, never ends by the first
 -- mark: all that is done with cells is of the right types. Nor does it miss a step, whatever it meets.
-use Rattle.std.proofs.Common.{◌≡◌, inl, inr, ℕ, Bool, true, false, List, [], ◌∷◌, ◌++◌, map, Option, Some, None, refl, ap, sym, ◌∙◌, subst}
+use Rattle.std.proofs.Common.{◌≡◌, ◌⊎◌, inl, inr, ℕ, Bool, true, false, List, [], ◌∷◌, ◌++◌, map, Option, Some, None, refl, ap, sym, ◌∙◌, subst}
+use Rattle.std.specs.Prelude.{slice_get}
 use Rattle.std.specs.Option.{option_map_or}
 use Rattle.std.specs.List.{flat_map}
 use Rattle.std.proofs.lemmas.Bool.{false≢true}
-use Rattle.std.proofs.lemmas.Option.{none-some}
+use Rattle.std.proofs.lemmas.Option.{none-some, same_Some}
 use Rattle.mir_ty.specs.declared.def.ClosureDef.{ClosureDef}
 use Rattle.mir_ty.specs.declared.def.Sig.{Sig}
 use Rattle.mir_ty.specs.declared.ty.TyId.{TyId}
-use Rattle.mir_ty.specs.ItemTable.{ItemTable}
+use Rattle.mir_ty.specs.declared.ty.Ty.{Ty}
+use Rattle.mir_ty.specs.ItemTable.{ItemTable, type_at}
 use Rattle.store_model.specs.Effects.{Unwinding, Out, Go, Unwind, Halts, Effects, aborting}
-use Rattle.store_model.specs.Places.Place.{whole_local}
+use Rattle.store_model.specs.Places.Place.{Place, whole_local}
 use Rattle.typed_tree.specs.Nodes.{number_of}
 use Rattle.typed_tree.specs.Tree as tree
 use Rattle.typed_tree.specs.Tree.{Node, node, Form, ParamTree, BodyTree}
@@ -26,11 +28,17 @@ use Rattle.well_typed.specs.Nodes.{typed}
 use Rattle.well_typed.specs.Patterns as patterns
 use Rattle.well_typed.specs.Patterns.{entries_of}
 use Rattle.well_typed.specs.Places.{InScope, Context, loop_with, is_place, Wanted, form_of}
-use Rattle.well_typed.specs.Program.{is_body, is_inside, closure_with}
+use Rattle.well_typed.specs.Program.{are_params, is_body, is_inside, closure_with}
+use Rattle.well_typed.specs.Types as types
 use Rattle.soundness.proofs.Checked.{Checking, with_facts}
 use Rattle.soundness.proofs.CheckedBodies.{checks_of, is_reference_param}
 use Rattle.soundness.proofs.Facts.{Facts}
 use Rattle.soundness.proofs.Leaving.{Shown, ShownOut}
+use Rattle.soundness.proofs.PassCellNames.{Names, no_names, cell_ok}
+use Rattle.soundness.proofs.PassCellParams.{PlainParams, plain_params, pattern_cells, body_scoped, self_closure}
+use Rattle.soundness.proofs.PassCellPlaces.{Scoped}
+use Rattle.soundness.proofs.PassCellTaken as taken
+use Rattle.soundness.proofs.PassCellTypes as facts
 use Rattle.soundness.proofs.PassCellActs.{Cell}
 use Rattle.soundness.proofs.PassCellEffects.{marked_run, may_end, Acts, Tests, Drops, Made, does_well, either_mark}
 use Rattle.soundness.proofs.PassCellForms as pass
@@ -74,20 +82,14 @@ module _ (items : ItemTable) (told : Told items) (body : BodyTree) (fuel : ℕ) 
 
   -- ---- parameters
 
-  pattern_cells : (p : Node) (want : TyId) → Holds (patterns.pattern items whole want p) →
-      Cell items body (number_of p) want → Has items body (inside items p) → Has items body (cells items true p)
-  pattern_cells (node id at ty by form) want h c k =
-      cells_of.with_own items body id at ty by form
-      (subst (λ t. Cell items body id t) (sym (param_made items (node id at ty by form) want h)) c) k
-
-  params_well : (c : Context) (params : List ParamTree) → TypedParams items params →
+  params_well : (c : Context) (params : List ParamTree) → TypedParams items params → PlainParams items params →
       Has items body (map (param_entry items) params) → Has items body (inside_params items params) → (S : Scopes)
       (v : V) → Fine items body S →
       Shown may_end (Post items body c (Unit {0})) (params_entered items q fuel params S v)
-  params_well c [] t k l S v f = (tt, f)
-  params_well c (param ∷ params) t k l S v f =
+  params_well c [] t u k l S v f = (tt, f)
+  params_well c (param ∷ params) t u k l S v f =
       by_kind (shape items param.pattern).is_binding refl
-      (λ T w g. params_well c params t.1 k.1
+      (λ T w g. params_well c params t.1 u.1 k.1
       (cells_of.has_right items body (inside items param.pattern) (inside_params items params) l) T w g)
     where
       e : Entry
@@ -98,13 +100,26 @@ module _ (items : ItemTable) (told : Told items) (body : BodyTree) (fuel : ℕ) 
 
       fine : Fine items body T
       fine = rules.fine_innermost items (marked_run items body) may_end (Acts items body) (Tests items body)
-          (Drops items body) (Made items body) (does_well items body) (Cell items body) (May items body) (with_entry e)
+          (Drops items body) (Made items body) (does_well items body) (Cell items body) (May items body) (Names items body) (with_entry e)
           (rules.entered items (marked_run items body) may_end (Acts items body) (Tests items body) (Drops items body)
-          (Made items body) (does_well items body) (Cell items body) (May items body) e
+          (Made items body) (does_well items body) (Cell items body) (May items body) (Names items body) e
           (nodes.droppable items body e)) S f
 
       bounds : List BoundName
       bounds = (shape items param.pattern).bindings (whole_local (param_key param))
+
+      bound_so : ((place : Place) → (shape items param.pattern).bindings place ≡ [])
+          ⊎ (types.is_reference items param.ty ≡ false) → (shape items param.pattern).is_binding ≡ false →
+          taken.BoundsOk items body ((shape items param.pattern).bindings (whole_local (param_key param)))
+      bound_so (inl none) e = subst (taken.BoundsOk items body) (sym (none (whole_local (param_key param)))) tt
+      bound_so (inr r) e = taken.taken_ok items body ((shape items param.pattern).bindings (whole_local (param_key param)))
+          (taken.names_taken items body told param.pattern whole param.ty t.0
+          (λ o. absurd (false≢true (sym e ∙ sym (at_nodes.one_name items body told fuel param.pattern) ∙ o)))
+          (pattern_cells items told body param.pattern param.ty t.0 k.0
+          (cells_of.has_left items body (inside items param.pattern) (inside_params items params) l))
+          (whole_local (param_key param))
+          (cell_ok items body (param_key param) param.ty k.0
+          (sym (facts.reference_by (type_at items param.ty)) ∙ r)))
 
       by_kind : (b : Bool) → (shape items param.pattern).is_binding ≡ b →
           ((U : Scopes) (u : V) → Fine items body U →
@@ -113,19 +128,16 @@ module _ (items : ItemTable) (told : Told items) (body : BodyTree) (fuel : ℕ) 
           (on_value (programs.names_of_param items q fuel b bounds T v) (params_entered items q fuel params))
       by_kind true e later = later T v fine
       by_kind false e later = rules.then_well items (marked_run items body) may_end (Acts items body) (Tests items body)
-          (Drops items body) (Made items body) (does_well items body) (Cell items body) (May items body) c (Unit {0})
+          (Drops items body) (Made items body) (does_well items body) (Cell items body) (May items body) (Names items body) c (Unit {0})
           (Unit {0}) (bind items q innermost bounds T v)
           (params_entered items q fuel params)
           (branches.bind_well items (marked_run items body) may_end (Acts items body) (Tests items body)
-          (Drops items body) (Made items body) (does_well items body) (Cell items body) (May items body) c innermost
+          (Drops items body) (Made items body) (does_well items body) (Cell items body) (May items body) (Names items body) c innermost
           (λ change k U g. rules.fine_innermost items (marked_run items body) may_end (Acts items body)
           (Tests items body) (Drops items body) (Made items body) (does_well items body) (Cell items body)
-          (May items body) change k U g) bounds
-          (cells_of.bounds_ok items body told param.pattern whole param.ty t.0
-          (λ o. absurd (false≢true (sym e ∙ sym (at_nodes.one_name items body told fuel param.pattern) ∙ o)))
-          (pattern_cells param.pattern param.ty t.0 k.0
-          (cells_of.has_left items body (inside items param.pattern) (inside_params items params) l))
-          (whole_local (param_key param))) T v fine)
+          (May items body)
+          (Names items body) change k U g) bounds
+          (bound_so (u.0 e) e) T v fine)
           (λ U u x g. later U u g)
 
   -- ---- how a body ends
@@ -145,7 +157,7 @@ module _ (items : ItemTable) (told : Told items) (body : BodyTree) (fuel : ℕ) 
   unwound : (es : List Entry) (v : V) → Ends (unwinds items q fuel es v)
   unwound [] v = tt
   unwound (e ∷ es) v = dropped (q.drop Unwinding (entry_site e) v)
-      ((does_well items body).drops Unwinding (entry_site e) v tt) (λ w. unwound es w)
+      ((does_well items body).drops Unwinding (entry_site e) v refl) (λ w. unwound es w)
     where
       dropped : (o : Out V) → ShownOut may_end (λ w. Unit {0}) (λ w. Unit {0}) o →
           ((w : V) → Ends (unwinds items q fuel es w)) → Ends (aborting o (unwinds items q fuel es))
@@ -165,21 +177,25 @@ module _ (items : ItemTable) (told : Told items) (body : BodyTree) (fuel : ℕ) 
   ended c valued none a (Over halt w) h = h
 
   module _ (x : Standpoint) (no_loops : x.loops ≡ []) (answers : x.answer ≡ body.answer)
-      (params : TypedParams items body.params) (own : Has items body (map (param_entry items) body.params))
+      (params : TypedParams items body.params) (plain : PlainParams items body.params)
+      (scoped : Scoped items body x) (own : Has items body (map (param_entry items) body.params))
       (named : Has items body (inside_params items body.params)) (block : Has items body (inside items body.block))
       (result : Result) where
     around_well : AroundWell items body (context items x) (around_body items q fuel body)
     around_well = (
-      subst (λ t. Dest items body t (Into (answer_key body))) (sym answers) (inr result.0),
-      λ loop a e. absurd (none-some a (ap (loop_with loop) (sym no_loops) ∙ e)),
+      no_names items body,
+      (
+        subst (λ t. Dest items body t (Into (answer_key body))) (sym answers) (inr result.0),
+        λ loop a e. absurd (none-some a (ap (loop_with loop) (sym no_loops) ∙ e)),
+      ),
     )
 
     block_well : (b : Node) → is_block (form_of b) ≡ true → Holds (typed (context items x) (Wanted body.answer) b) →
         Has items body (inside items b) → (S : Scopes) (v : V) → Fine items body S →
         Shown may_end (Post items body (context items x) (nodes.IsMade items body (meaning items q fuel b).head.ty))
         ((meaning items q fuel b).evaluate (around_body items q fuel body) false (Into (answer_key body)) S v)
-    block_well (node id at ty by form) is h k S v f = pass.form_well items body told fuel form x id ty by h.1
-        (λ p. absurd (no_place form is p)) k (λ n m. absurd (no_name form is m)) (around_body items q fuel body) false
+    block_well (node id at ty by form) is h k S v f = pass.form_well items body told fuel form x scoped id ty by h.1
+        (λ p. absurd (no_place form is p)) (λ p m. absurd (no_place form is p)) k (λ n m. absurd (no_name form is m)) (around_body items q fuel body) false
         (Into (answer_key body)) S v around_well
         (stand.fits_head items body told fuel (node id at ty by form) body.answer (Into (answer_key body))
         (stand.wanted_fits items body told fuel x body.answer (node id at ty by form) h) (inr result.0)) f
@@ -191,20 +207,20 @@ module _ (items : ItemTable) (told : Told items) (body : BodyTree) (fuel : ℕ) 
         no_loops
         result (entire_function items q fuel body (answer_scope items q fuel body) v)
         (rules.leave_well items (marked_run items body) may_end (Acts items body) (Tests items body) (Drops items body)
-        (Made items body) (does_well items body) (Cell items body) (May items body) (context items x)
+        (Made items body) (does_well items body) (Cell items body) (May items body) (Names items body) (context items x)
         (nodes.IsMade items body (meaning items q fuel body.block).head.ty)
         (on_value (params_entered items q fuel body.params
         (with_scope (answer_key body) true (answer_scope items q fuel body)) v)
         ((meaning items q fuel body.block).evaluate (around_body items q fuel body) false (Into (answer_key body))))
         (rules.then_well items (marked_run items body) may_end (Acts items body) (Tests items body) (Drops items body)
-        (Made items body) (does_well items body) (Cell items body) (May items body) (context items x) (Unit {0})
+        (Made items body) (does_well items body) (Cell items body) (May items body) (Names items body) (context items x) (Unit {0})
         (nodes.IsMade items body (meaning items q fuel body.block).head.ty)
         (params_entered items q fuel body.params (with_scope (answer_key body) true (answer_scope items q fuel body)) v)
         ((meaning items q fuel body.block).evaluate (around_body items q fuel body) false (Into (answer_key body)))
-        (params_well (context items x) body.params params own named
+        (params_well (context items x) body.params params plain own named
         (with_scope (answer_key body) true (answer_scope items q fuel body)) v
         (rules.opened items (marked_run items body) may_end (Acts items body) (Tests items body) (Drops items body)
-        (Made items body) (does_well items body) (Cell items body) (May items body) (answer_key body) true
+        (Made items body) (does_well items body) (Cell items body) (May items body) (Names items body) (answer_key body) true
         (answer_scope items q fuel body) answer_fine))
         (λ T w u g. block_well body.block is h block T w g)))
       where
@@ -212,7 +228,8 @@ module _ (items : ItemTable) (told : Told items) (body : BodyTree) (fuel : ℕ) 
         answer_fine = ((tt, (nodes.droppable items body (record { key = answer_key body; ty = body.answer }), tt)), tt)
 
 module _ (items : ItemTable) (told : Told items) (number : ℕ) (sig : Sig) (body : BodyTree)
-    (h : Holds (is_body items number sig body)) (answers : alone items sig.result ≡ true) (fuel : ℕ) where
+    (h : Holds (is_body items number sig body)) (there : slice_get items.bodies number ≡ Some sig)
+    (answers : alone items sig.result ≡ true) (fuel : ℕ) where
   abbrev at_body : Option InScope → List ParamTree → Standpoint
   at_body closure scoped = record {
     entries = flat_map (λ p. entries_of p.pattern) scoped;
@@ -246,26 +263,40 @@ module _ (items : ItemTable) (told : Told items) (number : ℕ) (sig : Sig) (bod
   abbrev B : List Entry
   B = inside items body.block
 
-  runs : (closure : Option InScope) (scoped : List ParamTree) →
+  own_cells : Has items body (map (param_entry items) body.params)
+  own_cells = cells_of.has_left items body P N (cells_of.has_left items body (P ++ N) B all_cells_have.1)
+
+  named_cells : Has items body (inside_params items body.params)
+  named_cells = cells_of.has_right items body P N (cells_of.has_left items body (P ++ N) B all_cells_have.1)
+
+  runs : (closure : Option InScope) (scoped : List ParamTree) → Scoped items body (at_body closure scoped) →
       Holds (typed (context items (at_body closure scoped)) (Wanted body.answer) body.block) → (v : Checking Facts) →
       ShownOut may_end (λ w. Unit {0}) (λ w. Unit {0}) (activation items (marked_run items body) fuel body v)
-  runs closure scoped k v = run_well items told body fuel (at_body closure scoped) refl refl
+  runs closure scoped s k v = run_well items told body fuel (at_body closure scoped) refl refl
       (ends.typed_so items number sig body h (checks_of items body) fuel)
-      (cells_of.has_left items body P N (cells_of.has_left items body (P ++ N) B all_cells_have.1))
-      (cells_of.has_right items body P N (cells_of.has_left items body (P ++ N) B all_cells_have.1))
+      (plain_params items sig.params body.params h.1.1.0) s own_cells named_cells
       (cells_of.has_right items body (P ++ N) B all_cells_have.1)
       (all_cells_have.0, subst (λ t. alone items t ≡ true) (sym (same_type body.answer sig.result h.1.0)) answers)
       h.1.1.1.1.1.0 k v
 
-  ended_in : (o : Option ClosureDef) (params : List ParamTree) → Holds (is_inside items o body params) →
-      (v : Checking Facts) →
+  ended_in : (o : Option ClosureDef) (params : List ParamTree) → closure_with items number ≡ o →
+      TypedParams items params → Has items body (map (param_entry items) params) →
+      Has items body (inside_params items params) → Holds (are_params items sig.params params) →
+      Holds (is_inside items o body params) → (v : Checking Facts) →
       ShownOut may_end (λ w. Unit {0}) (λ w. Unit {0}) (activation items (marked_run items body) fuel body v)
-  ended_in None params k v = runs None params k.0 v
-  ended_in (Some def) [] k v = absurd (false≢true k)
-  ended_in (Some def) (self ∷ rest) k v =
-      runs (Some (record { key = number_of self.pattern; ty = self.ty; is_in_guard = false })) rest k.0 v
+  ended_in None params e t c l a k v = runs None params
+      (body_scoped items told body None body.answer (λ y n. absurd (none-some y n)) params t c l) k.0 v
+  ended_in (Some def) [] e t c l a k v = absurd (false≢true k)
+  ended_in (Some def) (self ∷ rest) e t c l a k v =
+      let y : InScope = record { key = number_of self.pattern; ty = self.ty; is_in_guard = false } in
+      runs (Some y) rest
+      (body_scoped items told body (Some y) body.answer
+      (λ z n. subst (λ (z : InScope). Cell items body z.key z.ty × ((m : ℕ) × (type_at items z.ty ≡ Some (Ty.Closure m))))
+      (same_Some y z n) (c.0, self_closure items told body number sig def self rest there e a)) rest t.1 c.1
+      (cells_of.has_right items body (inside items self.pattern) (inside_params items rest) l)) k.0 v
 
   -- each marked run of the body ends by no first mark, and misses no step
   pub ends_well : (v : Checking Facts) →
       ShownOut may_end (λ w. Unit {0}) (λ w. Unit {0}) (activation items (marked_run items body) fuel body v)
-  ends_well v = ended_in (closure_with items number) body.params h.1.1.1.1.1.1 v
+  ends_well v = ended_in (closure_with items number) body.params refl
+      (ends.typed_so items number sig body h (checks_of items body) fuel) own_cells named_cells h.1.1.0 h.1.1.1.1.1.1 v

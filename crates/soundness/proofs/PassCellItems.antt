@@ -8,6 +8,7 @@ use Rattle.std.specs.Cmp.Derive.{both_true}
 use Rattle.soundness.specs.Typed.{has_variant}
 use Rattle.std.proofs.lemmas.Bool.{false≢true, lt-ltb}
 use Rattle.std.proofs.lemmas.List.Quantifiers.{position-Some}
+use Rattle.std.proofs.lemmas.Bool.Decides.{Decides-eqb}
 use Rattle.std.proofs.lemmas.Option.{none-some, same_Some, slice_get-get_or, slice_get_within}
 use Rattle.mir_ty.specs.declared.adt.Adt.{Adt}
 use Rattle.mir_ty.specs.declared.adt.Variant.{Variant}
@@ -18,14 +19,16 @@ use Rattle.mir_ty.specs.declared.ty.Ty.{Ty}
 use Rattle.mir_ty.specs.declared.ty.TyId.{TyId}
 use Rattle.mir_ty.specs.ItemTable.{ItemTable, type_at}
 use Rattle.mir_ty.specs.Parts.{field_ty, fields_of, variants_of, captures_of, of_one_variant, parts_of}
+use Rattle.store_model.specs.Concrete.Location.{named_by}
 use Rattle.store_model.specs.Places.TypeForms as type_forms
 use Rattle.typed_tree.specs.Tree.{ProgramTree}
-use Rattle.well_typed.specs.Claim.{Claim, Holds, ◌&◌, each, nothing}
+use Rattle.well_typed.specs.Claim.{Claim, Holds, ◌&◌, each, nothing, some}
 use Rattle.well_typed.specs.Items.{stands_alone, is_param, is_well_made, is_equal}
 use Rattle.well_typed.specs.Program.{WellTyped}
 use Rattle.well_typed.specs.Types as types
 use Rattle.well_typed.proofs.ItemLemmas.{are_distinct}
 use Rattle.soundness.proofs.PassCellPatterns.{Told}
+use Rattle.soundness.proofs.PassCellCopies.{copy_undropped}
 use Rattle.soundness.proofs.PassCellTypes as facts
 use Rattle.soundness.proofs.PassCellTypes.{Alone}
 
@@ -43,6 +46,11 @@ claims_at : {A : Type 0} (f : A → Claim) (list : List A) (n : ℕ) (a : A) →
 claims_at f [] n a h e = absurd (none-some a e)
 claims_at f (b ∷ list) zero a h e = subst (λ x. Holds (f x)) (same_Some b a e) h.0
 claims_at f (b ∷ list) (suc n) a h e = claims_at f list n a h.1 e
+
+-- what is claimed of what is there
+some_at : {A : Type 0} (o : Option A) (f : A → Claim) (a : A) → o ≡ Some a → Holds (some o f) → Holds (f a)
+some_at None f a e h = absurd (none-some a e)
+some_at (Some b) f a e h = subst (λ x. Holds (f x)) (same_Some b a e) h
 
 -- claims of the members of a table, each with its number
 abbrev Numbered : {A : Type 0} → (ℕ → A → Claim) → ℕ → List A → Claim
@@ -182,6 +190,36 @@ module _ (p : ProgramTree) (w : WellTyped p) where
       (facts.right_of (is_some (type_at items inside)) _
       (made id (Ty.Boxed inside) (facts.boxed_by (type_at items id) inside e).0))
 
+  -- the first parameter of the inside of a closure
+  closure_ok : (n : ℕ) (def : ClosureDef) (sig : Sig) (ty : TyId) (rest : List TyId) →
+      slice_get items.closures n ≡ Some def → slice_get items.bodies def.body ≡ Some sig → sig.params ≡ ty ∷ rest →
+      types.closure_of items ty ≡ Some n
+  closure_ok n def sig ty rest e k same = by (types.closure_of items ty)
+      (facts.left_of _ _ (some_at (slice_get items.bodies def.body) _ (record sig { params = ty ∷ rest })
+      (k ∙ ap (λ l. Some (record sig { params = l })) same)
+      (numbered_at _ 0 items.closures n def w.0.1.1.1.1.1.0 e).1))
+    where
+      by : (o : Option ℕ) → option_map_or (λ m. m == 0 + n) o false ≡ true → o ≡ Some n
+      by None h = absurd (false≢true h)
+      by (Some m) h =
+          let one : m ≡ 0 + n = (Decides-eqb m (0 + n)).0 h in
+          let same : 0 + n ≡ n = omega arith in ap Some (one ∙ same)
+
+  inside_ok : (to : TyId) → (is_some (type_at items to) && not (types.is_reference items to)) ≡ true →
+      types.is_reference items to ≡ false
+  inside_ok to h = facts.is_false (types.is_reference items to) (facts.right_of (is_some (type_at items to)) _ h)
+
+  referent_ok : (id to : TyId) → named_by (type_at items id) ≡ Some to → types.is_reference items to ≡ false
+  referent_ok id to e = by (type_at items id) refl e
+    where
+      by : (o : Option Ty) → type_at items id ≡ o → named_by o ≡ Some to → types.is_reference items to ≡ false
+      by None k e = absurd (none-some to e)
+      by (Some (Ty.Shared t)) k e = inside_ok to (subst (λ i. (is_some (type_at items i)
+          && not (types.is_reference items i)) ≡ true) (same_Some t to e) (made id (Ty.Shared t) k))
+      by (Some (Ty.Unique t)) k e = inside_ok to (subst (λ i. (is_some (type_at items i)
+          && not (types.is_reference items i)) ≡ true) (same_Some t to e) (made id (Ty.Unique t) k))
+      by (Some ty) k e = absurd (none-some to e)
+
   -- what is a numbered part stands alone
   one_variant : (list : List TyId) (variant n : ℕ) (t : TyId) → list_all (stands_alone items) list ≡ true →
       slice_get (of_one_variant list variant) n ≡ Some t → stands_alone items t ≡ true
@@ -275,7 +313,10 @@ module _ (p : ProgramTree) (w : WellTyped p) where
     tuples = tuple_ok;
     arrays = array_ok;
     captures = captures_ok;
+    closures = closure_ok;
+    copies = copy_undropped items (λ n adt e. (numbered_at _ 0 items.adts n adt w.0.1.0 e).1.1.0);
     boxes = box_ok;
+    referents = referent_ok;
     bools = λ a b e k. one_number a b Ty.Bool (same_bool (type_at items a) e) (same_bool (type_at items b) k);
     units = λ a b e k. one_number a b Ty.Unit (same_unit (type_at items a) e) (same_unit (type_at items b) k);
     truth = first_bool items.types w.0.0.1.1.0;

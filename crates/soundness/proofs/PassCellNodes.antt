@@ -3,6 +3,7 @@
 use Rattle.std.proofs.Common.{◌≡◌, ◌⊎◌, inl, inr, ℕ, Bool, true, false, List, [], ◌∷◌, refl, ap, sym, ◌∙◌, subst}
 use Rattle.std.proofs.lemmas.Bool.{false≢true}
 use Rattle.mir_ty.specs.declared.ty.TyId.{TyId}
+use Rattle.mir_ty.specs.Facts.{needs_drop}
 use Rattle.mir_ty.specs.ItemTable.{ItemTable}
 use Rattle.store_model.specs.Effects as effects
 use Rattle.store_model.specs.Effects.{EffectSite, Operand, Action, Effects, stored_by}
@@ -13,13 +14,15 @@ use Rattle.src_meaning.specs.Forms as forms
 use Rattle.src_meaning.specs.Forms.{Destination, Into, Coerced, coerced, LoopsAndGuards, Meaning, site_in, moved, is_never, entry_of}
 use Rattle.src_meaning.specs.Locals.OfBody.{cells}
 use Rattle.src_meaning.specs.Scopes.{Exit, Entry, Scopes, Does}
-use Rattle.src_meaning.specs.Shape.{site_at, NodeHead, head, Shape, operand_at, copied_or_moved, moves}
+use Rattle.src_meaning.specs.Shape.{site_at, Aliases, NodeHead, head, Shape, operand_at, copied_or_moved, moves}
 use Rattle.well_typed.specs.Nodes as typing
 use Rattle.well_typed.specs.Places.{Context, stands, ty_of}
 use Rattle.well_typed.specs.Types as types
 use Rattle.soundness.proofs.Checked.{Checking}
 use Rattle.soundness.proofs.Facts.{Facts}
 use Rattle.soundness.proofs.Leaving.{Shown}
+use Rattle.soundness.proofs.PassCellNames.{Names, PlaceOk}
+use Rattle.soundness.proofs.PassCellSites as sites
 use Rattle.soundness.proofs.PassCellActs as acts
 use Rattle.soundness.proofs.PassCellActs.{Cell}
 use Rattle.soundness.proofs.PassCellEffects.{marked_run, may_end, Acts, Tests, Drops, Made, does_well}
@@ -43,63 +46,63 @@ module _ (items : ItemTable) (body : BodyTree) where
 
   abbrev pub Post : Context → Type 0 → Exit → Scopes → V → Type 0
   Post = rules.Post items (marked_run items body) may_end (Acts items body) (Tests items body) (Drops items body)
-      (Made items body) (does_well items body) (Cell items body) May
+      (Made items body) (does_well items body) (Cell items body) May (Names items body)
 
   abbrev pub Fine : Scopes → Type 0
   Fine = rules.Fine items (marked_run items body) may_end (Acts items body) (Tests items body) (Drops items body)
-      (Made items body) (does_well items body) (Cell items body) May
+      (Made items body) (does_well items body) (Cell items body) May (Names items body)
 
   abbrev pub Well : Context → Meaning V → Type 0
   Well = rules.Well items (marked_run items body) may_end (Acts items body) (Tests items body) (Drops items body)
-      (Made items body) (does_well items body) (Cell items body) May
+      (Made items body) (does_well items body) (Cell items body) May (Names items body)
 
   abbrev pub Reach : Context → Meaning V → Type 0
   Reach = rules.Reach items (marked_run items body) may_end (Acts items body) (Tests items body) (Drops items body)
-      (Made items body) (does_well items body) (Cell items body) May
+      (Made items body) (does_well items body) (Cell items body) May (Names items body)
 
   abbrev pub Reached : Meaning V → Type 0
   Reached = rules.Reached items (marked_run items body) may_end (Acts items body) (Tests items body) (Drops items body)
-      (Made items body) (does_well items body) (Cell items body) May
+      (Made items body) (does_well items body) (Cell items body) May (Names items body)
 
   abbrev pub Own : Context → Meaning V → Type 0
   Own = rules.Own items (marked_run items body) may_end (Acts items body) (Tests items body) (Drops items body)
-      (Made items body) (does_well items body) (Cell items body) May
+      (Made items body) (does_well items body) (Cell items body) May (Names items body)
 
   abbrev pub AllOwn : Context → List (Meaning V) → Type 0
   AllOwn = rules.AllOwn items (marked_run items body) may_end (Acts items body) (Tests items body) (Drops items body)
-      (Made items body) (does_well items body) (Cell items body) May
+      (Made items body) (does_well items body) (Cell items body) May (Names items body)
 
   abbrev pub AllMade : List (Meaning V) → Type 0
   AllMade = rules.AllMade items (marked_run items body) may_end (Acts items body) (Tests items body) (Drops items body)
-      (Made items body) (does_well items body) (Cell items body) May
+      (Made items body) (does_well items body) (Cell items body) May (Names items body)
 
   abbrev pub AroundWell : Context → LoopsAndGuards → Type 0
   AroundWell = rules.AroundWell items (marked_run items body) may_end (Acts items body) (Tests items body)
-      (Drops items body) (Made items body) (does_well items body) (Cell items body) May
+      (Drops items body) (Made items body) (does_well items body) (Cell items body) May (Names items body)
 
   abbrev pub Dest : TyId → Destination → Type 0
   Dest = rules.Dest items (marked_run items body) may_end (Acts items body) (Tests items body) (Drops items body)
-      (Made items body) (does_well items body) (Cell items body) May
+      (Made items body) (does_well items body) (Cell items body) May (Names items body)
 
   abbrev pub DestCell : TyId → Destination → Type 0
   DestCell = rules.DestCell items (marked_run items body) may_end (Acts items body) (Tests items body)
-      (Drops items body) (Made items body) (does_well items body) (Cell items body) May
+      (Drops items body) (Made items body) (does_well items body) (Cell items body) May (Names items body)
 
   abbrev pub Given : NodeHead → Destination → Type 0
   Given = rules.Given items (marked_run items body) may_end (Acts items body) (Tests items body) (Drops items body)
-      (Made items body) (does_well items body) (Cell items body) May
+      (Made items body) (does_well items body) (Cell items body) May (Names items body)
 
   abbrev pub IsMade : TyId → Type 0
   IsMade = rules.IsMade items (marked_run items body) may_end (Acts items body) (Tests items body) (Drops items body)
-      (Made items body) (does_well items body) (Cell items body) May
+      (Made items body) (does_well items body) (Cell items body) May (Names items body)
 
   abbrev pub Droppable : Entry → Type 0
   Droppable = rules.Droppable items (marked_run items body) may_end (Acts items body) (Tests items body)
-      (Drops items body) (Made items body) (does_well items body) (Cell items body) May
+      (Drops items body) (Made items body) (does_well items body) (Cell items body) May (Names items body)
 
   abbrev pub Delivers : Type 0 → NodeHead → (EffectSite → Action) → Destination → Type 0
   Delivers = rules.Delivers items (marked_run items body) may_end (Acts items body) (Tests items body)
-      (Drops items body) (Made items body) (does_well items body) (Cell items body) May
+      (Drops items body) (Made items body) (does_well items body) (Cell items body) May (Names items body)
 
   -- ---- destinations
 
@@ -129,7 +132,7 @@ module _ (items : ItemTable) (body : BodyTree) where
   )
 
   pub droppable : (e : Entry) → Droppable e
-  droppable e d mode = tt
+  droppable e d mode = refl
 
   pub own_from : (c : Context) (m : Meaning V) → Well c m → Dest m.head.ty (Into m.head.id) → Own c m
   own_from c m w d = (w, (d, droppable (entry_of m.head)))
@@ -174,7 +177,7 @@ module _ (items : ItemTable) (body : BodyTree) where
         Well c (evaluation.a_scope items q fuel h s does)
     scope_well c h s does f = value_well c h s (evaluation.in_scope_of_its_own items q fuel h does)
         (λ around own to ok g S v fine. rules.own_well items (marked_run items body) may_end (Acts items body)
-        (Tests items body) (Drops items body) (Made items body) (does_well items body) (Cell items body) May c
+        (Tests items body) (Drops items body) (Made items body) (does_well items body) (Cell items body) May (Names items body) c
         (IsMade h.ty) h own (does around to) S v fine
         (λ T k. f around to ok g T v k))
 
@@ -184,7 +187,7 @@ module _ (items : ItemTable) (body : BodyTree) where
         Well c (evaluation.effect items q fuel h s action)
     effect_well c h s action d = scope_well c h s (λ around. forms.deliver items q h action)
         (λ around to ok g S v f. rules.deliver_well items (marked_run items body) may_end (Acts items body)
-        (Tests items body) (Drops items body) (Made items body) (does_well items body) (Cell items body) May c
+        (Tests items body) (Drops items body) (Made items body) (does_well items body) (Cell items body) May (Names items body) c
         (IsMade h.ty) h action to (d to g) S v f)
 
     -- one effect after the operands are made
@@ -195,11 +198,11 @@ module _ (items : ItemTable) (body : BodyTree) where
     operands_well c h s ms action all d =
         value_well c h s (λ around own to. forms.acting items q h around own ms (forms.deliver items q h action to))
         (λ around own to ok g S v f. rules.acting_well items (marked_run items body) may_end (Acts items body)
-        (Tests items body) (Drops items body) (Made items body) (does_well items body) (Cell items body) May c
+        (Tests items body) (Drops items body) (Made items body) (does_well items body) (Cell items body) May (Names items body) c
         (IsMade h.ty) h around own ms
         (forms.deliver items q h action to) ok all
         (λ made T w k. rules.deliver_well items (marked_run items body) may_end (Acts items body) (Tests items body)
-        (Drops items body) (Made items body) (does_well items body) (Cell items body) May c (IsMade h.ty) h action
+        (Drops items body) (Made items body) (does_well items body) (Cell items body) May (Names items body) c (IsMade h.ty) h action
         to (d to g made) T w k) S v f)
 
     -- `()` goes to a destination
@@ -228,38 +231,42 @@ module _ (items : ItemTable) (body : BodyTree) where
         value_well c h s (λ around own to. forms.acting items q h around own (m ∷ [])
         (evaluation.unit_after items q fuel h (action (moved h.id m.head.id)) to))
         (λ around own_ to ok g S v f. rules.acting_well items (marked_run items body) may_end (Acts items body)
-        (Tests items body) (Drops items body) (Made items body) (does_well items body) (Cell items body) May c
+        (Tests items body) (Drops items body) (Made items body) (does_well items body) (Cell items body) May (Names items body) c
         (IsMade h.ty) h around own_ (m ∷ [])
         (evaluation.unit_after items q fuel h (action (moved h.id m.head.id)) to) ok (own, tt)
         (λ made T w k. rules.then_well items (marked_run items body) may_end (Acts items body) (Tests items body)
-        (Drops items body) (Made items body) (does_well items body) (Cell items body) May c (Unit {0}) (IsMade h.ty)
+        (Drops items body) (Made items body) (does_well items body) (Cell items body) May (Names items body) c (Unit {0}) (IsMade h.ty)
         (forms.acts items q (action (moved h.id m.head.id)) T w) (forms.put_unit items q h to)
         (rules.acts_well items (marked_run items body) may_end (Acts items body) (Tests items body) (Drops items body)
-        (Made items body) (does_well items body) (Cell items body) May c (Unit {0}) (action (moved h.id m.head.id))
+        (Made items body) (does_well items body) (Cell items body) May (Names items body) c (Unit {0}) (action (moved h.id m.head.id))
         T w (a made.0) k (λ x. tt))
         (λ U u x l. rules.deliver_well items (marked_run items body) may_end (Acts items body) (Tests items body)
-        (Drops items body) (Made items body) (does_well items body) (Cell items body) May c (IsMade h.ty) h
+        (Drops items body) (Made items body) (does_well items body) (Cell items body) May (Names items body) c (IsMade h.ty) h
         (λ site. effects.Put site effects.UnitValue) to
         (unit_delivers h to e g) U u l)) S v f)
 
     -- ---- places
 
     put_operand : (b : Bool) (n key : ℕ) (site : EffectSite) (id : TyId) → Cell items body key id → Alone items id →
+        (b ≡ false → needs_drop items id ≡ false) → PlaceOk items body id site.place →
         Acts items body (effects.Put (site_in n key) (copied_or_moved b site))
-    put_operand true n key site id c a = acts.put_moved items body n key site
-    put_operand false n key site id c a = acts.put_copied items body n key site id c a
+    put_operand true n key site id c a u p = sites.put_moved items body n key site id c a p
+    put_operand false n key site id c a u p = sites.put_copied items body n key site id c a (u refl) p
 
     pub place_well : (c : Context) (h : NodeHead) (s : Shape) (reach : LoopsAndGuards → Does V) (reached : Type 0) →
         Alone items h.ty → (is_never items h.ty ≡ true → Cell items body h.id h.ty) →
+        (moves h.by ≡ false → needs_drop items h.ty ≡ false) →
+        ((aliases : Aliases) → Names items body aliases → PlaceOk items body h.ty (s.place aliases)) →
         ((around : LoopsAndGuards) (S : Scopes) (v : V) → AroundWell c around → Fine S →
         Shown may_end (Post c reached) (reach around S v)) → Well c (evaluation.a_place items q fuel h s reach)
-    place_well c h s reach reached a n does = made_well c h (forms.use_of_place items q h s reach)
+    place_well c h s reach reached a n u placed does = made_well c h (forms.use_of_place items q h s reach)
         (λ around own to ok g S v f. rules.use_well items (marked_run items body) may_end (Acts items body)
-        (Tests items body) (Drops items body) (Made items body) (does_well items body) (Cell items body) May c
+        (Tests items body) (Drops items body) (Made items body) (does_well items body) (Cell items body) May (Names items body) c
         (IsMade h.ty) reached h s reach around own to
         (λ T w k. does around T w ok k)
         (delivers h (λ site. effects.Put site (operand_at h (s.place around.aliases)))
-        (λ key x. put_operand (moves h.by) h.id key (site_at h (s.place around.aliases)) h.ty x a)
+        (λ key x. put_operand (moves h.by) h.id key (site_at h (s.place around.aliases)) h.ty x a u
+        (placed around.aliases ok.0))
         (λ key m. m) to (given_cell h to g n)) S v f)
 
     -- a value that is reached is a temporary
@@ -269,11 +276,11 @@ module _ (items : ItemTable) (body : BodyTree) where
     reached_by c m e w d around S v ok f =
         subst (λ (r : LoopsAndGuards → Does V). Shown may_end (Post c (Reached m)) (r around S v)) (sym e)
         (rules.more_valued items (marked_run items body) may_end (Acts items body) (Tests items body) (Drops items body)
-        (Made items body) (does_well items body) (Cell items body) May c (IsMade m.head.ty) (Reached m)
+        (Made items body) (does_well items body) (Cell items body) May (Names items body) c (IsMade m.head.ty) (Reached m)
         (λ made p. made)
         (forms.temporary items q m.head m.shape m.evaluate around S v)
         (rules.temporary_well items (marked_run items body) may_end (Acts items body) (Tests items body)
-        (Drops items body) (Made items body) (does_well items body) (Cell items body) May c m.head m.shape
+        (Drops items body) (Made items body) (does_well items body) (Cell items body) May (Names items body) c m.head m.shape
         m.evaluate around (droppable (entry_of m.head))
         (λ T w' g. w around false (Into m.head.id) T w' ok d g) S v f))
 

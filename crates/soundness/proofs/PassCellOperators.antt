@@ -1,27 +1,37 @@
 -- Literals, places, operators, assignments, references and built-in calls do with cells what is well, given that the
 -- nodes inside do.
-use Rattle.std.proofs.Common.{ℤ, ◌≡◌, ℕ, not, Bool, true, false, List, [], ◌∷◌, ◌++◌, Option, if◌then◌else◌, refl, sym}
+use Rattle.std.proofs.Common.{ℤ, ◌≡◌, ℕ, not, Bool, true, false, List, [], ◌∷◌, ◌++◌, Option, Some, None, if◌then◌else◌, refl, ap, sym, ◌∙◌, subst}
 use Rattle.mir_base.specs.declared.trace.Why.{Why}
+use Rattle.std.specs.Prelude.{option_and_then}
+use Rattle.std.proofs.lemmas.Bool.{false≢true}
+use Rattle.std.proofs.lemmas.Option.{none-some}
+use Rattle.mir_ty.specs.declared.ty.Ty.{Ty}
 use Rattle.mir_ty.specs.declared.ty.TyId.{TyId}
-use Rattle.mir_ty.specs.ItemTable.{ItemTable}
+use Rattle.mir_ty.specs.Facts.{needs_drop}
+use Rattle.mir_ty.specs.ItemTable.{ItemTable, type_at}
 use Rattle.store_model.specs.Effects as effects
+use Rattle.store_model.specs.Places.Place.{is_reference}
+use Rattle.store_model.specs.Places.TypeForms.{referent}
 use Rattle.typed_tree.specs.declared.node.Use.{Use}
 use Rattle.typed_tree.specs.Tree as tree
 use Rattle.typed_tree.specs.Tree.{Node, node, Form, BodyTree}
 use Rattle.src_meaning.specs.Evaluation as evaluation
 use Rattle.src_meaning.specs.Evaluation.{meaning, meaning_of}
 use Rattle.src_meaning.specs.Forms as forms
-use Rattle.src_meaning.specs.Forms.{Destination, coerced, LoopsAndGuards, Meaning, moved, is_never, site_of}
+use Rattle.src_meaning.specs.Forms.{Destination, coerced, LoopsAndGuards, Meaning, moved, is_never, site_in, site_of}
 use Rattle.src_meaning.specs.Locals.OfBody.{cells, cells_in}
 use Rattle.src_meaning.specs.Scopes.{Entry, Scopes, Run, Value, At}
-use Rattle.src_meaning.specs.Shape.{head, shape_of, kind_of}
+use Rattle.src_meaning.specs.Shape.{Aliases, head, shape_of, kind_of, moves}
 use Rattle.well_typed.specs.Claim.{Holds, fact, both}
 use Rattle.well_typed.specs.Nodes as typing
-use Rattle.well_typed.specs.Places.{Context, ty_of, is_place, Taken, Wanted}
+use Rattle.well_typed.specs.Places.{Context, ty_of, form_of, is_place, Taken, Wanted}
 use Rattle.well_typed.specs.Types as types
 use Rattle.soundness.proofs.Checked.{Checking}
 use Rattle.soundness.proofs.Facts.{Facts}
 use Rattle.soundness.proofs.Leaving.{Shown}
+use Rattle.soundness.proofs.PassCellNames.{Names, PlaceOk, cell_ok}
+use Rattle.soundness.proofs.PassCellPlaces.{Scoped}
+use Rattle.soundness.proofs.PassCellSites as sites
 use Rattle.soundness.proofs.PassCellActs as acts
 use Rattle.soundness.proofs.PassCellActs.{Cell}
 use Rattle.soundness.proofs.PassCellEffects.{marked_run, may_end, Acts, Tests, Drops, Made, does_well}
@@ -32,7 +42,7 @@ use Rattle.soundness.proofs.PassCellPatterns.{Told, Has, made_of_never}
 use Rattle.soundness.proofs.PassCellTypes as facts
 use Rattle.soundness.proofs.PassCellTypes.{Alone}
 use Rattle.soundness.proofs.PassFacts.{Standpoint, context}
-use Rattle.soundness.proofs.PassHeads.{number_is}
+use Rattle.soundness.proofs.PassHeads.{number_is, type_is}
 use Rattle.soundness.proofs.PassWell as rules
 use Rattle.soundness.proofs.PassWellBranches as branches
 use Rattle.soundness.proofs.PlaceTypes.{some_holds, same_type}
@@ -70,14 +80,14 @@ module _ (items : ItemTable) (body : BodyTree) (told : Told items) (fuel : ℕ) 
   abbrev more_valued : (c : Context) (valued valued' : Type 0) → (valued → valued') → (r : Run V) →
       Shown may_end (Post items body c valued) r → Shown may_end (Post items body c valued') r
   more_valued = rules.more_valued items (marked_run items body) may_end (Acts items body) (Tests items body)
-      (Drops items body) (Made items body) (does_well items body) (Cell items body) (May items body)
+      (Drops items body) (Made items body) (does_well items body) (Cell items body) (May items body) (Names items body)
 
   abbrev alone_well : (c : Context) (around : LoopsAndGuards) (m : Meaning V) (to : Destination) →
       AroundWell items body c around → Well items body c m → Dest items body m.head.ty to → (S : Scopes) (v : V) →
       Fine items body S → Shown may_end (Post items body c (IsMade items body m.head.ty))
       (forms.alone items (marked_run items body) around m to S v)
   alone_well = rules.alone_well items (marked_run items body) may_end (Acts items body) (Tests items body)
-      (Drops items body) (Made items body) (does_well items body) (Cell items body) (May items body)
+      (Drops items body) (Made items body) (does_well items body) (Cell items body) (May items body) (Names items body)
 
   pub number_well : (value : ℤ) (x : Standpoint) (id : ℕ) (ty : TyId) (by : Option Use) →
       Holds (typing.row (K x) id ty (tree.Number value)) →
@@ -108,58 +118,69 @@ module _ (items : ItemTable) (body : BodyTree) (told : Told items) (fuel : ℕ) 
   pub variable_well : (key : ℕ) (x : Standpoint) (id : ℕ) (ty : TyId) (by : Option Use) →
       (is_place (tree.Variable key) ≡ true → Alone items ty) →
       (is_never items ty ≡ true → made_of_never (tree.Variable key) ≡ true → Cell items body id ty) →
+      (moves by ≡ false → needs_drop items ty ≡ false) → ((aliases : Aliases) → Names items body aliases →
+      PlaceOk items body ty ((shape_of items (tree.Variable key) (head id ty by)).place aliases)) →
       W x (Of (tree.Variable key) id ty by)
-  variable_well key x id ty by pa nv =
+  variable_well key x id ty by pa nv u placed =
       nodes.place_well items body fuel (K x) (head id ty by) (shape_of items (tree.Variable key) (head id ty by))
       (λ around. At Value) (Unit {0}) (pa refl)
-      (λ n. nv n refl) (λ around S w ok f. (tt, f))
+      (λ n. nv n refl) u placed (λ around S w ok f. (tt, f))
 
   pub captured_well : (closure : ℕ) (part : ℕ) (name : List ℕ) (x : Standpoint) (id : ℕ) (ty : TyId) (by : Option Use) →
       (is_place (tree.Captured closure part name) ≡ true → Alone items ty) →
       (is_never items ty ≡ true → made_of_never (tree.Captured closure part name) ≡ true → Cell items body id ty) →
+      (moves by ≡ false → needs_drop items ty ≡ false) → ((aliases : Aliases) → Names items body aliases →
+      PlaceOk items body ty ((shape_of items (tree.Captured closure part name) (head id ty by)).place aliases)) →
       W x (Of (tree.Captured closure part name) id ty by)
-  captured_well closure part name x id ty by pa nv =
+  captured_well closure part name x id ty by pa nv u placed =
       nodes.place_well items body fuel (K x) (head id ty by)
       (shape_of items (tree.Captured closure part name) (head id ty by)) (λ around. At Value) (Unit {0})
-      (pa refl) (λ n. nv n refl) (λ around S w ok f. (tt, f))
+      (pa refl) (λ n. nv n refl) u placed (λ around S w ok f. (tt, f))
 
   pub field_well : (base : Node) (part : ℕ) (x : Standpoint) (id : ℕ) (ty : TyId) (by : Option Use) →
       (is_place (tree.Field base part) ≡ true → Alone items ty) →
       (is_never items ty ≡ true → made_of_never (tree.Field base part) ≡ true → Cell items body id ty) →
+      (moves by ≡ false → needs_drop items ty ≡ false) → ((aliases : Aliases) → Names items body aliases →
+      PlaceOk items body ty ((shape_of items (tree.Field base part) (head id ty by)).place aliases)) →
       Reach items body (K x) (M base) →
       W x (Of (tree.Field base part) id ty by)
-  field_well base part x id ty by pa nv reach_base =
+  field_well base part x id ty by pa nv u placed reach_base =
       nodes.place_well items body fuel (K x) (head id ty by) (shape_of items (tree.Field base part) (head id ty by))
       (M base).reach (Reached items body (M base))
-      (pa refl) (λ n. nv n refl) reach_base
+      (pa refl) (λ n. nv n refl) u placed reach_base
 
   pub index_well : (base : Node) (index : Node) (count : ℕ) (x : Standpoint) (id : ℕ) (ty : TyId) (by : Option Use) →
       Holds (typing.row (K x) id ty (tree.Index base index count)) →
       (is_place (tree.Index base index count) ≡ true → Alone items ty) →
       H (cells_in items (tree.Index base index count)) →
       (is_never items ty ≡ true → made_of_never (tree.Index base index count) ≡ true → Cell items body id ty) →
+      Scoped items body x →
+      (moves by ≡ false → needs_drop items ty ≡ false) → ((aliases : Aliases) → Names items body aliases →
+      PlaceOk items body ty ((shape_of items (tree.Index base index count) (head id ty by)).place aliases)) →
       Reach items body (K x) (M base) →
       Well items body (K x) (M index) →
       W x (Of (tree.Index base index count) id ty by)
-  index_well base index count x id ty by h pa k nv reach_base well_index =
+  index_well base index count x id ty by h pa k nv s u placed reach_base well_index =
       nodes.place_well items body fuel (K x) (head id ty by)
       (shape_of items (tree.Index base index count) (head id ty by))
       (forms.reach_element items (marked_run items body) (head id ty by)
       (shape_of items (tree.Index base index count) (head id ty by)) (M base) (M index) count) (Unit {0})
-      (pa refl) (λ n. nv n refl)
-      (at_nodes.element_with items body told fuel base index count x id ty by h k
+      (pa refl) (λ n. nv n refl) u placed
+      (at_nodes.element_with items body told fuel base index count x id ty by h k s
       reach_base
       well_index (Unit {0}) tt)
 
   pub deref_well : (base : Node) (x : Standpoint) (id : ℕ) (ty : TyId) (by : Option Use) →
       (is_place (tree.Deref base) ≡ true → Alone items ty) →
       (is_never items ty ≡ true → made_of_never (tree.Deref base) ≡ true → Cell items body id ty) →
+      (moves by ≡ false → needs_drop items ty ≡ false) → ((aliases : Aliases) → Names items body aliases →
+      PlaceOk items body ty ((shape_of items (tree.Deref base) (head id ty by)).place aliases)) →
       Reach items body (K x) (M base) →
       W x (Of (tree.Deref base) id ty by)
-  deref_well base x id ty by pa nv reach_base =
+  deref_well base x id ty by pa nv u placed reach_base =
       nodes.place_well items body fuel (K x) (head id ty by) (shape_of items (tree.Deref base) (head id ty by))
       (M base).reach (Reached items body (M base))
-      (pa refl) (λ n. nv n refl) reach_base
+      (pa refl) (λ n. nv n refl) u placed reach_base
 
   pub not_well : (operand : Node) (x : Standpoint) (id : ℕ) (ty : TyId) (by : Option Use) →
       Holds (typing.row (K x) id ty (tree.Not operand)) →
@@ -266,7 +287,8 @@ module _ (items : ItemTable) (body : BodyTree) (told : Told items) (fuel : ℕ) 
       (evaluation.conjunction items (marked_run items body) fuel (head id ty by) (M left_) (M right_))
       (λ around to ok g S w f. branches.condition_well items (marked_run items body) may_end (Acts items body)
       (Tests items body) (Drops items body) (Made items body) (does_well items body) (Cell items body)
-      (May items body) (K x) (IsMade items body ty) around (M left_) ok
+      (May items body)
+      (Names items body) (K x) (IsMade items body ty) around (M left_) ok
       well_left dl
       (λ made. stand.bool_cell items body told fuel left_ dl made h.1.1.0)
       (forms.alone items (marked_run items body) around (M right_) to)
@@ -279,7 +301,7 @@ module _ (items : ItemTable) (body : BodyTree) (told : Told items) (fuel : ℕ) 
       (at_nodes.bool_head items body told fuel right_ ty to h.1.1.1.0 h.1.1.1.1
       (nodes.as_dest items body (head id ty by) to g)) T w' l))
       (λ T w' l. rules.deliver_well items (marked_run items body) may_end (Acts items body) (Tests items body)
-      (Drops items body) (Made items body) (does_well items body) (Cell items body) (May items body) (K x)
+      (Drops items body) (Made items body) (does_well items body) (Cell items body) (May items body) (Names items body) (K x)
       (IsMade items body ty) (head id ty by) (λ site. effects.Put site (effects.Truth false)) to
       (nodes.truth_delivers items body fuel (head id ty by) false to h.1.1.1.1 g) T w' l) S w f)
 
@@ -296,13 +318,14 @@ module _ (items : ItemTable) (body : BodyTree) (told : Told items) (fuel : ℕ) 
       (evaluation.disjunction items (marked_run items body) fuel (head id ty by) (M left_) (M right_))
       (λ around to ok g S w f. branches.condition_well items (marked_run items body) may_end (Acts items body)
       (Tests items body) (Drops items body) (Made items body) (does_well items body) (Cell items body)
-      (May items body) (K x) (IsMade items body ty) around (M left_) ok
+      (May items body)
+      (Names items body) (K x) (IsMade items body ty) around (M left_) ok
       well_left dl
       (λ made. stand.bool_cell items body told fuel left_ dl made h.1.1.0)
       (evaluation.shortcut items (marked_run items body) fuel (head id ty by) true to)
       (forms.alone items (marked_run items body) around (M right_) to)
       (λ T w' l. rules.deliver_well items (marked_run items body) may_end (Acts items body) (Tests items body)
-      (Drops items body) (Made items body) (does_well items body) (Cell items body) (May items body) (K x)
+      (Drops items body) (Made items body) (does_well items body) (Cell items body) (May items body) (Names items body) (K x)
       (IsMade items body ty) (head id ty by) (λ site. effects.Put site (effects.Truth true)) to
       (nodes.truth_delivers items body fuel (head id ty by) true to h.1.1.1.1 g) T w' l)
       (λ T w' l. more_valued (K x) (IsMade items body (M right_).head.ty) (IsMade items body ty)
@@ -314,19 +337,30 @@ module _ (items : ItemTable) (body : BodyTree) (told : Told items) (fuel : ℕ) 
       (nodes.as_dest items body (head id ty by) to g)) T w' l)) S w f)
 
   pub assign_well : (target : Node) (value : Node) (x : Standpoint) (id : ℕ) (ty : TyId) (by : Option Use) →
-      Holds (typing.row (K x) id ty (tree.Assign target value)) →
-      Reach items body (K x) (M target) →
-      Own items body (K x) (M value) →
-      W x (Of (tree.Assign target value) id ty by)
-  assign_well target value x id ty by h reach_target own_value =
+      Holds (typing.row (K x) id ty (tree.Assign target value)) → at_nodes.Placed items body told fuel target →
+      Alone items (ty_of target) → is_place (form_of target) ≡ true → Reach items body (K x) (M target) →
+      Own items body (K x) (M value) → W x (Of (tree.Assign target value) id ty by)
+  assign_well target value x id ty by h placed alone p reach_target own_value =
       nodes.value_well items body fuel (K x) (head id ty by) (shape_of items (tree.Assign target value) (head id ty by))
       (forms.assigning items (marked_run items body) (head id ty by) (M target) (M value))
       (λ around own to ok g S w f. rules.assigning_well items (marked_run items body) may_end (Acts items body)
       (Tests items body) (Drops items body) (Made items body) (does_well items body) (Cell items body)
-      (May items body) (K x) (IsMade items body ty) (head id ty by) (M target) (M value) around own to ok
-      reach_target
-      own_value
-      (λ made. refl) (λ n. tt) (nodes.unit_delivers items body fuel (head id ty by) to h.1.1.1 g) S w f)
+      (May items body) (Names items body) (K x) (IsMade items body ty) (head id ty by) (M target) (M value) around own to
+      ok reach_target own_value
+      (λ made. sites.moved_to items body (forms.site_of (M target) around)
+      (site_in (M target).head.id (M value).head.id) (ty_of target) alone (there around ok.0)
+      (cell_ok items body (M value).head.id (ty_of target)
+      (stand.fitting_cell items body told fuel value (ty_of target) own_value.1.0 made
+      (stand.wanted_fits items body told fuel x (ty_of target) value h.1.1.0))
+      (facts.is_false (is_reference (type_at items (ty_of target))) (facts.left_of _ _ alone))))
+      (λ n. sites.replaced_drops items body (forms.site_of (M target) around) (ty_of target) (there around ok.0) alone
+      (subst (λ t. needs_drop items t ≡ true) (type_is items (marked_run items body) fuel target) n))
+      (nodes.unit_delivers items body fuel (head id ty by) to h.1.1.1 g) S w f)
+    where
+      there : (around : LoopsAndGuards) → Names items body around.aliases →
+          PlaceOk items body (ty_of target) (forms.place_of (M target) around)
+      there around names = placed (λ q. absurd (false≢true (sym q ∙ at_nodes.meant_place items body told fuel target ∙ p)))
+          around names
 
   pub print_well : (operand : Node) (x : Standpoint) (id : ℕ) (ty : TyId) (by : Option Use) →
       Holds (typing.row (K x) id ty (tree.Print operand)) →
@@ -362,10 +396,11 @@ module _ (items : ItemTable) (body : BodyTree) (told : Told items) (fuel : ℕ) 
       (evaluation.drops items (marked_run items body) fuel (head id ty by) (M operand))
       (λ around own to ok g S w f. rules.dropping_well items (marked_run items body) may_end (Acts items body)
       (Tests items body) (Drops items body) (Made items body) (does_well items body) (Cell items body)
-      (May items body) (K x) (IsMade items body ty) (head id ty by) around own (M operand)
+      (May items body)
+      (Names items body) (K x) (IsMade items body ty) (head id ty by) around own (M operand)
       (forms.put_unit items (marked_run items body) (head id ty by) to) ok own_operand
       (λ T w' l. rules.deliver_well items (marked_run items body) may_end (Acts items body) (Tests items body)
-      (Drops items body) (Made items body) (does_well items body) (Cell items body) (May items body) (K x)
+      (Drops items body) (Made items body) (does_well items body) (Cell items body) (May items body) (Names items body) (K x)
       (IsMade items body ty) (head id ty by) (λ site. effects.Put site effects.UnitValue) to
       (nodes.unit_delivers items body fuel (head id ty by) to h.1 g) T w' l) S w f)
 
@@ -385,22 +420,39 @@ module _ (items : ItemTable) (body : BodyTree) (told : Told items) (fuel : ℕ) 
       (λ around own to. forms.panics items (marked_run items body) Why.Explicit)
       (λ around own to ok g S w f. (tt, f))
 
+  referent_by : (unique : Bool) (o : Option Ty) (r : Bool × TyId) → option_and_then types.reference_in o ≡ Some r →
+      (if unique then r.0 else not r.0) ≡ true → referent unique o ≡ Some r.1
+  referent_by unique None r e h = absurd (none-some r e)
+  referent_by true (Some (Ty.Unique to)) r e h =
+      let same : (true, to) ≡ r = cc in ap (λ (z : Bool × TyId). Some z.1) same
+  referent_by false (Some (Ty.Unique to)) r e h =
+      let same : (true, to) ≡ r = cc in absurd (false≢true (ap (λ (z : Bool × TyId). not z.0) same ∙ h))
+  referent_by true (Some (Ty.Shared to)) r e h =
+      let same : (false, to) ≡ r = cc in absurd (false≢true (ap (λ (z : Bool × TyId). z.0) same ∙ h))
+  referent_by false (Some (Ty.Shared to)) r e h =
+      let same : (false, to) ≡ r = cc in ap (λ (z : Bool × TyId). Some z.1) same
+  referent_by unique (Some ty) r e h = absurd (none-some r e)
+
   pub borrow_well : (unique : Bool) (base : Node) (x : Standpoint) (id : ℕ) (ty : TyId) (by : Option Use) →
-      Holds (typing.row (K x) id ty (tree.Borrow unique base)) →
+      Holds (typing.row (K x) id ty (tree.Borrow unique base)) → at_nodes.Placed items body told fuel base →
       Reach items body (K x) (M base) →
       W x (Of (tree.Borrow unique base) id ty by)
-  borrow_well unique base x id ty by h reach_base =
+  borrow_well unique base x id ty by h placed reach_base =
       let r = some_holds (types.reference_of items ty)
       (λ r. both (fact (types.is_same (ty_of base) r.1)) (fact (if unique then r.0 else not r.0))) h.1.1 in
       nodes.value_well items body fuel (K x) (head id ty by) (shape_of items (tree.Borrow unique base) (head id ty by))
       (forms.borrowing items (marked_run items body) (head id ty by) unique (M base))
       (λ around own to ok g S w f. rules.borrowing_well items (marked_run items body) may_end (Acts items body)
       (Tests items body) (Drops items body) (Made items body) (does_well items body) (Cell items body)
-      (May items body) (K x) (IsMade items body ty) (head id ty by) unique (M base) around own to ok
+      (May items body)
+      (Names items body) (K x) (IsMade items body ty) (head id ty by) unique (M base) around own to ok
       reach_base
-      (at_nodes.reference_delivers items body told fuel (head id ty by)
+      (λ reached. at_nodes.reference_delivers items body told fuel (head id ty by)
       (λ site. effects.Borrow (record site { node = (M base).head.id }) unique (site_of (M base) around))
-      r.0 r.1.0 (λ key. refl) (λ key m. m) to g) S w f)
+      r.0 r.1.0 (λ key c. sites.borrow_acts items body (M base).head.id key unique (site_of (M base) around) ty
+      (ty_of base) c (placed reached around ok.0)
+      (subst (λ i. referent unique (type_at items ty) ≡ Some i) (sym (same_type (ty_of base) r.0.1 r.1.1.0))
+      (referent_by unique (type_at items ty) r.0 r.1.0 r.1.1.1))) (λ key m. m) to g) S w f)
 
   pub unsize_well : (trait_no : ℕ) (operand : Node) (x : Standpoint) (id : ℕ) (ty : TyId) (by : Option Use) →
       Holds (typing.row (K x) id ty (tree.Unsize trait_no operand)) →

@@ -1,6 +1,6 @@
 -- What the pass over the forms for the first test uses at its nodes: where a value goes and of which type, references
 -- and names, jumps, lists of arms.
-use Rattle.std.proofs.Common.{◌≡◌, ◌⊎◌, inl, inr, ℕ, ◌&&◌, ◌||◌, not, Bool, true, false, List, [], ◌∷◌, ◌++◌, length, Option, Some, None, is_none, if◌then◌else◌, refl, ap, sym, ◌∙◌, subst}
+use Rattle.std.proofs.Common.{◌≡◌, ◌⊎◌, inl, inr, ℕ, ◌==◌, ◌&&◌, ◌||◌, not, Bool, true, false, List, [], ◌∷◌, ◌++◌, length, Option, Some, None, is_none, if◌then◌else◌, refl, ap, sym, ◌∙◌, subst}
 use Rattle.std.specs.Prelude.{option_and_then}
 use Rattle.std.specs.List.{list_all}
 use Rattle.std.proofs.lemmas.Bool.{false≢true}
@@ -20,15 +20,20 @@ use Rattle.src_meaning.specs.Forms.{Destination, Into, Coerced, coerced, LoopsAn
 use Rattle.src_meaning.specs.Locals.OfBody.{cells, reached_cells, cells_in}
 use Rattle.src_meaning.specs.Scopes.{Entry, Scopes}
 use Rattle.src_meaning.specs.Shape.{NodeHead, head, Shape, shape, shape_of}
-use Rattle.well_typed.specs.Claim.{Claim, Holds, both}
+use Rattle.well_typed.specs.Claim.{Claim, Holds, fact, both}
 use Rattle.well_typed.specs.Nodes as typing
 use Rattle.well_typed.specs.Patterns as patterns
 use Rattle.well_typed.specs.Patterns.{Matched}
-use Rattle.well_typed.specs.Places.{LoopAround, Context, ty_of, form_of, is_place, is_borrow, Taken, Base, Used}
+use Rattle.well_typed.specs.Places.{LoopAround, Context, ty_of, form_of, is_place, is_borrow, Standing, Taken, Base, Used}
 use Rattle.well_typed.specs.Types as types
 use Rattle.soundness.proofs.Checked.{Checking}
 use Rattle.soundness.proofs.Facts.{Facts}
 use Rattle.soundness.proofs.Leaving.{Shown}
+use Rattle.soundness.proofs.PassCellNames.{Names, PlaceOk, BoundsPlaced, array_leads}
+use Rattle.soundness.proofs.PassCellPlaces as places
+use Rattle.soundness.proofs.PassCellPlaces.{Scoped}
+use Rattle.soundness.proofs.PassCellTaken as taken
+use Rattle.soundness.proofs.PlaceTypes.{some_holds, same_type}
 use Rattle.soundness.proofs.PassCellActs as acts
 use Rattle.soundness.proofs.PassCellActs.{Cell}
 use Rattle.soundness.proofs.PassCellEffects.{marked_run, may_end, Acts, Tests, Drops, Made, does_well}
@@ -186,17 +191,49 @@ module _ (items : ItemTable) (body : BodyTree) (told : Told items) (fuel : ℕ) 
       absurd (facts.not_twice items h.ty (ty_of operand) d.1.0 trait_no another e d.1.1.1)
 
   -- the names of a pattern, and its tests, as the evaluation has them
+  names_meant : (p : Node) (m : Matched) (want : TyId) → Holds (patterns.pattern items m want p) →
+      (typing.is_one_name p ≡ true → types.is_reference items want ≡ false) → H (cells items true p) → (place : Place) →
+      PlaceOk items body want place → taken.AllTaken items body ((M p).shape.bindings place)
+  names_meant p m want h r k place pl = subst (λ (s : Shape). taken.AllTaken items body (s.bindings place))
+      (sym (shape_is items (marked_run items body) fuel p))
+      (taken.names_taken items body told p m want h r k place pl)
+
   pub bounds_meant : (p : Node) (m : Matched) (want : TyId) → Holds (patterns.pattern items m want p) →
       (typing.is_one_name p ≡ true → types.is_reference items want ≡ false) → H (cells items true p) → (place : Place) →
-      cells_of.BoundsOk items body ((M p).shape.bindings place)
-  bounds_meant p m want h r k place = subst (λ (s : Shape). cells_of.BoundsOk items body (s.bindings place))
-      (sym (shape_is items (marked_run items body) fuel p)) (cells_of.bounds_ok items body told p m want h r k place)
+      PlaceOk items body want place → taken.BoundsOk items body ((M p).shape.bindings place)
+  bounds_meant p m want h r k place pl = taken.taken_ok items body ((M p).shape.bindings place)
+      (names_meant p m want h r k place pl)
+
+  pub placed_meant : (p : Node) (m : Matched) (want : TyId) → Holds (patterns.pattern items m want p) →
+      (typing.is_one_name p ≡ true → types.is_reference items want ≡ false) → H (cells items true p) → (place : Place) →
+      PlaceOk items body want place → BoundsPlaced items body ((M p).shape.bindings place)
+  placed_meant p m want h r k place pl = taken.taken_placed items body ((M p).shape.bindings place)
+      (names_meant p m want h r k place pl)
 
   pub tests_meant : (p : Node) (m : Matched) (want : TyId) → Holds (patterns.pattern items m want p) →
-      H (cells items true p) →
-      (place : Place) → cells_of.TestsOk items body ((M p).shape.tests place)
-  tests_meant p m want h k place = subst (λ (s : Shape). cells_of.TestsOk items body (s.tests place))
-      (sym (shape_is items (marked_run items body) fuel p)) (cells_of.tests_ok items body told p m want h k place)
+      H (cells items true p) → (place : Place) → PlaceOk items body want place →
+      taken.TestsOk items body ((M p).shape.tests place)
+  tests_meant p m want h k place pl = subst (λ (s : Shape). taken.TestsOk items body (s.tests place))
+      (sym (shape_is items (marked_run items body) fuel p)) (taken.tests_ok items body told p m want h k place pl)
+
+  -- the place of a node, as the evaluation has it, if it is reached
+  abbrev pub Placed : Node → Type 0
+  Placed n = Reached items body (M n) → (around : LoopsAndGuards) → Names items body around.aliases →
+      PlaceOk items body (ty_of n) (forms.place_of (M n) around)
+
+  pub placed_node : (n : Node) (x : Standpoint) (standing : Standing) → Holds (typing.typed (K x) standing n) →
+      Scoped items body x → H (reached_cells items n) → types.is_reference items (ty_of n) ≡ false → Placed n
+  placed_node n x standing h s k r reached around names =
+      subst (λ (z : Shape). PlaceOk items body (ty_of n) (z.place around.aliases))
+      (sym (shape_is items (marked_run items body) fuel n))
+      (places.node_place items body told fuel n x standing h s k
+      (λ p. nodes.is_made_node items body fuel n (reached (meant_place n ∙ p)))
+      (sym (facts.reference_by (type_at items (ty_of n))) ∙ r) around.aliases names)
+
+  -- a place that leads on is touched
+  pub touched : (n : Node) → Placed n → (around : LoopsAndGuards) → Names items body around.aliases →
+      (M n).shape.is_place ≡ true → Acts items body (effects.Touch (forms.site_of (M n) around))
+  touched n placed around names p = (placed (λ q. absurd (false≢true (sym q ∙ p))) around names).leading
 
   -- a scrutinee is no reference by itself
   pub used_plain : (x : Standpoint) (u : Use) (n : Node) → Holds (typing.typed (K x) (Used u) n) →
@@ -206,10 +243,10 @@ module _ (items : ItemTable) (body : BodyTree) (told : Told items) (fuel : ℕ) 
 
   pub any_declared : (bounds : List BoundName) →
       statements.DeclaredOk items (marked_run items body) may_end (Acts items body) (Tests items body)
-      (Drops items body) (Made items body) (does_well items body) (Cell items body) (May items body) bounds
+      (Drops items body) (Made items body) (does_well items body) (Cell items body) (May items body) (Names items body) bounds
   any_declared [] = tt
   any_declared (b ∷ bounds) = (
-    ((λ n. tt), nodes.droppable items body (bound_entry b)),
+    ((λ n. refl), nodes.droppable items body (bound_entry b)),
     any_declared bounds,
   )
 
@@ -245,7 +282,7 @@ module _ (items : ItemTable) (body : BodyTree) (told : Told items) (fuel : ℕ) 
           (forms.put_unit_if items (marked_run items body) b h to S v)
       of_never true n = nodes.not_never items body h.ty (facts.unit_is items h.ty e).1 n
       of_never false n = rules.deliver_well items (marked_run items body) may_end (Acts items body) (Tests items body)
-          (Drops items body) (Made items body) (does_well items body) (Cell items body) (May items body) c
+          (Drops items body) (Made items body) (does_well items body) (Cell items body) (May items body) (Names items body) c
           (IsMade items body h.ty) h (λ site. effects.Put site effects.UnitValue) to
           (nodes.unit_delivers items body fuel h to e g) S v f
 
@@ -268,29 +305,44 @@ module _ (items : ItemTable) (body : BodyTree) (told : Told items) (fuel : ℕ) 
       Shown may_end (Post items body (K x) (IsMade items body h.ty))
       (forms.alone items (marked_run items body) around (M n) to S v)
   alone_to x n h around to ok w d f S v fine = rules.more_valued items (marked_run items body) may_end (Acts items body)
-      (Tests items body) (Drops items body) (Made items body) (does_well items body) (Cell items body) (May items body)
+      (Tests items body) (Drops items body) (Made items body) (does_well items body) (Cell items body) (May items body) (Names items body)
       (K x) (IsMade items body (M n).head.ty) (IsMade items body h.ty) f
       (forms.alone items (marked_run items body) around (M n) to S v)
       (rules.alone_well items (marked_run items body) may_end (Acts items body) (Tests items body)
-      (Drops items body) (Made items body) (does_well items body) (Cell items body) (May items body) (K x) around
+      (Drops items body) (Made items body) (does_well items body) (Cell items body) (May items body) (Names items body) (K x) around
       (M n) to ok w d S v fine)
+
+  -- an element is no reference
+  element_plain : (base index : Node) (count : ℕ) (x : Standpoint) (id : ℕ) (ty : TyId) →
+      Holds (typing.row (K x) id ty (tree.Index base index count)) → is_reference (type_at items ty) ≡ false
+  element_plain base index count x id ty h =
+      let a = some_holds (types.array_of items (ty_of base))
+      (λ a. fact (types.is_same ty a.0 && count == a.1)) h.1.1.1 in
+      subst (λ i. is_reference (type_at items i) ≡ false)
+      (sym (same_type ty a.0.0 (facts.left_of (types.is_same ty a.0.0) _ a.1.1)))
+      (sym (facts.reference_by (type_at items a.0.0))
+      ∙ facts.is_false (types.is_reference items a.0.0) (facts.right_of _ _ (facts.right_of _ _
+      (told.arrays (ty_of base) a.0 a.1.0))))
 
   pub element_with : (base index : Node) (length : ℕ) (x : Standpoint) (id : ℕ) (ty : TyId) (by : Option Use) →
       Holds (typing.row (K x) id ty (tree.Index base index length)) →
       H (cells_in items (tree.Index base index length)) →
-      Reach items body (K x) (M base) → W x (M index) → (valued : Type 0) → valued →
+      Scoped items body x → Reach items body (K x) (M base) → W x (M index) → (valued : Type 0) → valued →
       (around : LoopsAndGuards) (S : Scopes)
       (v : V) → AroundWell items body (K x) around → Fine items body S → Shown may_end (Post items body (K x) valued)
       (forms.reach_element items (marked_run items body) (head id ty by)
       (shape_of items (tree.Index base index length) (head id ty by))
       (M base) (M index) length around S v)
-  element_with base index length x id ty by h k r w valued made around S v ok f =
+  element_with base index length x id ty by h k s r w valued made around S v ok f =
       let d = stand.own_dest items body told fuel index x Taken h.1.0
       (right (reached_cells items base) (cells items true index) k) in
       rules.element_well items (marked_run items body) may_end (Acts items body) (Tests items body) (Drops items body)
-      (Made items body) (does_well items body) (Cell items body) (May items body) (K x) valued (Unit {0})
+      (Made items body) (does_well items body) (Cell items body) (May items body) (Names items body) (K x) valued (Unit {0})
       (head id ty by)
-      (shape_of items (tree.Index base index length) (head id ty by)) (M base) (M index) length around ok r w d refl
+      (shape_of items (tree.Index base index length) (head id ty by)) (M base) (M index) length around ok r w d
+      (array_leads items body ((shape_of items (tree.Index base index length) (head id ty by)).place around.aliases)
+      (places.form_place items body told fuel (tree.Index base index length) x id ty by h refl s k
+      (element_plain base index length x id ty h) around.aliases ok.0).leading)
       (λ m. index_bounds index length d h.1.1.0 m) made S v f
 
   pub either_reached : {R : Type 0} (b : Bool) (form : Form) → is_place form ≡ b → (is_place form ≡ true → R) →
@@ -326,7 +378,7 @@ module _ (items : ItemTable) (body : BodyTree) (told : Told items) (fuel : ℕ) 
       (S : Scopes) (v : V) → Fine items body S →
       Shown may_end (Post items body c (IsMade items body ty)) (forms.put_unit items (marked_run items body) h to S v)
   unit_jump c h ty to e d S v f = rules.deliver_well items (marked_run items body) may_end (Acts items body)
-      (Tests items body) (Drops items body) (Made items body) (does_well items body) (Cell items body) (May items body)
+      (Tests items body) (Drops items body) (Made items body) (does_well items body) (Cell items body) (May items body) (Names items body)
       c (IsMade items body ty) h (λ site. effects.Put site effects.UnitValue) to
       (nodes.unit_delivers items body fuel (record { id = h.id; ty = ty; by = h.by }) to e (as_given h ty to e d)) S v f
 
@@ -337,7 +389,7 @@ module _ (items : ItemTable) (body : BodyTree) (told : Told items) (fuel : ℕ) 
       Shown may_end (Post items body (K x) (IsMade items body want)) ((M n).evaluate around false to S v)
   value_jump x n want around to ok w e d S v f =
       rules.more_valued items (marked_run items body) may_end (Acts items body) (Tests items body) (Drops items body)
-      (Made items body) (does_well items body) (Cell items body) (May items body) (K x)
+      (Made items body) (does_well items body) (Cell items body) (May items body) (Names items body) (K x)
       (IsMade items body (M n).head.ty) (IsMade items body want)
       (nodes.fits_made items body fuel n want e) ((M n).evaluate around false to S v)
       (w around false to S v ok (stand.fits_head items body told fuel n want to e d) f)
@@ -351,11 +403,11 @@ module _ (items : ItemTable) (body : BodyTree) (told : Told items) (fuel : ℕ) 
 
   pub reference_delivers : (h : NodeHead) (action : EffectSite → Action) (r : Bool × TyId) →
       types.reference_of items h.ty ≡ Some r →
-      ((key : ℕ) → Acts items body (action (site_in h.id key))) →
+      ((key : ℕ) → Cell items body key h.ty → Acts items body (action (site_in h.id key))) →
       ((key : ℕ) → MadeBy (Made items body)
       (stored_by (action (site_in h.id key))) → Made items body (site_in h.id key)) →
       (to : Destination) → Given items body h to → Delivers items body (IsMade items body h.ty) h action to
-  reference_delivers h action r e a m to g = nodes.delivers items body h action (λ key c. a key) m to
+  reference_delivers h action r e a m to g = nodes.delivers items body h action a m to
       (nodes.given_cell items body h to g
       (λ n. absurd (false≢true (sym (reference_sort (type_at items h.ty) r e) ∙ n))))
 
@@ -381,7 +433,8 @@ module _ (items : ItemTable) (body : BodyTree) (told : Told items) (fuel : ℕ) 
       true →
       Dest items body ty to → branches.ArmsFit items (marked_run items body) may_end (Acts items body)
       (Tests items body) (Drops items body) (Made items body) (does_well items body) (Cell items body)
-      (May items body) (IsMade items body ty) to (Ms arms)
+      (May items body)
+      (Names items body) (IsMade items body ty) to (Ms arms)
   arms_fit no_node ty to e d = tt
   arms_fit (a_node first rest) ty to e d =
       let f = facts.left_of (types.fits items ty (ty_of first)) (list_all (types.fits items ty) (typing.types_in rest))

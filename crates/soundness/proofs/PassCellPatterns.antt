@@ -11,12 +11,14 @@ use Rattle.mir_ty.specs.declared.def.TraitDef.{TraitDef}
 use Rattle.mir_base.specs.declared.operator.Cmp.{Cmp}
 use Rattle.mir_ty.specs.declared.ty.Ty.{Ty}
 use Rattle.mir_ty.specs.declared.ty.TyId.{TyId}
+use Rattle.mir_ty.specs.Facts.{is_copy, needs_drop}
 use Rattle.mir_ty.specs.ItemTable.{ItemTable, type_at}
 use Rattle.mir_ty.specs.Parts.{field_ty, parts_of}
 use Rattle.mir_ty.specs.declared.adt.Variant.{Variant}
 use Rattle.soundness.specs.Typed.{has_variant}
 use Rattle.store_model.specs.Effects as effects
 use Rattle.store_model.specs.Effects.{EffectSite}
+use Rattle.store_model.specs.Concrete.Location.{named_by}
 use Rattle.store_model.specs.Places.Place.{Step, ToPart, ToField, Place}
 use Rattle.store_model.specs.Places.TypeForms as type_forms
 use Rattle.typed_tree.specs.declared.node.Use.{Use}
@@ -35,6 +37,7 @@ use Rattle.well_typed.specs.Patterns.{Matched}
 use Rattle.well_typed.specs.Places.{form_of}
 use Rattle.well_typed.specs.Types as types
 use Rattle.soundness.proofs.Leaving.{AllOf}
+use Rattle.soundness.proofs.PassCellNames.{Names}
 use Rattle.soundness.proofs.PassCellActs as acts
 use Rattle.soundness.proofs.PassCellActs.{Cell}
 use Rattle.soundness.proofs.PassCellEffects.{marked_run, may_end, Acts, Tests, Drops, Made, does_well}
@@ -62,7 +65,12 @@ pub record Told (items : ItemTable) : Type 0 where
   pub arrays : (id : TyId) (a : TyId × ℕ) → types.array_of items id ≡ Some a → stands_alone items a.0 ≡ true
   pub captures : (n : ℕ) (def : ClosureDef) → slice_get items.closures n ≡ Some def →
       list_all (stands_alone items) def.captures ≡ true
+  pub closures : (n : ℕ) (def : ClosureDef) (sig : Sig) (ty : TyId) (rest : List TyId) →
+      slice_get items.closures n ≡ Some def → slice_get items.bodies def.body ≡ Some sig → sig.params ≡ ty ∷ rest →
+      types.closure_of items ty ≡ Some n
+  pub copies : (id : TyId) → is_copy items id ≡ true → needs_drop items id ≡ false
   pub boxes : (id inside : TyId) → types.boxed_of items id ≡ Some inside → types.is_reference items inside ≡ false
+  pub referents : (id to : TyId) → named_by (type_at items id) ≡ Some to → types.is_reference items to ≡ false
   pub bools : (a b : TyId) → types.is_bool items a ≡ true → types.is_bool items b ≡ true → a ≡ b
   pub units : (a b : TyId) → types.is_unit items a ≡ true → types.is_unit items b ≡ true → a ≡ b
   pub truth : type_forms.is_bool (type_at items (bool_ty items)) ≡ true
@@ -189,54 +197,7 @@ module _ (items : ItemTable) (body : BodyTree) where
       of_place true e h = absurd (false≢true (sym e))
       of_place false e h = h
 
-  -- ---- the names of patterns
-
-  abbrev pub BoundsOk : List BoundName → Type 0
-  BoundsOk = branches.BoundsOk items (marked_run items body) may_end (Acts items body) (Tests items body)
-      (Drops items body) (Made items body) (does_well items body) (Cell items body) (May items body)
-
-  abbrev pub TestsOk : PatternTests → Type 0
-  TestsOk = branches.TestsOk items (marked_run items body) may_end (Acts items body) (Tests items body)
-      (Drops items body) (Made items body) (does_well items body) (Cell items body) (May items body)
-
-  abbrev pub AnyOk : Alternatives → Type 0
-  AnyOk = branches.AnyOk items (marked_run items body) may_end (Acts items body) (Tests items body) (Drops items body)
-      (Made items body) (does_well items body) (Cell items body) (May items body)
-
-  pub both_bounds : (a b : List BoundName) → BoundsOk a → BoundsOk b → BoundsOk (a ++ b)
-  both_bounds [] b h k = k
-  both_bounds (x ∷ a) b h k = (h.0, both_bounds a b h.1 k)
-
-  pub both_tests : (a b : PatternTests) → TestsOk a → TestsOk b → TestsOk (followed_by a b)
-  both_tests no_test b h k = k
-  both_tests (a_test test rest) b h k = (h.0, both_tests rest b h.1 k)
-
-  put_bound : (b : Bool) (key : ℕ) (site : EffectSite) (id : TyId) → Cell items body key id → Alone items id →
-      Acts items body (effects.Put (site_of_key key)
-      (copied_or_moved b site))
-  put_bound true key site id c a = acts.put_moved items body key key site
-  put_bound false key site id c a = acts.put_copied items body key key site id c a
-
   module _ (told : Told items) where
-    plain_part : (ty : TyId) (tys : List TyId) → list_all (stands_alone items) (ty ∷ tys) ≡ true →
-        (types.is_reference items ty ≡ false) × (list_all (stands_alone items) tys ≡ true)
-    plain_part ty tys h = (
-      facts.is_false (types.is_reference items ty) (facts.right_of _ _ (facts.right_of _ _
-          (facts.left_of (stands_alone items ty) (list_all (stands_alone items) tys) h))),
-      facts.right_of (stands_alone items ty) (list_all (stands_alone items) tys) h,
-    )
-
-    all_alike : (ty : TyId) (n : ℕ) → stands_alone items ty ≡ true → list_all (stands_alone items) (replicate n ty) ≡
-        true
-    all_alike ty zero h = refl
-    all_alike ty (suc n) h = ap (λ b. b && list_all (stands_alone items) (replicate n ty)) h ∙ all_alike ty n h
-
-    tuple_plain : (b : Bool) (ty : TyId) (tys : List TyId) →
-        (if b then Some [] else types.tuple_of items ty) ≡ Some tys → list_all (stands_alone items) tys ≡ true
-    tuple_plain true ty tys e =
-        let same : [] ≡ tys = cc in subst (λ l. list_all (stands_alone items) l ≡ true) same refl
-    tuple_plain false ty tys e = told.tuples ty tys e
-
     pub name_cell : (id : ℕ) (at : Pos) (ty : TyId) (by : Option Use) (name : List ℕ) →
         Has (cells items true (node id at ty by (tree.Binding name))) → Cell items body id ty
     name_cell id at ty by name k = of_never (is_never items ty) refl
@@ -244,164 +205,3 @@ module _ (items : ItemTable) (body : BodyTree) where
         of_never : (never : Bool) → is_never items ty ≡ never → Cell items body id ty
         of_never true e = never_cell true id at ty by (tree.Binding name) refl k e refl
         of_never false e = own_cell id at ty by (tree.Binding name) refl k e
-
-    mutual
-      -- the names of a pattern for a place that holds no reference
-      pub bounds_ok : (p : Node) (m : Matched) (want : TyId) → Holds (patterns.pattern items m want p) →
-          (typing.is_one_name p ≡ true → types.is_reference items want ≡ false) → Has (cells items true p) →
-          (place : Place) →
-          BoundsOk ((shape items p).bindings place)
-      bounds_ok (node id at ty by form) m want h r k place =
-          form_bounds form m id at ty by h.1 (λ e. ap (types.is_reference items) (same_type ty want h.0) ∙ r e) k place
-
-      form_bounds : (form : Form) (m : Matched) (id : ℕ) (at : Pos) (ty : TyId) (by : Option Use) →
-          Holds (patterns.pattern_row items m ty by form) →
-          (typing.is_one_name (node id at ty by form) ≡ true → types.is_reference items ty ≡ false) →
-          Has (cells items true (node id at ty by form)) → (place : Place) →
-          BoundsOk ((shape_of items form (head id ty by)).bindings place)
-      form_bounds (tree.Binding name) m id at ty by h r k place =
-          let c = name_cell id at ty by name k in (
-            (
-              put_bound (moves by) id (site_at (head id ty by) place) ty c
-                  (facts.used_alone items ty m.may_move h.1 (ap not (r refl))),
-              nodes.droppable items body (record { key = id; ty = ty }),
-            ),
-            tt,
-          )
-      form_bounds (tree.StructPattern fields) m id at ty by h r k place = fields_bounds fields _ ty 0 ToPart h.1.1.1
-          (inside true (node id at ty by (tree.StructPattern fields)) k) place
-      form_bounds (tree.VariantPattern variant is_test fields) m id at ty by h r k place =
-          fields_bounds fields _ ty variant (ToField variant) h.1.1.1
-          (inside true (node id at ty by (tree.VariantPattern variant is_test fields)) k) place
-      form_bounds (tree.TuplePattern parts) m id at ty by h r k place =
-          let t = some_holds (patterns.tuple_types items ty) (λ tys. patterns.part_patterns items m tys parts) h.1 in
-          parts_bounds parts m t.0 0 t.1.1 (tuple_plain (types.is_unit items ty) ty t.0 t.1.0)
-          (inside true (node id at ty by (tree.TuplePattern parts)) k) place
-      form_bounds (tree.ArrayPattern elements) m id at ty by h r k place =
-          let t = some_holds (types.array_of items ty)
-          (λ a. patterns.part_patterns items m (replicate a.1 a.0) elements) h.1 in
-          parts_bounds elements m (replicate t.0.1 t.0.0) 0 t.1.1 (all_alike t.0.0 t.0.1 (told.arrays ty t.0 t.1.0))
-          (inside true (node id at ty by (tree.ArrayPattern elements)) k) place
-      form_bounds form m id at ty by h r k place = tt
-
-      fields_bounds : (fs : Fields) (m : Matched) (ty : TyId) (variant : ℕ) (step : ℕ → Step) →
-          Holds (patterns.field_patterns items m ty variant fs) → Has (cells_of_fields items fs) → (place : Place) →
-          BoundsOk ((shapes.in_fields items fs step).bindings place)
-      fields_bounds no_field m ty variant step h k place = tt
-      fields_bounds (a_field number value rest) m ty variant step h k place =
-          let t = some_holds (field_ty items ty variant number) (λ want. patterns.pattern items m want value) h.0 in
-          both_bounds ((shape items value).bindings (extended (step number) place))
-          ((shapes.in_fields items rest step).bindings place)
-          (bounds_ok value m t.0 t.1.1 (λ e. told.fields ty variant number t.0 t.1.0)
-          (has_left (cells items true value) (cells_of_fields items rest) k) (extended (step number) place))
-          (fields_bounds rest m ty variant step h.1 (has_right (cells items true value) (cells_of_fields items rest) k)
-          place)
-
-      parts_bounds : (ns : Nodes) (m : Matched) (tys : List TyId) (n : ℕ) →
-          Holds (patterns.part_patterns items m tys ns) →
-          list_all (stands_alone items) tys ≡ true → Has (all_cells items ns) → (place : Place) →
-          BoundsOk ((shapes.in_parts items ns n).bindings place)
-      parts_bounds no_node m tys n h p k place = tt
-      parts_bounds (a_node one rest) m [] n h p k place = absurd (false≢true h)
-      parts_bounds (a_node one rest) m (ty ∷ tys) n h p k place =
-          both_bounds ((shape items one).bindings (extended (ToPart n) place))
-          ((shapes.in_parts items rest (suc n)).bindings place)
-          (bounds_ok one m ty h.0 (λ e. (plain_part ty tys p).0)
-          (has_left (cells items true one) (all_cells items rest) k)
-          (extended (ToPart n) place))
-          (parts_bounds rest m tys (suc n) h.1 (plain_part ty tys p).1
-          (has_right (cells items true one) (all_cells items rest) k) place)
-
-    -- ---- the tests of patterns
-
-    bool_alone : Alone items (bool_ty items)
-    bool_alone = by (type_at items (bool_ty items)) told.truth
-      where
-        by : (o : Option Ty) → type_forms.is_bool o ≡ true → facts.Plain o
-        by (Some Ty.Bool) e = refl
-        by None e = absurd (false≢true e)
-        by (Some ty) e = absurd (false≢true e)
-
-    test_cell : (id : ℕ) (place : Place) (ty : TyId) (by : Option Use) (value : effects.Operand) →
-        Cell items body id (bool_ty items) →
-        Acts items body (effects.Compare (site_of_key id)
-        Cmp.Eq
-        (effects.Copied (site_at (head id ty by) place)) value)
-        × Tests items body (effects.IsTrue (moved id id))
-    test_cell id place ty by value c = (
-      acts.tests_into items body id (site_at (head id ty by) place) value (bool_ty items) c bool_alone told.truth,
-      acts.is_true items body id id (bool_ty items) c bool_alone told.truth,
-    )
-
-    mutual
-      pub tests_ok : (p : Node) (m : Matched) (want : TyId) → Holds (patterns.pattern items m want p) →
-          Has (cells items true p) → (place : Place) → TestsOk ((shape items p).tests place)
-      tests_ok (node id at ty by form) m want h k place = form_tests form m id at ty by h.1 k place
-
-      form_tests : (form : Form) (m : Matched) (id : ℕ) (at : Pos) (ty : TyId) (by : Option Use) →
-          Holds (patterns.pattern_row items m ty by form) → Has (cells items true (node id at ty by form)) →
-          (place : Place) → TestsOk ((shape_of items form (head id ty by)).tests place)
-      form_tests (tree.NumberPattern value) m id at ty by h k place = (
-        test_cell id place ty by (effects.Number value (kind_of items ty))
-            (own_cell id at ty by (tree.NumberPattern value) refl k
-            (facts.number_is items ty value h.1).1.1.1),
-        tt,
-      )
-      form_tests (tree.TruthPattern value) m id at ty by h k place = (
-        test_cell id place ty by (effects.Truth value)
-            (own_cell id at ty by (tree.TruthPattern value) refl k (facts.bool_is items ty h.1).1.1),
-        tt,
-      )
-      form_tests (tree.StructPattern fields) m id at ty by h k place = fields_tests fields _ ty 0 ToPart h.1.1.1
-          (inside true (node id at ty by (tree.StructPattern fields)) k) place
-      form_tests (tree.VariantPattern variant true fields) m id at ty by h k place = (
-        refl,
-        fields_tests fields _ ty variant (ToField variant) h.1.1.1
-            (inside true (node id at ty by (tree.VariantPattern variant true fields)) k) place,
-      )
-      form_tests (tree.VariantPattern variant false fields) m id at ty by h k place =
-          fields_tests fields _ ty variant (ToField variant) h.1.1.1
-          (inside true (node id at ty by (tree.VariantPattern variant false fields)) k) place
-      form_tests (tree.TuplePattern parts) m id at ty by h k place =
-          let t = some_holds (patterns.tuple_types items ty) (λ tys. patterns.part_patterns items m tys parts) h.1 in
-          parts_tests parts m t.0 0 t.1.1 (inside true (node id at ty by (tree.TuplePattern parts)) k) place
-      form_tests (tree.ArrayPattern elements) m id at ty by h k place =
-          let t = some_holds (types.array_of items ty)
-          (λ a. patterns.part_patterns items m (replicate a.1 a.0) elements) h.1 in
-          parts_tests elements m (replicate t.0.1 t.0.0) 0 t.1.1
-          (inside true (node id at ty by (tree.ArrayPattern elements)) k) place
-      form_tests (tree.OrPattern alternatives) m id at ty by h k place =
-          (any_ok alternatives m ty h.1.1 (inside true (node id at ty by (tree.OrPattern alternatives)) k) place, tt)
-      form_tests form m id at ty by h k place = tt
-
-      fields_tests : (fs : Fields) (m : Matched) (ty : TyId) (variant : ℕ) (step : ℕ → Step) →
-          Holds (patterns.field_patterns items m ty variant fs) → Has (cells_of_fields items fs) → (place : Place) →
-          TestsOk ((shapes.in_fields items fs step).tests place)
-      fields_tests no_field m ty variant step h k place = tt
-      fields_tests (a_field number value rest) m ty variant step h k place =
-          let t = some_holds (field_ty items ty variant number) (λ want. patterns.pattern items m want value) h.0 in
-          both_tests ((shape items value).tests (extended (step number) place))
-          ((shapes.in_fields items rest step).tests place)
-          (tests_ok value m t.0 t.1.1 (has_left (cells items true value) (cells_of_fields items rest) k)
-          (extended (step number) place))
-          (fields_tests rest m ty variant step h.1 (has_right (cells items true value) (cells_of_fields items rest) k)
-          place)
-
-      parts_tests : (ns : Nodes) (m : Matched) (tys : List TyId) (n : ℕ) →
-          Holds (patterns.part_patterns items m tys ns) →
-          Has (all_cells items ns) → (place : Place) → TestsOk ((shapes.in_parts items ns n).tests place)
-      parts_tests no_node m tys n h k place = tt
-      parts_tests (a_node one rest) m [] n h k place = absurd (false≢true h)
-      parts_tests (a_node one rest) m (ty ∷ tys) n h k place =
-          both_tests ((shape items one).tests (extended (ToPart n) place))
-          ((shapes.in_parts items rest (suc n)).tests place)
-          (tests_ok one m ty h.0 (has_left (cells items true one) (all_cells items rest) k) (extended (ToPart n) place))
-          (parts_tests rest m tys (suc n) h.1 (has_right (cells items true one) (all_cells items rest) k) place)
-
-      any_ok : (ns : Nodes) (m : Matched) (ty : TyId) → Holds (patterns.each_pattern items m ty ns) →
-          Has (all_cells items ns) → (place : Place) → AnyOk (shapes.alternatives_at items ns place)
-      any_ok no_node m ty h k place = tt
-      any_ok (a_node one rest) m ty h k place = (
-        tests_ok one m ty h.0 (has_left (cells items true one) (all_cells items rest) k) place,
-        any_ok rest m ty h.1 (has_right (cells items true one) (all_cells items rest) k) place,
-      )

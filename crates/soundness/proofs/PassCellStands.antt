@@ -5,7 +5,7 @@ use Rattle.std.specs.Prelude.{replicate}
 use Rattle.std.specs.List.{list_all}
 use Rattle.std.proofs.lemmas.Bool.{false≢true}
 use Rattle.mir_ty.specs.declared.ty.TyId.{TyId}
-use Rattle.mir_ty.specs.Facts.{is_copy}
+use Rattle.mir_ty.specs.Facts.{is_copy, needs_drop}
 use Rattle.mir_ty.specs.ItemTable.{ItemTable, type_at}
 use Rattle.store_model.specs.Effects as effects
 use Rattle.store_model.specs.Places.Place.{is_reference}
@@ -17,7 +17,7 @@ use Rattle.src_meaning.specs.Evaluation.{meaning, meaning_of, meanings, fields_o
 use Rattle.src_meaning.specs.Forms as forms
 use Rattle.src_meaning.specs.Forms.{Destination, Into, Meaning, moved, is_never}
 use Rattle.src_meaning.specs.Locals.OfBody.{cells, all_cells}
-use Rattle.src_meaning.specs.Shape.{NodeHead, head, Shape}
+use Rattle.src_meaning.specs.Shape.{NodeHead, head, Shape, moves}
 use Rattle.well_typed.specs.Claim.{Claim, Holds, fact, both}
 use Rattle.well_typed.specs.Items.{stands_alone, is_param}
 use Rattle.well_typed.specs.Nodes as typing
@@ -28,6 +28,7 @@ use Rattle.soundness.proofs.Checked.{Checking}
 use Rattle.soundness.proofs.Facts.{Facts}
 use Rattle.soundness.proofs.PassCellActs as acts
 use Rattle.soundness.proofs.PassCellActs.{Cell}
+use Rattle.soundness.proofs.PassCellCopies.{copied_use}
 use Rattle.soundness.proofs.PassCellEffects.{marked_run, Tests}
 use Rattle.soundness.proofs.PassCellNodes as nodes
 use Rattle.soundness.proofs.PassCellNodes.{Own, AllOwn, AllMade, Dest, IsMade}
@@ -123,6 +124,32 @@ module _ (items : ItemTable) (body : BodyTree) (told : Told items) (fuel : ℕ) 
   place_alone x Base ty by form v h e = absurd v
   place_alone x (Used u) ty by form v h e = absurd v
   place_alone x Stored ty by form v h e = absurd v
+
+  -- a place whose value is used and not moved needs no dropping
+  taken_copied : (x : Standpoint) (ty : TyId) (by : Option Use) (form : Form) → is_place form ≡ true →
+      Holds (stands (K x) Taken ty by form) → moves by ≡ false → needs_drop items ty ≡ false
+  taken_copied x ty by form e h m = told.copies ty (copied_use items ty by (used (is_place form) e h) m)
+    where
+      used : (b : Bool) → b ≡ true → Holds (if b then both (fact (is_by (taking items ty) by))
+          (both (fact (may_take (K x) (is_copy items ty) ty form)) (fact (not (types.is_reference items ty))))
+          else fact (is_none by && not (is_borrow form))) → is_by (taking items ty) by ≡ true
+      used true e h = h.0
+      used false e h = absurd (false≢true e)
+
+  pub place_copied : (x : Standpoint) (standing : Standing) (ty : TyId) (by : Option Use) (form : Form) →
+      Valued standing → Holds (stands (K x) standing ty by form) → is_place form ≡ true → moves by ≡ false →
+      needs_drop items ty ≡ false
+  place_copied x Taken ty by form v h e m = taken_copied x ty by form e h m
+  place_copied x (Wanted want) ty by form v h e m = taken_copied x ty by form e h.0 m
+  place_copied x (Passed want) ty by form v h e m = cases (passed_so x want ty by form h)
+    where
+      cases : ((is_borrow form ≡ true) × (types.is_same ty want ≡ true))
+          ⊎ (Holds (stands (K x) Taken ty by form) × (types.fits items want ty ≡ true)) → needs_drop items ty ≡ false
+      cases (inl b) = absurd (false≢true (sym (place_no_borrow form e) ∙ b.0))
+      cases (inr t) = taken_copied x ty by form e t.0 m
+  place_copied x Base ty by form v h e m = absurd v
+  place_copied x (Used u) ty by form v h e m = absurd v
+  place_copied x Stored ty by form v h e m = absurd v
 
   pub wanted_fits : (x : Standpoint) (want : TyId) (n : Node) → Holds (typing.typed (K x) (Wanted want) n) →
       types.fits items want (ty_of n) ≡ true

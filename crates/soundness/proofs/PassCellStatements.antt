@@ -1,5 +1,5 @@
 -- Statements and arms do with cells what is well, given that the nodes inside do.
-use Rattle.std.proofs.Common.{◌≡◌, inr, ℕ, true, false, List, ◌++◌, Option, refl, sym, ◌∙◌}
+use Rattle.std.proofs.Common.{◌≡◌, inr, ℕ, true, false, List, ◌++◌, Option, refl, sym, ◌∙◌, subst}
 use Rattle.std.proofs.lemmas.Bool.{false≢true}
 use Rattle.mir_base.specs.declared.place_in_text.Pos.{Pos}
 use Rattle.mir_ty.specs.declared.ty.TyId.{TyId}
@@ -23,6 +23,7 @@ use Rattle.well_typed.specs.Types as types
 use Rattle.soundness.proofs.Checked.{Checking}
 use Rattle.soundness.proofs.Facts.{Facts}
 use Rattle.soundness.proofs.Leaving.{Shown}
+use Rattle.soundness.proofs.PassCellNames.{Names, PlaceOk, guard_names}
 use Rattle.soundness.proofs.PassCellActs.{Cell}
 use Rattle.soundness.proofs.PassCellEffects.{marked_run, may_end, Acts, Tests, Drops, Made, does_well}
 use Rattle.soundness.proofs.PassCellNodes as nodes
@@ -66,14 +67,14 @@ module _ (items : ItemTable) (body : BodyTree) (told : Told items) (fuel : ℕ) 
   abbrev more_valued : (c : Context) (valued valued' : Type 0) → (valued → valued') → (r : Run V) →
       Shown may_end (Post items body c valued) r → Shown may_end (Post items body c valued') r
   more_valued = rules.more_valued items (marked_run items body) may_end (Acts items body) (Tests items body)
-      (Drops items body) (Made items body) (does_well items body) (Cell items body) (May items body)
+      (Drops items body) (Made items body) (does_well items body) (Cell items body) (May items body) (Names items body)
 
   abbrev alone_well : (c : Context) (around : LoopsAndGuards) (m : Meaning V) (to : Destination) →
       AroundWell items body c around → Well items body c m → Dest items body m.head.ty to → (S : Scopes) (v : V) →
       Fine items body S → Shown may_end (Post items body c (IsMade items body m.head.ty))
       (forms.alone items (marked_run items body) around m to S v)
   alone_well = rules.alone_well items (marked_run items body) may_end (Acts items body) (Tests items body)
-      (Drops items body) (Made items body) (does_well items body) (Cell items body) (May items body)
+      (Drops items body) (Made items body) (does_well items body) (Cell items body) (May items body) (Names items body)
 
   -- ---- statements
 
@@ -85,7 +86,7 @@ module _ (items : ItemTable) (body : BodyTree) (told : Told items) (fuel : ℕ) 
       more_valued (K x) (Unit {0}) (typing.ends_by items (tree.Let pattern absent) ≡ false) (λ u. refl)
       (forms.declared items (marked_run items body) ((M pattern).shape.bindings (whole_local 0)) S v)
       (statements.declared_well items (marked_run items body) may_end (Acts items body) (Tests items body)
-      (Drops items body) (Made items body) (does_well items body) (Cell items body) (May items body) (K x)
+      (Drops items body) (Made items body) (does_well items body) (Cell items body) (May items body) (Names items body) (K x)
       ((M pattern).shape.bindings (whole_local 0))
       (at_nodes.any_declared items body told fuel ((M pattern).shape.bindings (whole_local 0))) S v f)
 
@@ -103,7 +104,7 @@ module _ (items : ItemTable) (body : BodyTree) (told : Told items) (fuel : ℕ) 
       (at_nodes.never_false items body told fuel value made))
       (forms.let_name items (marked_run items body) (head id ty by) (head pid pty pby) (M value) around S v)
       (statements.let_name_well items (marked_run items body) may_end (Acts items body) (Tests items body)
-      (Drops items body) (Made items body) (does_well items body) (Cell items body) (May items body) (K x)
+      (Drops items body) (Made items body) (does_well items body) (Cell items body) (May items body) (Names items body) (K x)
       (head id ty by) (head pid pty pby) (M value) around ok well_value
       (stand.fits_head items body told fuel value pty (Into pid)
       (stand.wanted_fits items body told fuel x pty value h)
@@ -113,21 +114,24 @@ module _ (items : ItemTable) (body : BodyTree) (told : Told items) (fuel : ℕ) 
   pub parted_well : (pattern value : Node) (want : TyId) (x : Standpoint) (id : ℕ) (ty : TyId) (by : Option Use) →
       Holds (typing.typed (K x) Base value) →
       Holds (patterns.pattern items (typing.matched_in true (K x) value) want pattern) →
-      typing.is_one_name pattern ≡ false → H (cells items true pattern) → Reach items body (K x) (M value) →
+      typing.is_one_name pattern ≡ false → H (cells items true pattern) →
+      at_nodes.Placed items body told fuel value → (Reached items body (M value) → ty_of value ≡ want) →
+      Reach items body (K x) (M value) →
       (around : LoopsAndGuards) → AroundWell items body (K x) around → (S : Scopes) (v : V) → Fine items body S →
       Shown may_end (Post items body (K x) (typing.ends_by items (tree.Let pattern (present value)) ≡ false))
       (forms.let_parts items (marked_run items body) (head id ty by) (M pattern) (M value) around S v)
-  parted_well pattern value want x id ty by h j several k reach_value around ok S v f =
+  parted_well pattern value want x id ty by h j several k placed same reach_value around ok S v f =
       more_valued (K x) (Reached items body (M value))
       (typing.ends_by items (tree.Let pattern (present value)) ≡ false)
       (λ r. at_nodes.let_ends items body told fuel value x h r)
       (forms.let_parts items (marked_run items body) (head id ty by) (M pattern) (M value) around S v)
       (statements.let_parts_well items (marked_run items body) may_end (Acts items body) (Tests items body)
-      (Drops items body) (Made items body) (does_well items body) (Cell items body) (May items body) (K x)
+      (Drops items body) (Made items body) (does_well items body) (Cell items body) (May items body) (Names items body) (K x)
       (head id ty by) (M pattern) (M value) around ok reach_value
       (nodes.droppable items body (entry_of (M value).head))
-      (at_nodes.bounds_meant items body told fuel pattern (typing.matched_in true (K x) value)
-      want j (λ e. absurd (false≢true (sym several ∙ e))) k (place_of (M value) around)) S v f)
+      (λ reached. at_nodes.bounds_meant items body told fuel pattern (typing.matched_in true (K x) value)
+      want j (λ e. absurd (false≢true (sym several ∙ e))) k (place_of (M value) around)
+      (subst (λ t. PlaceOk items body t (place_of (M value) around)) (same reached) (placed reached around ok.0))) S v f)
 
   pub evaluated_well : (expression : Node) (x : Standpoint) (id : ℕ) (ty : TyId) (by : Option Use) →
       Holds (typing.typed (K x) Taken expression) → H (cells items true expression) →
@@ -140,7 +144,7 @@ module _ (items : ItemTable) (body : BodyTree) (told : Told items) (fuel : ℕ) 
       (at_nodes.never_false items body told fuel expression)
       (forms.evaluating items (marked_run items body) (head id ty by) (M expression) around S v)
       (statements.evaluating_well items (marked_run items body) may_end (Acts items body) (Tests items body)
-      (Drops items body) (Made items body) (does_well items body) (Cell items body) (May items body) (K x)
+      (Drops items body) (Made items body) (does_well items body) (Cell items body) (May items body) (Names items body) (K x)
       (head id ty by) (M expression) around ok well_expression
       (stand.own_dest items body told fuel expression x Taken h k)
       (nodes.droppable items body (entry_of (M expression).head)) S v f)
@@ -152,19 +156,22 @@ module _ (items : ItemTable) (body : BodyTree) (told : Told items) (fuel : ℕ) 
       Holds (typing.arm (K x) m want (node id at ty by (tree.Arm pattern guard body_))) →
       types.is_reference items want ≡ false → H (cells items true pattern) →
       branches.GuardWell items (marked_run items body) may_end (Acts items body) (Tests items body) (Drops items body)
-      (Made items body) (does_well items body) (Cell items body) (May items body)
+      (Made items body) (does_well items body) (Cell items body) (May items body) (Names items body)
       (K (with_names (in_guard (patterns.entries_of pattern)) x)) (Mi guard) →
       Well items body (K (with_names (patterns.entries_of pattern) x)) (M body_) →
       branches.ArmWell items (marked_run items body) may_end (Acts items body) (Tests items body) (Drops items body)
-      (Made items body) (does_well items body) (Cell items body) (May items body) (IsMade items body whole) (K x)
+      (Made items body) (does_well items body) (Cell items body) (May items body) (Names items body) (PlaceOk items body want) (IsMade items body whole) (K x)
       (Of (tree.Arm pattern guard body_) id ty by)
   arm_of pattern guard body_ x m want whole id at ty by h r kp guards well_body
-      f around matched otherwise to ok d other S v fine =
+      f around matched otherwise to known ok d other S v fine =
       let same = same_type ty (ty_of body_) h.1.1.1.1.1 in
       branches.arm_well items (marked_run items body) may_end (Acts items body) (Tests items body) (Drops items body)
-      (Made items body) (does_well items body) (Cell items body) (May items body) (K x) (IsMade items body whole)
+      (Made items body) (does_well items body) (Cell items body) (May items body) (Names items body) (K x) (IsMade items body whole)
       (head id ty by) (M pattern) (Mi guard) (M body_) matched otherwise around to ok
-      (at_nodes.tests_meant items body told fuel pattern m want h.1.1.0 kp matched)
-      (at_nodes.bounds_meant items body told fuel pattern m want h.1.1.0 (λ o. r) kp matched) guards well_body
+      (at_nodes.tests_meant items body told fuel pattern m want h.1.1.0 kp matched known)
+      (at_nodes.bounds_meant items body told fuel pattern m want h.1.1.0 (λ o. r) kp matched known)
+      (guard_names items body ((M pattern).shape.bindings matched) around.aliases
+      (at_nodes.placed_meant items body told fuel pattern m want h.1.1.0 (λ o. r) kp matched known) ok.0)
+      guards well_body
       (at_nodes.same_head items body told fuel body_ ty to (sym same) d)
       (λ made. f (at_nodes.same_made items body told fuel body_ ty (sym same) made)) other S v fine

@@ -36,7 +36,7 @@ use Rattle.soundness.proofs.Checks.{is_empty}
 use Rattle.soundness.proofs.Facts.{Facts}
 use Rattle.soundness.proofs.Leaving.{ShownOut}
 use Rattle.soundness.proofs.PassCellEffects.{NotStuck, Quiet, acted_quiet, compare_quiet, ChosenSo, test_quiet, drop_quiet}
-use Rattle.soundness.proofs.PassCellTests.{unless_within, mark_of}
+use Rattle.soundness.proofs.PassCellTests.{unless_within, mark_as}
 use Rattle.soundness.proofs.PassCellTypes.{is_false, dropped_no_reference}
 use Rattle.soundness.proofs.PassClear.{KeepsClear, any, Nothing, StoredAt}
 use Rattle.soundness.proofs.PassEffects.{Clear, Change, Taken, drop_so}
@@ -47,12 +47,12 @@ use Rattle.soundness.proofs.PassFreeRules.{FreeM}
 use Rattle.soundness.proofs.PassMarks.{Marks, StandFor, marked, chosen_marked, marked_effects, marked_keeps, MarkedClear}
 use Rattle.soundness.proofs.PassNodes.{Good}
 use Rattle.soundness.proofs.PassNumbers.{Rises}
-use Rattle.soundness.proofs.PassRefilled.{not_one, NotOne, unmarked}
+use Rattle.soundness.proofs.PassRefilled.{not_mark, NotMark, unmarked}
 use Rattle.soundness.proofs.PassRest.{own_local}
 use Rattle.soundness.proofs.PassRuns.{one_local}
 use Rattle.soundness.proofs.PassWell.{Chosen}
 
-none_fails : (all first : Bool) → mark_of all first ≡ None → all ≡ true
+none_fails : (all first : Bool) → mark_as 4 all first ≡ None → all ≡ true
 none_fails true first e = refl
 none_fails false true e = let never : ⊥ = cc in absurd never
 none_fails false false e = let never : ⊥ = cc in absurd never
@@ -82,13 +82,13 @@ module _ (items : ItemTable) (body : BodyTree) where
       not (of_type (effects.Moved site) to.place) || empty_at cells to.place
   finds_nothing cells action = option_map_or (λ to. empty_at cells to.place) (stored_by action) true
 
-  -- the marks of a run: 1 where this test fails, 2 where another does
+  -- the marks of a run: 4 where this test fails, 2 where another does
   abbrev pub empty_marks : Checks Facts → Marks Facts
   empty_marks tests = record {
-    acting = λ action v facts. mark_of (tests.act_ok action v facts) (finds_nothing v.cells action);
-    choosing = λ test v facts. mark_of (tests.test_ok test v facts) true;
-    dropping = λ mode site v facts. mark_of (tests.drop_ok mode site v facts) true;
-    giving = λ site v facts. mark_of (tests.give_ok site v facts) true;
+    acting = λ action v facts. mark_as 4 (tests.act_ok action v facts) (finds_nothing v.cells action);
+    choosing = λ test v facts. mark_as 4 (tests.test_ok test v facts) true;
+    dropping = λ mode site v facts. mark_as 4 (tests.drop_ok mode site v facts) true;
+    giving = λ site v facts. mark_as 4 (tests.give_ok site v facts) true;
   }
 
   pub empty_marks_stand : (tests : Checks Facts) → StandFor (empty_marks tests) tests
@@ -251,27 +251,27 @@ module _ (items : ItemTable) (body : BodyTree) where
     abbrev pub waits : EffectSite → Checking Facts → Type 0
     waits site v = (key : ℕ) → site.place ≡ whole_local key → clear v key
 
-    other : NotOne (StuckAt 2 0)
+    other : NotMark 4 (StuckAt 2 0)
     other e = let never : ⊥ = cc in never
 
-    either_mark : (all test : Bool) → test ≡ true → (v : Checking Facts) (o : Out (Checking Facts))
-        (went panicked : Checking Facts → Type 0) → ShownOut not_one went panicked o →
-        ShownOut not_one went panicked (marked (mark_of all test) v o)
+    pub either_mark : (all test : Bool) → test ≡ true → (v : Checking Facts) (o : Out (Checking Facts))
+        (went panicked : Checking Facts → Type 0) → ShownOut (not_mark 4) went panicked o →
+        ShownOut (not_mark 4) went panicked (marked (mark_as 4 all test) v o)
     either_mark true test e v o went panicked h = h
     either_mark false true e v o went panicked h = other
     either_mark false false e v o went panicked h = absurd (false≢true e)
 
-    chosen_mark : (all : Bool) (v : Checking Facts) (o : Choice (Checking Facts)) → Chosen not_one o →
-        Chosen not_one (chosen_marked (mark_of all true) v o)
+    chosen_mark : (all : Bool) (v : Checking Facts) (o : Choice (Checking Facts)) → Chosen (not_mark 4) o →
+        Chosen (not_mark 4) (chosen_marked (mark_as 4 all true) v o)
     chosen_mark true v o h = h
     chosen_mark false v o h = other
 
     known : (panics : Type 0) (went unwound : Facts) (o : Out AbstractState) →
         Quiet items (local_ty items body) panics o →
-        ShownOut {V = Checking Facts} not_one Always (λ w. panics) (with_facts went unwound o)
+        ShownOut {V = Checking Facts} (not_mark 4) Always (λ w. panics) (with_facts went unwound o)
     known panics went unwound (Go w) h = tt
     known panics went unwound (Unwind w) h = h
-    known panics went unwound (Halts halt w) h = unmarked halt h
+    known panics went unwound (Halts halt w) h = unmarked 4 halt h
 
     halting : (panics : Type 0) (b : Bool) (o : Out AbstractState) → Quiet items (local_ty items body) panics o →
         Quiet items (local_ty items body) panics (halting_if b Unreachable o)
@@ -281,18 +281,18 @@ module _ (items : ItemTable) (body : BodyTree) where
     halting panics false o h = h
 
     known_choice : (taken declined : Facts) (o : Choice AbstractState) → ChosenSo items (local_ty items body) o →
-        Chosen {V = Checking Facts} not_one (chosen_with taken declined o)
+        Chosen {V = Checking Facts} (not_mark 4) (chosen_with taken declined o)
     known_choice taken declined (Yes w) h = tt
     known_choice taken declined (No w) h = tt
-    known_choice taken declined (Neither halt w) h = unmarked halt h
+    known_choice taken declined (Neither halt w) h = unmarked 4 halt h
 
-    ticked : (went : Facts) (w : AbstractState) (list : List Bool) → ShownOut {V = Checking Facts} not_one Always Never
+    ticked : (went : Facts) (w : AbstractState) (list : List Bool) → ShownOut {V = Checking Facts} (not_mark 4) Always Never
         (with_facts went went (free.next_choice list w Go (Halts Infeasible)))
     ticked went w [] = tt
     ticked went w (false ∷ rest) = tt
     ticked went w (true ∷ rest) = tt
 
-    known_act : (went unwound : Facts) (action : Action) (w : AbstractState) → ShownOut {V = Checking Facts} not_one
+    known_act : (went unwound : Facts) (action : Action) (w : AbstractState) → ShownOut {V = Checking Facts} (not_mark 4)
         Always
         (λ w. Unit {0}) (with_facts went unwound (free.act items (local_ty items body) action w))
     known_act went unwound action w = known (Unit {0}) went unwound _
@@ -305,7 +305,7 @@ module _ (items : ItemTable) (body : BodyTree) where
         (Taken items (local_ty items body) local (one_local (local_keys items body)) needs true site) Nothing v)
         (Change items (local_ty items body) local (one_local (local_keys items body)) needs
         (Taken items (local_ty items body) local (one_local (local_keys items body)) needs true site) Nothing v) o →
-        ShownOut {V = Checking Facts} not_one (waits site) (waits site) (with_facts facts facts o)
+        ShownOut {V = Checking Facts} (not_mark 4) (waits site) (waits site) (with_facts facts facts o)
     emptied site facts v (Go w) h k = λ key t. by w key (k key (inr t))
       where
         by : (w : AbstractState) (key : ℕ) → ClearAt w key ⊎ ⊥ → ClearAt w key
@@ -316,9 +316,9 @@ module _ (items : ItemTable) (body : BodyTree) where
         by : (w : AbstractState) (key : ℕ) → ClearAt w key ⊎ ⊥ → ClearAt w key
         by w key (inl c) = c
         by w key (inr n) = absurd n
-    emptied site facts v (Halts halt w) h k = unmarked halt h
+    emptied site facts v (Halts halt w) h k = unmarked 4 halt h
 
-    pub finds : FindsNothing empty_run not_one needs clear waits
+    pub finds : FindsNothing empty_run (not_mark 4) needs clear waits
     finds = record {
       acts = λ action v f. either_mark (tests.act_ok (action_at local action) v.free v.facts)
           (finds_nothing v.free.cells (action_at local action)) (acts_empty action v.free f) v _ Always Always
@@ -364,7 +364,7 @@ module _ (items : ItemTable) (body : BodyTree) where
     pub node_finds : (fuel : ℕ) (n : Node) (x : Standpoint) (standing : Standing) →
         Holds (typed (context items x) standing n) → Good items needs empty_run clear keeps fuel (nodes_of n) →
         Rises (nodes_of n) →
-        FreeM items needs empty_run clear keeps not_one waits finds (context items x) (meaning items empty_run fuel n)
+        FreeM items needs empty_run clear keeps (not_mark 4) waits finds (context items x) (meaning items empty_run fuel n)
         (nodes_of n)
     node_finds fuel n x standing h g r =
-        node_free items needs empty_run clear keeps not_one waits finds fuel n x standing h g r
+        node_free items needs empty_run clear keeps (not_mark 4) waits finds fuel n x standing h g r

@@ -146,7 +146,7 @@ module _ (items : ItemTable) (number : ℕ) (sig : Sig) (body : BodyTree) (h : H
   pub rise : do_rise (map number_of (param_nodes body.params ++ nodes_of body.block)) ≡ true
   rise = h.1.1.1.0
 
-  abbrev all_others : List Node
+  abbrev pub all_others : List Node
   all_others = others items body.params body.answer body.block rise typed_so
 
   pub local_is : (key : ℕ) → local_ty items body (local_of items body key)
@@ -158,7 +158,7 @@ module _ (items : ItemTable) (number : ℕ) (sig : Sig) (body : BodyTree) (h : H
       false
   needs_is key = ap (λ o. option_map_or (needs_drop items) o false) (local_is key)
 
-  needs_ok : (n : Node) → NodeIn all_others n → needs_drop items (ty_of n) ≡ false → needs (number_of n) ≡ false
+  pub needs_ok : (n : Node) → NodeIn all_others n → needs_drop items (ty_of n) ≡ false → needs (number_of n) ≡ false
   needs_ok n i e = needs_is (number_of n) ∙ node_needs items body.params body.answer body.block rise typed_so n i e
 
   good_all : (ns : List Node) → ((n : Node) → NodeIn ns n → NodeIn all_others n) →
@@ -225,7 +225,7 @@ module _ (items : ItemTable) (number : ℕ) (sig : Sig) (body : BodyTree) (h : H
       (λ key x. subst (λ l. NamedParam l key) (sym same) (inr x)) k.0 v held
 
   -- what a body holds as it begins are its parameters
-  begins_held : (list : List Bool) (facts : F) (lost : Bool) →
+  pub begins_held : (list : List Bool) (facts : F) (lost : Bool) →
       scopes.Held items needs q clear keeps (InList (param_keys body.params)) []
       (record { free = at_start (range_with_len 1 (length body.params)) list; facts = facts; lost = lost })
   begins_held list facts lost key = by (itself_gone (presence (local_of items body key)

@@ -58,7 +58,9 @@ module _ (p : ProgramTree) (typed : WellTyped p) (n : ℕ) (body : BodyTree) (at
   first_holds =
       let known : Told p.items = told p typed in
       let b = body_at p.items 0 p.items.bodies p.bodies typed.1 n body at in
-      ends_well p.items (told p typed) (0 + n) b.0 body b.1.1 (known.results n b.0 b.1.0) fuel v
+      let plus : n ≡ 0 + n = omega arith in
+      let there = subst (λ k. slice_get p.items.bodies k ≡ Some b.0) plus b.1.0 in
+      ends_well p.items (told p typed) (0 + n) b.0 body b.1.1 there (known.results n b.0 b.1.0) fuel v
 
   -- it has ended by another mark
   abbrev pub EndsByOther : Out (Checking Facts) → Type 0

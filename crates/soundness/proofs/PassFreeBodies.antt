@@ -119,22 +119,22 @@ module _ {V : Type 0} (items : ItemTable) (needs : ℕ → Bool) (q : Effects V)
   Inner [] z = ⊥
   Inner (param ∷ params) z = Numbered (nodes_in (form_of param.pattern)) z ⊎ Inner params z
 
-  inside_node : (p : Node) (z : ℕ) → Numbered (nodes_in (form_of p)) z → Numbered (nodes_of p) z
+  pub inside_node : (p : Node) (z : ℕ) → Numbered (nodes_in (form_of p)) z → Numbered (nodes_of p) z
   inside_node (node id at ty by form) z n = inr n
 
-  inner_numbered : (params : List ParamTree) (z : ℕ) → Inner params z → Numbered (param_nodes params) z
+  pub inner_numbered : (params : List ParamTree) (z : ℕ) → Inner params z → Numbered (param_nodes params) z
   inner_numbered [] z n = n
   inner_numbered (param ∷ params) z (inl n) =
       numbered_left (nodes_of param.pattern) (param_nodes params) z (inside_node param.pattern z n)
   inner_numbered (param ∷ params) z (inr n) =
       numbered_right (nodes_of param.pattern) (param_nodes params) z (inner_numbered params z n)
 
-  not_own : (p : Node) → Rises (nodes_of p) → (z : ℕ) → Numbered (nodes_in (form_of p)) z → number_of p ≡ z → ⊥
+  pub not_own : (p : Node) → Rises (nodes_of p) → (z : ℕ) → Numbered (nodes_in (form_of p)) z → number_of p ≡ z → ⊥
   not_own (node id at ty by form) r z n e =
       first_apart (node id at ty by form) (nodes_in form) r (subst (Numbered (nodes_in form)) (sym e) n)
 
   -- each parameter becomes an entry, and so do the names of its pattern
-  params_free : (around : LoopsAndGuards) (params : List ParamTree) → Rises (param_nodes params) → (S : Scopes) (v : V)
+  pub params_free : (around : LoopsAndGuards) (params : List ParamTree) → Rises (param_nodes params) → (S : Scopes) (v : V)
       →
       Deep S → ((z : ℕ) → Inner params z → rules.Free items needs q clear keeps over waits first v S z) →
       Shown over (Post around Nothing (param_nodes params) S v (Extends S)) (params_entered items q fuel params S v)

@@ -1,6 +1,6 @@
--- What is left of the statement of the pass: that no checked run complains, and that a result is whole. In each body of
--- a well typed program the locals are clear where it returns and where it panics, and no place waits there; in an
--- accepted one a run that halts does so as it may.
+-- What is left of the statement of the pass: that no run fails the tests of places, of calls and of results. In each body
+-- of a well typed program the locals are clear where it returns and where it panics, a result is whole, and no place
+-- waits there; in an accepted one a run that halts does so as it may.
 use Rattle.std.proofs.Common.{◌≡◌, ◌⊎◌, inl, inr, ℕ, zero, suc, ◌+◌, ◌≤◌, Bool, true, false, List, [], ◌∷◌, ◌++◌, length, Option, Some, None, refl, ap, sym, ◌∙◌, subst, arith}
 use Rattle.std.specs.Prelude.{slice_get}
 use Rattle.std.specs.Option.{option_map_or}
@@ -29,10 +29,12 @@ use Rattle.soundness.proofs.Leaving.{ShownOut}
 use Rattle.soundness.proofs.NeverStuck.{Shows}
 use Rattle.soundness.proofs.OnceByPass.{protected, PassShowsAll}
 use Rattle.soundness.proofs.Owing.{checked_body}
+use Rattle.soundness.proofs.PassAllTests.{RestHolds, uncomplaining}
 use Rattle.soundness.proofs.PassCells.{parts, locals_are}
 use Rattle.soundness.proofs.PassClear.{any}
 use Rattle.soundness.proofs.PassEnds as ends
 use Rattle.soundness.proofs.PassFirst.{body_at}
+use Rattle.soundness.proofs.PassGiven.{result_whole}
 use Rattle.soundness.proofs.PassGood.{TypedParams, entry_local}
 use Rattle.soundness.proofs.PassLocals.{EntryIn, keys, tys, at_local}
 use Rattle.soundness.proofs.PassNumbers.{Rises}
@@ -165,12 +167,16 @@ module _ (p : ProgramTree) (typed : WellTyped p) where
   -- ---- what is left
 
   module _ (accepted : IsAccepted p) where
-    -- no checked run complains, and where one returns its result is whole
+    -- no run fails the tests that are left
     pub record Left : Type 0 where
-      pub never_complains : (n fuel : ℕ) (b : BodyTree) (e : slice_get p.bodies n ≡ Some b) (list : List Bool)
-          (v : Checking Facts) → ran n fuel b e list ≡ Halts Stuck v → ⊥
-      pub whole : (n fuel : ℕ) (b : BodyTree) (e : slice_get p.bodies n ≡ Some b) (list : List Bool)
-          (v : Checking Facts) → ran n fuel b e list ≡ Go v → all_present (presence 0 v.free.cells) ≡ true
+      pub rest : RestHolds p typed also
+
+    -- where a checked run returns its result is whole, since it has tested it
+    whole : (n fuel : ℕ) (b : BodyTree) (e : slice_get p.bodies n ≡ Some b) (list : List Bool) (v : Checking Facts) →
+        ran n fuel b e list ≡ Go v → all_present (presence 0 v.free.cells) ≡ true
+    whole n fuel b e list v h = subst (λ l. all_present (presence l v.free.cells) ≡ true)
+        (answer_first p.items b (rises n fuel b e list) (params_typed n fuel b e list))
+        (result_whole p.items b (also n) fuel _ v h)
 
     -- so much follows
     pub shows_by_left : Left → PassShowsAll p
@@ -187,7 +193,7 @@ module _ (p : ProgramTree) (typed : WellTyped p) where
             Shown (Halts halt v)
         halted Aborted v h l = tt
         halted OutOfTicks v h l = tt
-        halted Stuck v h l = left.never_complains n fuel b e list v h
+        halted Stuck v h l = uncomplaining p typed also left.rest n fuel b e list v h
         halted (StuckAt mark block) v h l = l
         halted (BadUse site) v h l = no_use_refused p accepted n b e (checks_also (also n) (checks_of p.items b))
             no_facts
@@ -201,6 +207,6 @@ module _ (p : ProgramTree) (typed : WellTyped p) where
         by : (o : Out (Checking Facts)) → ran n fuel b e list ≡ o →
             ShownOut any (ClearAtReturn p (protected p) (also) b) (ClearAtPanic p (protected p) (also) b) o →
             ShownOut says_lost (λ v. v.facts.refilled ≡ None) (λ v. v.facts.refilled ≡ None) o → Shown o
-        by (Go v) h c r = (r, left.whole n fuel b e list v h, c)
+        by (Go v) h c r = (r, whole n fuel b e list v h, c)
         by (Unwind v) h c r = (r, c)
         by (Halts halt v) h c r = halted halt v h r

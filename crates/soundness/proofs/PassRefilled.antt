@@ -27,7 +27,7 @@ use Rattle.soundness.proofs.Checks.{is_none, no_steps, refilled_if}
 use Rattle.soundness.proofs.Facts.{Naming, Facts, same_place}
 use Rattle.soundness.proofs.Leaving.{ShownOut}
 use Rattle.soundness.proofs.PassCellEffects.{NotStuck, Quiet, acted_quiet, compare_quiet, ChosenSo, test_quiet, drop_quiet}
-use Rattle.soundness.proofs.PassCellTests.{mark_of}
+use Rattle.soundness.proofs.PassCellTests.{mark_as}
 use Rattle.soundness.proofs.PassKept.{Answered, KeepsCalm}
 use Rattle.soundness.proofs.PassKeptBodies.{body_keeps}
 use Rattle.soundness.proofs.PassMarks.{Marks, StandFor, marked, chosen_marked, marked_effects}
@@ -174,7 +174,7 @@ abbrev pub none_waits : Option Place → Action → Bool
 none_waits None action = true
 none_waits (Some hole) action = refills_it hole action
 
-none_fails : (all first : Bool) → mark_of all first ≡ None → all ≡ true
+none_fails : (all first : Bool) → mark_as 3 all first ≡ None → all ≡ true
 none_fails true first e = refl
 none_fails false true e = let never : ⊥ = cc in absurd never
 none_fails false false e = let never : ⊥ = cc in absurd never
@@ -196,13 +196,13 @@ hole_refilled false (Some hole) node place site e =
     let same : hole ≡ place = cc in
     subst (λ h. same_place place h ≡ true) (sym same) (place_same place)
 
--- the marks of a run: 1 where this test fails, 2 where another does
+-- the marks of a run: 3 where this test fails, 2 where another does
 abbrev pub refill_marks : Checks Facts → Marks Facts
 refill_marks tests = record {
-  acting = λ action v facts. mark_of (tests.act_ok action v facts) (none_waits facts.refilled action);
-  choosing = λ test v facts. mark_of (tests.test_ok test v facts) (is_none facts.refilled);
-  dropping = λ mode site v facts. mark_of (tests.drop_ok mode site v facts) (is_none facts.refilled);
-  giving = λ site v facts. mark_of (tests.give_ok site v facts) (is_none facts.refilled);
+  acting = λ action v facts. mark_as 3 (tests.act_ok action v facts) (none_waits facts.refilled action);
+  choosing = λ test v facts. mark_as 3 (tests.test_ok test v facts) (is_none facts.refilled);
+  dropping = λ mode site v facts. mark_as 3 (tests.drop_ok mode site v facts) (is_none facts.refilled);
+  giving = λ site v facts. mark_as 3 (tests.give_ok site v facts) (is_none facts.refilled);
 }
 
 pub refill_marks_stand : (tests : Checks Facts) → StandFor (refill_marks tests) tests
@@ -213,24 +213,24 @@ refill_marks_stand tests = record {
   gives = λ site v facts e. none_fails (tests.give_ok site v facts) (is_none facts.refilled) e;
 }
 
--- no run ends by the first mark
-abbrev pub NotOne : Halt → Type 0
-NotOne (StuckAt mark block) = mark ≡ 1 → ⊥
-NotOne halt = Unit {0}
+-- no run ends by a mark
+abbrev pub NotMark : ℕ → Halt → Type 0
+NotMark own (StuckAt mark block) = mark ≡ own → ⊥
+NotMark own halt = Unit {0}
 
-abbrev pub not_one : {V : Type 0} → Halt → V → Type 0
-not_one halt v = NotOne halt
+abbrev pub not_mark : {V : Type 0} → ℕ → Halt → V → Type 0
+not_mark own halt v = NotMark own halt
 
-pub unmarked : (halt : Halt) → NotStuck halt → NotOne halt
-unmarked Aborted h = tt
-unmarked OutOfTicks h = tt
-unmarked Stuck h = absurd h
-unmarked (StuckAt body block) h = absurd h
-unmarked (BadUse site) h = tt
-unmarked (BadStore site) h = tt
-unmarked NoChoice h = tt
-unmarked Infeasible h = tt
-unmarked Unreachable h = tt
+pub unmarked : (own : ℕ) (halt : Halt) → NotStuck halt → NotMark own halt
+unmarked own Aborted h = tt
+unmarked own OutOfTicks h = tt
+unmarked own Stuck h = absurd h
+unmarked own (StuckAt body block) h = absurd h
+unmarked own (BadUse site) h = tt
+unmarked own (BadStore site) h = tt
+unmarked own NoChoice h = tt
+unmarked own Infeasible h = tt
+unmarked own Unreachable h = tt
 
 -- it has no mark at all, and where it halts for want of a choice it says so
 abbrev pub SaysLost : Halt → Bool → Type 0
@@ -370,64 +370,64 @@ module _ (items : ItemTable) (body : BodyTree) where
         (refill_marks (checks_also also (checks_of items body))) (abstract_effects items (local_ty items body)))
 
     halts_unmarked : (halt : Halt) (w : AbstractState) (facts : Facts) → NotStuck halt →
-        not_one {V = Checking Facts} halt (record { free = w; facts = facts; lost = by_list halt })
-    halts_unmarked halt w facts h = unmarked halt h
+        not_mark {V = Checking Facts} 3 halt (record { free = w; facts = facts; lost = by_list halt })
+    halts_unmarked halt w facts h = unmarked 3 halt h
 
-    other : NotOne (StuckAt 2 0)
-    other e = let same : 2 ≡ 1 = e in omega (same, arith)
+    other : NotMark 3 (StuckAt 2 0)
+    other e = let same : 2 ≡ 3 = e in omega (same, arith)
 
     either_mark : (all first : Bool) → first ≡ true → (v : Checking Facts) (o : Out (Checking Facts))
-        (went panicked : Checking Facts → Type 0) → ShownOut not_one went panicked o →
-        ShownOut not_one went panicked (marked (mark_of all first) v o)
+        (went panicked : Checking Facts → Type 0) → ShownOut (not_mark 3) went panicked o →
+        ShownOut (not_mark 3) went panicked (marked (mark_as 3 all first) v o)
     either_mark true first e v o went panicked h = h
     either_mark false true e v o went panicked h = other
     either_mark false false e v o went panicked h = absurd (false≢true e)
 
     either_choice : (all first : Bool) → first ≡ true → (v : Checking Facts) (o : Choice (Checking Facts)) →
-        Answered not_one calm o → Answered not_one calm (chosen_marked (mark_of all first) v o)
+        Answered (not_mark 3) calm o → Answered (not_mark 3) calm (chosen_marked (mark_as 3 all first) v o)
     either_choice true first e v o h = h
     either_choice false true e v o h = other
     either_choice false false e v o h = absurd (false≢true e)
 
-    refill_keeps : KeepsCalm refill_run not_one calm waits
+    refill_keeps : KeepsCalm refill_run (not_mark 3) calm waits
     refill_keeps = record {
       acts = λ action v e. either_mark (tests.act_ok (action_at local action) v.free v.facts)
           (none_waits v.facts.refilled (action_at local action))
           (waits_none v.facts.refilled (action_at local action) e) v _ calm calm
-          (free_acts not_one halts_unmarked (action_at local action) v e);
+          (free_acts (not_mark 3) halts_unmarked (action_at local action) v e);
       compares = λ to operator left right v e.
           either_mark (tests.act_ok (action_at local (effects.Compare to operator left right)) v.free v.facts)
           (none_waits v.facts.refilled (action_at local (effects.Compare to operator left right)))
           (waits_none v.facts.refilled (action_at local (effects.Compare to operator left right)) e) v _ calm (λ w. ⊥)
-          (free_compares not_one halts_unmarked (site_at local to) operator (operand_at local left)
+          (free_compares (not_mark 3) halts_unmarked (site_at local to) operator (operand_at local left)
           (operand_at local right) v e);
       chooses = λ test v e. either_choice (tests.test_ok (test_at local test) v.free v.facts)
           (is_none v.facts.refilled) (is_none_so v.facts.refilled e) v _
-          (free_chooses not_one halts_unmarked (test_at local test) v e);
+          (free_chooses (not_mark 3) halts_unmarked (test_at local test) v e);
       drops = λ mode x v e. either_mark (tests.drop_ok mode (site_at local (entry_site x)) v.free v.facts)
           (is_none v.facts.refilled) (is_none_so v.facts.refilled e) v _ calm calm
-          (free_drops not_one halts_unmarked mode x v e);
+          (free_drops (not_mark 3) halts_unmarked mode x v e);
       empties = λ site v e. either_mark (tests.drop_ok Normal (site_at local site) v.free v.facts)
           (is_none v.facts.refilled) (is_none_so v.facts.refilled e) v _ (waits site) (waits site)
-          (free_empties not_one halts_unmarked site v e);
+          (free_empties (not_mark 3) halts_unmarked site v e);
       refills = λ site key v e. either_mark
           (tests.act_ok (action_at local (effects.Put site (moved site.node key))) v.free v.facts)
           (none_waits v.facts.refilled (action_at local (effects.Put site (moved site.node key))))
           (hole_refilled (no_steps (map (step_at local) site.place.steps)) v.facts.refilled site.node
           (place_at local site.place) (site_at local (record { node = site.node; place = whole_local key })) e) v _
           calm calm
-          (free_refills not_one halts_unmarked (site_at local site)
+          (free_refills (not_mark 3) halts_unmarked (site_at local site)
           (site_at local (record { node = site.node; place = whole_local key })) v);
       panics = λ why v e. e;
-      ticks = λ v e. ticked not_one halts_unmarked v.facts v.free v.free.choices e;
+      ticks = λ v e. ticked (not_mark 3) halts_unmarked v.facts v.free v.free.choices e;
       aborts = λ v. tt;
       lapses = λ v. tt;
     }
 
-    -- such a run never ends by the first mark
+    -- such a run never ends by this mark
     pub refill_ends : (fuel : ℕ) (v : Checking Facts) → calm v →
-        ShownOut not_one calm calm (activation items refill_run fuel body v)
-    refill_ends fuel v e = body_keeps items refill_run not_one calm waits refill_keeps fuel
+        ShownOut (not_mark 3) calm calm (activation items refill_run fuel body v)
+    refill_ends fuel v e = body_keeps items refill_run (not_mark 3) calm waits refill_keeps fuel
         (λ site v e. either_mark (tests.give_ok (site_at local site) v.free v.facts) (is_none v.facts.refilled)
         (is_none_so v.facts.refilled e) v _ calm calm e) (λ v. tt) body v e
 

@@ -1,7 +1,7 @@
--- What is left of the tests of a run where the first test holds: of actions on whole cells, that the cell into which
--- they store holds nothing that needs dropping (`PassEmpty`), and that no place waits to be refilled (`PassRefilled`);
--- of copies, moves into places, borrows, calls and tests of variants all; of a result, that it is whole.
-use Rattle.std.proofs.Common.{◌≡◌, is_some, nat_lt, ◌+◌, length, ℕ, ◌&&◌, ◌||◌, not, Bool, true, false, List, [], ◌∷◌, Option, Some, None, refl, ap, sym, subst}
+-- What is left of the tests of actions where the first test holds: that the cell into which an action stores holds
+-- nothing that needs dropping (`PassEmpty`), and that no place waits to be refilled (`PassRefilled`); what has to be known
+-- of places; of moves, what may be moved and changed; of borrows, that they go to a cell apart; of calls and `forget` all.
+use Rattle.std.proofs.Common.{◌≡◌, is_some, nat_lt, ◌+◌, ◌==◌, length, ℕ, ◌&&◌, ◌||◌, not, Bool, true, false, List, [], ◌∷◌, Option, Some, None, refl, ap, sym, subst}
 use Rattle.std.specs.Prelude.{option_and_then}
 use Rattle.std.specs.Option.{option_map_or}
 use Rattle.std.specs.Cmp.Derive.{both_true}
@@ -9,11 +9,10 @@ use Rattle.std.proofs.lemmas.Bool.{false≢true}
 use Rattle.mir_ty.specs.declared.ty.Ty.{Ty}
 use Rattle.mir_ty.specs.declared.ty.TyId.{TyId}
 use Rattle.mir_ty.specs.ItemTable.{ItemTable, type_at}
-use Rattle.store_model.specs.Abstract.Presence.{Presence, all_present}
-use Rattle.store_model.specs.Abstract.Effects.{presence}
+use Rattle.store_model.specs.Abstract.Presence.{Presence}
 use Rattle.store_model.specs.Concrete.Location.{named_by}
 use Rattle.store_model.specs.Effects as effects
-use Rattle.store_model.specs.Effects.{EffectSite, Operand, Action, Mode}
+use Rattle.store_model.specs.Effects.{EffectSite, Operand, Action}
 use Rattle.mir_ty.specs.Facts.{needs_drop}
 use Rattle.src_meaning.specs.Locals.OfBody.{local_ty}
 use Rattle.typed_tree.specs.Tree.{BodyTree}
@@ -25,25 +24,21 @@ use Rattle.mir_base.specs.declared.int_kind.IntKind.{IntKind}
 use Rattle.soundness.proofs.Along.{are_plain}
 use Rattle.soundness.proofs.Checks as checks
 use Rattle.soundness.proofs.Checks.{no_steps}
-use Rattle.soundness.proofs.Facts.{Facts}
+use Rattle.soundness.proofs.Facts.{Facts, takes_index}
+use Rattle.soundness.proofs.PassCellNames.{names_none}
 use Rattle.soundness.proofs.PassCellTests as tests
 use Rattle.soundness.proofs.PassCellTests.{alone}
-use Rattle.soundness.proofs.PassCellTypes.{left_of, right_of, is_false, dropped_no_reference, is_plain_scalar, scalar_undropped}
+use Rattle.soundness.proofs.PassCellTypes.{left_of, right_of, is_false, is_plain_scalar, scalar_undropped}
+use Rattle.soundness.proofs.PassSure.{known_place, sure_if_known}
 use Rattle.soundness.proofs.Running.{sure_place, sure_in, sure_from}
 
-whole_is : (place : Place) → no_steps place.steps ≡ true → place ≡ whole_local place.local
+pub whole_is : (place : Place) → no_steps place.steps ≡ true → place ≡ whole_local place.local
 whole_is place e = by place.steps e
   where
     by : (steps : List Step) → no_steps steps ≡ true →
         record { local = place.local; steps = steps } ≡ whole_local place.local
     by [] e = refl
     by (step ∷ steps) e = absurd (false≢true e)
-
-names_none : (o : Option Ty) → is_reference o ≡ false → named_by o ≡ None
-names_none None e = refl
-names_none (Some (Ty.Shared to)) e = absurd (false≢true (sym e))
-names_none (Some (Ty.Unique to)) e = absurd (false≢true (sym e))
-names_none (Some ty) e = refl
 
 module _ (items : ItemTable) (local_ty : ℕ → Option TyId) (is_target : ℕ → Bool)
     (own : (l : ℕ) (id : TyId) → local_ty l ≡ Some id → is_reference (type_at items id) ≡ false → is_target l ≡ false)
@@ -63,15 +58,15 @@ module _ (items : ItemTable) (local_ty : ℕ → Option TyId) (is_target : ℕ �
     abbrev target : Place → Bool
     target = tests.target items local_ty is_target
 
-    no_name : (id : TyId) → alone items id ≡ true → is_reference (type_at items id) ≡ false
+    pub no_name : (id : TyId) → alone items id ≡ true → is_reference (type_at items id) ≡ false
     no_name id h = is_false (is_reference (type_at items id)) (left_of _ _ h)
 
     -- a whole local of a type that is no reference
-    local_free : (l : ℕ) (id : TyId) → local_ty l ≡ Some id → is_reference (type_at items id) ≡ false →
+    pub local_free : (l : ℕ) (id : TyId) → local_ty l ≡ Some id → is_reference (type_at items id) ≡ false →
         not (is_target l) ≡ true
     local_free l id e r = ap not (own l id e r)
 
-    whole_sure : (facts : Facts) (l : ℕ) (id : TyId) → local_ty l ≡ Some id → is_reference (type_at items id) ≡ false →
+    pub whole_sure : (facts : Facts) (l : ℕ) (id : TyId) → local_ty l ≡ Some id → is_reference (type_at items id) ≡ false →
         sure_from items local_ty is_target facts (whole_local l) id (named_by (type_at items id)) ≡ true
     whole_sure facts l id e r =
         subst (λ n. sure_from items local_ty is_target facts (whole_local l) id n ≡ true)
@@ -131,7 +126,7 @@ module _ (items : ItemTable) (local_ty : ℕ → Option TyId) (is_target : ℕ �
             first true b x = refl
             first false b x = absurd (false≢true x)
 
-    stored : (facts : Facts) (cells : Cells) (place : Place) → target place ≡ true → clear_cell cells place ≡ true →
+    pub stored : (facts : Facts) (cells : Cells) (place : Place) → target place ≡ true → clear_cell cells place ≡ true →
         checks.may_store items local_ty is_target facts cells place ≡ true
     stored facts cells place h k =
         let w = whole_is place (left_of (no_steps place.steps) _ k) in
@@ -145,14 +140,33 @@ module _ (items : ItemTable) (local_ty : ℕ → Option TyId) (is_target : ℕ �
     abbrev cells_act : Action → Bool
     cells_act = tests.cells_act items local_ty is_target
 
-    -- what is left to be tested of an action: of copies, of moves into places, of borrows and of calls all
+    abbrev sure : Facts → Place → Bool
+    sure = sure_place items local_ty is_target
+
+    abbrev pub known : Facts → Place → Bool
+    known = known_place items local_ty is_target
+
+    -- what is left to be tested of a place into which a value is moved
+    abbrev pub rest_store : Facts → Cells → Place → Bool
+    rest_store facts cells place = known facts place
+        && (checks.may_change items local_ty is_target place && checks.is_empty items local_ty is_target cells place)
+
+    -- What is left to be tested of an action: what has to be known of the places that it names; what may be moved out
+    -- of them, and stored; of a borrow, that it goes to a cell apart; of `forget` and of calls all.
     abbrev pub rest_act : Facts → Cells → Action → Bool
-    rest_act facts cells (effects.Put to (effects.Copied site)) =
-        acts_well facts cells (effects.Put to (effects.Copied site))
+    rest_act facts cells (effects.Put to (effects.Copied site)) = clear_cell cells to.place && known facts site.place
     rest_act facts cells (effects.Put to (effects.Moved site)) =
-        acts_well facts cells (effects.Put to (effects.Moved site))
+        rest_store (checks.after_operand items local_ty is_target (effects.Moved site) facts) cells to.place
+        && (known facts site.place && checks.may_move items local_ty is_target site.place)
     rest_act facts cells (effects.Put to from) = clear_cell cells to.place
     rest_act facts cells (effects.Compare to operator (effects.Moved site) right) = clear_cell cells to.place
+    rest_act facts cells (effects.Compare to operator (effects.Copied site) right) =
+        clear_cell cells to.place && known facts site.place
+    rest_act facts cells (effects.Borrow to unique base) =
+        not (is_target to.place.local)
+        && (known facts base.place
+        && (not (base.place.local == to.place.local) && not (takes_index to.place.local base.place.steps)))
+    rest_act facts cells (effects.Touch base) = known facts base.place
     rest_act facts cells (effects.Not to operand) = clear_cell cells to.place
     rest_act facts cells (effects.Build to kind parts) = clear_cell cells to.place
     rest_act facts cells (effects.NewBox to content) = clear_cell cells to.place
@@ -164,6 +178,10 @@ module _ (items : ItemTable) (local_ty : ℕ → Option TyId) (is_target : ℕ �
     rest_act facts cells (effects.Ask to) = clear_cell cells to.place
     rest_act facts cells action = acts_well facts cells action
 
+    pub place_sure : (facts : Facts) (place : Place) → tests.leads items local_ty is_target place ≡ true →
+        known facts place ≡ true → sure facts place ≡ true
+    place_sure facts place h k = sure_if_known items local_ty is_target facts own place h k
+
     -- an answer of a type that is known, from operands that are moved
     stored_as : (facts : Facts) (cells : Cells) (to : EffectSite) (test : Option Ty → Bool) →
         (target to.place && test (checks.ty_of items local_ty is_target to.place)) ≡ true →
@@ -171,7 +189,7 @@ module _ (items : ItemTable) (local_ty : ℕ → Option TyId) (is_target : ℕ �
     stored_as facts cells to test h k =
         both_true (stored facts cells to.place (left_of (target to.place) _ h) k) (right_of (target to.place) _ h)
 
-    taken_and : (facts : Facts) (operand : Operand) (test : Bool) → (moved_cell operand && test) ≡ true →
+    pub taken_and : (facts : Facts) (operand : Operand) (test : Bool) → (moved_cell operand && test) ≡ true →
         (takes_well facts operand && test) ≡ true
     taken_and facts operand test h =
         both_true (moved_taken facts operand (left_of (moved_cell operand) test h)) (right_of (moved_cell operand) test h)
@@ -266,10 +284,50 @@ module _ (items : ItemTable) (local_ty : ℕ → Option TyId) (is_target : ℕ �
         k)
         (taken_and facts operand more (right_of (target to.place) (moved_cell operand && more) h))
 
+    copied_taken : (facts : Facts) (site : EffectSite) → tests.copied_at items local_ty is_target site.place ≡ true →
+        known facts site.place ≡ true → takes_well facts (effects.Copied site) ≡ true
+    copied_taken facts site h k =
+        let v = left_of (tests.value_at items local_ty is_target site.place) _ h in
+        both_true (place_sure facts site.place (left_of (tests.leads items local_ty is_target site.place) _ v) k)
+        (both_true (right_of (tests.leads items local_ty is_target site.place) _ v)
+        (right_of (tests.value_at items local_ty is_target site.place) _ h))
+
+    literal_taken : (facts : Facts) (operand : Operand) → tests.is_literal items local_ty is_target operand ≡ true →
+        takes_well facts operand ≡ true
+    literal_taken facts (effects.Number value kind) h = h
+    literal_taken facts (effects.Truth value) h = refl
+    literal_taken facts (effects.Copied site) h = absurd (false≢true h)
+    literal_taken facts (effects.Moved site) h = absurd (false≢true h)
+    literal_taken facts effects.UnitValue h = absurd (false≢true h)
+
+    four : (a b c d : Bool) → a ≡ true → (b && (c && d)) ≡ true → (b && ((a && c) && d)) ≡ true
+    four true b c d e h = h
+    four false b c d e h = absurd (false≢true e)
+
     pub rest_holds : (facts : Facts) (cells : Cells) (action : Action) → cells_act action ≡ true →
         rest_act facts cells action ≡ true → acts_well facts cells action ≡ true
-    rest_holds facts cells (effects.Put to (effects.Copied site)) h k = k
-    rest_holds facts cells (effects.Put to (effects.Moved site)) h k = k
+    rest_holds facts cells (effects.Put to (effects.Copied site)) h k =
+        both_true (stored facts cells to.place (left_of (target to.place) _ h)
+        (left_of (clear_cell cells to.place) _ k))
+        (both_true (copied_taken facts site
+        (left_of (tests.copied_at items local_ty is_target site.place) _ (right_of (target to.place) _ h))
+        (right_of (clear_cell cells to.place) _ k))
+        (right_of (tests.copied_at items local_ty is_target site.place) _ (right_of (target to.place) _ h)))
+    rest_holds facts cells (effects.Put to (effects.Moved site)) h k =
+        let t = tests.value_at items local_ty is_target to.place in
+        let v = tests.value_at items local_ty is_target site.place in
+        let r = rest_store (after (effects.Moved site) facts) cells to.place in
+        let from = right_of r _ k in
+        let to_leads = tests.leads items local_ty is_target to.place in
+        let leads = tests.leads items local_ty is_target site.place in
+        let to_known = known (after (effects.Moved site) facts) to.place in
+        both_true (four (checks.is_value items local_ty is_target to.place) _ _ _ (right_of to_leads _ (left_of t _ h))
+        (both_true (place_sure (after (effects.Moved site) facts) to.place (left_of to_leads _ (left_of t _ h))
+        (left_of to_known _ (left_of r _ k))) (right_of to_known _ (left_of r _ k))))
+        (both_true (both_true (place_sure facts site.place (left_of leads _ (left_of v _ (right_of t _ h)))
+        (left_of (known facts site.place) _ from))
+        (both_true (right_of leads _ (left_of v _ (right_of t _ h))) (right_of (known facts site.place) _ from)))
+        (right_of v _ (right_of t _ h)))
     rest_holds facts cells (effects.Put to (effects.Number value kind)) h k =
         both_true (stored facts cells to.place (left_of (target to.place) _ h) k) (right_of (target to.place) _ h)
     rest_holds facts cells (effects.Put to (effects.Truth value)) h k =
@@ -279,6 +337,14 @@ module _ (items : ItemTable) (local_ty : ℕ → Option TyId) (is_target : ℕ �
     rest_holds facts cells (effects.Compare to operator (effects.Moved site) right) h k =
         two_answer facts cells to is_bool (effects.Moved site) right
         (are_compared (form_of (effects.Moved site)) (form_of right)) h k
+    rest_holds facts cells (effects.Compare to operator (effects.Copied site) right) h k =
+        let first = left_of (target to.place && is_bool (ty_of to)) _ h in
+        let rest = right_of (target to.place && is_bool (ty_of to)) _ h in
+        let c = tests.copied_at items local_ty is_target site.place in
+        let l = tests.is_literal items local_ty is_target right in
+        both_true (stored_as (after right facts) cells to is_bool first (left_of (clear_cell cells to.place) _ k))
+        (both_true (copied_taken facts site (left_of c _ rest) (right_of (clear_cell cells to.place) _ k))
+        (both_true (literal_taken facts right (left_of l _ (right_of c _ rest))) (right_of l _ (right_of c _ rest))))
     rest_holds facts cells (effects.Compare to operator left right) h k = k
     rest_holds facts cells (effects.Not to operand) h k =
         one_answer facts cells to is_bool operand (is_bool (form_of operand)) h k
@@ -293,8 +359,14 @@ module _ (items : ItemTable) (local_ty : ℕ → Option TyId) (is_target : ℕ �
         (is_dyn_of trait_no (option_and_then (type_at items) (box_content (ty_of to)))
         && option_map_or (λ adt. is_some (impl_of items trait_no adt))
         (adt_of (option_and_then (type_at items) (box_content (form_of operand)))) false) h k
-    rest_holds facts cells (effects.Borrow to unique base) h k = k
-    rest_holds facts cells (effects.Touch base) h k = k
+    rest_holds facts cells (effects.Borrow to unique base) h k =
+        let leads = tests.leads items local_ty is_target base.place in
+        let typed = right_of (no_steps to.place.steps) _ h in
+        let more = right_of (not (is_target to.place.local)) _ k in
+        both_true (both_true (left_of (no_steps to.place.steps) _ h) (left_of (not (is_target to.place.local)) _ k))
+        (both_true (right_of leads _ typed) (both_true (place_sure facts base.place (left_of leads _ typed)
+        (left_of (known facts base.place) _ more)) (right_of (known facts base.place) _ more)))
+    rest_holds facts cells (effects.Touch base) h k = place_sure facts base.place h k
     rest_holds facts cells (effects.Print operand) h k = taken_and facts operand (is_int IntKind.I32 (form_of operand)) h
     rest_holds facts cells (effects.Forget operand) h k = k
     rest_holds facts cells (effects.Free box) h k = k
@@ -309,58 +381,12 @@ module _ (items : ItemTable) (local_ty : ℕ → Option TyId) (is_target : ℕ �
     rest_holds facts cells (effects.CallVirtual to trait_no method args) h k = k
     rest_holds facts cells (effects.Ask to) h k = stored_as facts cells to (is_int IntKind.I32) h k
 
-    -- what needs dropping stands in no reference
-    dropped_whole : (mode : Mode) (facts : Facts) (l : ℕ) → checks.needs items local_ty is_target (whole_local l) ≡ true →
-        facts.refilled ≡ None → checks.may_drop items local_ty is_target mode facts (whole_local l) ≡ true
-    dropped_whole mode facts l h e = both_true (ap checks.is_none e) (both_true (by (local_ty l) refl h) refl)
-      where
-        by : (o : Option TyId) → local_ty l ≡ o →
-            option_map_or (needs_drop items) (option_and_then (ty_along items []) o) false ≡ true →
-            sure_in items local_ty is_target facts (whole_local l) o ≡ true
-        by None e h = absurd (false≢true h)
-        by (Some id) e h =
-            whole_sure facts l id e (is_false (is_reference (type_at items id)) (dropped_no_reference items id h))
-
-    -- an entry that needs dropping may be dropped
-    pub drops_left : (mode : Mode) (facts : Facts) (place : Place) → no_steps place.steps ≡ true →
-        checks.needs items local_ty is_target place ≡ true → facts.refilled ≡ None →
-        checks.may_drop items local_ty is_target mode facts place ≡ true
-    drops_left mode facts place n h e =
-        let w = whole_is place n in
-        subst (λ p. checks.may_drop items local_ty is_target mode facts p ≡ true) (sym w)
-        (dropped_whole mode facts place.local (subst (λ p. checks.needs items local_ty is_target p ≡ true) w h) e)
-
     pub acts_left : (facts : Facts) (cells : Cells) (action : Action) → cells_act action ≡ true →
         facts.refilled ≡ None → rest_act facts cells action ≡ true →
         checks.may_act items local_ty is_target facts cells action ≡ true
     acts_left facts cells action h e k = subst (λ o. checks.unless_refilled o (acts_well facts cells action)
         (λ hole. checks.refills items local_ty is_target facts hole action) ≡ true) (sym e)
         (rest_holds facts cells action h k)
-
-    -- a test of a truth needs no more
-    pub truth_left : (facts : Facts) (operand : Operand) →
-        tests.cells_test items local_ty is_target (effects.IsTrue operand) ≡ true → facts.refilled ≡ None →
-        checks.may_choose items local_ty is_target facts (effects.IsTrue operand) ≡ true
-    truth_left facts operand h e =
-        both_true (ap checks.is_none e) (taken_and facts operand (is_bool (form_of operand)) h)
-
-    -- of a result it is left that it is whole
-    pub gives_left : (facts : Facts) (cells : Cells) (place : Place) →
-        tests.cells_give items local_ty is_target place ≡ true → facts.refilled ≡ None →
-        all_present (presence place.local cells) ≡ true →
-        checks.may_give items local_ty is_target facts cells place ≡ true
-    gives_left facts cells place h e full =
-        let w = whole_is place (left_of (no_steps place.steps) _ h) in
-        both_true (ap checks.is_none e) (both_true (left_of (no_steps place.steps) _ h)
-        (subst (λ p. (not (is_target place.local) && (all_present (presence place.local cells)
-        && is_some (checks.id_of items local_ty is_target p))) ≡ true) (sym w)
-        (by (local_ty place.local) refl (right_of (no_steps place.steps) _ h))))
-      where
-        by : (o : Option TyId) → local_ty place.local ≡ o → option_map_or (alone items) o false ≡ true →
-            (not (is_target place.local) && (all_present (presence place.local cells)
-            && is_some (option_and_then (ty_along items []) o))) ≡ true
-        by None k h = absurd (false≢true h)
-        by (Some id) k h = both_true (local_free place.local id k (no_name id h)) (both_true full refl)
 
 -- a parameter that is a reference is of a type that is one
 pub own_local : (items : ItemTable) (body : BodyTree) (l : ℕ) (id : TyId) → local_ty items body l ≡ Some id →

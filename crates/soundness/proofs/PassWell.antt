@@ -10,7 +10,7 @@ use Rattle.store_model.specs.Effects.{EffectSite, Operand, Copied, Action, Test,
 use Rattle.src_meaning.specs.Forms as forms
 use Rattle.src_meaning.specs.Forms.{Destination, Into, Coerced, LoopsAndGuards, Meaning, entry_of, site_in, site_of_key, moved, keys_of, is_never, changed_if, site_of, loop_destination}
 use Rattle.src_meaning.specs.Scopes.{Entry, Scope, Scopes, with_scope, innermost, around_innermost, nearest_temporary, nearest_from, with_entry, with_pending, without_pending, becomes_entry, without_operands, needing_drop, Exit, Value, Breaks, Continues, Returns, Panics, Run, At, Over, Does, on_value, in_scopes, back_in, leave, drop_normally, drop_unwinding, entry_site}
-use Rattle.src_meaning.specs.Shape.{NodeHead, Shape, operand_at, site_at}
+use Rattle.src_meaning.specs.Shape.{NodeHead, Shape, Aliases, operand_at, site_at}
 use Rattle.well_typed.specs.Places.{LoopAround, Context, loop_with}
 use Rattle.soundness.proofs.Leaving.{Shown, ShownOut, shown_more, AllOf}
 use Rattle.soundness.proofs.PassRules.{all_without, all_without_keys}
@@ -43,7 +43,8 @@ pub record DoesWell {V : Type 0} (q : Effects V) (over : Halt → V → Type 0) 
 
 module _ {V : Type 0} (items : ItemTable) (q : Effects V) (over : Halt → V → Type 0) (Acts : Action → Type 0)
     (Tests : Test → Type 0) (Drops : Mode → EffectSite → Type 0) (Made : EffectSite → Type 0)
-    (well : DoesWell q over Acts Tests Drops Made) (Cell : ℕ → TyId → Type 0) (May : TyId → TyId → ℕ → Type 0) where
+    (well : DoesWell q over Acts Tests Drops Made) (Cell : ℕ → TyId → Type 0) (May : TyId → TyId → ℕ → Type 0)
+    (Names : Aliases → Type 0) where
   -- ---- entries that may be dropped
 
   abbrev pub Droppable : Entry → Type 0
@@ -70,10 +71,11 @@ module _ {V : Type 0} (items : ItemTable) (q : Effects V) (over : Halt → V →
   as_dest h to (inl g) = inl g.0
   as_dest h to (inr g) = inr g
 
-  -- the destinations of the result and of the loops around; nothing else of what is around a node is looked at
+  -- for what names of guards stand, and the destinations of the result and of the loops around; nothing else of what is
+  -- around a node is looked at
   abbrev pub AroundWell : Context → LoopsAndGuards → Type 0
-  AroundWell c around = Dest c.answer around.answer
-      × ((loop : ℕ) (a : LoopAround) → loop_with loop c.loops ≡ Some a → Dest a.ty (loop_destination loop around.loops))
+  AroundWell c around = Names around.aliases × (Dest c.answer around.answer
+      × ((loop : ℕ) (a : LoopAround) → loop_with loop c.loops ≡ Some a → Dest a.ty (loop_destination loop around.loops)))
 
   abbrev pub ExitOk : Context → Type 0 → Exit → Type 0
   ExitOk c valued Value = valued
@@ -412,14 +414,15 @@ module _ {V : Type 0} (items : ItemTable) (q : Effects V) (over : Halt → V →
 
   pub borrowing_well : (c : Context) (valued : Type 0) (h : NodeHead) (unique : Bool) (base : Meaning V)
       (around : LoopsAndGuards) (own : Bool) (to : Destination) → AroundWell c around → Reach c base →
-      Delivers valued h (λ site. effects.Borrow (record site { node = base.head.id }) unique (site_of base around)) to →
+      (Reached base →
+      Delivers valued h (λ site. effects.Borrow (record site { node = base.head.id }) unique (site_of base around)) to) →
       (S : Scopes) (v : V) → Fine S →
       Shown over (Post c valued) (forms.borrowing items q h unique base around own to S v)
   borrowing_well c valued h unique base around own to ok b d S v f = own_well c valued h own
       (λ T w. on_value (base.reach around T w) (forms.deliver items q h action to)) S v f
       (λ T g. then_well c (Reached base) valued (base.reach around T v)
       (forms.deliver items q h action to) (b around T v ok g)
-      (λ U w x k. deliver_well c valued h action to d U w k))
+      (λ U w x k. deliver_well c valued h action to (d x) U w k))
     where
       action : EffectSite → Action
       action site = effects.Borrow (record site { node = base.head.id }) unique (site_of base around)

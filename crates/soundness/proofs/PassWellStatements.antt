@@ -10,7 +10,7 @@ use Rattle.store_model.specs.Effects.{EffectSite, Action, Test, Mode, Normal, Ha
 use Rattle.src_meaning.specs.Forms as forms
 use Rattle.src_meaning.specs.Forms.{Destination, Into, LoopsAndGuards, Meaning, entry_of, bound_entry, site_of_key, changed_if, place_of, loop_destination, in_loop}
 use Rattle.src_meaning.specs.Scopes.{Entry, Scope, Scopes, with_scope, innermost, around_innermost, with_entry, with_pending, without_pending, becomes_entry, Exit, Value, Breaks, Continues, Returns, Panics, Run, At, Over, Does, on_value, in_scopes}
-use Rattle.src_meaning.specs.Shape.{NodeHead, BoundName}
+use Rattle.src_meaning.specs.Shape.{NodeHead, Aliases, BoundName}
 use Rattle.well_typed.specs.Places.{LoopAround, Context, loop_with, within}
 use Rattle.soundness.proofs.Leaving.{Shown, ShownOut}
 use Rattle.soundness.proofs.PassWell as rules
@@ -19,42 +19,43 @@ use Rattle.soundness.proofs.PassWellBranches as branches
 
 module _ {V : Type 0} (items : ItemTable) (q : Effects V) (over : Halt → V → Type 0) (Acts : Action → Type 0)
     (Tests : Test → Type 0) (Drops : Mode → EffectSite → Type 0) (Made : EffectSite → Type 0)
-    (well : DoesWell q over Acts Tests Drops Made) (Cell : ℕ → TyId → Type 0) (May : TyId → TyId → ℕ → Type 0) where
+    (well : DoesWell q over Acts Tests Drops Made) (Cell : ℕ → TyId → Type 0) (May : TyId → TyId → ℕ → Type 0)
+    (Names : Aliases → Type 0) where
   abbrev Fine : Scopes → Type 0
-  Fine = rules.Fine items q over Acts Tests Drops Made well Cell May
+  Fine = rules.Fine items q over Acts Tests Drops Made well Cell May Names
 
   abbrev Post : Context → Type 0 → Exit → Scopes → V → Type 0
-  Post = rules.Post items q over Acts Tests Drops Made well Cell May
+  Post = rules.Post items q over Acts Tests Drops Made well Cell May Names
 
   abbrev Well : Context → Meaning V → Type 0
-  Well = rules.Well items q over Acts Tests Drops Made well Cell May
+  Well = rules.Well items q over Acts Tests Drops Made well Cell May Names
 
   abbrev Reach : Context → Meaning V → Type 0
-  Reach = rules.Reach items q over Acts Tests Drops Made well Cell May
+  Reach = rules.Reach items q over Acts Tests Drops Made well Cell May Names
 
   abbrev AroundWell : Context → LoopsAndGuards → Type 0
-  AroundWell = rules.AroundWell items q over Acts Tests Drops Made well Cell May
+  AroundWell = rules.AroundWell items q over Acts Tests Drops Made well Cell May Names
 
   abbrev Dest : TyId → Destination → Type 0
-  Dest = rules.Dest items q over Acts Tests Drops Made well Cell May
+  Dest = rules.Dest items q over Acts Tests Drops Made well Cell May Names
 
   abbrev IsMade : TyId → Type 0
-  IsMade = rules.IsMade items q over Acts Tests Drops Made well Cell May
+  IsMade = rules.IsMade items q over Acts Tests Drops Made well Cell May Names
 
   abbrev Droppable : Entry → Type 0
-  Droppable = rules.Droppable items q over Acts Tests Drops Made well Cell May
+  Droppable = rules.Droppable items q over Acts Tests Drops Made well Cell May Names
 
   abbrev Keeps : (Scope → Scope) → Type 0
-  Keeps = rules.Keeps items q over Acts Tests Drops Made well Cell May
+  Keeps = rules.Keeps items q over Acts Tests Drops Made well Cell May Names
 
   abbrev Delivers : Type 0 → NodeHead → (EffectSite → Action) → Destination → Type 0
-  Delivers = rules.Delivers items q over Acts Tests Drops Made well Cell May
+  Delivers = rules.Delivers items q over Acts Tests Drops Made well Cell May Names
 
   abbrev Reached : Meaning V → Type 0
-  Reached = rules.Reached items q over Acts Tests Drops Made well Cell May
+  Reached = rules.Reached items q over Acts Tests Drops Made well Cell May Names
 
   abbrev BoundsOk : List BoundName → Type 0
-  BoundsOk = branches.BoundsOk items q over Acts Tests Drops Made well Cell May
+  BoundsOk = branches.BoundsOk items q over Acts Tests Drops Made well Cell May Names
 
   -- ---- statements
 
@@ -62,18 +63,18 @@ module _ {V : Type 0} (items : ItemTable) (q : Effects V) (over : Halt → V →
       Well c m → Dest m.head.ty (Into x.id) → Droppable (forms.entry_of x) → (S : Scopes) (v : V) → Fine S →
       Shown over (Post c (IsMade m.head.ty)) (forms.let_name items q h x m around S v)
   let_name_well c h x m around ok m_well d droppable S v f =
-      rules.leave_well items q over Acts Tests Drops Made well Cell May c (IsMade m.head.ty)
+      rules.leave_well items q over Acts Tests Drops Made well Cell May Names c (IsMade m.head.ty)
       (on_value (m.evaluate around false (Into x.id) begun v) named)
-      (rules.then_well items q over Acts Tests Drops Made well Cell May c (IsMade m.head.ty) (IsMade m.head.ty)
+      (rules.then_well items q over Acts Tests Drops Made well Cell May Names c (IsMade m.head.ty) (IsMade m.head.ty)
       (m.evaluate around false (Into x.id) begun v) named
       (m_well around false (Into x.id) begun v ok d ((tt, (droppable, tt)), f))
       (λ T w made g. (
         made,
-        rules.fine_around items q over Acts Tests Drops Made well Cell May (with_entry e)
-            (rules.entered items q over Acts Tests Drops Made well Cell May e droppable)
+        rules.fine_around items q over Acts Tests Drops Made well Cell May Names (with_entry e)
+            (rules.entered items q over Acts Tests Drops Made well Cell May Names e droppable)
             (innermost (without_pending e) T)
-            (rules.fine_innermost items q over Acts Tests Drops Made well Cell May (without_pending e)
-            (rules.unpended items q over Acts Tests Drops Made well Cell May e) T g),
+            (rules.fine_innermost items q over Acts Tests Drops Made well Cell May Names (without_pending e)
+            (rules.unpended items q over Acts Tests Drops Made well Cell May Names e) T g),
       )))
     where
       e : Entry
@@ -87,22 +88,22 @@ module _ {V : Type 0} (items : ItemTable) (q : Effects V) (over : Halt → V →
 
   pub let_parts_well : (c : Context) (h : NodeHead) (pattern m : Meaning V) (around : LoopsAndGuards) →
       AroundWell c around → Reach c m → Droppable (forms.entry_of m.head) →
-      BoundsOk (pattern.shape.bindings (place_of m around)) → (S : Scopes) (v : V) → Fine S →
+      (Reached m → BoundsOk (pattern.shape.bindings (place_of m around))) → (S : Scopes) (v : V) → Fine S →
       Shown over (Post c (Reached m)) (forms.let_parts items q h pattern m around S v)
   let_parts_well c h pattern m around ok m_well droppable bounds S v f =
-      rules.leave_well items q over Acts Tests Drops Made well Cell May c (Reached m)
+      rules.leave_well items q over Acts Tests Drops Made well Cell May Names c (Reached m)
       (on_value (m.reach around begun v) bind)
-      (rules.then_well items q over Acts Tests Drops Made well Cell May c (Reached m) (Reached m)
+      (rules.then_well items q over Acts Tests Drops Made well Cell May Names c (Reached m) (Reached m)
       (m.reach around begun v) bind
-      (m_well around begun v ok (rules.fine_if items q over Acts Tests Drops Made well Cell May
+      (m_well around begun v ok (rules.fine_if items q over Acts Tests Drops Made well Cell May Names
       (not (m.shape.is_place || m.shape.in_destination)) (innermost (with_pending e)) (with_scope h.id true S)
-      (rules.opened items q over Acts Tests Drops Made well Cell May h.id true S f)
-      (rules.fine_innermost items q over Acts Tests Drops Made well Cell May (with_pending e)
-      (rules.pended items q over Acts Tests Drops Made well Cell May e droppable) (with_scope h.id true S))))
-      (λ T w x g. rules.more_valued items q over Acts Tests Drops Made well Cell May c (Unit {0}) (Reached m) (λ y. x)
-      (bind T w) (branches.bind_well items q over Acts Tests Drops Made well Cell May c around_innermost
-      (λ change k U l. rules.fine_around items q over Acts Tests Drops Made well Cell May change k U l)
-      (pattern.shape.bindings (place_of m around)) bounds T w g)))
+      (rules.opened items q over Acts Tests Drops Made well Cell May Names h.id true S f)
+      (rules.fine_innermost items q over Acts Tests Drops Made well Cell May Names (with_pending e)
+      (rules.pended items q over Acts Tests Drops Made well Cell May Names e droppable) (with_scope h.id true S))))
+      (λ T w x g. rules.more_valued items q over Acts Tests Drops Made well Cell May Names c (Unit {0}) (Reached m) (λ y. x)
+      (bind T w) (branches.bind_well items q over Acts Tests Drops Made well Cell May Names c around_innermost
+      (λ change k U l. rules.fine_around items q over Acts Tests Drops Made well Cell May Names change k U l)
+      (pattern.shape.bindings (place_of m around)) (bounds x) T w g)))
     where
       e : Entry
       e = forms.entry_of m.head
@@ -126,8 +127,8 @@ module _ {V : Type 0} (items : ItemTable) (q : Effects V) (over : Halt → V →
   declared_well c [] ok S v f = (tt, f)
   declared_well c (b ∷ bounds) ok S v f = by (needs_drop items b.ty) refl
       (λ T w g. declared_well c bounds ok.1 (innermost (with_entry (bound_entry b)) T) w
-      (rules.fine_innermost items q over Acts Tests Drops Made well Cell May (with_entry (bound_entry b))
-      (rules.entered items q over Acts Tests Drops Made well Cell May (bound_entry b) ok.0.1) T g))
+      (rules.fine_innermost items q over Acts Tests Drops Made well Cell May Names (with_entry (bound_entry b))
+      (rules.entered items q over Acts Tests Drops Made well Cell May Names (bound_entry b) ok.0.1) T g))
     where
       next : Does V
       next T w = forms.declared items q bounds (innermost (with_entry (bound_entry b)) T) w
@@ -150,15 +151,15 @@ module _ {V : Type 0} (items : ItemTable) (q : Effects V) (over : Halt → V →
       Well c m → Dest m.head.ty (Into m.head.id) → Droppable (forms.entry_of m.head) → (S : Scopes) (v : V) → Fine S →
       Shown over (Post c (IsMade m.head.ty)) (forms.evaluating items q h m around S v)
   evaluating_well c h m around ok m_well d droppable S v f =
-      rules.leave_well items q over Acts Tests Drops Made well Cell May c (IsMade m.head.ty)
+      rules.leave_well items q over Acts Tests Drops Made well Cell May Names c (IsMade m.head.ty)
       (on_value (m.evaluate around false (Into m.head.id) begun v) (forms.complete items q innermost m.head))
-      (rules.then_well items q over Acts Tests Drops Made well Cell May c (IsMade m.head.ty) (IsMade m.head.ty)
+      (rules.then_well items q over Acts Tests Drops Made well Cell May Names c (IsMade m.head.ty) (IsMade m.head.ty)
       (m.evaluate around false (Into m.head.id) begun v) (forms.complete items q innermost m.head)
       (m_well around false (Into m.head.id) begun v ok d ((tt, (droppable, tt)), f))
       (λ T w made g. (
         made,
-        rules.fine_innermost items q over Acts Tests Drops Made well Cell May (becomes_entry e)
-            (rules.completed items q over Acts Tests Drops Made well Cell May e droppable) T g,
+        rules.fine_innermost items q over Acts Tests Drops Made well Cell May Names (becomes_entry e)
+            (rules.completed items q over Acts Tests Drops Made well Cell May Names e droppable) T g,
       )))
     where
       e : Entry
@@ -230,9 +231,9 @@ module _ {V : Type 0} (items : ItemTable) (q : Effects V) (over : Halt → V →
       Delivers (IsMade a.ty) h (λ site. effects.Put site effects.UnitValue) to → (S : Scopes) (v : V) → Fine S →
       Shown over (Post (within a c) any_value) (forms.ends_loop items q h to S v)
   ends_well c x a h to same d S v f =
-      rules.then_well items q over Acts Tests Drops Made well Cell May (within a c) (IsMade a.ty) x
+      rules.then_well items q over Acts Tests Drops Made well Cell May Names (within a c) (IsMade a.ty) x
       (forms.put_unit items q h to S v) (At (Breaks h.id))
-      (rules.deliver_well items q over Acts Tests Drops Made well Cell May (within a c) (IsMade a.ty) h
+      (rules.deliver_well items q over Acts Tests Drops Made well Cell May Names (within a c) (IsMade a.ty) h
       (λ site. effects.Put site effects.UnitValue) to d S v f)
       (λ T w made g. ((a, (own, made)), g))
     where
@@ -245,13 +246,13 @@ module _ {V : Type 0} (items : ItemTable) (q : Effects V) (over : Halt → V →
       ((S : Scopes) (v : V) → Fine S → Shown over (Post c jumped) (forms.value_of_jump items q h m around to S v)) →
       (S : Scopes) (v : V) → Fine S → Shown over (Post c valued) (forms.jumping items q exit h m around to S v)
   jumping_well c valued jumped exit ok h m around to does S v f =
-      rules.then_well items q over Acts Tests Drops Made well Cell May c jumped valued
+      rules.then_well items q over Acts Tests Drops Made well Cell May Names c jumped valued
       (forms.value_of_jump items q h m around to S v) (At exit) (does S v f) (λ T w x g. ok x T w g)
 
   -- what stands around the body of a loop
   pub around_loop : (c : Context) (around : LoopsAndGuards) (a : LoopAround) (to : Destination) → AroundWell c around →
       Dest a.ty to → AroundWell (within a c) (in_loop a.loop to around)
-  around_loop c around a to ok d = (ok.0, λ loop b e. by loop b (a.loop == loop) refl e)
+  around_loop c around a to ok d = (ok.0, (ok.1.0, λ loop b e. by loop b (a.loop == loop) refl e))
     where
       to_ : (loop : ℕ) → (a.loop == loop) ≡ true → loop_destination loop ((a.loop, to) ∷ around.loops) ≡ to
       to_ loop e = ap (λ b. if b then to else loop_destination loop around.loops)
@@ -274,4 +275,4 @@ module _ {V : Type 0} (items : ItemTable) (q : Effects V) (over : Halt → V →
         where
           own : Some a ≡ Some b → a ≡ b
           own x = cc
-      by loop b false e k = subst (λ t. Dest b.ty t) (sym (past_ loop e)) (ok.1 loop b k)
+      by loop b false e k = subst (λ t. Dest b.ty t) (sym (past_ loop e)) (ok.1.1 loop b k)

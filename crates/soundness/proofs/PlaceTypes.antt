@@ -67,7 +67,7 @@ module _ (items : ItemTable) where
   no_enum false o t h e = e
   no_enum true o t h e = absurd (false≢true h)
 
-  field_step : (base t : TyId) (part : ℕ) → has_fields items base ≡ true → field_ty items base 0 part ≡ Some t →
+  pub field_step : (base t : TyId) (part : ℕ) → has_fields items base ≡ true → field_ty items base 0 part ≡ Some t →
       option_and_then (step_ty items (ToPart part)) (type_at items base) ≡ Some t
   field_step base t part h e = by (type_at items base) h e
     where
@@ -92,7 +92,7 @@ module _ (items : ItemTable) where
       by None h e = absurd (false≢true h)
       by (Some ty) h e = by_ty ty h e
 
-  element_step : (base : TyId) (a : TyId × ℕ) (i : ℕ) → array_of items base ≡ Some a →
+  pub element_step : (base : TyId) (a : TyId × ℕ) (i : ℕ) → array_of items base ≡ Some a →
       option_and_then (step_ty items (ToElement i)) (type_at items base) ≡ Some a.0
   element_step base a i e = by (type_at items base) e
     where
@@ -112,7 +112,7 @@ module _ (items : ItemTable) where
       by (Some (Ty.Unique x)) e = absurd (none-some a e)
       by (Some (Ty.Closure n)) e = absurd (none-some a e)
 
-  content_step : (base t : TyId) → inside_of items base ≡ Some t → option_and_then (step_ty items ToContent)
+  pub content_step : (base t : TyId) → inside_of items base ≡ Some t → option_and_then (step_ty items ToContent)
       (type_at items base) ≡ Some t
   content_step base t e = by (type_at items base) e
     where

@@ -293,3 +293,29 @@ but_of_first p n local = true
 
 behind_unique_passed : program_shows 6 but_of_first (outcome behind_unique) ≡ false
 behind_unique_passed = refl
+
+-- the content of a box that stands in a local is replaced, by the body and by what it calls
+abbrev boxes : List ℕ
+boxes = lines (
+    codes "fn main() { let mut b = Box::new(Box::new(1)); *b = Box::new(2); }" ∷
+    [])
+
+boxes_show : text_shows 8 boxes ≡ true
+boxes_show = refl
+
+abbrev boxes_passed : List ℕ
+boxes_passed = lines (
+    codes "fn set(r: &mut Box<i32>) { *r = Box::new(3); }" ∷
+    codes "fn main() { let mut b = Box::new(Box::new(1)); set(&mut *b); }" ∷
+    [])
+
+boxes_passed_show : text_shows 8 boxes_passed ≡ true
+boxes_passed_show = refl
+
+-- but what `self` of a `Drop` body names is protected
+abbrev first_body : Outcome → Bool
+first_body (Typed p) = protected p 0 1
+first_body other = false
+
+self_protected : first_body (outcome self_passed_on) ≡ true
+self_protected = refl

@@ -1,7 +1,8 @@
 -- `self` of a `Drop` body is replaced as a whole by no call, in a program that keeps the rules of borrows: the rule of
 -- `Drop` bodies looks at each store and each call, and the rounds find all that may be replaced.
 use Rattle.std.proofs.Common.{◌≡◌, ◌⊎◌, inl, inr, ℕ, zero, suc, ◌<◌, ◌==◌, ◌||◌, not, Bool, true, false, List, [], ◌∷◌, ◌++◌, map, length, Contains, Option, Some, None, if◌then◌else◌, refl, ap, sym, ◌∙◌, subst, arith}
-use Rattle.std.specs.Prelude.{slice_get}
+use Rattle.std.specs.Prelude.{slice_get, option_and_then}
+use Rattle.std.specs.Cmp.Derive.{both_true}
 use Rattle.std.specs.List.{list_any, filter_map, flat_map}
 use Rattle.std.specs.Option.{option_map_or}
 use Rattle.std.proofs.lemmas.Bool.{false≢true}
@@ -11,8 +12,11 @@ use Rattle.std.proofs.lemmas.Option.{none-some}
 use Rattle.mir_base.specs.declared.rule.Rule.{Rule}
 use Rattle.mir_ty.specs.DropBodies.{is_drop_body}
 use Rattle.mir_ty.specs.declared.adt.Adt.{Adt}
-use Rattle.mir_ty.specs.ItemTable.{ItemTable}
+use Rattle.mir_ty.specs.declared.def.Sig.{Sig}
+use Rattle.mir_ty.specs.declared.ty.TyId.{TyId}
+use Rattle.mir_ty.specs.ItemTable.{ItemTable, type_at}
 use Rattle.store_model.specs.Concrete.Location.{concrete_ty}
+use Rattle.store_model.specs.Places.Place.{is_reference}
 use Rattle.typed_tree.specs.Nodes.{number_of}
 use Rattle.typed_tree.specs.Tree.{BodyTree, ParamTree, ProgramTree}
 use Rattle.typing_rules.specs.Borrows.{broken, overlaps, replacing, of_self, replaced_self, all_broken, first_of}
@@ -21,8 +25,8 @@ use Rattle.typing_rules.specs.Replaced as rules
 use Rattle.typing_rules.specs.Replaced.{BodyParameter, Passing, stores, passings, is_some_pos, facts_of, facts_from, all_facts, is_among, is_replaced, bodies_of, replaceable, Replaceable, by_store, by_call}
 use Rattle.typing_rules.proofs.LeastSet.{rounds_find_the_least}
 use Rattle.soundness.specs.Laws.{IsSound}
-use Rattle.soundness.proofs.DropHeads.{has_drop}
-use Rattle.soundness.proofs.OnceByPass.{DropsProtect}
+use Rattle.soundness.proofs.DropHeads.{has_drop, drop_heads_of}
+use Rattle.soundness.proofs.OnceByPass.{is_reference_at, DropsProtect}
 
 -- ---- lists
 
@@ -164,7 +168,7 @@ module _ (items : ItemTable) (params : List BodyParameter) where
 
 -- `self` is protected
 pub drops_protect : (p : ProgramTree) → IsSound p → DropsProtect p
-drops_protect p sound f of e = by (is_among (replaceable p) 0 of.1) refl
+drops_protect p sound f of e = both_true is_self (by (is_among (replaceable p) 0 of.1) refl)
   where
     none : flat_map (λ body. overlaps body ++ replaced_self p.items (replaceable p) body) p.bodies ≡ []
     none = first_none (all_broken p) sound.borrows
@@ -174,6 +178,15 @@ drops_protect p sound f of e = by (is_among (replaceable p) 0 of.1) refl
         let d = has_drop p.items of (concrete_ty p.items f) e in
         any_at (λ (adt : Adt). option_map_or (λ b. b == of.1) adt.drop_body false) p.items.adts of.0 d.adt d.adt_is
         (ap (λ o. option_map_or (λ b. b == of.1) o false) d.body_is ∙ (Decides-eqb of.1 of.1).1 refl)
+
+    -- it is a reference, by the head of the body
+    is_self : is_reference_at p.items of.1 0 ≡ true
+    is_self =
+        let h = drop_heads_of p sound.typed f of e in
+        ap (λ o. option_map_or (λ (sig : Sig). is_reference (option_and_then (type_at p.items) (slice_get sig.params 0))) o
+        false) h.sig_is
+        ∙ ap (λ (l : List TyId). is_reference (option_and_then (type_at p.items) (slice_get l 0))) h.params_are
+        ∙ ap is_reference h.self_is
 
     by : (b : Bool) → is_among (replaceable p) 0 of.1 ≡ b → not (is_among (replaceable p) 0 of.1) ≡ true
     by false k = ap (λ b. not b) k
