@@ -1,17 +1,12 @@
--- The block of a rung is the one that the ladder has there; a rung and its twin.
+-- A block more has the next number; a rung and its twin.
 use Rattle.std.proofs.Common.{◌≡◌, ◌∙◌, ◌∷◌, [], ◌++◌, ◌+◌, ℕ, List, Option, Some, None, length, refl, sym, ap}
 use Rattle.cfg_graph.specs.declared.graph.Block.{Block}
 use Rattle.cfg_graph.specs.declared.graph.Kind.{Kind}
 use Rattle.cfg_graph.specs.declared.statement.Stmt.{Stmt}
 use Rattle.cfg_graph.specs.declared.terminator.Term.{Term}
-use Rattle.drop_elaborate.specs.Build.{Made, Begun, one_block}
+use Rattle.drop_elaborate.specs.Build.{Made, Begun}
 use Rattle.drop_elaborate.specs.Ladder.{Ending, Abruptly}
-use Rattle.drop_blocks.specs.Ladders.{built, ending_of, kind_of, with_one, with_twin}
-
-pub one-is : (twin : Option ℕ) (stmts : List Stmt) (term : Term) (made : Made) →
-    with_one (kind_of twin) stmts term made ≡ one_block (ending_of twin) stmts term made
-one-is None stmts term made = refl
-one-is (Some twin) stmts term made = refl
+use Rattle.drop_blocks.specs.Ladders.{built, with_one, with_twin}
 
 abbrev pub begin : ℕ → Made → Begun
 begin at made = record { at = at; made = made }

@@ -1,8 +1,12 @@
 //! New blocks of a body, behind its own.
-ghost use Rattle.std.specs.Prelude.{◌≡◌, IfOk};
+ghost use Rattle.std.specs.Prelude.{◌≡◌, [], ◌∷◌, IfOk};
+ghost use Rattle.cfg_graph.specs.declared.place.Operand.{Operand as From};
+ghost use Rattle.cfg_graph.specs.declared.statement.Stmt.{Stmt as Line};
+ghost use Rattle.cfg_graph.specs.declared.terminator.Term.{Term as Turn};
 ghost use Rattle.drop_elaborate.specs.Build as build;
 ghost use Rattle.drop_elaborate.specs.Ladder as ladders;
-ghost use Rattle.drop_blocks.specs.Ladders.{made_of, begun_of, ending_of, kind_of, with_one, no_block};
+ghost use Rattle.drop_elaborate.specs.Ladder.{local_place};
+ghost use Rattle.drop_blocks.specs.Ladders.{made_of, begun_of, drop_rung, ending_of, with_one, no_block};
 
 use cfg_graph::{Block, Kind, Operand, Place, Stmt, Term, Unwind};
 use drop_copies::{copy_place, whole_local};
@@ -14,16 +18,6 @@ use std::alloc::Global;
 pub struct NewBlocks {
     pub first: u32,
     pub made: List<Block>,
-}
-
-/// The kind of the blocks of a chain, by where a panic in it goes on: without that, it is one that unwinds.
-fn kind_in(twin: Option<u32>) -> Kind
-    ensures { result ≡ kind_of twin }
-{
-    match twin {
-        Some(_) => Kind::Plain,
-        None => Kind::Cleanup,
-    }
 }
 
 /// Where a panic in a chain goes on.
@@ -78,12 +72,13 @@ impl NewBlocks {
     pub fn add_drop(
         &mut self,
         alloc: Global,
+        kind: Kind,
         place: &Place,
         to: u32,
         twin: Option<u32>,
     ) -> Result<u32, NoMemory>
         ensures { IfOk result (λ number. begun_of number self.new
-            ≡ build.drop_block place.now to (ending_of twin) (made_of self.old)) }
+            ≡ drop_rung place.now kind to (ending_of twin) (made_of self.old)) }
     {
         let place = copy_place(alloc, place)?;
         let unwind = unwind_in(twin);
@@ -92,37 +87,37 @@ impl NewBlocks {
             then: to,
             unwind,
         };
-        self.add(kind_in(twin), List::new(alloc), term)
+        self.add(kind, List::new(alloc), term)
     }
 
     /// A block that frees the box of a place and goes on in another one.
     pub fn add_free(
         &mut self,
         alloc: Global,
+        kind: Kind,
         place: &Place,
         to: u32,
-        twin: Option<u32>,
     ) -> Result<u32, NoMemory>
         ensures { IfOk result (λ number. begun_of number self.new
-            ≡ build.free_block place.now to (ending_of twin) (made_of self.old)) }
+            ≡ with_one kind (Line.Free place.now ∷ []) (Turn.Goto to) (made_of self.old)) }
     {
         let place = copy_place(alloc, place)?;
         let mut stmts = List::new(alloc);
         stmts.push(Stmt::Free(place))?;
-        self.add(kind_in(twin), stmts, Term::Goto(to))
+        self.add(kind, stmts, Term::Goto(to))
     }
 
     /// A block that goes on in one of two others by a flag.
     pub fn add_flag(
         &mut self,
         alloc: Global,
+        kind: Kind,
         flag: u32,
         there: u32,
         to: u32,
-        twin: Option<u32>,
     ) -> Result<u32, NoMemory>
         ensures { IfOk result (λ number. begun_of number self.new
-            ≡ build.flag_block flag there to (ending_of twin) (made_of self.old)) }
+            ≡ with_one kind [] (Turn.If (From.Copied (local_place flag)) there to) (made_of self.old)) }
     {
         let on = Operand::Copied(whole_local(alloc, flag));
         let term = Term::If {
@@ -130,21 +125,21 @@ impl NewBlocks {
             yes: there,
             no: to,
         };
-        self.add(kind_in(twin), List::new(alloc), term)
+        self.add(kind, List::new(alloc), term)
     }
 
     /// A block that goes on in one of two others by whether a value has a variant.
     pub fn add_case(
         &mut self,
         alloc: Global,
+        kind: Kind,
         place: &Place,
         variant: u32,
         there: u32,
         other: u32,
-        twin: Option<u32>,
     ) -> Result<u32, NoMemory>
         ensures { IfOk result (λ number. begun_of number self.new
-            ≡ build.case_block place.now variant there other (ending_of twin) (made_of self.old)) }
+            ≡ with_one kind [] (Turn.Case place.now variant there other) (made_of self.old)) }
     {
         let on = copy_place(alloc, place)?;
         let term = Term::Case {
@@ -153,6 +148,6 @@ impl NewBlocks {
             yes: there,
             no: other,
         };
-        self.add(kind_in(twin), List::new(alloc), term)
+        self.add(kind, List::new(alloc), term)
     }
 }

@@ -1,3 +1,5 @@
-mod Doing
-mod Ending
-mod Making
+pub mod Ending
+pub mod Exact
+pub mod Leading
+pub mod LeadingEnds
+pub mod Making

@@ -1,3 +1,4 @@
-pub mod Bodies
 pub mod Decisions
 pub mod Edges
+pub mod Ends
+pub mod Leads

@@ -1,11 +1,15 @@
 //! Blocks by what is decided of their drops.
-ghost use Rattle.std.specs.Prelude.{◌≡◌, ◌++◌, IfOk, List as Listed};
+ghost use Rattle.std.specs.Prelude.{◌≡◌, ◌++◌, IfOk, List as Listed, false};
 ghost use Rattle.mir_ty.specs.ItemTable.{ItemTable};
 ghost use Rattle.cfg_graph.specs.declared.graph.Body.{Body as GraphBody};
 ghost use Rattle.cfg_graph.specs.declared.statement.Stmt.{Stmt as Line};
 ghost use Rattle.drop_flags.specs.Flags.{AreFlags, HasRoom, paths_of};
 ghost use Rattle.drop_blocks.specs.Ladders.{made_of};
 ghost use Rattle.drop_ends.specs.Edges.{IsMade};
+ghost use Rattle.drop_elaborate.specs.Elaborated as rules;
+ghost use Rattle.drop_ends.specs.Ends as exact;
+ghost use Rattle.drop_ends.specs.Ends.{made_end, end_by};
+ghost use Rattle.cfg_graph.specs.Edges.{is_turn_kind};
 ghost use Rattle.drop_ends.specs.Decisions.{DropEnds, EndsBy, IsBlockOf};
 
 use crate::edges::kind_after;
@@ -41,9 +45,12 @@ fn drop_end(
     blocks: &mut NewBlocks,
 ) -> Result<Term, NoMemory>
     requires { HasRoom flags.now }
-    ensures { IfOk result (λ term. (items : ItemTable) (body : GraphBody) → AreFlags items body flags.now →
-        (ending : Listed Line) × (stmts.new ≡ stmts.old ++ ending) × IsMade (made_of blocks.old) (made_of blocks.new)
-        (λ after. DropEnds items body (paths_of flags.now) after decided.now kind place.now next unwind ending term)) }
+    ensures built { IfOk result (λ term. (items : ItemTable) (body : GraphBody) → AreFlags items body flags.now →
+        made_end term (made_of blocks.new) ≡ exact.drop_end items body (paths_of flags.now) decided.now kind place.now
+        next unwind (made_of blocks.old)) }
+    ensures stands { IfOk result (λ term. (items : ItemTable) (body : GraphBody) → AreFlags items body flags.now →
+        is_turn_kind kind ≡ false → (ending : Listed Line) × (stmts.new ≡ stmts.old ++ ending)
+        × IsMade (made_of blocks.old) (made_of blocks.new) (λ after. DropEnds items body (paths_of flags.now) after decided.now kind place.now next unwind ending term)) }
 {
     match decided {
         Decided::Dead => {
@@ -76,9 +83,12 @@ fn end_of(
     blocks: &mut NewBlocks,
 ) -> Result<Term, NoMemory>
     requires { HasRoom flags.now }
-    ensures { IfOk result (λ end. (items : ItemTable) (body : GraphBody) → AreFlags items body flags.now →
-        (ending : Listed Line) × (stmts.new ≡ stmts.old ++ ending) × IsMade (made_of blocks.old) (made_of blocks.new)
-        (λ after. EndsBy items body (paths_of flags.now) after decided.now kind term.now ending end)) }
+    ensures built { IfOk result (λ end. (items : ItemTable) (body : GraphBody) → AreFlags items body flags.now →
+        made_end end (made_of blocks.new)
+        ≡ end_by items body (paths_of flags.now) decided.now kind term.now (made_of blocks.old)) }
+    ensures stands { IfOk result (λ end. (items : ItemTable) (body : GraphBody) → AreFlags items body flags.now →
+        is_turn_kind kind ≡ false → (ending : Listed Line) × (stmts.new ≡ stmts.old ++ ending)
+        × IsMade (made_of blocks.old) (made_of blocks.new) (λ after. EndsBy items body (paths_of flags.now) after decided.now kind term.now ending end)) }
 {
     match term {
         Term::DropAt {
@@ -110,7 +120,11 @@ pub fn block_of(
     blocks: &mut NewBlocks,
 ) -> Result<Block, NoMemory>
     requires { HasRoom flags.now }
-    ensures { IfOk result (λ made. (items : ItemTable) (body : GraphBody) → AreFlags items body flags.now →
+    ensures kind { IfOk result (λ made. made.kind ≡ block.now.kind) }
+    ensures built { IfOk result (λ made. (items : ItemTable) (body : GraphBody) → AreFlags items body flags.now →
+        made_end made.term (made_of blocks.new) ≡ end_by items body (paths_of flags.now) decided.now
+        (rules.kind_after items body (paths_of flags.now) body block.now.kind) block.now.term (made_of blocks.old)) }
+    ensures stands { IfOk result (λ made. (items : ItemTable) (body : GraphBody) → AreFlags items body flags.now →
         IsMade (made_of blocks.old) (made_of blocks.new)
         (λ after. IsBlockOf items body (paths_of flags.now) after decided.now number block.now made)) }
 {

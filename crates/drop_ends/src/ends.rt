@@ -1,13 +1,16 @@
 //! Where drops that become ladders, and all other terminators, lead.
-ghost use Rattle.std.specs.Prelude.{◌≡◌, IfOk, ℕ};
+ghost use Rattle.std.specs.Prelude.{◌≡◌, IfOk, ℕ, false};
 ghost use Rattle.mir_ty.specs.ItemTable.{ItemTable};
 ghost use Rattle.cfg_graph.specs.declared.graph.Body.{Body as GraphBody};
 ghost use Rattle.drop_elaborate.specs.Elaborated as rules;
 ghost use Rattle.drop_elaborate.specs.Elaborated.{EdgeTo, LadderTo, result_flags};
 ghost use Rattle.drop_flags.specs.Flags.{AreFlags, HasRoom, paths_of};
-ghost use Rattle.drop_blocks.specs.Ladders.{made_of};
+ghost use Rattle.drop_blocks.specs.Ladders.{made_of, begun_of};
 ghost use Rattle.drop_blocks.specs.View.{plan_in};
 ghost use Rattle.drop_ends.specs.Edges.{IsMade, TwinTo};
+ghost use Rattle.drop_ends.specs.Ends as exact;
+ghost use Rattle.drop_ends.specs.Ends.{made_twin, made_end, twin_of};
+ghost use Rattle.cfg_graph.specs.Edges.{is_turn_kind};
 
 use crate::edges::edge;
 use cfg_graph::{Kind, Place, Term, Unwind};
@@ -27,9 +30,12 @@ fn twin_end(
     blocks: &mut NewBlocks,
 ) -> Result<Option<u32>, NoMemory>
     requires { HasRoom flags.now }
-    ensures { IfOk result (λ twin. (items : ItemTable) (body : GraphBody) → AreFlags items body flags.now →
+    ensures stands { IfOk result (λ twin. (items : ItemTable) (body : GraphBody) → AreFlags items body flags.now →
         IsMade (made_of blocks.old) (made_of blocks.new)
         (λ after. TwinTo items body (paths_of flags.now) after place.now twin unwind)) }
+    ensures built { IfOk result (λ twin. (items : ItemTable) (body : GraphBody) → AreFlags items body flags.now →
+        made_twin twin (made_of blocks.new)
+        ≡ twin_of items body (paths_of flags.now) place.now unwind (made_of blocks.old)) }
 {
     match unwind {
         Unwind::Block(block) => {
@@ -62,14 +68,17 @@ pub fn ladder_end(
     blocks: &mut NewBlocks,
 ) -> Result<u32, NoMemory>
     requires { HasRoom flags.now }
-    ensures { IfOk result (λ from. (items : ItemTable) (body : GraphBody) → AreFlags items body flags.now →
-        IsMade (made_of blocks.old) (made_of blocks.new)
+    ensures built { IfOk result (λ from. (items : ItemTable) (body : GraphBody) → AreFlags items body flags.now →
+        begun_of from blocks.new ≡ exact.ladder_end items body (paths_of flags.now) (plan_in plan.now) kind place.now next
+        unwind (made_of blocks.old)) }
+    ensures stands { IfOk result (λ from. (items : ItemTable) (body : GraphBody) → AreFlags items body flags.now →
+        is_turn_kind kind ≡ false → IsMade (made_of blocks.old) (made_of blocks.new)
         (λ after. LadderTo items body (paths_of flags.now) after (plan_in plan.now) kind place.now from next unwind)) }
 {
     let stmts = flags.stores_of(alloc, Use::Drops, place)?;
     let calm = edge(blocks, kind, stmts, next)?;
     let twin = twin_end(alloc, flags, place, unwind, blocks)?;
-    let begun = ladder(alloc, plan, place, Chains { calm, twin }, blocks)?;
+    let begun = ladder(alloc, kind, plan, place, Chains { calm, twin }, blocks)?;
     Ok(begun.calm)
 }
 
@@ -86,7 +95,10 @@ pub fn term_end(
     blocks: &mut NewBlocks,
 ) -> Result<Term, NoMemory>
     requires { HasRoom flags.now }
-    ensures { IfOk result (λ end. (from : ℕ) × ((items : ItemTable) (body : GraphBody) → AreFlags items body flags.now →
+    ensures built { IfOk result (λ end. (items : ItemTable) (body : GraphBody) → AreFlags items body flags.now →
+        made_end end (made_of blocks.new)
+        ≡ exact.term_end items body (paths_of flags.now) kind term.now (made_of blocks.old)) }
+    ensures stands { IfOk result (λ end. (from : ℕ) × ((items : ItemTable) (body : GraphBody) → AreFlags items body flags.now →
         IsMade (made_of blocks.old) (made_of blocks.new)
         (λ after. (end ≡ rules.onward_to items body (paths_of flags.now) after from term.now)
         × EdgeTo items body (paths_of flags.now) after kind (result_flags items body (paths_of flags.now) after term.now)

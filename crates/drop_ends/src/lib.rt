@@ -2,12 +2,10 @@
 //! set, where the ladder of a drop ends, and whole blocks by what is decided of their drops.
 #![tactic(auto)]
 
-mod bodies;
 mod decided;
 mod edges;
 mod ends;
 
-pub use bodies::blocks_of;
 pub use decided::{Decided, block_of};
 pub use edges::{edge, kind_after};
 pub use ends::{ladder_end, term_end};

@@ -1,13 +1,13 @@
-mod Closed
-mod Descending
-mod Fitted
-mod Knowing
-mod Listed
-mod Lowest
-mod Made
-mod Passed
-mod Reaching
-mod Solved
-mod Sureness
-mod Tabled
-mod Under
+pub mod Closed
+pub mod Descending
+pub mod Fitted
+pub mod Knowing
+pub mod Listed
+pub mod Lowest
+pub mod Made
+pub mod Passed
+pub mod Reaching
+pub mod Solved
+pub mod Sureness
+pub mod Tabled
+pub mod Under

@@ -96,6 +96,11 @@ module _ (at : Planner) (told : AreTold at) (path : ℕ) (place : Place)
 
   -- by the tree that there is
   module _ (ty : TyId) where
+    pub sure-tree : (tree : Tree) → IsTreeOf at.forest.now.paths place tree →
+        planning.sure at.items.now (facts_of at.facts.now) (flag_of at.flags.now) tree
+        ≡ not (any_both (slice_index_or at.below.now path []) at.facts.now.gone)
+    sure-tree (at_path number under) is = sure-by ty number under is
+
     pub unneeded-tree : needs_drop at.items.now ty ≡ false → (tree : Tree) →
         IsTreeOf at.forest.now.paths place tree → plain.Nothing ≡ plan_at at tree ty
     unneeded-tree n (at_path number under) is = unneeded ty number under is n

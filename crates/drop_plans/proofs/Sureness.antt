@@ -17,7 +17,7 @@ use Rattle.drop_values.specs.Planning.{branch_by, sure, sure_below}
 use Rattle.drop_plans.specs.Trees.{IsTreeOf, AreBranchesOf, AreClosed}
 use Rattle.drop_plans.proofs.Under.{below-nil, below-step, above-rest, branch-tree, some-branch}
 
-is-not : (b : Bool) → not b ≡ true → b ≡ false
+pub is-not : (b : Bool) → not b ≡ true → b ≡ false
 is-not true h = absurd (false≢true h)
 is-not false h = refl
 
@@ -62,7 +62,7 @@ module _ (items : ItemTable) (facts : Facts) (flag_of : ℕ → Option ℕ) (pat
   abbrev surely : Tree → Bool
   surely tree = sure items facts flag_of tree
 
-  branch-sure : (step : Step) (tree : Tree) (under : Branches) → branch_by step under ≡ Some tree →
+  pub branch-sure : (step : Step) (tree : Tree) (under : Branches) → branch_by step under ≡ Some tree →
       sure_below items facts flag_of under ≡ true → surely tree ≡ true
   branch-sure step tree no_branch is all = absurd (none-some tree is)
   branch-sure step tree (a_branch other first rest) is all =
@@ -74,7 +74,7 @@ module _ (items : ItemTable) (facts : Facts) (flag_of : ℕ → Option ℕ) (pat
           ap surely (sym (same_Some first tree e)) ∙ first_so (surely first) (sure_below items facts flag_of rest) all
       either false there e = there e (second_so (surely first) (sure_below items facts flag_of rest) all)
 
-  all-sure : (rest : List Step) (place : Place) (tree : Tree) → IsTreeOf paths place tree → surely tree ≡ true →
+  pub all-sure : (rest : List Step) (place : Place) (tree : Tree) → IsTreeOf paths place tree → surely tree ≡ true →
       (k : ℕ) → slice_get paths k ≡ Some (below place rest) → facts.gone k ≡ false
   all-sure [] place (at_path number under) is all k at =
       ap facts.gone (once k number place (at ∙ ap Some (below-nil place)) is.0)
@@ -89,7 +89,7 @@ module _ (items : ItemTable) (facts : Facts) (flag_of : ℕ → Option ℕ) (pat
       (second_so (not (facts.gone number)) (sure_below items facts flag_of under) all)) k at_rest
 
   mutual
-    sure-all : (tree : Tree) (place : Place) → IsTreeOf paths place tree →
+    pub sure-all : (tree : Tree) (place : Place) → IsTreeOf paths place tree →
         ((k : ℕ) (rest : List Step) → slice_get paths k ≡ Some (below place rest) → facts.gone k ≡ false) →
         surely tree ≡ true
     sure-all (at_path number under) place is none =

@@ -3,12 +3,13 @@ ghost use Rattle.std.specs.Prelude.{◌≡◌, []};
 
 use cfg_graph::{Graph, Place, Steps};
 use init_flow::MaybeInit;
-use mir_base::{Key, NoMemory};
+use mir_base::{Key, List, NoMemory};
 use mir_pipeline::read_typed;
 use mir_text::read_listing;
 use move_paths::paths;
 use scope_table::scopes;
 use std::alloc::Global;
+use store_model::{At, Value, parts_in_order};
 use typed_tree::Typed;
 use unwind_tree::ExitTree;
 
@@ -99,8 +100,34 @@ fn has_exits(alloc: Global) -> bool {
     left == Ok(true)
 }
 
-/// The scopes of a body, what is present in one of a graph, and what exits of scopes drop.
-pub fn count_scopes_and_exits(alloc: Global) -> Option<usize> {
+fn is_part(step: Option<&At>, number: u32) -> bool {
+    match step {
+        Some(At::Part(part)) => *part == number,
+        _ => false,
+    }
+}
+
+/// The pair `(1, true)`.
+fn pair(alloc: Global) -> Result<Value, NoMemory> {
+    let mut parts = List::new(alloc);
+    parts.push(Value::Int(1))?;
+    parts.push(Value::Bool(true))?;
+    Ok(Value::Parts {
+        variant: 0,
+        serial: None,
+        parts,
+    })
+}
+
+/// Whether a pair has the parts 0 and 1, in this order, and a number has none.
+fn are_in_order(alloc: Global) -> Result<bool, NoMemory> {
+    let both = parts_in_order(alloc, &pair(alloc)?)?;
+    let none = parts_in_order(alloc, &Value::Int(1))?;
+    Ok(both.len() == 2 && is_part(both.get(0), 0) && is_part(both.get(1), 1) && none.is_empty())
+}
+
+/// The scopes of a body, what is present in one of a graph, what exits of scopes drop, and the parts of values.
+pub fn calls_of_no_run(alloc: Global) -> Option<usize> {
     if !is_scoped(alloc, b"fn main() {}") {
         return Some(0);
     }
@@ -109,6 +136,9 @@ pub fn count_scopes_and_exits(alloc: Global) -> Option<usize> {
     }
     if !has_exits(alloc) {
         return Some(2);
+    }
+    if are_in_order(alloc) != Ok(true) {
+        return Some(3);
     }
     None
 }

@@ -68,7 +68,7 @@ fn layers_told(rt: &(impl Print + AllocGlobal)) -> io::Result<()> {
     tell(
         rt,
         "calls that no run makes",
-        Ok(calls::count_scopes_and_exits(alloc)),
+        Ok(calls::calls_of_no_run(alloc)),
     )
 }
 

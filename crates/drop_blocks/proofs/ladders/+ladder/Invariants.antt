@@ -7,7 +7,7 @@ abbrev pub invariant-rungs_of_parts-loop-n : goal.invariant-rungs_of_parts-loop-
 invariant-rungs_of_parts-loop-n l =
     (l.n ≤ length l.plans)
     × (built_of l.behind l.blocks
-    ≡ parts_of (plans_from (map plan_in (drop l.n l.plans))) (step_of l.variant) l.n l.place l.fn.rest (made_of l.fn.blocks))
+    ≡ parts_of l.kind (plans_from (map plan_in (drop l.n l.plans))) (step_of l.variant) l.n l.place l.fn.rest (made_of l.fn.blocks))
 
 abbrev pub decreases-rungs_of_parts-loop-n : goal.decreases-rungs_of_parts-loop-n
 decreases-rungs_of_parts-loop-n l = l.n
@@ -16,7 +16,7 @@ abbrev pub invariant-rungs_of_variants-loop-n : goal.invariant-rungs_of_variants
 invariant-rungs_of_variants-loop-n l =
     (l.n ≤ length l.variants)
     × (built_of l.other l.blocks
-    ≡ cases_of (cases_from (map parts_in (drop l.n l.variants)) l.n) l.place l.rest (made_of l.fn.blocks))
+    ≡ cases_of l.kind (cases_from (map parts_in (drop l.n l.variants)) l.n) l.place l.rest (made_of l.fn.blocks))
 
 abbrev pub decreases-rungs_of_variants-loop-n : goal.decreases-rungs_of_variants-loop-n
 decreases-rungs_of_variants-loop-n l = l.n

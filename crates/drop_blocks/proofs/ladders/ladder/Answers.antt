@@ -11,5 +11,5 @@ returns-clause-stands c =
     let plan = plan_in c.args.plan.now in
     let old = made_of c.args.blocks.now in
     IfOk-weaker c.rungs.result _ _
-    (λ begun made. subst (λ (b : Built). IsLadder plan c.args.place.now old b c.args.rest) (sym made)
-    (ladder-stands plan c.args.place.now c.args.rest old)) c.rungs.ensures
+    (λ begun made flat. subst (λ (b : Built). IsLadder plan c.args.place.now old b c.args.rest) (sym made)
+    (ladder-stands c.args.kind flat plan c.args.place.now c.args.rest old)) c.rungs.ensures

@@ -1,8 +1,8 @@
 use Rattle.std.proofs.Common.{◌∙◌, ℕ, ap}
 use Rattle.std.specs.Prelude.{unwrap_or}
-use Rattle.drop_elaborate.specs.Build.{flag_block}
+use Rattle.cfg_graph.specs.declared.graph.Kind.{Kind}
 use Rattle.drop_elaborate.specs.Ladder.{Abruptly}
-use Rattle.drop_blocks.specs.Ladders.{ending_of, made_of}
+use Rattle.drop_blocks.specs.Ladders.{flag_test, ending_of, made_of}
 use Rattle.drop_blocks.proofs.Begins.{one-chain, two-chains}
 use Rattle.drop_blocks.proofs.tests.by_flag.Goals as goal
 
@@ -11,17 +11,17 @@ returns-in_ok-twin-in-Some c =
     let flag = c.args.flag in
     let there = c.args.there in
     let rest = c.args.rest in
-    two-chains (λ (to : ℕ). flag_block flag (unwrap_or there.twin to) to) rest.twin
-    (flag_block flag there.calm rest.calm (ending_of rest.twin) (made_of c.args.blocks.now)) _ c.in-Some.to _ _ _ c.in-Some.is
+    two-chains (λ (to : ℕ). flag_test flag Kind.Cleanup (unwrap_or there.twin to) to) rest.twin
+    (flag_test flag c.args.kind there.calm rest.calm (ending_of rest.twin) (made_of c.args.blocks.now)) _ c.in-Some.to _ _ _ c.in-Some.is
     c.in_ok-calm.ensures
     (c.in_ok-twin-in-Some.ensures
-    ∙ ap (λ (there : ℕ). flag_block flag there c.in-Some.to Abruptly (made_of c.add_flag.new.self)) c.unwrap_or-yes.ensures)
+    ∙ ap (λ (there : ℕ). flag_test flag Kind.Cleanup there c.in-Some.to Abruptly (made_of c.add_flag.new.self)) c.unwrap_or-yes.ensures)
 
 pub returns-in-None : goal.returns-in-None
 returns-in-None c =
     let flag = c.args.flag in
     let there = c.args.there in
     let rest = c.args.rest in
-    one-chain (λ (to : ℕ). flag_block flag (unwrap_or there.twin to) to) rest.twin
-    (flag_block flag there.calm rest.calm (ending_of rest.twin) (made_of c.args.blocks.now)) _ _ c.in-None.is
+    one-chain (λ (to : ℕ). flag_test flag Kind.Cleanup (unwrap_or there.twin to) to) rest.twin
+    (flag_test flag c.args.kind there.calm rest.calm (ending_of rest.twin) (made_of c.args.blocks.now)) _ _ c.in-None.is
     c.in_ok-calm.ensures

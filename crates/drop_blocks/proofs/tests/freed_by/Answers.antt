@@ -1,7 +1,6 @@
 use Rattle.std.proofs.Common.{◌∙◌, ℕ, Option, sym, ap}
 use Rattle.std.proofs.lemmas.Result.{IfOk-weaker}
-use Rattle.drop_elaborate.specs.Build.{flag_block}
-use Rattle.drop_blocks.specs.Ladders.{Built, freed_before, test_before, made_of}
+use Rattle.drop_blocks.specs.Ladders.{Built, flag_test, freed_before, test_before, made_of}
 use Rattle.drop_blocks.proofs.tests.freed_by.Goals as goal
 
 pub returns-in-Some : goal.returns-in-Some
@@ -10,11 +9,11 @@ returns-in-Some c =
     let rest = c.args.rest in
     IfOk-weaker c.by_flag.result _ _
     (λ begun made. made
-    ∙ ap (λ (b : Built). test_before (flag_block c.in-Some.flag) b.chains rest b.made) c.in_ok-there.ensures
-    ∙ ap (λ (guard : Option ℕ). freed_before guard place rest (made_of c.args.blocks.now)) (sym c.in-Some.is)) c.by_flag.ensures
+    ∙ ap (λ (b : Built). test_before c.args.kind (flag_test c.in-Some.flag) b.chains rest b.made) c.in_ok-there.ensures
+    ∙ ap (λ (guard : Option ℕ). freed_before c.args.kind guard place rest (made_of c.args.blocks.now)) (sym c.in-Some.is)) c.by_flag.ensures
 
 pub returns-in-None : goal.returns-in-None
 returns-in-None c =
     c.in_ok-there.ensures
-    ∙ ap (λ (guard : Option ℕ). freed_before guard c.args.place.now c.args.rest (made_of c.args.blocks.now))
+    ∙ ap (λ (guard : Option ℕ). freed_before c.args.kind guard c.args.place.now c.args.rest (made_of c.args.blocks.now))
     (sym c.in-None.is)

@@ -6,13 +6,17 @@ use Rattle.drop_flags.specs.Flags.{paths_of}
 use Rattle.drop_blocks.specs.Ladders.{made_of}
 use Rattle.drop_ends.specs.Decisions.{EndsBy}
 use Rattle.drop_ends.proofs.Making.{so-made}
+use Rattle.cfg_graph.specs.Edges.{is_turn_kind}
+use Rattle.drop_ends.specs.Ends.{end_by}
+use Rattle.drop_ends.proofs.LeadingEnds.{kind-flat}
 use Rattle.drop_ends.proofs.decided.block_of.Goals as goal
 
-pub returns : goal.returns
-returns c items body are =
+pub returns-clause-stands : goal.returns-clause-stands
+returns-clause-stands c items body are =
     let flagged = paths_of c.args.flags.now in
     let block = c.args.block.now in
-    let it = c.in_ok-term.ensures items body are in
+    let flat = ap is_turn_kind (c.kind_after-kind.ensures items body body flagged) ∙ kind-flat items body flagged body block.kind in
+    let it = c.in_ok-term.ensures.stands items body are flat in
     so-made (made_of c.args.blocks.now) (made_of c.end_of.new.blocks) _ _
     (λ after ends. record {
       ending = it.0;
@@ -24,3 +28,10 @@ returns c items body are =
           ∙ append_assoc (at_start items body flagged c.args.number) (with_flags items body flagged block.stmts) it.0;
     })
     it.2
+
+pub returns-clause-built : goal.returns-clause-built
+returns-clause-built c items body are =
+    let flagged = paths_of c.args.flags.now in
+    c.in_ok-term.ensures.built items body are
+    ∙ ap (λ (k : Kind). end_by items body flagged c.args.decided.now k c.args.block.now.term (made_of c.args.blocks.now))
+    (c.kind_after-kind.ensures items body body flagged)

@@ -9,10 +9,12 @@ use Rattle.drop_blocks.specs.Ladders.{made_of}
 use Rattle.drop_ends.specs.Decisions.{DropEnds}
 use Rattle.drop_ends.specs.declared.decided.Decided.{Decided}
 use Rattle.drop_ends.proofs.Making.{nothing-made, so-made}
+use Rattle.drop_elaborate.specs.Build.{Begun}
+use Rattle.drop_ends.specs.Ends.{made_end, drop_end}
 use Rattle.drop_ends.proofs.decided.drop_end.Goals as goal
 
-pub returns-in_ok-add_use-in-Dead : goal.returns-in_ok-add_use-in-Dead
-returns-in_ok-add_use-in-Dead c items body are =
+pub returns-in_ok-add_use-in-Dead-clause-stands : goal.returns-in_ok-add_use-in-Dead-clause-stands
+returns-in_ok-add_use-in-Dead-clause-stands c items body are flat =
     let flagged = paths_of c.args.flags.now in
     let place = c.args.place.now in
     let ending : List Stmt = flags_of_uses items body flagged ((Drops, place) ∷ []) in (
@@ -24,8 +26,8 @@ returns-in_ok-add_use-in-Dead c items body are =
           (sym c.in-Dead.is) (refl, refl)),
     )
 
-pub returns-in_ok-place-in-Plain : goal.returns-in_ok-place-in-Plain
-returns-in_ok-place-in-Plain c items body are =
+pub returns-in_ok-place-in-Plain-clause-stands : goal.returns-in_ok-place-in-Plain-clause-stands
+returns-in_ok-place-in-Plain-clause-stands c items body are flat =
     let flagged = paths_of c.args.flags.now in
     let place = c.args.place.now in
     let ending : List Stmt = flags_of_uses items body flagged ((Drops, place) ∷ []) in
@@ -38,8 +40,8 @@ returns-in_ok-place-in-Plain c items body are =
           (sym c.in-Plain.is) (refl, ap (λ (z : Place). Term.DropAt z c.args.next c.args.unwind) c.in_ok-place-in-Plain.ensures)),
     )
 
-pub returns-in_ok-from-in-Planned : goal.returns-in_ok-from-in-Planned
-returns-in_ok-from-in-Planned c items body are =
+pub returns-in_ok-from-in-Planned-clause-stands : goal.returns-in_ok-from-in-Planned-clause-stands
+returns-in_ok-from-in-Planned-clause-stands c items body are flat =
     let flagged = paths_of c.args.flags.now in
     let place = c.args.place.now in
     let from = c.in_ok-from-in-Planned.from in (
@@ -48,5 +50,22 @@ returns-in_ok-from-in-Planned c items body are =
       so-made (made_of c.args.blocks.now) (made_of c.ladder_end.new.blocks) _ _
           (λ after to. subst (λ (d : Decided). DropEnds items body flagged after d c.args.kind place c.args.next c.args.unwind [] (Term.Goto from))
           (sym c.in-Planned.is) (refl, (from, refl, to)))
-          (c.in_ok-from-in-Planned.ensures items body are),
+          (c.in_ok-from-in-Planned.ensures.stands items body are flat),
     )
+
+pub returns-in_ok-add_use-in-Dead-clause-built : goal.returns-in_ok-add_use-in-Dead-clause-built
+returns-in_ok-add_use-in-Dead-clause-built c items body are =
+    ap (λ (d : Decided). drop_end items body (paths_of c.args.flags.now) d c.args.kind c.args.place.now c.args.next
+    c.args.unwind (made_of c.args.blocks.now)) (sym c.in-Dead.is)
+
+pub returns-in_ok-place-in-Plain-clause-built : goal.returns-in_ok-place-in-Plain-clause-built
+returns-in_ok-place-in-Plain-clause-built c items body are =
+    ap (λ (p : Place). made_end (Term.DropAt p c.args.next c.args.unwind) (made_of c.args.blocks.now)) c.in_ok-place-in-Plain.ensures
+    ∙ ap (λ (d : Decided). drop_end items body (paths_of c.args.flags.now) d c.args.kind c.args.place.now c.args.next
+    c.args.unwind (made_of c.args.blocks.now)) (sym c.in-Plain.is)
+
+pub returns-in_ok-from-in-Planned-clause-built : goal.returns-in_ok-from-in-Planned-clause-built
+returns-in_ok-from-in-Planned-clause-built c items body are =
+    ap (λ (b : Begun). made_end (Term.Goto b.at) b.made) (c.in_ok-from-in-Planned.ensures.built items body are)
+    ∙ ap (λ (d : Decided). drop_end items body (paths_of c.args.flags.now) d c.args.kind c.args.place.now c.args.next
+    c.args.unwind (made_of c.args.blocks.now)) (sym c.in-Planned.is)

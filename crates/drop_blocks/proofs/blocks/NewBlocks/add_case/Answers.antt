@@ -2,14 +2,11 @@ use Rattle.std.proofs.Common.{◌∙◌, []}
 use Rattle.std.proofs.lemmas.Result.{IfOk-weaker}
 use Rattle.cfg_graph.specs.declared.terminator.Term.{Term}
 use Rattle.drop_blocks.specs.Ladders.{made_of, with_one}
-use Rattle.drop_blocks.proofs.Begins.{one-is}
 use Rattle.drop_blocks.proofs.blocks.NewBlocks.add_case.Goals as goal
 
 pub returns : goal.returns
 returns c =
     IfOk-weaker c.add.result _ _
     (λ number made. made
-    ∙ (λ i. with_one (c.kind_in.ensures i) (c.new.ensures i)
-    (Term.Case (c.in_ok-on.ensures i) c.args.variant c.args.there c.args.other) (made_of c.args.self.now))
-    ∙ one-is c.args.twin [] (Term.Case c.args.place.now c.args.variant c.args.there c.args.other)
-    (made_of c.args.self.now)) c.add.ensures
+    ∙ (λ i. with_one c.args.kind (c.new.ensures i)
+    (Term.Case (c.in_ok-on.ensures i) c.args.variant c.args.there c.args.other) (made_of c.args.self.now))) c.add.ensures

@@ -3,14 +3,11 @@ use Rattle.std.proofs.lemmas.Result.{IfOk-weaker}
 use Rattle.cfg_graph.specs.declared.terminator.Term.{Term}
 use Rattle.drop_elaborate.specs.Ladder.{unwind_in}
 use Rattle.drop_blocks.specs.Ladders.{ending_of, made_of, with_one}
-use Rattle.drop_blocks.proofs.Begins.{one-is}
 use Rattle.drop_blocks.proofs.blocks.NewBlocks.add_drop.Goals as goal
 
 pub returns : goal.returns
 returns c =
     IfOk-weaker c.add.result _ _
     (λ number made. made
-    ∙ (λ i. with_one (c.kind_in.ensures i) (c.new.ensures i)
-    (Term.DropAt (c.in_ok-place.ensures i) c.args.to (c.unwind_in-unwind.ensures i)) (made_of c.args.self.now))
-    ∙ one-is c.args.twin [] (Term.DropAt c.args.place.now c.args.to (unwind_in (ending_of c.args.twin)))
-    (made_of c.args.self.now)) c.add.ensures
+    ∙ (λ i. with_one c.args.kind (c.new.ensures i)
+    (Term.DropAt (c.in_ok-place.ensures i) c.args.to (c.unwind_in-unwind.ensures i)) (made_of c.args.self.now))) c.add.ensures

@@ -3,7 +3,6 @@ use Rattle.std.proofs.lemmas.Result.{IfOk-weaker}
 use Rattle.cfg_graph.specs.declared.statement.Stmt.{Stmt}
 use Rattle.cfg_graph.specs.declared.terminator.Term.{Term}
 use Rattle.drop_blocks.specs.Ladders.{made_of, with_one}
-use Rattle.drop_blocks.proofs.Begins.{one-is}
 use Rattle.drop_blocks.proofs.blocks.NewBlocks.add_free.Goals as goal
 
 pub returns : goal.returns
@@ -12,5 +11,4 @@ returns c =
     c.in_ok-push.ensures.pushed ∙ (λ i. c.new-stmts.ensures i ++ Stmt.Free (c.in_ok-place.ensures i) ∷ []) in
     IfOk-weaker c.add.result _ _
     (λ number made. made
-    ∙ (λ i. with_one (c.kind_in.ensures i) (stmts i) (Term.Goto c.args.to) (made_of c.args.self.now))
-    ∙ one-is c.args.twin (Stmt.Free c.args.place.now ∷ []) (Term.Goto c.args.to) (made_of c.args.self.now)) c.add.ensures
+    ∙ (λ i. with_one c.args.kind (stmts i) (Term.Goto c.args.to) (made_of c.args.self.now))) c.add.ensures

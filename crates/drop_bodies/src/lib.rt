@@ -1,0 +1,13 @@
+//! Bodies with exact drops (the rustc development guide, "Drop elaboration").
+#![tactic(auto)]
+
+mod body;
+mod counts;
+mod laid;
+mod locals;
+mod planned;
+mod ranked;
+
+pub use body::{ExactBody, elaborate_body};
+pub use counts::DropCounts;
+pub use locals::bool_of;

@@ -1,0 +1,9 @@
+pub mod AllWays
+pub mod Coming
+pub mod Deciding
+pub mod KindsByWays
+pub mod QueueBody
+pub mod QueueKinds
+pub mod Turns
+pub mod WorkedBodies
+pub mod WorkedKinds
