@@ -1,5 +1,5 @@
 -- Drops are counted by what is decided of them.
-use Rattle.std.proofs.Common.{◌≡◌, ◌⊎◌, inl, inr, ◌∙◌, ◌∷◌, [], ◌++◌, ◌+◌, ◌<◌, ◌==◌, ℕ, zero, suc, cond, not, Bool, true, false, List, Option, Some, None, Contains, count_by, length, slice_get, refl, sym, ap, subst, append_assoc, arith, if◌then◌else◌}
+use Rattle.std.proofs.Common.{◌≡◌, inl, inr, ◌∙◌, ◌∷◌, [], ◌++◌, ◌+◌, ◌==◌, ℕ, zero, suc, cond, not, Bool, true, false, List, Option, Some, None, Contains, length, slice_get, refl, sym, ap, subst, append_assoc, arith, if◌then◌else◌}
 use Rattle.std.specs.Prelude.{option_and_then, slice_index_or, sum_by}
 use Rattle.std.specs.List.{range_with_len}
 use Rattle.std.specs.Option.{option_map_or}
@@ -17,19 +17,18 @@ use Rattle.cfg_graph.specs.declared.terminator.Unwind.{Unwind}
 use Rattle.cfg_graph.specs.Moves.Gone.{below}
 use Rattle.cfg_graph.specs.NamedPlaces.{same_place}
 use Rattle.cfg_graph.specs.Places.{named}
-use Rattle.move_paths.specs.Forest.{PathForest, IsForest, children_of, is_path}
+use Rattle.move_paths.specs.Forest.{PathForest, IsForest, children_of}
 use Rattle.move_paths.specs.Trie.{AreOnce}
 use Rattle.drop_values.specs.Facts.{at_path, Branches, no_branch, a_branch}
 use Rattle.drop_elaborate.proofs.Refilled.{same-places, same-itself}
 use Rattle.drop_elaborate.specs.Elaborated.{place_number}
-use Rattle.drop_elaborate.specs.Kinds.{IsDrop, IsDead, IsSure, IsOpenable, IsTree, DropKind, Dead, Plain, Conditional, Opened, IsKind}
+use Rattle.drop_elaborate.specs.Kinds.{IsDrop, IsOpenable, IsTree, DropKind, Dead, Plain, Conditional, Opened, IsKind}
 use Rattle.drop_elaborate.specs.Totals.{DropTotals, same_kind, is_some_kind, times, AreTotals}
 use Rattle.drop_kinds.specs.Decided.{HasPlan, IsDecided, AreDecided}
 use Rattle.drop_ends.specs.declared.decided.Decided.{Decided}
 use Rattle.drop_blocks.specs.View.{plan_in}
 use Rattle.drop_plans.proofs.Closed.{closed, tree-of}
 use Rattle.drop_plans.proofs.Lowest.{lowest, not-lowest}
-use Rattle.drop_plans.specs.Trees.{IsTreeOf}
 use Rattle.drop_bodies.specs.Counts.{AreCounts, with_kind, no_drops, is_opened, kind_by, kind_of, kind_at}
 
 -- ---- a block more

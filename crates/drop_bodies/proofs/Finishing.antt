@@ -1,5 +1,5 @@
 -- A body with its flags, and with its blocks under their new ranks, is elaborated.
-use Rattle.std.proofs.Common.{◌≡◌, ◌∙◌, ◌∷◌, [], ◌++◌, ◌+◌, ◌-◌, ℕ, zero, suc, List, Some, Contains, map, length, slice_get, ap, subst, sym, refl, arith}
+use Rattle.std.proofs.Common.{◌≡◌, ◌∙◌, ◌∷◌, [], ◌++◌, ◌-◌, ℕ, List, Some, Contains, map, length, ap, subst, refl, arith}
 use Rattle.std.specs.List.{range_with_len}
 use Rattle.std.proofs.lemmas.List.{length-append, length-map}
 use Rattle.std.proofs.lemmas.List.FromFn.{length-range_with_len}
@@ -12,10 +12,11 @@ use Rattle.cfg_graph.specs.declared.graph.Body.{Body}
 use Rattle.cfg_graph.specs.Edges.{IsRanked}
 use Rattle.cfg_graph.proofs.Ranked.{well_formed-ranked}
 use Rattle.move_paths.specs.Forest.{PathForest, IsForest}
-use Rattle.drop_elaborate.proofs.ReadyBody.{ready-body, targets-there}
+use Rattle.drop_elaborate.proofs.ReadyBody.{targets-there}
+use Rattle.drop_laws.proofs.ReadyLines.{ready-lines}
 use Rattle.drop_elaborate.specs.Build.{Made}
 use Rattle.drop_elaborate.specs.Elaborated as rules
-use Rattle.drop_elaborate.specs.Elaborated.{IsElaboratedBody}
+use Rattle.drop_elaborate.specs.Elaborated.{IsElaboratedBody, IsElaboratedWith}
 use Rattle.drop_elaborate.specs.Kinds.{AreFlagged}
 use Rattle.drop_ends.specs.declared.decided.Decided.{Decided}
 use Rattle.drop_kinds.specs.Decided.{AreDecided}
@@ -54,13 +55,13 @@ module _ (items : ItemTable) (body : Body) (ready : IsReadyBody items body) wher
   pub edges-inside : EdgesStayInside body
   edges-inside n block at m has =
       targets-there ready.graph.items (length ready.graph.bodies) body
-      (ready-body ready.graph ready.sound ready.ready ready.number body ready.there) n block at m has
+      (ready-lines ready.graph ready.sound ready.ready ready.number body ready.there) n block at m has
 
   pub was-ranked : IsRanked body
-  was-ranked = well_formed-ranked ready.graph ready.number body ready.ready.prepared.well_formed ready.there
+  was-ranked = well_formed-ranked ready.graph ready.number body ready.ready.well_formed ready.there
 
   pub has-bool : Contains items.types Ty.Bool
-  has-bool = subst (λ (i : ItemTable). Contains i.types Ty.Bool) ready.items_are ready.ready.prepared.has_bool
+  has-bool = subst (λ (i : ItemTable). Contains i.types Ty.Bool) ready.items_are ready.ready.has_bool
 
   module _ (forest : PathForest) (is : IsForest items body forest) (flagged : List Place)
       (are_flagged : AreFlagged items body forest.paths flagged) (decided : List Decided)
@@ -71,22 +72,25 @@ module _ (items : ItemTable) (body : Body) (ready : IsReadyBody items body) wher
     ranks-are : finished.ranks ≡ finished.ranked.0 ++ lower_ranks finished.ranked.0 sizes
     ranks-are = finished.ranked.2
 
+    pub done-so : IsElaboratedWith items body flagged after
+    done-so = record {
+      params = finished.params;
+      flag_ty = flag_ty;
+      flag_is = flag_is;
+      locals = finished.locals;
+      ranked = new-ranks-fit body after blocks new.blocks sizes finished.ranked.0 was-ranked edges-inside laid
+          finished.ranked.1
+          (subst (λ (ranks : List ℕ). after.blocks ≡ ranked_with (blocks ++ new.blocks) ranks) ranks-are finished.blocks);
+      blocks = blocks-done items body forest is flagged are_flagged decided are_decided blocks new done after finished.ranks
+          (ap length ranks-are ∙ ranks-long body blocks new.blocks sizes finished.ranked.0 laid finished.ranked.1)
+          finished.blocks;
+    }
+
     pub elaborated-so : IsElaboratedBody items body after
     elaborated-so = record {
       forest = forest;
       is_forest = is;
       flagged = flagged;
       are_flagged = are_flagged;
-      done = record {
-        params = finished.params;
-        flag_ty = flag_ty;
-        flag_is = flag_is;
-        locals = finished.locals;
-        ranked = new-ranks-fit body after blocks new.blocks sizes finished.ranked.0 was-ranked edges-inside laid
-            finished.ranked.1
-            (subst (λ (ranks : List ℕ). after.blocks ≡ ranked_with (blocks ++ new.blocks) ranks) ranks-are finished.blocks);
-        blocks = blocks-done items body forest is flagged are_flagged decided are_decided blocks new done after finished.ranks
-            (ap length ranks-are ∙ ranks-long body blocks new.blocks sizes finished.ranked.0 laid finished.ranked.1)
-            finished.blocks;
-      };
+      done = done-so;
     }

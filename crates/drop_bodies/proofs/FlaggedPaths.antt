@@ -7,13 +7,11 @@ use Rattle.mir_ty.proofs.ListLemmas.{Contains-slice_get}
 use Rattle.store_model.specs.Places.Place as plain
 use Rattle.store_model.specs.Places.Place.{Step, watched}
 use Rattle.cfg_graph.specs.declared.graph.Body.{Body}
-use Rattle.cfg_graph.specs.declared.place.Place.{Place}
 use Rattle.cfg_graph.specs.Moves.Gone.{counts, reaches_whole}
 use Rattle.cfg_graph.specs.Places.{named}
 use Rattle.move_paths.specs.Forest.{PathForest, IsForest, is_local, is_path}
 use Rattle.move_paths.specs.Trie.{AreOnce}
 use Rattle.drop_elaborate.proofs.PathSpares.{changed-below, use-below}
-use Rattle.drop_elaborate.specs.Elaborated.{plain}
 use Rattle.drop_elaborate.specs.Kinds.{AreFlagged}
 use Rattle.drop_flags.specs.Flags.{AreFlags, paths_of}
 use Rattle.drop_flags.specs.declared.flags.Flags.{Flags}

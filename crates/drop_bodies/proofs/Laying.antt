@@ -1,6 +1,5 @@
 -- A block more of a body is laid, with what is made for it.
-use Rattle.std.proofs.Common.{◌≡◌, ◌⊎◌, inl, inr, ◌∙◌, ◌∷◌, [], ◌++◌, ◌+◌, ◌<◌, ◌≤◌, ℕ, zero, suc, List, Option, Some, None, Contains, length, slice_get, slice_index, refl, sym, ap, subst, arith}
-use Rattle.std.specs.Prelude.{take}
+use Rattle.std.proofs.Common.{◌≡◌, ◌⊎◌, inl, inr, ◌∙◌, ◌∷◌, [], ◌++◌, ◌+◌, ◌<◌, ◌≤◌, ℕ, zero, suc, List, Some, Contains, length, slice_get, slice_index, refl, sym, ap, subst, arith}
 use Rattle.std.proofs.lemmas.Bool.{cases_lt}
 use Rattle.std.proofs.lemmas.List.{length-append}
 use Rattle.std.proofs.lemmas.Option.{none-some, same_Some, slice_get_within, slice_get_cases}
@@ -9,7 +8,7 @@ use Rattle.cfg_graph.specs.declared.graph.Block.{Block}
 use Rattle.cfg_graph.specs.declared.graph.Body.{Body}
 use Rattle.cfg_graph.specs.Edges.{targets, is_turn}
 use Rattle.drop_elaborate.specs.Build.{Made}
-use Rattle.drop_ends.specs.Leads.{IsLed, TermLeads, ByTerm}
+use Rattle.drop_ends.specs.Leads.{TermLeads, ByTerm}
 use Rattle.drop_laws.specs.Ranked.{total_of, start_of, AreLaid}
 
 -- ---- sizes, one after another

@@ -1,3 +1,5 @@
 pub mod Counts
 pub mod Done
+pub mod Ended
+pub mod Faults
 pub mod Laid

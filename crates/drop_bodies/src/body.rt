@@ -2,14 +2,17 @@
 ghost use Rattle.std.specs.Prelude.{◌≡◌, ◌<◌, ◌^◌, IfOk, Some, length};
 ghost use Rattle.mir_ty.specs.ItemTable.{type_at};
 ghost use Rattle.mir_ty.specs.declared.ty.Ty.{Ty as ItemTy};
+ghost use Rattle.cfg_graph.specs.WellFormed.Faults.{IsCountedBody};
 ghost use Rattle.drop_elaborate.specs.Elaborated.{IsElaboratedBody};
 ghost use Rattle.drop_elaborate.specs.Totals.{AreTotals};
 ghost use Rattle.drop_laws.specs.Ranked.{AreLaid};
 ghost use Rattle.drop_laws.specs.Ready.{IsReadyBody};
 ghost use Rattle.drop_plans.specs.Analysed.{AreAnalyses};
 ghost use Rattle.drop_bodies.specs.Counts.{totals_of};
+ghost use Rattle.drop_bodies.specs.Faults.{AddsNoFault};
 ghost use Rattle.drop_bodies.specs.Laid.{IsFinished};
 
+use crate::counted::is_counted;
 use crate::counts::{DropCounts, counts_of};
 use crate::laid::{Laid, laid_blocks};
 use crate::locals::locals_with;
@@ -56,7 +59,7 @@ fn finished(
 ///
 /// # Errors
 ///
-/// [`NoMemory`] where memory is wanted, and where there are more locals or blocks than 32 bits count.
+/// [`NoMemory`] where memory is wanted, and where there are more locals, blocks or lines of a block than 32 bits count.
 pub fn elaborate_body(
     alloc: Global,
     items: &Items,
@@ -69,11 +72,16 @@ pub fn elaborate_body(
     requires flag { type_at items.now flag_ty ≡ Some ItemTy.Bool }
     requires count { length body.now.blocks < 2 ^ 32 }
     ensures elaborated { IfOk result (λ exact. IsElaboratedBody items.now body.now exact.body) }
+    ensures counted { IfOk result (λ exact. IsCountedBody exact.body) }
+    ensures faultless { IfOk result (λ exact. AddsNoFault items.now body.now exact.body) }
     ensures counts { IfOk result (λ exact. AreTotals items.now body.now exact.body (totals_of exact.counts)) }
 {
     let plan = plan_drops(alloc, items, body, told)?;
     let counts = counts_of(&told.forest, &plan.flags, plan.decided.as_slice(), body)?;
     let laid = laid_blocks(alloc, &plan.flags, plan.decided.as_slice(), body)?;
     let body = finished(alloc, body, laid, flag_ty, plan.flags.paths.len())?;
+    if !is_counted(&body) {
+        return Err(NoMemory::past_32_bits());
+    }
     Ok(ExactBody { body, counts })
 }

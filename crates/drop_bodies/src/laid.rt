@@ -5,6 +5,7 @@ ghost use Rattle.drop_flags.specs.Flags.{AreFlags, HasRoom, paths_of};
 ghost use Rattle.drop_blocks.specs.Ladders.{made_of};
 ghost use Rattle.drop_laws.specs.Ranked.{AreLaid};
 ghost use Rattle.drop_bodies.specs.Done.{AreDone};
+ghost use Rattle.drop_bodies.specs.Ended.{AreEnded};
 
 use cfg_graph::{Block, Body};
 use drop_blocks::NewBlocks;
@@ -47,6 +48,8 @@ pub fn laid_blocks(
     requires count { length decided.now ≡ length body.now.blocks }
     ensures done { IfOk result (λ laid. (items : ItemTable) → AreFlags items body.now flags.now →
         AreDone items body.now (paths_of flags.now) decided.now (length body.now.blocks) laid.blocks (made_of laid.new)) }
+    ensures ended { IfOk result (λ laid. (items : ItemTable) → AreFlags items body.now flags.now →
+        AreEnded items body.now (paths_of flags.now) decided.now (length body.now.blocks) laid.blocks (made_of laid.new)) }
     ensures laid { IfOk result (λ laid. AreLaid body.now laid.blocks laid.new.made laid.sizes) }
 {
     let mut new = NewBlocks::new(alloc, count_of(body)?);

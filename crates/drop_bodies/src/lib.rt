@@ -2,6 +2,7 @@
 #![tactic(auto)]
 
 mod body;
+mod counted;
 mod counts;
 mod laid;
 mod locals;

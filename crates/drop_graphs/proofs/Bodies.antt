@@ -1,22 +1,29 @@
 -- The bodies of a graph are elaborated one after another, and their drops are counted.
-use Rattle.std.proofs.Common.{◌≡◌, ◌⊎◌, inl, inr, ◌∙◌, ◌∷◌, [], ◌++◌, ◌+◌, ◌<◌, ℕ, List, Some, length, slice_get, refl, sym, ap, subst, arith}
+use Rattle.std.proofs.Common.{◌≡◌, ◌⊎◌, inl, inr, ◌∙◌, ◌∷◌, [], ◌++◌, ◌+◌, ◌-◌, ◌<◌, ◌^◌, ℕ, List, Some, get_or, length, slice_get, refl, sym, ap, subst, arith}
 use Rattle.std.specs.Prelude.{sum_by}
 use Rattle.std.proofs.lemmas.List.{length-append}
 use Rattle.std.proofs.lemmas.List.Sums.{sum_by-append, sum_by-cons}
-use Rattle.std.proofs.lemmas.Option.{none-some, same_Some, slice_get_within, slice_get_cases}
-use Rattle.mir_ty.proofs.ListLemmas.{slice_get-append_left, slice_get-last, slice_get-push_cases}
+use Rattle.std.proofs.lemmas.Option.{none-some, same_Some, slice_get_within, slice_get-get_or, slice_get_cases}
+use Rattle.mir_ty.proofs.ListLemmas.{slice_get-push_cases}
 use Rattle.mir_ty.specs.ItemTable.{ItemTable}
 use Rattle.cfg_graph.specs.declared.graph.Body.{Body}
 use Rattle.cfg_graph.specs.declared.graph.Graph.{Graph}
 use Rattle.drop_elaborate.specs.Elaborated.{IsElaboratedBody, IsElaboration}
 use Rattle.drop_elaborate.specs.Totals.{DropTotals, AreTotals, AreSums}
+use Rattle.cfg_graph.specs.WellFormed.Faults.{IsCounted, IsCountedBody, IsWellFormed}
+use Rattle.drop_bodies.proofs.BodyFaults.{NoFaultIn, taken-apart, put-together}
 use Rattle.drop_bodies.specs.Counts.{no_drops, both}
+use Rattle.drop_bodies.specs.Faults.{AddsNoFault}
+use Rattle.drop_graphs.proofs.Faultless.{well-formed-too}
 
 -- the first bodies, so many, and how many drops of theirs are of each kind
 pub record AreFirst (raw : Graph) (count : ℕ) (bodies : List Body) (sums : DropTotals) : Type 0 where
   pub long : length bodies ≡ count
   pub each : (n : ℕ) (body after : Body) → slice_get raw.bodies n ≡ Some body → slice_get bodies n ≡ Some after →
       IsElaboratedBody raw.items body after
+  pub faultless : (n : ℕ) (body after : Body) → slice_get raw.bodies n ≡ Some body → slice_get bodies n ≡ Some after →
+      AddsNoFault raw.items body after
+  pub short : (n : ℕ) (after : Body) → slice_get bodies n ≡ Some after → IsCountedBody after
   pub of_bodies : List DropTotals
   pub counted : length of_bodies ≡ count
   pub totals : (n : ℕ) (body after : Body) (t : DropTotals) → slice_get raw.bodies n ≡ Some body →
@@ -31,6 +38,8 @@ pub none-first : (raw : Graph) → AreFirst raw 0 [] (no_drops 0)
 none-first raw = record {
   long = refl;
   each = λ n body after at there. absurd (none-some after there);
+  faultless = λ n body after at there. absurd (none-some after there);
+  short = λ n after there. absurd (none-some after there);
   of_bodies = [];
   counted = refl;
   totals = λ n body after t at there is. absurd (none-some after there);
@@ -48,7 +57,8 @@ sum-more f xs x was same =
     let last : sum_by f (x ∷ []) ≡ f x + 0 = sum_by-cons f x [] in omega (same, all, last, arith)
 
 module _ (raw : Graph) (k : ℕ) (bodies : List Body) (sums : DropTotals) (are : AreFirst raw k bodies sums) (body after : Body)
-    (at : slice_get raw.bodies k ≡ Some body) (done : IsElaboratedBody raw.items body after) (t : DropTotals)
+    (at : slice_get raw.bodies k ≡ Some body) (done : IsElaboratedBody raw.items body after)
+    (faultless : AddsNoFault raw.items body after) (short : IsCountedBody after) (t : DropTotals)
     (totals : AreTotals raw.items body after t) where
   body-is : (n : ℕ) (other : Body) → n ≡ k → slice_get raw.bodies n ≡ Some other → body ≡ other
   body-is n other here there =
@@ -60,6 +70,18 @@ module _ (raw : Graph) (k : ℕ) (bodies : List Body) (sums : DropTotals) (are :
   each-now n raw_body last raw_at (inr here) =
       subst (λ (b : Body). IsElaboratedBody raw.items b last) (body-is n raw_body (here.0 ∙ are.long) raw_at)
       (subst (λ (b : Body). IsElaboratedBody raw.items body b) here.1 done)
+
+  faultless-now : (n : ℕ) (raw_body last : Body) → slice_get raw.bodies n ≡ Some raw_body →
+      (slice_get bodies n ≡ Some last) ⊎ ((n ≡ length bodies) × (after ≡ last)) → AddsNoFault raw.items raw_body last
+  faultless-now n raw_body last raw_at (inl before) = are.faultless n raw_body last raw_at before
+  faultless-now n raw_body last raw_at (inr here) =
+      subst (λ (b : Body). AddsNoFault raw.items b last) (body-is n raw_body (here.0 ∙ are.long) raw_at)
+      (subst (λ (b : Body). AddsNoFault raw.items body b) here.1 faultless)
+
+  short-now : (n : ℕ) (last : Body) → (slice_get bodies n ≡ Some last) ⊎ ((n ≡ length bodies) × (after ≡ last)) →
+      IsCountedBody last
+  short-now n last (inl before) = are.short n last before
+  short-now n last (inr here) = subst IsCountedBody here.1 short
 
   totals-now : (n : ℕ) (raw_body last : Body) (u : DropTotals) → slice_get raw.bodies n ≡ Some raw_body →
       (slice_get bodies n ≡ Some last) ⊎ ((n ≡ length bodies) × (after ≡ last)) →
@@ -83,6 +105,9 @@ module _ (raw : Graph) (k : ℕ) (bodies : List Body) (sums : DropTotals) (are :
   one-more = record {
     long = (let l = length-append bodies (after ∷ []) in let s = are.long in omega (l, s, arith));
     each = λ n raw_body last raw_at there. each-now n raw_body last raw_at (slice_get-push_cases bodies after n last there);
+    faultless = λ n raw_body last raw_at there.
+        faultless-now n raw_body last raw_at (slice_get-push_cases bodies after n last there);
+    short = λ n last there. short-now n last (slice_get-push_cases bodies after n last there);
     of_bodies = are.of_bodies ++ t ∷ [];
     counted = (let l = length-append are.of_bodies (t ∷ []) in let s = are.counted in omega (l, s, arith));
     totals = λ n raw_body last u raw_at there is.
@@ -108,6 +133,20 @@ module _ (raw graph : Graph) (k : ℕ) (sums : DropTotals) (all : k ≡ length r
           (let f = past.0 in let l = are.long in let a = all in let w = slice_get_within raw.bodies n body at in
           absurd (let never : ⊥ = omega (f, l, a, w, arith) in never))
     ];
+  }
+
+  pub well-formed-is : IsWellFormed raw → IsWellFormed graph
+  well-formed-is well =
+      well-formed-too raw graph well items (are.long ∙ all)
+      (λ n body after at there. (are.each n body after at there).done.params)
+      (λ n body after at there none. are.faultless n body after at there graph (0 + n) items (put-together graph (0 + n) body
+      (subst (λ (i : ItemTable). NoFaultIn i (length graph.bodies) (0 + n) body) (sym items)
+      (subst (λ (k : ℕ). NoFaultIn raw.items k (0 + n) body) (sym (are.long ∙ all)) (taken-apart raw (0 + n) body none)))))
+
+  pub counted-is : length raw.bodies < 2 ^ 32 - 1 → IsCounted graph
+  counted-is few = record {
+    bodies = (let l = are.long in let a = all in omega (l, a, few, arith));
+    each = λ n d within. are.short n (get_or graph.bodies n d) (slice_get-get_or graph.bodies n d within);
   }
 
   pub sums-are : AreSums raw graph sums

@@ -31,7 +31,8 @@ use Rattle.drop_values.specs.Planning.{plan_of, sure}
 use Rattle.drop_elaborate.proofs.Counted.{in-append-left, in-append-right, in-flat}
 use Rattle.drop_elaborate.proofs.DeadDrops.{unneeded-dead}
 use Rattle.drop_elaborate.proofs.PathSpares.{then-some}
-use Rattle.drop_elaborate.proofs.ReadyBody.{BodyIsReady, ready-body}
+use Rattle.drop_elaborate.proofs.ReadyBody.{BodyIsReady}
+use Rattle.drop_laws.proofs.ReadyLines.{ready-lines}
 use Rattle.drop_elaborate.specs.Kinds.{place_id, Comes, IsDead, IsSure, MayBe, AreFacts, IsTree}
 use Rattle.drop_ends.specs.declared.decided.Decided.{Decided}
 use Rattle.drop_plans.proofs.Closed.{closed, tree-of}
@@ -52,7 +53,7 @@ module _ (items : ItemTable) (body : Body) (made : IsReadyBody items body) where
   pub ready : BodyIsReady items bodies body
   ready =
       subst (λ (i : ItemTable). BodyIsReady i bodies body) made.items_are
-      (ready-body made.graph made.sound made.ready made.number body made.there)
+      (ready-lines made.graph made.sound made.ready made.number body made.there)
 
   pub fine : (path : List ℕ) (given : List Bool) → IsPath items body path given → bad_uses_on items body path ≡ []
   fine =

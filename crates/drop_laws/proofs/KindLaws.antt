@@ -11,7 +11,8 @@ use Rattle.cfg_graph.specs.Moves.Paths.{IsPath}
 use Rattle.store_model.specs.Places.Place.{Place}
 use Rattle.drop_values.specs.Facts.{Tree, at_path, Branches, no_branch, a_branch, Facts}
 use Rattle.drop_values.specs.Planning.{sure, sure_below, plan_of}
-use Rattle.drop_elaborate.proofs.ReadyBody.{BodyIsReady, ready-body}
+use Rattle.drop_elaborate.proofs.ReadyBody.{BodyIsReady}
+use Rattle.drop_laws.proofs.ReadyLines.{ready-lines}
 use Rattle.drop_elaborate.specs.Kinds.{IsDead, IsSure, AreFacts, IsTree, AreBranches, NeedsFlag}
 use Rattle.drop_laws.proofs.BelowPaths.{below-nil, below-step}
 use Rattle.drop_laws.proofs.Elsewhere.{elsewhere-sure}
@@ -31,7 +32,7 @@ module _ (items : ItemTable) (body : Body) (made : IsReadyBody items body) where
   pub ready : BodyIsReady items bodies body
   ready =
       subst (λ (i : ItemTable). BodyIsReady i bodies body) made.items_are
-      (ready-body made.graph made.sound made.ready made.number body made.there)
+      (ready-lines made.graph made.sound made.ready made.number body made.there)
 
   -- no path of it meets a bad use
   pub fine : (path : List ℕ) (given : List Bool) → IsPath items body path given → bad_uses_on items body path ≡ []

@@ -10,6 +10,7 @@ pub mod PathPlaces
 pub mod PlanParts
 pub mod Ranking
 pub mod ReadFlags
+pub mod ReadyLines
 pub mod Rungs
 pub mod TreesThere
 pub mod WithinPaths

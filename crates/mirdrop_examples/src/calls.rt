@@ -100,6 +100,27 @@ fn has_exits(alloc: Global) -> bool {
     left == Ok(true)
 }
 
+/// Whether a panic alone drops a pending destination, and any exit does once it is completed.
+fn is_completed(alloc: Global, tree: &mut ExitTree) -> Result<bool, NoMemory>
+    requires { tree.old ≡ [] }
+{
+    tree.enter()?;
+    tree.pending(0, 0, Key(1), local(alloc, 1))?;
+    let left_before = tree.exit_to(alloc, 0)?.len();
+    let unwound_before = tree.unwind_from(alloc)?.len();
+    tree.complete(Key(1));
+    let left = tree.exit_to(alloc, 0)?.len();
+    let unwound = tree.unwind_from(alloc)?.len();
+    Ok(left_before == 0 && unwound_before == 1 && left == 1 && unwound == 1)
+}
+
+fn has_pending(alloc: Global) -> bool {
+    let mut tree = ExitTree::new(alloc);
+    let completed = is_completed(alloc, &mut tree);
+    drop(tree);
+    completed == Ok(true)
+}
+
 fn is_part(step: Option<&At>, number: u32) -> bool {
     match step {
         Some(At::Part(part)) => *part == number,
@@ -139,6 +160,9 @@ pub fn calls_of_no_run(alloc: Global) -> Option<usize> {
     }
     if are_in_order(alloc) != Ok(true) {
         return Some(3);
+    }
+    if !has_pending(alloc) {
+        return Some(4);
     }
     None
 }

@@ -1,6 +1,7 @@
 //! The examples of the table in `data/README.md`. A row of the table has the example's name, the file with its text,
 //! the words, the status, and what the example shows. What is to be written is in `NAME.trace`.
-use crate::runs::{Ended, run};
+use crate::runs::{Ended, is_end, run};
+use std::alloc::{AllocError, Global};
 use std::rt::Files;
 use std::{fs, io};
 
@@ -33,10 +34,45 @@ fn row_in(line: &str) -> Option<ExampleRow<'_>> {
     })
 }
 
-/// What an example ends with.
-fn end_of_example(rt: &(impl Files + AllocGlobal), row: &ExampleRow<'_>) -> io::Result<Ended> {
-    let text = fs::read_to_string(rt, row.text)?;
-    Ok(run(rt.alloc(), row.words, text.as_bytes())?)
+/// Whether a program is run.
+fn is_run(words: &str) -> bool {
+    words.split_whitespace().any(|word| word == "run")
+}
+
+/// The words with which a listing is run as a program is by these.
+fn exec_words(alloc: Global, words: &str) -> Result<String, AllocError> {
+    let mut all = String::new(alloc);
+    for word in words.split_whitespace() {
+        all.push_str(if word == "run" { "exec" } else { word })?;
+        all.push(' ')?;
+    }
+    Ok(all)
+}
+
+/// Whether the graph that is built of a program, listed and read back, runs as the program did.
+fn runs_as_built(
+    alloc: Global,
+    text: &[u8],
+    words: &str,
+    ended: &Ended,
+) -> Result<bool, AllocError> {
+    let listing = run(alloc, "build", text)?;
+    let words = exec_words(alloc, words)?;
+    let again = run(alloc, words.as_str(), listing.written.bytes())?;
+    Ok(is_end(&again, ended.status, ended.written.bytes()))
+}
+
+/// Whether an example that runs a program which is accepted also runs so as it is built.
+fn stands_built(
+    alloc: Global,
+    text: &[u8],
+    row: &ExampleRow<'_>,
+    ended: &Ended,
+) -> Result<bool, AllocError> {
+    if !is_run(row.words) || ended.status == 1 {
+        return Ok(true);
+    }
+    runs_as_built(alloc, text, row.words, ended)
 }
 
 /// Whether this is what stands in the file beside an example.
@@ -63,7 +99,11 @@ fn verdict_on(
 
 /// The verdict on one example.
 fn verdict(rt: &(impl Files + AllocGlobal), row: &ExampleRow<'_>) -> io::Result<&'static str> {
-    let ended = end_of_example(rt, row)?;
+    let text = fs::read_to_string(rt, row.text)?;
+    let ended = run(rt.alloc(), row.words, text.as_bytes())?;
+    if !stands_built(rt.alloc(), text.as_bytes(), row, &ended)? {
+        return Ok("another trace as built");
+    }
     verdict_on(rt, row, &ended)
 }
 

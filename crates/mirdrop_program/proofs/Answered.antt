@@ -3,7 +3,7 @@ use Rattle.std.proofs.Common.{◌≡◌, ℕ, List, arith, ap, sym, ◌∙◌, s
 use Rattle.mir_base.specs.declared.trace.End.{End}
 use Rattle.mirdrop_program.specs.declared.request.Command.{Command}
 use Rattle.mirdrop_program.specs.declared.request.Request.{Request}
-use Rattle.mirdrop_program.specs.Owed.{Owed, owed_by, OwedByCheck, OwedByRaw, OwedByRun, OwedByExec, accepted, not_accepted, listed, listed_with_use, no_program, ran, not_run, executed, no_listing, end_status}
+use Rattle.mirdrop_program.specs.Owed.{Owed, owed_by, OwedByCheck, OwedByRaw, OwedByBuild, OwedByRun, OwedByExec, accepted, not_accepted, listed, listed_with_use, no_program, built, not_built, ran, not_run, executed, no_listing, end_status}
 
 -- the statuses of failures
 pub record IsAnswer (status : ℕ) : Type 0 where
@@ -34,9 +34,14 @@ by_raw text status written (listed lowered is) = zero_is_answer
 by_raw text status written (listed_with_use lowered is why refuses of_use refused) = zero_is_answer
 by_raw text status written (no_program why is told) = one_is_answer
 
+by_build : (text : List ℕ) (status : ℕ) (written : List ℕ) → OwedByBuild text status written → IsAnswer status
+by_build text status written (built done is) = zero_is_answer
+by_build text status written (not_built why is told) = one_is_answer
+
 by_command : (command : Command) (request : Request) (text : List ℕ) (status : ℕ) (written : List ℕ) → owed_by command request text status written → IsAnswer status
 by_command Command.Check request text status written owed = by_check text status written owed
 by_command Command.Raw request text status written owed = by_raw text status written owed
+by_command Command.Build request text status written owed = by_build text status written owed
 by_command Command.Run request text status written (ran lowered is) = end_is_answer _
 by_command Command.Run request text status written (not_run why is told) = one_is_answer
 by_command Command.Exec request text status written (executed graph is) = end_is_answer _

@@ -4,12 +4,14 @@ use Rattle.std.proofs.lemmas.List.Elements.{All-weaker}
 use Rattle.cfg_graph.specs.declared.graph.Graph.{Graph}
 use Rattle.cfg_graph.specs.WellFormed.Faults.{IsCounted, IsCountedBody}
 use Rattle.mir_pipeline.proofs.Accepted.{is_accepted, has_bad_use}
+use Rattle.drop_graphs.specs.declared.exact.Elaborated.{Elaborated}
+use Rattle.mir_pipeline.specs.Built.{IsBuiltOf}
 use Rattle.mir_pipeline.specs.Graphs.{IsAcceptedOf, IsLoweredOf, IsNotAccepted, RefusesUses, UsesStand}
 use Rattle.mir_pipeline.specs.Programs.{HasNoProgram}
 use Rattle.mir_pipeline.specs.declared.refusal.Refusal.{Refusal}
 use Rattle.cfg_build.specs.declared.programs.Lowered.{Lowered}
 use Rattle.listing_write.specs.Listing.{IsShortBody, IsShortGraph, listing}
-use Rattle.mirdrop_program.specs.Owed.{OwedByCheck, OwedByRaw, accepted, not_accepted, listed, listed_with_use, no_program, accepted_line, IsOfUse}
+use Rattle.mirdrop_program.specs.Owed.{OwedByBuild, OwedByCheck, OwedByRaw, built, not_built, accepted, not_accepted, listed, listed_with_use, no_program, accepted_line, IsOfUse}
 use Rattle.mirdrop_program.specs.Refusals.{IsTold, refusal_lines}
 
 -- what is said of a status and of a text says it of what equals them
@@ -41,6 +43,19 @@ pub raw_refused : (text : List ℕ) (why : Refusal) (status : ℕ) (written : Li
     OwedByRaw text status written
 raw_refused text why status written is told s w =
     as_said (OwedByRaw text) status 1 written (refusal_lines why) s w (no_program why is told)
+
+pub build_listed : (text : List ℕ) (done : Elaborated) (status : ℕ) (written : List ℕ) → IsBuiltOf text done → status ≡ 0 →
+    written ≡ listing done.graph → OwedByBuild text status written
+build_listed text done status written is s w = as_said (OwedByBuild text) status 0 written (listing done.graph) s w (built done is)
+
+pub build_refused : (text : List ℕ) (why : Refusal) (status : ℕ) (written : List ℕ) → IsNotAccepted text why → IsTold why →
+    status ≡ 1 → written ≡ refusal_lines why → OwedByBuild text status written
+build_refused text why status written is told s w =
+    as_said (OwedByBuild text) status 1 written (refusal_lines why) s w (not_built why is told)
+
+-- what is built of a text has short lists
+pub built_counted : (text : List ℕ) (done : Elaborated) → IsBuiltOf text done → IsCounted done.graph
+built_counted text done (program, p, is) = is.counted
 
 pub short_graph : (graph : Graph) → IsCounted graph → IsShortGraph graph
 short_graph graph c = record {

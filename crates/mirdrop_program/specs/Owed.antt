@@ -8,6 +8,8 @@ use Rattle.mir_text.specs.declared.error.ListingError.{ListingError}
 use Rattle.mir_base.specs.declared.trace.End.{End}
 use Rattle.mir_base.specs.Lines.{line}
 use Rattle.mir_machine.specs.Runs.{run_text}
+use Rattle.drop_graphs.specs.declared.exact.Elaborated.{Elaborated}
+use Rattle.mir_pipeline.specs.Built.{IsBuiltOf}
 use Rattle.mir_pipeline.specs.Graphs.{IsAcceptedOf, IsLoweredOf, IsNotAccepted, RefusesUses}
 use Rattle.mir_pipeline.specs.Programs.{HasNoProgram}
 use Rattle.mir_pipeline.specs.declared.refusal.Refusal.{Refusal}
@@ -48,6 +50,11 @@ module _ (text : List ℕ) where
         IsOfUse why → IsNotAccepted text why → OwedByRaw 0 (listing lowered.graph ++ refusal_lines why)
     no_program : (why : Refusal) → HasNoProgram text why → IsTold why → OwedByRaw 1 (refusal_lines why)
 
+  -- `build`: the listing of its graph with exact drops, where the program is accepted
+  pub data OwedByBuild : ℕ → List ℕ → Type 0 where
+    built : (done : Elaborated) → IsBuiltOf text done → OwedByBuild 0 (listing done.graph)
+    not_built : (why : Refusal) → IsNotAccepted text why → IsTold why → OwedByBuild 1 (refusal_lines why)
+
   -- `run`: the trace of its raw graph, where the program is accepted
   pub data OwedByRun (asks : List ℤ) (ticks : ℕ) : ℕ → List ℕ → Type 0 where
     ran : (lowered : Lowered) → IsAcceptedOf text lowered →
@@ -67,6 +74,7 @@ module _ (text : List ℕ) where
 abbrev pub owed_by : Command → Request → List ℕ → ℕ → List ℕ → Type 0
 owed_by Command.Check request text = OwedByCheck text
 owed_by Command.Raw request text = OwedByRaw text
+owed_by Command.Build request text = OwedByBuild text
 owed_by Command.Run request text = OwedByRun text request.asks request.ticks
 owed_by Command.Exec request text = OwedByExec text request.asks request.ticks
 

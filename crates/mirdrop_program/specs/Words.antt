@@ -42,13 +42,15 @@ abbrev pub command_of : Text → Option Command
 command_of text =
     if bytes_eq text (codes "check") then Some Command.Check
     else (if bytes_eq text (codes "raw") then Some Command.Raw
+    else (if bytes_eq text (codes "build") then Some Command.Build
     else (if bytes_eq text (codes "run") then Some Command.Run
-    else (if bytes_eq text (codes "exec") then Some Command.Exec else None)))
+    else (if bytes_eq text (codes "exec") then Some Command.Exec else None))))
 
 -- how many numbers a command takes at most
 abbrev pub most_numbers : Command → ℕ
 most_numbers Command.Check = 0
 most_numbers Command.Raw = 0
+most_numbers Command.Build = 0
 most_numbers Command.Run = 64
 most_numbers Command.Exec = 64
 

@@ -5,6 +5,7 @@ ghost use Rattle.mirdrop_program.specs.TopCall.{Responded};
 ghost use Rattle.mirdrop_program.specs.declared.request.Command.{Command as a_command};
 ghost use Rattle.mirdrop_program.specs.declared.request.Request.{Request as a_request};
 
+use crate::build::build_answer;
 use crate::check::check_answer;
 use crate::deliver::hand_on;
 use crate::exec::run_listing;
@@ -32,6 +33,15 @@ fn respond_to_raw<K: Sink>(alloc: Global, text: &[u8], sink: &mut K) -> u8
     hand_on(sink, raw_answer(alloc, text))
 }
 
+fn respond_to_build<K: Sink>(alloc: Global, text: &[u8], sink: &mut K) -> u8
+    requires short { length text.now ≤ 131072 }
+    ensures counts { K.faults sink.old ≤ K.faults sink.new }
+    ensures done { (request : a_request) → request.command ≡ a_command.Build →
+        Responded request text.now (K.taken sink.old) (K.taken sink.new) (HasRisen (K.faults sink.old) (K.faults sink.new)) result }
+{
+    hand_on(sink, build_answer(alloc, text))
+}
+
 /// Does what is asked for with a text.
 pub fn respond<K: Sink>(alloc: Global, request: &Request, text: &[u8], sink: &mut K) -> u8
     requires short { length text.now ≤ 131072 }
@@ -42,6 +52,7 @@ pub fn respond<K: Sink>(alloc: Global, request: &Request, text: &[u8], sink: &mu
     match request.command {
         Command::Check => respond_to_check(alloc, text, sink),
         Command::Raw => respond_to_raw(alloc, text, sink),
+        Command::Build => respond_to_build(alloc, text, sink),
         Command::Run => run_program(alloc, request, text, sink),
         Command::Exec => run_listing(alloc, request, text, sink),
     }

@@ -41,13 +41,14 @@ fn with_request<S: Source, K: Sink>(
 
 /// Does what the words say with the text of the source, writes the outcome to the sink, and answers the exit status.
 ///
-/// The words are those after the program's name: a command, numbers, and `--ticks N` anywhere. `check` and `raw` take no
-/// number, `run` and `exec` at most 64 of them, which `ask()` answers in turn.
+/// The words are those after the program's name: a command, numbers, and `--ticks N` anywhere. `check`, `raw` and `build`
+/// take no number, `run` and `exec` at most 64 of them, which `ask()` answers in turn.
 ///
 /// | Command | Text | What it writes |
 /// |---|---|---|
 /// | `check` | a program | `accepted`, or the refusal |
 /// | `raw` | a program | the listing of its raw graph, and behind it the refusal of its first bad use, if it has one |
+/// | `build` | a program | the listing of its graph with exact drops, if it is accepted, or the refusal |
 /// | `run` | a program | the trace of its raw graph, if it is accepted, or the refusal |
 /// | `exec` | a listing | the trace of its graph by strict steps, or the refusal |
 ///

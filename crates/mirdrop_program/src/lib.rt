@@ -2,6 +2,7 @@
 #![tactic(auto)]
 
 mod answers;
+mod build;
 mod check;
 mod commands;
 mod deliver;

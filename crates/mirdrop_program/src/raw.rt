@@ -17,7 +17,7 @@ use std::alloc::Global;
 
 /// The listing of a graph, as an answer.
 #[tactic(auto, using(crate::proofs::Owing::short_graph))]
-fn listing_of(alloc: Global, graph: &Graph) -> Result<Answer, NoMemory>
+pub fn listing_of(alloc: Global, graph: &Graph) -> Result<Answer, NoMemory>
     requires { IsCounted graph.now }
     ensures status { IfOk result (λ answer. answer.status ≡ 0) }
     ensures text { IfOk result (λ answer. answer.text.items ≡ listing graph.now) }

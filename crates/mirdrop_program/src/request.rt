@@ -7,6 +7,8 @@ pub enum Command {
     Check,
     /// The listing of a program's raw graph, with its first bad use behind it.
     Raw,
+    /// The listing of a program's graph with exact drops.
+    Build,
     /// A program runs, and its trace is written.
     Run,
     /// The graph of a listing runs, and its trace is written.

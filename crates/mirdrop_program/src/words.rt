@@ -59,6 +59,8 @@ fn command_of(word: &str) -> Option<Command>
         Some(Command::Check)
     } else if word == "raw" {
         Some(Command::Raw)
+    } else if word == "build" {
+        Some(Command::Build)
     } else if word == "run" {
         Some(Command::Run)
     } else if word == "exec" {
@@ -73,7 +75,7 @@ fn most_numbers(command: Command) -> usize
     ensures { result ≡ asked.most_numbers command }
 {
     match command {
-        Command::Check | Command::Raw => 0,
+        Command::Check | Command::Raw | Command::Build => 0,
         Command::Run | Command::Exec => MAX_ASKED,
     }
 }
@@ -176,7 +178,7 @@ fn request_in(alloc: Global, found: &ArgMatches<'_>) -> Result<Option<Request>, 
 /// What the words behind the program's name ask for.
 ///
 /// They are one command, then numbers, with the option `--ticks` anywhere, as `clap` reads a command line without
-/// subcommands. A number has one to ten decimal digits. `check` and `raw` take none, `run` and `exec` at most 64, each up
+/// subcommands. A number has one to ten decimal digits. `check`, `raw` and `build` take none, `run` and `exec` at most 64, each up
 /// to 2,147,483,647; there are at most 1,000,000,000 ticks, and 10,000 where nothing is said of them.
 ///
 /// # Errors

@@ -1,4 +1,4 @@
-use Rattle.std.proofs.Common.{◌≡◌, ◌∙◌, ◌+◌, ◌++◌, ℕ, List, length, map, replicate, ap, subst, sym, arith}
+use Rattle.std.proofs.Common.{◌∙◌, ℕ, List, length, replicate, ap, subst, sym, arith}
 use Rattle.std.proofs.lemmas.List.{length-append, length-map, length-replicate}
 use Rattle.cfg_graph.specs.Places.{named}
 use Rattle.mir_ty.specs.declared.ty.TyId.{TyId}
@@ -8,8 +8,10 @@ use Rattle.drop_ends.specs.declared.decided.Decided.{Decided}
 use Rattle.drop_flags.specs.Flags.{paths_of}
 use Rattle.drop_bodies.proofs.Counting.{how-at, totals-are}
 use Rattle.drop_bodies.proofs.Finishing.{elaborated-so}
+use Rattle.drop_bodies.proofs.WholeBody.{adds-no-fault}
 use Rattle.drop_bodies.specs.Counts.{AreCounts, totals_of, kind_at}
 use Rattle.drop_bodies.specs.Done.{AreDone}
+use Rattle.drop_bodies.specs.Ended.{AreEnded}
 use Rattle.drop_bodies.specs.Laid.{IsFinished}
 use Rattle.drop_bodies.proofs.body.elaborate_body.Goals as goal
 
@@ -40,6 +42,25 @@ returns-clause-elaborated c =
     (c.len.ensures ∙ sym (length-map plan.flags.paths named)) c.in_ok-body.ensures in
     elaborated-so items body c.requires.ready told.forest c.requires.told.forest flagged c.in_ok-plan.ensures.flagged plan.decided
     c.in_ok-plan.ensures.decided laid.blocks (made_of laid.new) done laid.sizes c.in_ok-laid.ensures.laid c.args.flag_ty
+    c.requires.flag after finished
+
+pub returns-clause-faultless : goal.returns-clause-faultless
+returns-clause-faultless c =
+    let items = c.args.items.now in
+    let body = c.args.body.now in
+    let told = c.args.told.now in
+    let plan = c.in_ok-plan.plan in
+    let laid = c.in_ok-laid.laid in
+    let flagged = paths_of plan.flags in
+    let after = c.in_ok-body.body in
+    let done = subst (λ (l : List Decided). AreDone items body flagged l (length body.blocks) laid.blocks (made_of laid.new))
+    c.as_slice-2.ensures (c.in_ok-laid.ensures.done items c.in_ok-plan.ensures.flags) in
+    let ended = subst (λ (l : List Decided). AreEnded items body flagged l (length body.blocks) laid.blocks (made_of laid.new))
+    c.as_slice-2.ensures (c.in_ok-laid.ensures.ended items c.in_ok-plan.ensures.flags) in
+    let finished = subst (λ (n : ℕ). IsFinished body laid.blocks laid.new.made laid.sizes c.args.flag_ty n after)
+    (c.len.ensures ∙ sym (length-map plan.flags.paths named)) c.in_ok-body.ensures in
+    adds-no-fault items body c.requires.ready told.forest c.requires.told.forest flagged c.in_ok-plan.ensures.flagged plan.decided
+    c.in_ok-plan.ensures.decided laid.blocks (made_of laid.new) done ended laid.sizes c.in_ok-laid.ensures.laid c.args.flag_ty
     c.requires.flag after finished
 
 pub returns-clause-counts : goal.returns-clause-counts

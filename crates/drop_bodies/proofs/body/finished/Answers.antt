@@ -1,4 +1,4 @@
-use Rattle.std.proofs.Common.{◌≡◌, ◌∙◌, ◌++◌, ℕ, List, length, map, ap, refl, subst, sym}
+use Rattle.std.proofs.Common.{◌∙◌, ◌++◌, ℕ, List, length, map, ap, refl, subst}
 use Rattle.cfg_graph.specs.declared.graph.Block.{Block}
 use Rattle.drop_laws.specs.Ranked.{ranked_with}
 use Rattle.drop_bodies.proofs.Finishing.{ranks-long}

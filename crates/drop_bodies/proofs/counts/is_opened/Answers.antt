@@ -1,4 +1,4 @@
-use Rattle.std.proofs.Common.{◌∙◌, ◌==◌, not, ℕ, Bool, List, length, ap, sym}
+use Rattle.std.proofs.Common.{◌∙◌, ◌==◌, not, ℕ, List, length, ap, sym}
 use Rattle.cfg_graph.specs.Places.{named}
 use Rattle.drop_bodies.proofs.Counting.{opened-at, not-opened}
 use Rattle.drop_bodies.proofs.counts.is_opened.Goals as goal

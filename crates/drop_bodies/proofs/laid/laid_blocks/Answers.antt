@@ -1,10 +1,10 @@
-use Rattle.std.proofs.Common.{◌≡◌, ◌∙◌, ◌∷◌, [], ◌++◌, ◌+◌, ◌-◌, ◌<◌, ◌≤◌, ℕ, List, Some, get_or, length, slice_get, ap, refl, subst, sym, arith}
+use Rattle.std.proofs.Common.{◌≡◌, ◌∙◌, ◌∷◌, [], ◌++◌, ◌+◌, ◌-◌, ◌<◌, ℕ, List, Some, get_or, length, slice_get, ap, refl, subst, sym, arith}
 use Rattle.std.proofs.lemmas.Option.{slice_get-get_or}
 use Rattle.cfg_graph.specs.declared.graph.Block.{Block}
 use Rattle.cfg_graph.specs.Edges.{is_turn_kind}
 use Rattle.drop_elaborate.specs.Build.{Made}
 use Rattle.drop_elaborate.specs.Elaborated.{kind_after}
-use Rattle.drop_blocks.specs.Ladders.{made_of}
+use Rattle.drop_blocks.specs.Ladders.{made_of, no_block}
 use Rattle.drop_ends.proofs.Exact.{end-leads}
 use Rattle.drop_ends.proofs.LeadingEnds.{kind-flat}
 use Rattle.drop_ends.specs.Decisions.{IsBlockOf}
@@ -16,6 +16,7 @@ use Rattle.drop_flags.specs.Flags.{paths_of}
 use Rattle.drop_bodies.proofs.Doing.{done-first, done-more}
 use Rattle.drop_bodies.proofs.Laying.{LaidTo, laid-first, laid-more, laid-all}
 use Rattle.drop_bodies.specs.Done.{AreDone}
+use Rattle.drop_bodies.specs.Ended.{AreEnded, none_ended, one_ended}
 use Rattle.drop_bodies.proofs.laid.laid_blocks.Goals as goal
 
 pub loop-block-init : goal.loop-block-init
@@ -25,6 +26,11 @@ loop-block-init c =
       λ items are.
           done-first items body (paths_of c.args.flags.now) c.args.decided.now c.new-blocks.result (made_of c.new-new.result)
           c.new-blocks.ensures (ap (λ (m : Made). m.first) c.new-new.ensures ∙ c.in_ok-count_of.ensures),
+      λ items are.
+          subst (λ (l : List Block). AreEnded items body (paths_of c.args.flags.now) c.args.decided.now 0 l (made_of c.new-new.result))
+          (sym c.new-blocks.ensures)
+          (subst (AreEnded items body (paths_of c.args.flags.now) c.args.decided.now 0 [])
+          (sym (c.new-new.ensures ∙ ap no_block c.in_ok-count_of.ensures)) none_ended),
       laid-first body c.new-blocks.result c.new-new.result.made c.new-sizes.result c.new-blocks.ensures
           (ap (λ (m : Made). m.blocks) c.new-new.ensures) c.new-sizes.ensures,
     )
@@ -88,11 +94,15 @@ loop-block-preserved c =
           there at at_how
           (subst (λ (n : ℕ). IsMade old new (λ after. IsBlockOf items body flagged after how n item there)) same
           (c.in_ok-block_of.ensures.stands items body are))),
+      λ items are.
+          subst (λ (z : List Block). AreEnded items body flagged decided (i + 1) z new) (sym c.in_ok-push.ensures.pushed)
+          (one_ended i c.loop-block.blocks old new item there how (c.loop-block.invariant.2 items are) at at_how
+          c.in_ok-block_of.ensures.kind (c.in_ok-block_of.ensures.built items body are)),
       subst (λ (z : List Block). LaidTo body (i + 1) z new.blocks c.push-in-loop-block.new.self) (sym c.in_ok-push.ensures.pushed)
           (subst (λ (z : List ℕ). LaidTo body (i + 1) (c.loop-block.blocks ++ there ∷ []) new.blocks z)
           (sym c.in_ok-push-2.ensures.pushed)
           (laid-more body i c.loop-block.blocks c.loop-block.sizes old new (c.loop-block.invariant.1 some.0 some.1).first
-          c.loop-block.invariant.2 item there at (ap is_turn_kind c.in_ok-block_of.ensures.kind) leads size size_is)),
+          c.loop-block.invariant.3 item there at (ap is_turn_kind c.in_ok-block_of.ensures.kind) leads size size_is)),
     )
 
 pub returns-clause-done : goal.returns-clause-done
@@ -103,9 +113,17 @@ returns-clause-done c items are =
     subst (λ (n : ℕ). AreDone items body (paths_of c.args.flags.now) c.args.decided.now n c.loop-block.blocks (made_of c.loop-block.new)) all
     (c.loop-block.invariant.1 items are)
 
+pub returns-clause-ended : goal.returns-clause-ended
+returns-clause-ended c items are =
+    let body = c.args.body.now in
+    let all : c.loop-block.block-index ≡ length body.blocks =
+    (let k = ap length c.as_slice-block-items.ensures in let f = c.loop-block-test.false in let e = c.loop-block.auto.block-index-end in omega (k, f, e, arith)) in
+    subst (λ (n : ℕ). AreEnded items body (paths_of c.args.flags.now) c.args.decided.now n c.loop-block.blocks (made_of c.loop-block.new)) all
+    (c.loop-block.invariant.2 items are)
+
 pub returns-clause-laid : goal.returns-clause-laid
 returns-clause-laid c =
     let body = c.args.body.now in
     let all : c.loop-block.block-index ≡ length body.blocks =
     (let k = ap length c.as_slice-block-items.ensures in let f = c.loop-block-test.false in let e = c.loop-block.auto.block-index-end in omega (k, f, e, arith)) in
-    laid-all body c.loop-block.blocks c.loop-block.new.made c.loop-block.sizes c.loop-block.block-index all c.loop-block.invariant.2
+    laid-all body c.loop-block.blocks c.loop-block.new.made c.loop-block.sizes c.loop-block.block-index all c.loop-block.invariant.3

@@ -3,6 +3,7 @@ use Rattle.mir_ty.specs.ItemTable.{ItemTable}
 use Rattle.drop_blocks.specs.Ladders.{made_of}
 use Rattle.drop_bodies.proofs.Laying.{LaidTo}
 use Rattle.drop_bodies.specs.Done.{AreDone}
+use Rattle.drop_bodies.specs.Ended.{AreEnded}
 use Rattle.drop_flags.specs.Flags.{AreFlags, paths_of}
 use Rattle.drop_bodies.proofs.laid.laid_blocks.Given as goal
 
@@ -11,4 +12,6 @@ invariant-loop-block l =
     (l.number ≡ l.block-index)
     × ((items : ItemTable) → AreFlags items l.body l.flags →
     AreDone items l.body (paths_of l.flags) l.decided l.block-index l.blocks (made_of l.new))
+    × ((items : ItemTable) → AreFlags items l.body l.flags →
+    AreEnded items l.body (paths_of l.flags) l.decided l.block-index l.blocks (made_of l.new))
     × LaidTo l.body l.block-index l.blocks l.new.made l.sizes

@@ -1,4 +1,4 @@
-use Rattle.std.proofs.Common.{◌<◌, length, arith}
+use Rattle.std.proofs.Common.{arith}
 use Rattle.drop_bodies.proofs.Numbers.{none-before, one-past, yet-to-come}
 use Rattle.drop_bodies.proofs.locals.bool_of.Goals as goal
 

@@ -1,9 +1,9 @@
-use Rattle.std.proofs.Common.{◌≡◌, ◌∙◌, ◌+◌, ◌<◌, ℕ, List, Option, length, map, ap, subst, sym, arith}
+use Rattle.std.proofs.Common.{◌∙◌, ℕ, List, Option, length, map, ap, subst, sym, arith}
 use Rattle.cfg_graph.specs.Places.{named}
 use Rattle.cfg_graph.specs.declared.place.Place.{Place}
 use Rattle.move_paths.specs.Trie.{AreOnce}
 use Rattle.drop_elaborate.specs.Kinds.{AreFlagged}
-use Rattle.drop_flags.specs.Flags.{AreFlags, paths_of}
+use Rattle.drop_flags.specs.Flags.{paths_of}
 use Rattle.drop_kinds.specs.Decided.{AreDecided}
 use Rattle.drop_plans.specs.Plans.{flag_of}
 use Rattle.drop_plans.specs.Tables.{AreTable}

@@ -7,8 +7,9 @@ use Rattle.cfg_graph.specs.declared.graph.Body.{Body}
 use Rattle.cfg_graph.specs.declared.graph.Graph.{Graph}
 use Rattle.drop_elaborate.proofs.Law.{elaboration-keeps-runs}
 use Rattle.drop_elaborate.specs.Totals.{DropTotals}
-use Rattle.drop_bodies.specs.Counts.{no_drops, both, totals_of}
-use Rattle.drop_graphs.proofs.Bodies.{AreFirst, none-first, one-more, elaboration-is, sums-are}
+use Rattle.drop_laws.proofs.ReadyLines.{ready-graph}
+use Rattle.drop_bodies.specs.Counts.{totals_of}
+use Rattle.drop_graphs.proofs.Bodies.{AreFirst, none-first, one-more, elaboration-is, well-formed-is, counted-is, sums-are}
 use Rattle.drop_graphs.proofs.exact.elaborate.Goals as goal
 
 pub loop-body-init : goal.loop-body-init
@@ -57,7 +58,7 @@ loop-body-preserved c =
       subst (λ (l : List Body). AreFirst raw (i + 1) l (totals_of c.add.new.self)) (sym c.in_ok-push.ensures.pushed)
           (subst (λ (t : DropTotals). AreFirst raw (i + 1) (c.loop-body.bodies ++ exact.body ∷ []) t) (sym c.in_ok-add.ensures)
           (one-more raw i c.loop-body.bodies sums c.loop-body.invariant.1 item exact.body at c.in_ok-exact.ensures.elaborated
-          (totals_of exact.counts) c.in_ok-exact.ensures.counts)),
+          c.in_ok-exact.ensures.faultless c.in_ok-exact.ensures.counted (totals_of exact.counts) c.in_ok-exact.ensures.counts)),
     )
 
 pub returns-clause-elaborated : goal.returns-clause-elaborated
@@ -68,6 +69,22 @@ returns-clause-elaborated c =
     elaboration-is raw (record { items = c.in_ok-items.items; bodies = c.loop-body.bodies }) c.loop-body.body-index
     (totals_of c.loop-body.counts) all c.in_ok-items.ensures c.loop-body.invariant.1
 
+pub returns-clause-counted : goal.returns-clause-counted
+returns-clause-counted c =
+    let raw : Graph = c.args.raw.now in
+    let all : c.loop-body.body-index ≡ length raw.bodies =
+    (let k = ap length c.as_slice-body-items.ensures in let f = c.loop-body-test.false in let e = c.loop-body.auto.body-index-end in omega (k, f, e, arith)) in
+    counted-is raw (record { items = c.in_ok-items.items; bodies = c.loop-body.bodies }) c.loop-body.body-index
+    (totals_of c.loop-body.counts) all c.in_ok-items.ensures c.loop-body.invariant.1 c.requires.counted.bodies
+
+pub returns-clause-well_formed : goal.returns-clause-well_formed
+returns-clause-well_formed c =
+    let raw : Graph = c.args.raw.now in
+    let all : c.loop-body.body-index ≡ length raw.bodies =
+    (let k = ap length c.as_slice-body-items.ensures in let f = c.loop-body-test.false in let e = c.loop-body.auto.body-index-end in omega (k, f, e, arith)) in
+    well-formed-is raw (record { items = c.in_ok-items.items; bodies = c.loop-body.bodies }) c.loop-body.body-index
+    (totals_of c.loop-body.counts) all c.in_ok-items.ensures c.loop-body.invariant.1 c.requires.ready.well_formed
+
 pub returns-clause-counts : goal.returns-clause-counts
 returns-clause-counts c =
     let raw : Graph = c.args.raw.now in
@@ -77,11 +94,11 @@ returns-clause-counts c =
     (totals_of c.loop-body.counts) all c.in_ok-items.ensures c.loop-body.invariant.1
 
 pub returns-clause-runs : goal.returns-clause-runs
-returns-clause-runs c asked ticks free =
+returns-clause-runs c stays asked ticks free =
     let raw : Graph = c.args.raw.now in
     let graph : Graph = record { items = c.in_ok-items.items; bodies = c.loop-body.bodies } in
     let all : c.loop-body.body-index ≡ length raw.bodies =
     (let k = ap length c.as_slice-body-items.ensures in let f = c.loop-body-test.false in let e = c.loop-body.auto.body-index-end in omega (k, f, e, arith)) in
-    elaboration-keeps-runs raw graph asked ticks c.bool_of-flag_ty.ensures.sound c.requires.ready
+    elaboration-keeps-runs raw graph asked ticks c.bool_of-flag_ty.ensures.sound (ready-graph raw c.requires.ready stays)
     (elaboration-is raw graph c.loop-body.body-index (totals_of c.loop-body.counts) all c.in_ok-items.ensures
     c.loop-body.invariant.1) free
