@@ -121,6 +121,10 @@ module _ (items : ItemTable) (body : BodyTree) where
       is_int IntKind.I32 (type_at items id) ≡ true → Acts items body (effects.Print (moved n key))
   print_acts n key id c a i = subst (λ o. (C o && is_int IntKind.I32 (T o)) ≡ true) (sym c) (both_true a i)
 
+  pub forget_acts : (n key : ℕ) (id : TyId) → Cell key id → Alone items id → is_some (type_at items id) ≡ true →
+      Acts items body (effects.Forget (moved n key))
+  forget_acts n key id c a i = subst (λ o. (C o && is_some (T o)) ≡ true) (sym c) (both_true a i)
+
   pub ask_acts : (n key : ℕ) (id : TyId) → Cell key id → Alone items id →
       is_int IntKind.I32 (type_at items id) ≡ true → Acts items body (effects.Ask (site_in n key))
   ask_acts n key id c a i = subst (λ o. (C o && is_int IntKind.I32 (T o)) ≡ true) (sym c) (both_true a i)

@@ -1,6 +1,6 @@
 -- In each body of a well typed program a marked run, which tests what cells hold and much else, never ends by the first
 -- mark: all that is done with cells is of the right types. Nor does it miss a step, whatever it meets.
-use Rattle.std.proofs.Common.{◌≡◌, ◌⊎◌, inl, inr, ℕ, Bool, true, false, List, [], ◌∷◌, ◌++◌, map, Option, Some, None, refl, ap, sym, ◌∙◌, subst}
+use Rattle.std.proofs.Common.{◌≡◌, ◌⊎◌, inl, inr, ℕ, Bool, true, false, List, [], ◌∷◌, ◌++◌, map, Option, Some, None, if◌then◌else◌, refl, ap, sym, ◌∙◌, subst}
 use Rattle.std.specs.Prelude.{slice_get}
 use Rattle.std.specs.Option.{option_map_or}
 use Rattle.std.specs.List.{flat_map}
@@ -10,6 +10,7 @@ use Rattle.mir_ty.specs.declared.def.ClosureDef.{ClosureDef}
 use Rattle.mir_ty.specs.declared.def.Sig.{Sig}
 use Rattle.mir_ty.specs.declared.ty.TyId.{TyId}
 use Rattle.mir_ty.specs.declared.ty.Ty.{Ty}
+use Rattle.mir_ty.specs.Facts.{needs_drop}
 use Rattle.mir_ty.specs.ItemTable.{ItemTable, type_at}
 use Rattle.store_model.specs.Effects.{Unwinding, Out, Go, Unwind, Halts, Effects, aborting}
 use Rattle.store_model.specs.Places.Place.{Place, whole_local}
@@ -33,9 +34,9 @@ use Rattle.well_typed.specs.Types as types
 use Rattle.soundness.proofs.Checked.{Checking, with_facts}
 use Rattle.soundness.proofs.CheckedBodies.{checks_of, is_reference_param}
 use Rattle.soundness.proofs.Facts.{Facts}
-use Rattle.soundness.proofs.Leaving.{Shown, ShownOut}
+use Rattle.soundness.proofs.Leaving.{AllOf, Shown, ShownOut}
 use Rattle.soundness.proofs.PassCellNames.{Names, no_names, cell_ok}
-use Rattle.soundness.proofs.PassCellParams.{PlainParams, plain_params, pattern_cells, body_scoped, self_closure}
+use Rattle.soundness.proofs.PassCellParams.{PlainParams, plain_params, pattern_cells, ParamRoots, AllRoots, param_roots, body_scoped, self_closure}
 use Rattle.soundness.proofs.PassCellPlaces.{Scoped}
 use Rattle.soundness.proofs.PassCellTaken as taken
 use Rattle.soundness.proofs.PassCellTypes as facts
@@ -54,6 +55,7 @@ use Rattle.soundness.proofs.PassEnds as ends
 use Rattle.soundness.proofs.PassFacts.{Standpoint, context}
 use Rattle.soundness.proofs.PassGood.{TypedParams, whole, param_made, entry_local}
 use Rattle.soundness.proofs.PassLocals.{EntryIn}
+use Rattle.soundness.proofs.PassParamRoots.{ParamIn, param_root}
 use Rattle.soundness.proofs.PlaceTypes.{same_type}
 use Rattle.soundness.proofs.PassWell as rules
 use Rattle.soundness.proofs.PassWellBranches as branches
@@ -103,7 +105,7 @@ module _ (items : ItemTable) (told : Told items) (body : BodyTree) (fuel : ℕ) 
           (Drops items body) (Made items body) (does_well items body) (Cell items body) (May items body) (Names items body) (with_entry e)
           (rules.entered items (marked_run items body) may_end (Acts items body) (Tests items body) (Drops items body)
           (Made items body) (does_well items body) (Cell items body) (May items body) (Names items body) e
-          (nodes.droppable items body e)) S f
+          (nodes.droppable items body e k.0)) S f
 
       bounds : List BoundName
       bounds = (shape items param.pattern).bindings (whole_local (param_key param))
@@ -154,16 +156,34 @@ module _ (items : ItemTable) (told : Told items) (body : BodyTree) (fuel : ℕ) 
       (ap (λ o. option_map_or (alone items) o false) r.0 ∙ r.1) v (with_facts v.facts v.facts (Go v.free))
       (λ w. Unit {0}) (λ w. Unit {0}) tt
 
-  unwound : (es : List Entry) (v : V) → Ends (unwinds items q fuel es v)
-  unwound [] v = tt
-  unwound (e ∷ es) v = dropped (q.drop Unwinding (entry_site e) v)
-      ((does_well items body).drops Unwinding (entry_site e) v refl) (λ w. unwound es w)
+  abbrev Droppable : Entry → Type 0
+  Droppable = nodes.Droppable items body
+
+  unwound : (es : List Entry) → AllOf Droppable es → (v : V) → Ends (unwinds items q fuel (needing_drop items es) v)
+  unwound [] d v = tt
+  unwound (e ∷ es) d v = by (needs_drop items e.ty) refl (λ w. unwound es d.1 w)
     where
       dropped : (o : Out V) → ShownOut may_end (λ w. Unit {0}) (λ w. Unit {0}) o →
-          ((w : V) → Ends (unwinds items q fuel es w)) → Ends (aborting o (unwinds items q fuel es))
+          ((w : V) → Ends (unwinds items q fuel (needing_drop items es) w)) →
+          Ends (aborting o (unwinds items q fuel (needing_drop items es)))
       dropped (Go w) h later = later w
       dropped (Unwind w) h later = tt
       dropped (Halts halt w) h later = h
+
+      by : (b : Bool) → needs_drop items e.ty ≡ b → ((w : V) → Ends (unwinds items q fuel (needing_drop items es) w)) →
+          Ends (unwinds items q fuel (if b then e ∷ needing_drop items es else needing_drop items es) v)
+      by true n later = dropped (q.drop Unwinding (entry_site e) v)
+          ((does_well items body).drops Unwinding (entry_site e) v (d.0 n Unwinding)) later
+      by false n later = later v
+
+  all_both : (a b : List Entry) → AllOf Droppable a → AllOf Droppable b → AllOf Droppable (a ++ b)
+  all_both [] b f g = g
+  all_both (e ∷ a) b f g = (f.0, all_both a b f.1 g)
+
+  all_fine : (S : Scopes) → Fine items body S → AllOf Droppable (all_entries S)
+  all_fine [] f = tt
+  all_fine (s ∷ S) f = all_both (s.pending ++ s.entries) (all_entries S) (all_both s.pending s.entries f.0.1 f.0.0)
+      (all_fine S f.1)
 
   ended : (c : Context) (valued : Type 0) → c.loops ≡ [] → Result → (r : Run V) →
       Shown may_end (Post items body c valued) r → Ends (body_end items q fuel (answer_key body) r)
@@ -173,7 +193,7 @@ module _ (items : ItemTable) (told : Told items) (body : BodyTree) (fuel : ℕ) 
   ended c valued none a (At (Continues loop) S w) h =
       absurd (none-some h.0.0 (ap (loop_with loop) (sym none) ∙ h.0.1))
   ended c valued none a (At Returns S w) h = gives_well w a
-  ended c valued none a (At Panics S w) h = unwound (needing_drop items (all_entries S)) w
+  ended c valued none a (At Panics S w) h = unwound (all_entries S) (all_fine S h.1) w
   ended c valued none a (Over halt w) h = h
 
   module _ (x : Standpoint) (no_loops : x.loops ≡ []) (answers : x.answer ≡ body.answer)
@@ -225,7 +245,7 @@ module _ (items : ItemTable) (told : Told items) (body : BodyTree) (fuel : ℕ) 
         (λ T w u g. block_well body.block is h block T w g)))
       where
         answer_fine : Fine items body (answer_scope items q fuel body)
-        answer_fine = ((tt, (nodes.droppable items body (record { key = answer_key body; ty = body.answer }), tt)), tt)
+        answer_fine = ((tt, (nodes.droppable items body (record { key = answer_key body; ty = body.answer }) result.0, tt)), tt)
 
 module _ (items : ItemTable) (told : Told items) (number : ℕ) (sig : Sig) (body : BodyTree)
     (h : Holds (is_body items number sig body)) (there : slice_get items.bodies number ≡ Some sig)
@@ -266,6 +286,14 @@ module _ (items : ItemTable) (told : Told items) (number : ℕ) (sig : Sig) (bod
   own_cells : Has items body (map (param_entry items) body.params)
   own_cells = cells_of.has_left items body P N (cells_of.has_left items body (P ++ N) B all_cells_have.1)
 
+  all_roots : (params : List ParamTree) → Has items body (map (param_entry items) params) →
+      ((param : ParamTree) → ParamIn params param → ParamIn body.params param) → AllRoots items told body params
+  all_roots [] c f = tt
+  all_roots (param ∷ params) c f = (
+    param_root items body (ends.rise items number sig body h (checks_of items body) fuel) param (f param (inl refl)) c.0,
+    all_roots params c.1 (λ p i. f p (inr i)),
+  )
+
   named_cells : Has items body (inside_params items body.params)
   named_cells = cells_of.has_right items body P N (cells_of.has_left items body (P ++ N) B all_cells_have.1)
 
@@ -280,23 +308,26 @@ module _ (items : ItemTable) (told : Told items) (number : ℕ) (sig : Sig) (bod
       h.1.1.1.1.1.0 k v
 
   ended_in : (o : Option ClosureDef) (params : List ParamTree) → closure_with items number ≡ o →
-      TypedParams items params → Has items body (map (param_entry items) params) →
+      TypedParams items params → ParamRoots items told body params → Has items body (map (param_entry items) params) →
       Has items body (inside_params items params) → Holds (are_params items sig.params params) →
       Holds (is_inside items o body params) → (v : Checking Facts) →
       ShownOut may_end (λ w. Unit {0}) (λ w. Unit {0}) (activation items (marked_run items body) fuel body v)
-  ended_in None params e t c l a k v = runs None params
-      (body_scoped items told body None body.answer (λ y n. absurd (none-some y n)) params t c l) k.0 v
-  ended_in (Some def) [] e t c l a k v = absurd (false≢true k)
-  ended_in (Some def) (self ∷ rest) e t c l a k v =
+  ended_in None params e t r c l a k v = runs None params
+      (body_scoped items told body None body.answer (λ y n. absurd (none-some y n)) params t r c l) k.0 v
+  ended_in (Some def) [] e t r c l a k v = absurd (false≢true k)
+  ended_in (Some def) (self ∷ rest) e t r c l a k v =
       let y : InScope = record { key = number_of self.pattern; ty = self.ty; is_in_guard = false } in
       runs (Some y) rest
       (body_scoped items told body (Some y) body.answer
       (λ z n. subst (λ (z : InScope). Cell items body z.key z.ty × ((m : ℕ) × (type_at items z.ty ≡ Some (Ty.Closure m))))
-      (same_Some y z n) (c.0, self_closure items told body number sig def self rest there e a)) rest t.1 c.1
+      (same_Some y z n) (c.0, self_closure items told body number sig def self rest there e a)) rest t.1 r.1 c.1
       (cells_of.has_right items body (inside items self.pattern) (inside_params items rest) l)) k.0 v
 
   -- each marked run of the body ends by no first mark, and misses no step
   pub ends_well : (v : Checking Facts) →
       ShownOut may_end (λ w. Unit {0}) (λ w. Unit {0}) (activation items (marked_run items body) fuel body v)
   ends_well v = ended_in (closure_with items number) body.params refl
-      (ends.typed_so items number sig body h (checks_of items body) fuel) own_cells named_cells h.1.1.0 h.1.1.1.1.1.1 v
+      (ends.typed_so items number sig body h (checks_of items body) fuel) (param_roots items told body sig.params body.params h.1.1.0
+      (told.params number sig there)
+      (all_roots body.params own_cells (λ p i. i)))
+      own_cells named_cells h.1.1.0 h.1.1.1.1.1.1 v

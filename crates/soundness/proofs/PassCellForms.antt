@@ -1,6 +1,6 @@
 -- The pass over the forms for the first test: all that is done with cells is of the right types, a node of type `!` has
 -- no value, and a jump names a loop around it. One line a form.
-use Rattle.std.proofs.Common.{◌≡◌, ℕ, ◌==◌, ◌&&◌, ◌||◌, not, Bool, true, false, List, [], ◌∷◌, ◌++◌, length, Option, slice_get, if◌then◌else◌, refl, sym, ◌∙◌}
+use Rattle.std.proofs.Common.{◌≡◌, inl, ℕ, ◌==◌, ◌&&◌, ◌||◌, not, Bool, true, false, List, [], ◌∷◌, ◌++◌, length, Option, slice_get, if◌then◌else◌, refl, sym, ◌∙◌}
 use Rattle.std.proofs.lemmas.Bool.{false≢true}
 use Rattle.mir_base.specs.declared.place_in_text.Pos.{Pos}
 use Rattle.mir_ty.specs.declared.ty.TyId.{TyId}
@@ -29,6 +29,8 @@ use Rattle.soundness.proofs.Leaving.{Shown}
 use Rattle.soundness.proofs.PassCellNames.{Names, PlaceOk}
 use Rattle.soundness.proofs.PassCellPlaces as places
 use Rattle.soundness.proofs.PassCellPlaces.{Scoped}
+use Rattle.soundness.proofs.PassCellPlain.{used_listed}
+use Rattle.soundness.proofs.PassListed.{Lists}
 use Rattle.soundness.proofs.PassCellScoped as scope
 use Rattle.soundness.proofs.PassCellTypes as facts
 use Rattle.soundness.proofs.PassCellActs.{Cell}
@@ -319,7 +321,7 @@ module _ (items : ItemTable) (body : BodyTree) (told : Told items) (fuel : ℕ) 
         operators.drop_value_well items body told fuel operand x id ty by h
         (own_well operand x s Taken tt h.0 k)
     form_well (tree.Forget operand) x s id ty by h pa pb k nv =
-        operators.forget_well items body told fuel operand x id ty by h
+        operators.forget_well items body told fuel operand (x, s.listed) id ty by h k
         (own_well operand x s Taken tt h.0 k)
     form_well tree.Panic x s id ty by h pa pb k nv =
         operators.panic_well items body told fuel x id ty by
@@ -352,7 +354,7 @@ module _ (items : ItemTable) (body : BodyTree) (told : Told items) (fuel : ℕ) 
         (May items body)
         (Names items body) id own S f))
         (λ T w' e l. tail_well tail x stmts (scope.scoped_behind items body told stmts x
-        (λ d. typing.tail_of d tail) h.0 (left (all_cells items stmts) (cells_if_any items false tail) k) s)
+        (λ d. typing.tail_of d tail) h.0 e (left (all_cells items stmts) (cells_if_any items false tail) k) s)
         (at_nodes.behind_holds items body told fuel stmts x
         (λ d. typing.tail_of d tail) h.0)
         (right (all_cells items stmts) (cells_if_any items false tail) k) (head id ty by) h.1 e around to ok g T w' l)))
@@ -381,6 +383,8 @@ module _ (items : ItemTable) (body : BodyTree) (told : Told items) (fuel : ℕ) 
         (at_nodes.used_plain items body told fuel x Use.Borrow scrutinee h.0))
         (node_reached scrutinee x s (Used Use.Borrow) h.0 ks)
         (node_well consequent (with_names (patterns.entries_of pattern) x) (scope.scoped_names items body told pattern _ (ty_of scrutinee) x h.1.0.1
+        (inl (at_nodes.used_plain items body told fuel x Use.Borrow scrutinee h.0))
+        (used_listed items told scrutinee (x, s.listed) h.0)
         (left (cells items true pattern) (reached_cells items scrutinee) k2) s) Taken tt h.1.1.0 kb)
     form_well (tree.IfLet pattern scrutinee consequent (present otherwise)) x s id ty by h pa pb k nv =
         let k3 = left ((cells items true pattern ++ reached_cells items scrutinee) ++ cells items false consequent)
@@ -393,6 +397,8 @@ module _ (items : ItemTable) (body : BodyTree) (told : Told items) (fuel : ℕ) 
         (at_nodes.used_plain items body told fuel x Use.Borrow scrutinee h.0))
         (node_reached scrutinee x s (Used Use.Borrow) h.0 ks)
         (node_well consequent (with_names (patterns.entries_of pattern) x) (scope.scoped_names items body told pattern _ (ty_of scrutinee) x h.1.0.1
+        (inl (at_nodes.used_plain items body told fuel x Use.Borrow scrutinee h.0))
+        (used_listed items told scrutinee (x, s.listed) h.0)
         (left (cells items true pattern) (reached_cells items scrutinee) k2) s) Taken tt h.1.1.0 kb)
         (node_well otherwise x s Taken tt h.1.1.1.0
         (right ((cells items true pattern ++ reached_cells items scrutinee) ++ cells items false consequent)
@@ -405,6 +411,7 @@ module _ (items : ItemTable) (body : BodyTree) (told : Told items) (fuel : ℕ) 
         (node_reached scrutinee x s (Used Use.Borrow) h.0 ks)
         (arms_well arms x s (typing.matched_in false (K x) scrutinee) (ty_of scrutinee) ty h.1.0
         (at_nodes.used_plain items body told fuel x Use.Borrow scrutinee h.0)
+        (used_listed items told scrutinee (x, s.listed) h.0)
         (right (reached_cells items scrutinee) (all_cells items arms) k))
     form_well (tree.Loop body_) x s id ty by h pa pb k nv =
         choices.loop_well items body told fuel body_ x id ty by h k
@@ -433,6 +440,10 @@ module _ (items : ItemTable) (body : BodyTree) (told : Told items) (fuel : ℕ) 
         (node_well body_ (with_names (patterns.entries_of pattern)
         (in_a_loop (at_nodes.around_a items body told fuel id ty false) x)) (scope.scoped_names items body told pattern _ (ty_of scrutinee)
         (in_a_loop (at_nodes.around_a items body told fuel id ty false) x) h.1.0.1
+        (inl (at_nodes.used_plain items body told fuel (in_a_loop (at_nodes.around_a items body told fuel id ty false) x)
+        Use.Borrow scrutinee h.0))
+        (used_listed items told scrutinee
+        (in_a_loop (at_nodes.around_a items body told fuel id ty false) x, s.listed) h.0)
         (left (cells items true pattern) (reached_cells items scrutinee) k2)
         (scope.scoped_loop items body (at_nodes.around_a items body told fuel id ty false) x s)) Taken tt h.1.1.0
         (cells_of.fewer items body body_ kb))
@@ -569,7 +580,7 @@ module _ (items : ItemTable) (body : BodyTree) (told : Told items) (fuel : ℕ) 
         (typing.ends_in items (a_node (node id at ty by form) more) ≡ false)
         (λ d. at_nodes.either_false items body told fuel (typing.ends_by items form) (typing.ends_in items more) e d)
         (forms.statements items (marked_run items body) around (Ms more) T w)
-        (statements_well more (with_names (typing.entries_in form) x) (scope.scoped_statement items body told form x h.1.0
+        (statements_well more (with_names (typing.entries_in form) x) (scope.scoped_statement items body told form x h.1.0 e
         (cells_of.inside items body true (node id at ty by form)
         (left (cells items true (node id at ty by form)) (all_cells items more) k)) s) rest h.1.1
         (right (cells items true (node id at ty by form)) (all_cells items more) k) around ok T w l))
@@ -581,7 +592,7 @@ module _ (items : ItemTable) (body : BodyTree) (told : Told items) (fuel : ℕ) 
         Fine items body S → Shown may_end (Post items body (K x) (typing.ends_by items form ≡ false))
         ((Of form id ty by).evaluate around false (Into (Of form id ty by).head.id) S v)
     statement_well (tree.Let pattern absent) x s id ty by h k around ok S v f =
-        stated.unassigned_well items body told fuel pattern x id ty by around S v f
+        stated.unassigned_well items body told fuel pattern x id ty by h (left (cells items true pattern) [] k) around S v f
     statement_well (tree.Let (node pid pat pty pby (tree.Binding name)) (present value)) x s id ty by h k around ok S v
         f =
         stated.named_well items body told fuel pid pat pty pby name value x id ty by h.0
@@ -598,7 +609,9 @@ module _ (items : ItemTable) (body : BodyTree) (told : Told items) (fuel : ℕ) 
         (facts.right_of (types.fits items pty (ty_of value)) _ h.1.1.1.0)))
         (same_when value pty (facts.left_of (types.fits items pty (ty_of value)) _ h.1.1.1.0) h.1.1.1.1.0)
         (node_reached value x s Base h.0
-        (right (cells items true (node pid pat pty pby pform)) (reached_cells items value) k)) around ok S v f
+        (right (cells items true (node pid pat pty pby pform)) (reached_cells items value) k))
+        (λ p. stand.own_dest items body told fuel value x Base h.0 (at_nodes.own_reached items body told fuel value p
+        (right (cells items true (node pid pat pty pby pform)) (reached_cells items value) k))) around ok S v f
     statement_well (tree.Evaluate expression) x s id ty by h k around ok S v f =
         stated.evaluated_well items body told fuel expression x id ty by h k
         (node_well expression x s Taken tt h (cells_of.fewer items body expression k)) around ok S v f
@@ -608,35 +621,37 @@ module _ (items : ItemTable) (body : BodyTree) (told : Told items) (fuel : ℕ) 
 
     arms_well : (arms : Nodes) (x : Standpoint) (s : Scoped items body x) (m : Matched) (want : TyId) (whole : TyId) →
         Holds (typing.arms_of (K x) m want arms) →
-        types.is_reference items want ≡ false → H (all_cells items arms) →
+        types.is_reference items want ≡ false → Lists items want → H (all_cells items arms) →
         branches.AllArms items (marked_run items body) may_end (Acts items body) (Tests items body) (Drops items body)
         (Made items body) (does_well items body) (Cell items body) (May items body) (Names items body) (PlaceOk items body want) (IsMade items body whole) (K x)
         (Ms arms)
-    arms_well no_node x s m want whole h r k = tt
-    arms_well (a_node (node id at ty by form) rest) x s m want whole h r k = (
-      arm_well form x s m want whole id at ty by h.0 r (cells_of.inside items body true (node id at ty by form)
+    arms_well no_node x s m want whole h r l k = tt
+    arms_well (a_node (node id at ty by form) rest) x s m want whole h r l k = (
+      arm_well form x s m want whole id at ty by h.0 r l (cells_of.inside items body true (node id at ty by form)
           (left (cells items true (node id at ty by form)) (all_cells items rest) k)),
-      arms_well rest x s m want whole h.1 r (right (cells items true (node id at ty by form)) (all_cells items rest) k),
+      arms_well rest x s m want whole h.1 r l (right (cells items true (node id at ty by form)) (all_cells items rest) k),
     )
 
     arm_well : (form : Form) (x : Standpoint) (s : Scoped items body x) (m : Matched) (want : TyId) (whole : TyId) (id : ℕ) (at : Pos) (ty : TyId)
         (by : Option Use) →
         Holds (typing.arm (K x) m want (node id at ty by form)) → types.is_reference items want ≡ false →
-        H (cells_in items form) → branches.ArmWell items (marked_run items body) may_end (Acts items body)
+        Lists items want → H (cells_in items form) → branches.ArmWell items (marked_run items body) may_end (Acts items body)
         (Tests items body) (Drops items body) (Made items body) (does_well items body) (Cell items body)
         (May items body)
         (Names items body) (PlaceOk items body want) (IsMade items body whole) (K x) (Of form id ty by)
-    arm_well (tree.Arm pattern guard body_) x s m want whole id at ty by h r k =
+    arm_well (tree.Arm pattern guard body_) x s m want whole id at ty by h r l k =
         let k2 = left (cells items true pattern ++ cells_if_any items true guard) (cells items false body_) k in
         stated.arm_of items body told fuel pattern guard body_ x m want whole id at ty by h r
         (left (cells items true pattern) (cells_if_any items true guard) k2)
         (guard_well guard (with_names (in_guard (patterns.entries_of pattern)) x) (scope.scoped_guard items body told pattern m want x h.1.1.0
+        (inl r) l
         (left (cells items true pattern) (cells_if_any items true guard) k2) s) h.1.1.1.0
         (right (cells items true pattern) (cells_if_any items true guard) k2))
         (node_well body_ (with_names (patterns.entries_of pattern) x) (scope.scoped_names items body told pattern m want x h.1.1.0
+        (inl r) l
         (left (cells items true pattern) (cells_if_any items true guard) k2) s) Taken tt h.1.1.1.1.0
         (right (cells items true pattern ++ cells_if_any items true guard) (cells items false body_) k))
-    arm_well form x s m want whole id at ty by h r k = absurd (false≢true h)
+    arm_well form x s m want whole id at ty by h r l k = absurd (false≢true h)
 
     guard_well : (guard : MaybeNode) (x : Standpoint) (s : Scoped items body x) → Holds (typing.guarded (K x) guard) →
         H (cells_if_any items true guard) →

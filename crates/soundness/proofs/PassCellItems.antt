@@ -299,6 +299,24 @@ module _ (p : ProgramTree) (w : WellTyped p) where
         ),
       )
 
+  in_table : (id : TyId) → stands_alone items id ≡ true → is_some (type_at items id) ≡ true
+  in_table id h = facts.left_of (is_some (type_at items id)) _ h
+
+  inside_listed : (id t : TyId) → types.inside_of items id ≡ Some t → is_some (type_at items t) ≡ true
+  inside_listed id t e = by (type_at items id) refl e
+    where
+      of_made : (u : TyId) → (is_some (type_at items u) && not (types.is_reference items u)) ≡ true → u ≡ t →
+          is_some (type_at items t) ≡ true
+      of_made u h same = subst (λ i. is_some (type_at items i) ≡ true) same (facts.left_of _ _ h)
+
+      by : (o : Option Ty) → type_at items id ≡ o → option_and_then types.inside_in o ≡ Some t →
+          is_some (type_at items t) ≡ true
+      by None k e = absurd (none-some t e)
+      by (Some (Ty.Boxed u)) k e = of_made u (made id (Ty.Boxed u) k) (same_Some u t e)
+      by (Some (Ty.Shared u)) k e = of_made u (made id (Ty.Shared u) k) (same_Some u t e)
+      by (Some (Ty.Unique u)) k e = of_made u (made id (Ty.Unique u) k) (same_Some u t e)
+      by (Some ty) k e = absurd (none-some t e)
+
   pub told : Told items
   told = record {
     results = λ n sig e. lone items sig.result
@@ -320,4 +338,10 @@ module _ (p : ProgramTree) (w : WellTyped p) where
     bools = λ a b e k. one_number a b Ty.Bool (same_bool (type_at items a) e) (same_bool (type_at items b) k);
     units = λ a b e k. one_number a b Ty.Unit (same_unit (type_at items a) e) (same_unit (type_at items b) k);
     truth = first_bool items.types w.0.0.1.1.0;
+    listed_results = λ n sig e. in_table sig.result
+        (facts.right_of (list_all (is_param items) sig.params) _ (head_ok n sig e));
+    listed_methods = λ t m def sig e k. in_table sig.result
+        (facts.right_of (list_all (is_param items) sig.params) _ (method_ok t m def sig e k));
+    listed_fields = λ id variant n t e. in_table t (field_ok id variant n t e);
+    listed_inside = inside_listed;
   }

@@ -204,7 +204,7 @@ module _ (items : ItemTable) (body : BodyTree) where
   goes_same (ToElement i) (Some (Ty.Array element count)) = refl
   goes_same (ToElement i) (Some ty) = refl
 
-  place_further : (place : Place) (step : Step) →
+  pub place_further : (place : Place) (step : Step) →
       place_at (local_of items body) (extended step place)
       ≡ extended (step_at (local_of items body) step) (place_at (local_of items body) place)
   place_further place step = ap (λ s. record { local = local_of items body place.local; steps = s })
@@ -221,16 +221,18 @@ module _ (items : ItemTable) (body : BodyTree) where
   root_further l root id next steps step None n t e g h =
       more_goes items [] steps step root id next t h e g
   root_further l root id next [] step (Some to) n t e g h =
-      absurd (false≢true h)
+      absurd (false≢true (right_of items (is_reference_param items body l) _ h))
   root_further l root id next (ToContent ∷ steps) step (Some to) n t e g h =
-      more_goes items [] steps step to id next
-      (sym (ap (option_and_then (ty_along items steps)) (named_content items (type_at items root) to n)) ∙ t) h e g
+      both_true (left_of items (is_reference_param items body l) _ h)
+      (more_goes items [] steps step to id next
+      (sym (ap (option_and_then (ty_along items steps)) (named_content items (type_at items root) to n)) ∙ t)
+      (right_of items (is_reference_param items body l) _ h) e g)
   root_further l root id next (ToPart k ∷ steps) step (Some to) n t e g h =
-      absurd (false≢true h)
+      absurd (false≢true (right_of items (is_reference_param items body l) _ h))
   root_further l root id next (ToField v k ∷ steps) step (Some to) n t e g h =
-      absurd (false≢true h)
+      absurd (false≢true (right_of items (is_reference_param items body l) _ h))
   root_further l root id next (ToElement k ∷ steps) step (Some to) n t e g h =
-      absurd (false≢true h)
+      absurd (false≢true (right_of items (is_reference_param items body l) _ h))
 
   lead_further : (l : ℕ) (id next : TyId) (steps : List Step) (step : Step) (o : Option TyId) →
       option_and_then (ty_along items steps) o ≡ Some id →
@@ -259,22 +261,23 @@ module _ (items : ItemTable) (body : BodyTree) where
             (goes_same step (type_at items id) ∙ g) p.leading);
       }
 
-  -- what a reference names
+  -- what a parameter names that is a reference
   pub named_ok : (key : ℕ) (id to : TyId) → local_ty items body (local_of items body key) ≡ Some id →
-      named_by (type_at items id) ≡ Some to → PlaceOk to (extended ToContent (whole_local key))
-  named_ok key id to c n = record {
+      named_by (type_at items id) ≡ Some to → is_reference_param items body (local_of items body key) ≡ true →
+      PlaceOk to (extended ToContent (whole_local key))
+  named_ok key id to c n r = record {
     typed = ap (option_and_then (ty_along items (ToContent ∷ []))) c
         ∙ ap (option_and_then (ty_along items [])) (named_content items (type_at items id) to n);
     leading = subst (λ o. leads_in items (local_ty items body) (is_reference_param items body)
         (record { local = local_of items body key; steps = ToContent ∷ [] }) o ≡ true) (sym c)
         (subst (λ o. leads_from items (local_ty items body) (is_reference_param items body)
         (record { local = local_of items body key; steps = ToContent ∷ [] }) id o ≡ true) (sym n)
-        refl);
+        (both_true r refl));
   }
 
   -- ---- the array of which an element is taken
 
-  before_at : (steps : List Step) → before_element (map (step_at (local_of items body)) steps)
+  pub before_at : (steps : List Step) → before_element (map (step_at (local_of items body)) steps)
       ≡ map (step_at (local_of items body)) (before_element steps)
   before_at [] = refl
   before_at (ToPart n ∷ steps) = ap (λ l. ToPart n ∷ l) (before_at steps)
@@ -295,11 +298,12 @@ module _ (items : ItemTable) (body : BodyTree) where
           leads_from items (local_ty items body) (is_reference_param items body)
           (record { local = l; steps = before_element steps }) root o ≡ true
       by steps None h = before_goes items [] steps root h
-      by [] (Some to) h = absurd (false≢true h)
-      by (ToContent ∷ steps) (Some to) h = before_goes items [] steps to h
-      by (ToPart n ∷ steps) (Some to) h = absurd (false≢true h)
-      by (ToField v n ∷ steps) (Some to) h = absurd (false≢true h)
-      by (ToElement i ∷ steps) (Some to) h = absurd (false≢true h)
+      by [] (Some to) h = absurd (false≢true (right_of items (is_reference_param items body l) _ h))
+      by (ToContent ∷ steps) (Some to) h = both_true (left_of items (is_reference_param items body l) _ h)
+          (before_goes items [] steps to (right_of items (is_reference_param items body l) _ h))
+      by (ToPart n ∷ steps) (Some to) h = absurd (false≢true (right_of items (is_reference_param items body l) _ h))
+      by (ToField v n ∷ steps) (Some to) h = absurd (false≢true (right_of items (is_reference_param items body l) _ h))
+      by (ToElement i ∷ steps) (Some to) h = absurd (false≢true (right_of items (is_reference_param items body l) _ h))
 
   pub array_leads : (place : Place) → leads items (local_ty items body) (is_reference_param items body)
       (place_at (local_of items body) place) ≡ true →

@@ -1,6 +1,7 @@
 -- Nodes by their kinds, where all that is done with cells is of the right types: values, places that are used, effects,
 -- forms with operands, temporaries.
-use Rattle.std.proofs.Common.{◌≡◌, ◌⊎◌, inl, inr, ℕ, Bool, true, false, List, [], ◌∷◌, refl, ap, sym, ◌∙◌, subst}
+use Rattle.std.proofs.Common.{◌≡◌, ◌⊎◌, inl, inr, ℕ, ◌||◌, Bool, true, false, List, [], ◌∷◌, refl, ap, sym, ◌∙◌, subst}
+use Rattle.std.specs.Option.{option_map_or}
 use Rattle.std.proofs.lemmas.Bool.{false≢true}
 use Rattle.mir_ty.specs.declared.ty.TyId.{TyId}
 use Rattle.mir_ty.specs.Facts.{needs_drop}
@@ -26,6 +27,7 @@ use Rattle.soundness.proofs.PassCellSites as sites
 use Rattle.soundness.proofs.PassCellActs as acts
 use Rattle.soundness.proofs.PassCellActs.{Cell}
 use Rattle.soundness.proofs.PassCellEffects.{marked_run, may_end, Acts, Tests, Drops, Made, does_well}
+use Rattle.soundness.proofs.PassCellTests.{no_reference}
 use Rattle.soundness.proofs.PassCellTypes as facts
 use Rattle.soundness.proofs.PassCellTypes.{Alone, Sorted}
 use Rattle.soundness.proofs.PassHeads.{type_is}
@@ -131,11 +133,21 @@ module _ (items : ItemTable) (body : BodyTree) where
         (facts.coerces items c.1.0 h.ty trait_no c.1.1.1),
   )
 
-  pub droppable : (e : Entry) → Droppable e
-  droppable e d mode = refl
+  -- a cell that needs dropping holds no reference
+  pub droppable : (e : Entry) → Cell items body e.key e.ty → Droppable e
+  droppable e c n mode = first _ _ (ap (λ o. option_map_or (no_reference items) o false) c
+      ∙ facts.dropped_no_reference items e.ty n)
+    where
+      first : (a b : Bool) → a ≡ true → (a || b) ≡ true
+      first true b h = refl
+      first false b h = absurd (false≢true h)
+
+  pub droppable_head : (h : NodeHead) → Dest h.ty (Into h.id) → Droppable (entry_of h)
+  droppable_head h (inl never) n mode = absurd (facts.dropped_not_never items h.ty n never)
+  droppable_head h (inr c) n mode = droppable (entry_of h) c n mode
 
   pub own_from : (c : Context) (m : Meaning V) → Well c m → Dest m.head.ty (Into m.head.id) → Own c m
-  own_from c m w d = (w, (d, droppable (entry_of m.head)))
+  own_from c m w d = (w, (d, droppable_head m.head d))
 
   -- a node that is made stands in its cell
   pub made_in_cell : (m : Meaning V) (id : TyId) → Dest m.head.ty (Into m.head.id) → IsMade m.head.ty → m.head.ty ≡ id →
@@ -281,7 +293,7 @@ module _ (items : ItemTable) (body : BodyTree) where
         (forms.temporary items q m.head m.shape m.evaluate around S v)
         (rules.temporary_well items (marked_run items body) may_end (Acts items body) (Tests items body)
         (Drops items body) (Made items body) (does_well items body) (Cell items body) May (Names items body) c m.head m.shape
-        m.evaluate around (droppable (entry_of m.head))
+        m.evaluate around (droppable_head m.head d)
         (λ T w' g. w around false (Into m.head.id) T w' ok d g) S v f))
 
     -- a value of which the type that it fits is known

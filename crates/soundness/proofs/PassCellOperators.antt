@@ -36,6 +36,7 @@ use Rattle.soundness.proofs.PassCellActs as acts
 use Rattle.soundness.proofs.PassCellActs.{Cell}
 use Rattle.soundness.proofs.PassCellEffects.{marked_run, may_end, Acts, Tests, Drops, Made, does_well}
 use Rattle.soundness.proofs.PassCellNodes as nodes
+use Rattle.soundness.proofs.PassCellPlain.{Known, plain_alone, plain_listed, taken_plain}
 use Rattle.soundness.proofs.PassCellNodes.{May, Post, Fine, Well, Reach, Reached, Own, AroundWell, Dest, IsMade}
 use Rattle.soundness.proofs.PassCellPatterns as cells_of
 use Rattle.soundness.proofs.PassCellPatterns.{Told, Has, made_of_never}
@@ -404,14 +405,19 @@ module _ (items : ItemTable) (body : BodyTree) (told : Told items) (fuel : ℕ) 
       (IsMade items body ty) (head id ty by) (λ site. effects.Put site effects.UnitValue) to
       (nodes.unit_delivers items body fuel (head id ty by) to h.1 g) T w' l) S w f)
 
-  pub forget_well : (operand : Node) (x : Standpoint) (id : ℕ) (ty : TyId) (by : Option Use) →
-      Holds (typing.row (K x) id ty (tree.Forget operand)) →
-      Own items body (K x) (M operand) →
-      W x (Of (tree.Forget operand) id ty by)
-  forget_well operand x id ty by h own_operand =
-      nodes.unit_value_well items body fuel (K x) (head id ty by) (shape_of items (tree.Forget operand) (head id ty by))
-      (M operand) effects.Forget
-      own_operand h.1 (λ made. refl)
+  pub forget_well : (operand : Node) (x : Known items told) (id : ℕ) (ty : TyId) (by : Option Use) →
+      Holds (typing.row (K x.0) id ty (tree.Forget operand)) →
+      H (cells_in items (tree.Forget operand)) →
+      Own items body (K x.0) (M operand) →
+      W x.0 (Of (tree.Forget operand) id ty by)
+  forget_well operand x id ty by h k own_operand =
+      let d = stand.own_dest items body told fuel operand x.0 Taken h.0 k in
+      let plain = taken_plain items told operand x h.0 in
+      nodes.unit_value_well items body fuel (K x.0) (head id ty by)
+      (shape_of items (tree.Forget operand) (head id ty by)) (M operand) effects.Forget
+      own_operand h.1 (λ made. acts.forget_acts items body id (M operand).head.id (ty_of operand)
+      (nodes.node_cell items body fuel operand (ty_of operand) d made refl)
+      (plain_alone items told (type_at items (ty_of operand)) plain) (plain_listed items told (ty_of operand) plain))
 
   pub panic_well : (x : Standpoint) (id : ℕ) (ty : TyId) (by : Option Use) →
       W x (Of tree.Panic id ty by)

@@ -2,7 +2,7 @@
 -- A parameter that is taken apart is no reference.
 use Rattle.std.proofs.Common.{◌≡◌, ◌⊎◌, inl, inr, ℕ, zero, suc, ◌==◌, ◌&&◌, ◌||◌, not, Bool, true, false, List, [], ◌∷◌, ◌++◌, map, Option, Some, None, if◌then◌else◌, refl, ap, sym, ◌∙◌, subst}
 use Rattle.std.specs.Prelude.{slice_get}
-use Rattle.std.specs.List.{flat_map, find}
+use Rattle.std.specs.List.{flat_map, find, list_all}
 use Rattle.std.proofs.lemmas.Bool.{false≢true}
 use Rattle.std.proofs.lemmas.Bool.Decides.{Decides-eqb}
 use Rattle.std.proofs.lemmas.Option.{none-some, same_Some}
@@ -21,6 +21,7 @@ use Rattle.src_meaning.specs.Locals.OfBody.{cells}
 use Rattle.src_meaning.specs.Scopes.{Entry}
 use Rattle.src_meaning.specs.Shape.{BoundName, shape}
 use Rattle.well_typed.specs.Claim.{Holds}
+use Rattle.well_typed.specs.Items as items_of
 use Rattle.well_typed.specs.Patterns as patterns
 use Rattle.well_typed.specs.Patterns.{entries_of}
 use Rattle.well_typed.specs.Places.{InScope}
@@ -29,12 +30,13 @@ use Rattle.well_typed.specs.Types as types
 use Rattle.soundness.proofs.PassCellActs.{Cell}
 use Rattle.soundness.proofs.PassCellPatterns as cells_of
 use Rattle.soundness.proofs.PassCellPatterns.{Told, Has}
-use Rattle.soundness.proofs.PassCellPlaces.{Scoped}
+use Rattle.soundness.proofs.PassCellPlaces.{Root, Scoped}
 use Rattle.soundness.proofs.PassCellScoped as scope
 use Rattle.soundness.proofs.PassCellTypes as facts
 use Rattle.soundness.proofs.PassCells.{param_entry, inside, inside_params}
 use Rattle.soundness.proofs.PassFacts.{Standpoint, with_names}
 use Rattle.soundness.proofs.PassGood.{TypedParams, whole, param_made}
+use Rattle.soundness.proofs.PassListed.{Lists}
 use Rattle.soundness.proofs.PlaceTypes.{same_type}
 
 module _ (items : ItemTable) where
@@ -73,21 +75,62 @@ module _ (items : ItemTable) (told : Told items) (body : BodyTree) where
       cells_of.with_own items body id at ty by form
       (subst (λ t. Cell items body id t) (sym (param_made items (node id at ty by form) want h)) c) k
 
+  -- parameters that are references may be used, by names, and are of types in the table
+  abbrev pub ParamRoots : List ParamTree → Type 0
+  ParamRoots [] = Unit {0}
+  ParamRoots (param ∷ params) =
+      (scope.OneRoot items body param.pattern param.ty × Lists items param.ty) × ParamRoots params
+
+  abbrev pub AllRoots : List ParamTree → Type 0
+  AllRoots [] = Unit {0}
+  AllRoots (param ∷ params) = Root items body (number_of param.pattern) param.ty × AllRoots params
+
+  root_by_form : (form : Form) (id : ℕ) (at : Pos) (by : Option Use) (own want ty : TyId) →
+      Holds (is_param items want (record { pattern = node id at own by form; ty = ty })) → Root items body id ty →
+      scope.OneRoot items body (node id at own by form) ty
+  root_by_form tree.Wildcard id at by own want ty h r = inr (refl, r)
+  root_by_form (tree.Binding name) id at by own want ty h r = inr (refl, r)
+  root_by_form form id at by own want ty h r = inl (facts.is_false (types.is_reference items ty) h.1.1)
+
+  one_root : (p : Node) (want ty : TyId) → Holds (is_param items want (record { pattern = p; ty = ty })) →
+      Root items body (number_of p) ty → scope.OneRoot items body p ty
+  one_root (node id at own by form) want ty h r = root_by_form form id at by own want ty h r
+
+  pub param_roots : (tys : List TyId) (params : List ParamTree) → Holds (are_params items tys params) →
+      list_all (items_of.is_param items) tys ≡ true → AllRoots params → ParamRoots params
+  param_roots tys [] h l r = tt
+  param_roots [] (param ∷ params) h l r = absurd (false≢true h)
+  param_roots (ty ∷ tys) (param ∷ params) h l r = (
+    (
+      one_root param.pattern ty param.ty h.0 r.0,
+      subst (Lists items) (sym (same_type param.ty ty h.0.0))
+          (facts.left_of _ _ (facts.left_of (items_of.is_param items ty) _ l)),
+    ),
+    param_roots tys params h.1 (facts.right_of (items_of.is_param items ty) _ l) r.1,
+  )
+
   -- the names of parameters
-  params_in : (params : List ParamTree) → TypedParams items params →
+  params_in : (params : List ParamTree) → TypedParams items params → ParamRoots params →
       Has items body (map (param_entry items) params) → Has items body (inside_params items params) →
       (x : Standpoint) → Scoped items body x →
       Scoped items body (with_names (flat_map (λ p. entries_of p.pattern) params) x)
-  params_in [] t k l x s = record { names = s.names; closure = s.closure }
-  params_in (param ∷ params) t k l x s =
-      let later = params_in params t.1 k.1
+  params_in [] t r k l x s =
+      record { names = s.names; roots = s.roots; listed = s.listed; closure = s.closure }
+  params_in (param ∷ params) t r k l x s =
+      let later = params_in params t.1 r.1 k.1
       (cells_of.has_right items body (inside items param.pattern) (inside_params items params) l) x s in
       let here = scope.scoped_names items body told param.pattern whole param.ty
-      (with_names (flat_map (λ p. entries_of p.pattern) params) x) t.0
+      (with_names (flat_map (λ p. entries_of p.pattern) params) x) t.0 r.0.0 r.0.1
       (pattern_cells param.pattern param.ty t.0 k.0
       (cells_of.has_left items body (inside items param.pattern) (inside_params items params) l)) later in
       record {
         names = λ key y e. here.names key y
+            (ap (Rattle.well_typed.specs.Places.entry_with key)
+            (sym (append_assoc (entries_of param.pattern) (flat_map (λ p. entries_of p.pattern) params) x.entries)) ∙ e);
+        roots = λ key y e. here.roots key y
+            (ap (Rattle.well_typed.specs.Places.entry_with key)
+            (sym (append_assoc (entries_of param.pattern) (flat_map (λ p. entries_of p.pattern) params) x.entries)) ∙ e);
+        listed = λ key y e. here.listed key y
             (ap (Rattle.well_typed.specs.Places.entry_with key)
             (sym (append_assoc (entries_of param.pattern) (flat_map (λ p. entries_of p.pattern) params) x.entries)) ∙ e);
         closure = here.closure;
@@ -103,14 +146,23 @@ module _ (items : ItemTable) (told : Told items) (body : BodyTree) where
   pub body_scoped : (closure : Option InScope) (answer : TyId) →
       ((y : InScope) → closure ≡ Some y →
       Cell items body y.key y.ty × ((n : ℕ) × (type_at items y.ty ≡ Some (Ty.Closure n)))) →
-      (params : List ParamTree) → TypedParams items params → Has items body (map (param_entry items) params) →
-      Has items body (inside_params items params) →
+      (params : List ParamTree) → TypedParams items params → ParamRoots params →
+      Has items body (map (param_entry items) params) → Has items body (inside_params items params) →
       Scoped items body (At closure (flat_map (λ p. entries_of p.pattern) params) answer)
-  body_scoped closure answer c params t k l =
-      let s = params_in params t k l (At closure [] answer)
-      (record { names = λ key y e. absurd (none-some y e); closure = c }) in
+  body_scoped closure answer c params t r k l =
+      let s = params_in params t r k l (At closure [] answer)
+      (record {
+        names = λ key y e. absurd (none-some y e);
+        roots = λ key y e. absurd (none-some y e);
+        listed = λ key y e. absurd (none-some y e);
+        closure = c;
+      }) in
       record {
         names = λ key y e. s.names key y (ap (Rattle.well_typed.specs.Places.entry_with key)
+            (append_nil (flat_map (λ p. entries_of p.pattern) params)) ∙ e);
+        roots = λ key y e. s.roots key y (ap (Rattle.well_typed.specs.Places.entry_with key)
+            (append_nil (flat_map (λ p. entries_of p.pattern) params)) ∙ e);
+        listed = λ key y e. s.listed key y (ap (Rattle.well_typed.specs.Places.entry_with key)
             (append_nil (flat_map (λ p. entries_of p.pattern) params)) ∙ e);
         closure = c;
       }

@@ -3,6 +3,7 @@
 use Rattle.std.proofs.Common.{◌≡◌, ◌⊎◌, inl, inr, ℕ, ◌==◌, ◌&&◌, ◌||◌, not, Bool, true, false, List, [], ◌∷◌, ◌++◌, length, Option, Some, None, is_none, if◌then◌else◌, refl, ap, sym, ◌∙◌, subst}
 use Rattle.std.specs.Prelude.{option_and_then}
 use Rattle.std.specs.List.{list_all}
+use Rattle.std.specs.Option.{option_map_or}
 use Rattle.std.proofs.lemmas.Bool.{false≢true}
 use Rattle.std.proofs.lemmas.Option.{none-some}
 use Rattle.mir_ty.specs.declared.ty.Ty.{Ty}
@@ -29,6 +30,7 @@ use Rattle.well_typed.specs.Types as types
 use Rattle.soundness.proofs.Checked.{Checking}
 use Rattle.soundness.proofs.Facts.{Facts}
 use Rattle.soundness.proofs.Leaving.{Shown}
+use Rattle.soundness.proofs.PassCellDeclared.{AllPlain}
 use Rattle.soundness.proofs.PassCellNames.{Names, PlaceOk, BoundsPlaced, array_leads}
 use Rattle.soundness.proofs.PassCellPlaces as places
 use Rattle.soundness.proofs.PassCellPlaces.{Scoped}
@@ -41,6 +43,7 @@ use Rattle.soundness.proofs.PassCellNodes as nodes
 use Rattle.soundness.proofs.PassCellNodes.{May, Post, Fine, Well, Reach, Reached, AroundWell, Dest, Given, IsMade, Delivers}
 use Rattle.soundness.proofs.PassCellPatterns as cells_of
 use Rattle.soundness.proofs.PassCellPatterns.{Told, Has, has_value}
+use Rattle.soundness.proofs.PassCellTests.{no_reference}
 use Rattle.soundness.proofs.PassCellTypes as facts
 use Rattle.soundness.proofs.PassCellTypes.{Sorted}
 use Rattle.soundness.proofs.PassFacts.{Standpoint, context, with_names, behind}
@@ -241,14 +244,27 @@ module _ (items : ItemTable) (body : BodyTree) (told : Told items) (fuel : ℕ) 
   used_plain x u (node id at ty by form) h = facts.is_false (types.is_reference items ty)
       (facts.right_of (is_used (K x) u by form) (not (types.is_reference items ty)) h.0)
 
-  pub any_declared : (bounds : List BoundName) →
+  pub any_declared : (bounds : List BoundName) → AllPlain items body bounds →
       statements.DeclaredOk items (marked_run items body) may_end (Acts items body) (Tests items body)
       (Drops items body) (Made items body) (does_well items body) (Cell items body) (May items body) (Names items body) bounds
-  any_declared [] = tt
-  any_declared (b ∷ bounds) = (
-    ((λ n. refl), nodes.droppable items body (bound_entry b)),
-    any_declared bounds,
+  any_declared [] p = tt
+  any_declared (b ∷ bounds) p = (
+    (
+      (λ n. one_so _ _ (ap (λ o. option_map_or (no_reference items) o false) p.0.0
+          ∙ ap not (sym (facts.reference_by (type_at items b.ty)) ∙ p.0.1))),
+      nodes.droppable items body (bound_entry b) p.0.0,
+    ),
+    any_declared bounds p.1,
   )
+    where
+      one_so : (a b : Bool) → a ≡ true → (a || b) ≡ true
+      one_so true b h = refl
+      one_so false b h = absurd (false≢true h)
+
+  -- what is reached and no place has a cell of its own
+  pub own_reached : (n : Node) → (M n).shape.is_place ≡ false → H (reached_cells items n) → H (cells items true n)
+  own_reached (node id at ty by form) p k =
+      cells_of.reached_own items body id at ty by form (sym (meant_place (node id at ty by form)) ∙ p) k
 
   -- where one of two is false, so are both
   pub second_false : (a b : Bool) → b ≡ false → (a && b) ≡ false

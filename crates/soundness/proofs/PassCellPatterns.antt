@@ -1,6 +1,6 @@
 -- The cells of the nodes of a body, as entries that stand in their locals; and the names and tests of patterns, which
 -- go to cells of their types.
-use Rattle.std.proofs.Common.{◌≡◌, ℕ, zero, suc, ◌&&◌, ◌||◌, not, Bool, true, false, List, [], ◌∷◌, ◌++◌, Option, Some, None, slice_get, if◌then◌else◌, refl, ap, sym, ◌∙◌, subst}
+use Rattle.std.proofs.Common.{◌≡◌, ℕ, zero, suc, ◌&&◌, ◌||◌, not, Bool, true, false, List, [], ◌∷◌, ◌++◌, Option, Some, None, slice_get, if◌then◌else◌, refl, ap, sym, ◌∙◌, subst, is_some}
 use Rattle.std.specs.Prelude.{replicate}
 use Rattle.std.specs.List.{list_all}
 use Rattle.std.proofs.lemmas.Bool.{false≢true}
@@ -74,6 +74,14 @@ pub record Told (items : ItemTable) : Type 0 where
   pub bools : (a b : TyId) → types.is_bool items a ≡ true → types.is_bool items b ≡ true → a ≡ b
   pub units : (a b : TyId) → types.is_unit items a ≡ true → types.is_unit items b ≡ true → a ≡ b
   pub truth : type_forms.is_bool (type_at items (bool_ty items)) ≡ true
+  -- these are in the table
+  pub listed_results : (n : ℕ) (sig : Sig) → slice_get items.bodies n ≡ Some sig →
+      is_some (type_at items sig.result) ≡ true
+  pub listed_methods : (t m : ℕ) (def : TraitDef) (sig : Sig) → slice_get items.traits t ≡ Some def →
+      slice_get def.methods m ≡ Some sig → is_some (type_at items sig.result) ≡ true
+  pub listed_fields : (id : TyId) (variant n : ℕ) (t : TyId) → field_ty items id variant n ≡ Some t →
+      is_some (type_at items t) ≡ true
+  pub listed_inside : (id t : TyId) → types.inside_of items id ≡ Some t → is_some (type_at items t) ≡ true
 
 -- ---- which nodes have a cell
 

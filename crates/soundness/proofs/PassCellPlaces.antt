@@ -1,6 +1,6 @@
 -- The place of each node of a well typed body leads on by the types, and is of the type of the node: by what is in scope,
 -- by the names of guards, and by the cells of temporaries.
-use Rattle.std.proofs.Common.{◌≡◌, ℕ, ◌==◌, ◌&&◌, Bool, true, false, Option, Some, None, refl, ap, sym, ◌∙◌, subst}
+use Rattle.std.proofs.Common.{◌≡◌, ℕ, ◌==◌, ◌&&◌, Bool, true, false, Option, Some, None, is_none, refl, ap, sym, ◌∙◌, subst}
 use Rattle.std.specs.Prelude.{option_and_then}
 use Rattle.std.specs.Option.{option_map_or}
 use Rattle.std.proofs.lemmas.Bool.{false≢true}
@@ -18,17 +18,21 @@ use Rattle.typed_tree.specs.Tree as tree
 use Rattle.typed_tree.specs.Tree.{Node, node, Form, BodyTree}
 use Rattle.src_meaning.specs.Evaluation.{meaning}
 use Rattle.src_meaning.specs.Forms.{is_never}
-use Rattle.src_meaning.specs.Locals.OfBody.{cells, reached_cells, cells_in}
+use Rattle.src_meaning.specs.Locals.OfBody.{cells, reached_cells, cells_in, local_of}
 use Rattle.src_meaning.specs.Shape.{Aliases, NodeHead, head, shape, shape_of, extended, place_of_key}
 use Rattle.well_typed.specs.Claim.{Holds, fact, both, some}
 use Rattle.well_typed.specs.Nodes as typing
-use Rattle.well_typed.specs.Places.{InScope, Context, entry_with, ty_of, form_of, is_place, Standing, Base}
+use Rattle.well_typed.specs.Places.{InScope, Context, entry_with, ty_of, form_of, is_place, is_borrow, Standing, Base}
 use Rattle.well_typed.specs.Types as types
+use Rattle.soundness.proofs.CheckedBodies.{is_reference_param}
 use Rattle.soundness.proofs.PassCellActs.{Cell}
 use Rattle.soundness.proofs.PassCellEffects.{marked_run}
 use Rattle.soundness.proofs.PassCellNames.{PlaceOk, cell_ok, further_ok, named_ok, goes, Names}
 use Rattle.soundness.proofs.PassCellNodes as nodes
 use Rattle.soundness.proofs.PassCellPatterns as cells_of
+use Rattle.soundness.proofs.PassCellPlain as plains
+use Rattle.soundness.proofs.PassCellPlain.{form_plain}
+use Rattle.soundness.proofs.PassListed.{Listed}
 use Rattle.soundness.proofs.PassCellPatterns.{Told, Has}
 use Rattle.soundness.proofs.PassCellStands as stand
 use Rattle.soundness.proofs.PassCellTypes as facts
@@ -38,10 +42,18 @@ use Rattle.soundness.proofs.PlaceTypes.{some_holds, same_type, field_step, eleme
 
 -- ---- what is in scope
 
+-- what is of a reference type is a parameter
+abbrev pub Root : ItemTable → BodyTree → ℕ → TyId → Type 0
+Root items body key ty = is_reference (type_at items ty) ≡ true →
+    is_reference_param items body (local_of items body key) ≡ true
+
 module _ (items : ItemTable) (body : BodyTree) where
-  -- each name in scope stands in a cell of its type; so does the value of a closure
+  -- each name in scope stands in a cell of its type, which is in the table, and is a parameter if it is a reference; so
+  -- does the value of a closure
   pub record Scoped (x : Standpoint) : Type 0 where
     pub names : (key : ℕ) (y : InScope) → entry_with key x.entries ≡ Some y → Cell items body key y.ty
+    pub roots : (key : ℕ) (y : InScope) → entry_with key x.entries ≡ Some y → Root items body key y.ty
+    pub listed : Listed items x
     pub closure : (y : InScope) → x.closure ≡ Some y →
         Cell items body y.key y.ty × ((n : ℕ) × (type_at items y.ty ≡ Some (Ty.Closure n)))
 
@@ -116,6 +128,12 @@ module _ (items : ItemTable) (body : BodyTree) (told : Told items) (fuel : ℕ) 
       (stand.own_dest items body told fuel (node id at ty by form) x standing h
       (cells_of.reached_own items body id at ty by form p k))
       (nodes.made_node items body fuel (node id at ty by form) made) refl)
+
+  -- and is no reference
+  pub base_plain : (n : Node) (x : Standpoint) → Holds (typing.typed (K x) Base n) → Scoped items body x →
+      is_place (form_of n) ≡ false → is_reference (type_at items (ty_of n)) ≡ false
+  base_plain (node id at ty by form) x h s p = plain ty (plains.no_reference items told ty (form_plain items told form
+      (x, s.listed) id at ty by h.1 p (facts.is_false (is_borrow form) (facts.right_of (is_none by) _ h.0))))
 
   abbrev InPlace : ℕ → TyId → Form → Type 0
   InPlace id ty form = (aliases : Aliases) → Names items body aliases →
@@ -205,7 +223,7 @@ module _ (items : ItemTable) (body : BodyTree) (told : Told items) (fuel : ℕ) 
         of_kind true e t i own behind = behind t (named_inside (type_at items (ty_of base)) t i e)
     form_place form x id ty by h p s k r aliases names = absurd (false≢true p)
 
-    -- what a node names that is a reference: a name, or a temporary
+    -- what a node names that is a reference: a name
     node_named : (n : Node) (x : Standpoint) (to : TyId) → Holds (typing.typed (K x) Base n) → Scoped items body x →
         Has items body (reached_cells items n) → named_by (type_at items (ty_of n)) ≡ Some to → (aliases : Aliases) →
         Names items body aliases → PlaceOk items body to (extended ToContent ((shape items n).place aliases))
@@ -216,11 +234,6 @@ module _ (items : ItemTable) (body : BodyTree) (told : Told items) (fuel : ℕ) 
         reference (Some (Ty.Shared t)) e = refl
         reference (Some (Ty.Unique t)) e = refl
         reference (Some ty) e = absurd (none-some to e)
-
-        made : (o : Option Ty) → named_by o ≡ Some to → Rattle.store_model.specs.Places.TypeForms.is_never o ≡ false
-        made None e = absurd (none-some to e)
-        made (Some Ty.Never) e = absurd (none-some to e)
-        made (Some ty) e = refl
 
         never : {A : Type 0} → types.is_reference items ty ≡ false → A
         never e = absurd (false≢true (sym (plain ty e) ∙ reference (type_at items ty) n))
@@ -234,7 +247,9 @@ module _ (items : ItemTable) (body : BodyTree) (told : Told items) (fuel : ℕ) 
             subst (λ z. PlaceOk items body to (extended ToContent z))
             (sym (names.itself key y.0.ty c
             (subst (λ t. is_reference (type_at items t) ≡ true) same (reference (type_at items ty) n))))
-            (named_ok items body key y.0.ty to c (subst (λ t. named_by (type_at items t) ≡ Some to) same n))
+            (named_ok items body key y.0.ty to c (subst (λ t. named_by (type_at items t) ≡ Some to) same n)
+            (s.roots key y.0 y.1.0
+            (subst (λ t. is_reference (type_at items t) ≡ true) same (reference (type_at items ty) n))))
         of_form (tree.Captured closure part name) h p =
             let y = some_holds x.closure (λ y. both (fact (y.key == closure))
             (some (field_ty items y.ty 0 part) (λ t. fact (types.is_same ty t)))) h in
@@ -266,7 +281,5 @@ module _ (items : ItemTable) (body : BodyTree) (told : Told items) (fuel : ℕ) 
         of_kind : (b : Bool) → is_place form ≡ b →
             PlaceOk items body to (extended ToContent ((shape_of items form (head id ty by)).place aliases))
         of_kind true p = of_form form h.1 p
-        of_kind false p = subst (λ z. PlaceOk items body to (extended ToContent z))
-            (sym (value_place form (head id ty by) aliases p))
-            (named_ok items body id ty to
-            (value_cell id at ty by form x Base h p k (made (type_at items ty) n)) n)
+        of_kind false p = never (plains.no_reference items told ty (form_plain items told form (x, s.listed) id at ty by h.1 p
+            (facts.is_false (is_borrow form) (facts.right_of (is_none by) _ h.0))))

@@ -13,7 +13,7 @@ use Rattle.src_meaning.specs.Forms as forms
 use Rattle.src_meaning.specs.Forms.{Destination, Into, LoopsAndGuards, Meaning, is_never, entry_of, place_of}
 use Rattle.src_meaning.specs.Locals.OfBody.{cells}
 use Rattle.src_meaning.specs.Scopes.{Entry, Scopes, Run}
-use Rattle.src_meaning.specs.Shape.{head, shape, shape_of}
+use Rattle.src_meaning.specs.Shape.{Shape, head, shape, shape_of}
 use Rattle.well_typed.specs.Claim.{Holds}
 use Rattle.well_typed.specs.Nodes as typing
 use Rattle.well_typed.specs.Patterns as patterns
@@ -30,7 +30,10 @@ use Rattle.soundness.proofs.PassCellNodes as nodes
 use Rattle.soundness.proofs.PassCellNodes.{May, Post, Fine, Well, Reach, Reached, AroundWell, Dest, IsMade}
 use Rattle.soundness.proofs.PassCellPatterns as cells_of
 use Rattle.soundness.proofs.PassCellPatterns.{Told, Has}
+use Rattle.soundness.proofs.PassCellDeclared.{AllPlain, names_plain}
+use Rattle.soundness.proofs.PassCellTypes as facts
 use Rattle.soundness.proofs.PassFacts.{Standpoint, context, with_names}
+use Rattle.soundness.proofs.PassHeads.{shape_is}
 use Rattle.soundness.proofs.PassWell as rules
 use Rattle.soundness.proofs.PassWellBranches as branches
 use Rattle.soundness.proofs.PassWellStatements as statements
@@ -79,16 +82,21 @@ module _ (items : ItemTable) (body : BodyTree) (told : Told items) (fuel : ℕ) 
   -- ---- statements
 
   pub unassigned_well : (pattern : Node) (x : Standpoint) (id : ℕ) (ty : TyId) (by : Option Use) →
+      Holds (typing.statement (K x) (tree.Let pattern absent)) → H (cells items true pattern) →
       (around : LoopsAndGuards) (S : Scopes) (v : V) → Fine items body S →
       Shown may_end (Post items body (K x) (typing.ends_by items (tree.Let pattern absent) ≡ false))
       (forms.declared items (marked_run items body) ((M pattern).shape.bindings (whole_local 0)) S v)
-  unassigned_well pattern x id ty by around S v f =
+  unassigned_well pattern x id ty by h k around S v f =
       more_valued (K x) (Unit {0}) (typing.ends_by items (tree.Let pattern absent) ≡ false) (λ u. refl)
       (forms.declared items (marked_run items body) ((M pattern).shape.bindings (whole_local 0)) S v)
       (statements.declared_well items (marked_run items body) may_end (Acts items body) (Tests items body)
       (Drops items body) (Made items body) (does_well items body) (Cell items body) (May items body) (Names items body) (K x)
       ((M pattern).shape.bindings (whole_local 0))
-      (at_nodes.any_declared items body told fuel ((M pattern).shape.bindings (whole_local 0))) S v f)
+      (at_nodes.any_declared items body told fuel ((M pattern).shape.bindings (whole_local 0))
+      (subst (λ (s : Shape). AllPlain items body (s.bindings (whole_local 0)))
+      (sym (shape_is items (marked_run items body) fuel pattern))
+      (names_plain items body told pattern _ (ty_of pattern) h.1.0
+      (λ o. facts.is_false (types.is_reference items (ty_of pattern)) h.1.1.1) k (whole_local 0)))) S v f)
 
   pub named_well : (pid : ℕ) (pat : Pos) (pty : TyId) (pby : Option Use) (name : List ℕ) (value : Node) (x : Standpoint)
       (id : ℕ) (ty : TyId) (by : Option Use) → Holds (typing.typed (K x) (Wanted pty) value) →
@@ -109,7 +117,8 @@ module _ (items : ItemTable) (body : BodyTree) (told : Told items) (fuel : ℕ) 
       (stand.fits_head items body told fuel value pty (Into pid)
       (stand.wanted_fits items body told fuel x pty value h)
       (inr (cells_of.name_cell items body told pid pat pty pby name k)))
-      (nodes.droppable items body (entry_of (head pid pty pby))) S v f)
+      (nodes.droppable items body (entry_of (head pid pty pby)) (cells_of.name_cell items body told pid pat pty pby name k))
+      S v f)
 
   pub parted_well : (pattern value : Node) (want : TyId) (x : Standpoint) (id : ℕ) (ty : TyId) (by : Option Use) →
       Holds (typing.typed (K x) Base value) →
@@ -117,10 +126,11 @@ module _ (items : ItemTable) (body : BodyTree) (told : Told items) (fuel : ℕ) 
       typing.is_one_name pattern ≡ false → H (cells items true pattern) →
       at_nodes.Placed items body told fuel value → (Reached items body (M value) → ty_of value ≡ want) →
       Reach items body (K x) (M value) →
+      ((M value).shape.is_place ≡ false → Dest items body (M value).head.ty (Into (M value).head.id)) →
       (around : LoopsAndGuards) → AroundWell items body (K x) around → (S : Scopes) (v : V) → Fine items body S →
       Shown may_end (Post items body (K x) (typing.ends_by items (tree.Let pattern (present value)) ≡ false))
       (forms.let_parts items (marked_run items body) (head id ty by) (M pattern) (M value) around S v)
-  parted_well pattern value want x id ty by h j several k placed same reach_value around ok S v f =
+  parted_well pattern value want x id ty by h j several k placed same reach_value own around ok S v f =
       more_valued (K x) (Reached items body (M value))
       (typing.ends_by items (tree.Let pattern (present value)) ≡ false)
       (λ r. at_nodes.let_ends items body told fuel value x h r)
@@ -128,7 +138,7 @@ module _ (items : ItemTable) (body : BodyTree) (told : Told items) (fuel : ℕ) 
       (statements.let_parts_well items (marked_run items body) may_end (Acts items body) (Tests items body)
       (Drops items body) (Made items body) (does_well items body) (Cell items body) (May items body) (Names items body) (K x)
       (head id ty by) (M pattern) (M value) around ok reach_value
-      (nodes.droppable items body (entry_of (M value).head))
+      (λ p. nodes.droppable_head items body (M value).head (own p))
       (λ reached. at_nodes.bounds_meant items body told fuel pattern (typing.matched_in true (K x) value)
       want j (λ e. absurd (false≢true (sym several ∙ e))) k (place_of (M value) around)
       (subst (λ t. PlaceOk items body t (place_of (M value) around)) (same reached) (placed reached around ok.0))) S v f)
@@ -147,7 +157,8 @@ module _ (items : ItemTable) (body : BodyTree) (told : Told items) (fuel : ℕ) 
       (Drops items body) (Made items body) (does_well items body) (Cell items body) (May items body) (Names items body) (K x)
       (head id ty by) (M expression) around ok well_expression
       (stand.own_dest items body told fuel expression x Taken h k)
-      (nodes.droppable items body (entry_of (M expression).head)) S v f)
+      (nodes.droppable_head items body (M expression).head
+      (stand.own_dest items body told fuel expression x Taken h k)) S v f)
 
   -- ---- arms
 

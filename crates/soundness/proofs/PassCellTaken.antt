@@ -50,7 +50,7 @@ use Rattle.soundness.proofs.PlaceTypes.{some_holds, same_type, field_step}
 -- ---- steps of patterns
 
 -- one number on from another, so many times
-abbrev from_number : ℕ → ℕ → ℕ
+abbrev pub from_number : ℕ → ℕ → ℕ
 from_number zero n = n
 from_number (suc j) n = from_number j (suc n)
 
@@ -99,7 +99,7 @@ module _ (items : ItemTable) where
   truth_scalar (Some ty) e = absurd (false≢true e)
 
   -- the fields of a struct
-  struct_goes : (ty : TyId) (n : ℕ) → types.adt_of items ty ≡ Some n → not (types.is_enum items n) ≡ true → (k : ℕ)
+  pub struct_goes : (ty : TyId) (n : ℕ) → types.adt_of items ty ≡ Some n → not (types.is_enum items n) ≡ true → (k : ℕ)
       (t : TyId) → field_ty items ty 0 k ≡ Some t → option_and_then (step_ty items (ToPart k)) (type_at items ty) ≡ Some t
   struct_goes ty n a e k t f = field_step items ty t k (by (type_at items ty) a) f
     where
@@ -119,7 +119,7 @@ module _ (items : ItemTable) where
   is_enum_by (Some (Ty.Adt m)) n x e = subst (λ i. types.is_enum items i ≡ true) (sym (same_Some m n x)) e
   is_enum_by (Some ty) n x e = absurd (none-some n x)
 
-  variant_goes : (ty : TyId) (variant : ℕ) → option_map_or (λ ty. places.is_enum items ty) (type_at items ty) false ≡ true →
+  pub variant_goes : (ty : TyId) (variant : ℕ) → option_map_or (λ ty. places.is_enum items ty) (type_at items ty) false ≡ true →
       (k : ℕ) (t : TyId) → field_ty items ty variant k ≡ Some t →
       option_and_then (step_ty items (ToField variant k)) (type_at items ty) ≡ Some t
   variant_goes ty variant e k t f = by (type_at items ty) e f
@@ -131,7 +131,7 @@ module _ (items : ItemTable) where
       by (Some ty) e f = ap (λ b. places.part_if b (slice_get (parts_of items ty variant) k)) e ∙ f
 
   -- the parts of a tuple, of which `()` has none, and of an array
-  tuple_goes : (ty : TyId) (tys : List TyId) → (b : Bool) →
+  pub tuple_goes : (ty : TyId) (tys : List TyId) → (b : Bool) →
       (if b then Some [] else types.tuple_of items ty) ≡ Some tys → (j : ℕ) (t : TyId) → slice_get tys j ≡ Some t →
       option_and_then (step_ty items (ToPart (from_number j 0))) (type_at items ty) ≡ Some t
   tuple_goes ty tys true e j t f =
@@ -145,7 +145,7 @@ module _ (items : ItemTable) where
       by (Some (Ty.Tuple parts)) x = let same : parts ≡ tys = cc in ap (λ l. slice_get l j) same ∙ f
       by (Some ty) x = absurd (none-some tys x)
 
-  array_goes : (ty : TyId) (a : TyId × ℕ) → types.array_of items ty ≡ Some a → (j : ℕ) (t : TyId) →
+  pub array_goes : (ty : TyId) (a : TyId × ℕ) → types.array_of items ty ≡ Some a → (j : ℕ) (t : TyId) →
       slice_get (replicate a.1 a.0) j ≡ Some t →
       option_and_then (step_ty items (ToPart (from_number j 0))) (type_at items ty) ≡ Some t
   array_goes ty a e j t f = subst (λ k. option_and_then (step_ty items (ToPart k)) (type_at items ty) ≡ Some t)
@@ -195,7 +195,7 @@ module _ (items : ItemTable) (body : BodyTree) where
   taken_ok (b ∷ bounds) t = (
     (
       put_bound b.takes b.key b.site b.ty t.0.0 t.0.1.0 t.0.1.1.0 t.0.1.1.1,
-      nodes.droppable items body (record { key = b.key; ty = b.ty }),
+      nodes.droppable items body (record { key = b.key; ty = b.ty }) t.0.0,
     ),
     taken_ok bounds t.1,
   )
@@ -215,7 +215,7 @@ module _ (items : ItemTable) (body : BodyTree) where
   )
 
   module _ (told : Told items) where
-    plain_part : (ty : TyId) (tys : List TyId) → list_all (stands_alone items) (ty ∷ tys) ≡ true →
+    pub plain_part : (ty : TyId) (tys : List TyId) → list_all (stands_alone items) (ty ∷ tys) ≡ true →
         (types.is_reference items ty ≡ false) × (list_all (stands_alone items) tys ≡ true)
     plain_part ty tys h = (
       facts.is_false (types.is_reference items ty) (facts.right_of _ _ (facts.right_of _ _
@@ -223,24 +223,24 @@ module _ (items : ItemTable) (body : BodyTree) where
       facts.right_of (stands_alone items ty) (list_all (stands_alone items) tys) h,
     )
 
-    all_alike : (ty : TyId) (n : ℕ) → stands_alone items ty ≡ true → list_all (stands_alone items) (replicate n ty) ≡ true
+    pub all_alike : (ty : TyId) (n : ℕ) → stands_alone items ty ≡ true → list_all (stands_alone items) (replicate n ty) ≡ true
     all_alike ty zero h = refl
     all_alike ty (suc n) h = ap (λ b. b && list_all (stands_alone items) (replicate n ty)) h ∙ all_alike ty n h
 
-    tuple_plain : (b : Bool) (ty : TyId) (tys : List TyId) →
+    pub tuple_plain : (b : Bool) (ty : TyId) (tys : List TyId) →
         (if b then Some [] else types.tuple_of items ty) ≡ Some tys → list_all (stands_alone items) tys ≡ true
     tuple_plain true ty tys e =
         let same : [] ≡ tys = cc in subst (λ l. list_all (stands_alone items) l ≡ true) same refl
     tuple_plain false ty tys e = told.tuples ty tys e
 
     -- the steps from a place of a type to parts of these types
-    abbrev Goes : (ℕ → Option TyId) → (ℕ → Step) → TyId → Type 0
+    abbrev pub Goes : (ℕ → Option TyId) → (ℕ → Step) → TyId → Type 0
     Goes part step ty = (k : ℕ) (t : TyId) → part k ≡ Some t →
         (option_and_then (step_ty items (step k)) (type_at items ty) ≡ Some t)
         × (goes (step k) (type_at items ty) ≡ true)
 
     -- what a pattern of an enum says of its type
-    enum_of : (ty : TyId) (variant : ℕ) (q : ℕ → Bool) →
+    pub enum_of : (ty : TyId) (variant : ℕ) (q : ℕ → Bool) →
         Holds (Rattle.well_typed.specs.Claim.some (types.adt_of items ty)
         (λ n. both (fact (types.is_enum items n && Rattle.std.specs.Prelude.nat_lt variant (patterns.variant_count items n))) (fact (q n)))) →
         option_map_or (λ ty. places.is_enum items ty) (type_at items ty) false ≡ true

@@ -45,7 +45,7 @@ module _ (items : ItemTable) (local_ty : ℕ → Option TyId) (is_target : ℕ �
   leads_behind to steps = false
 
   abbrev pub leads_from : Place → TyId → Option TyId → Bool
-  leads_from place id (Some to) = leads_behind to place.steps
+  leads_from place id (Some to) = is_target place.local && leads_behind to place.steps
   leads_from place id None = are_sure items (λ i count. true) (λ so_far variant. true) [] place.steps id
 
   abbrev pub leads_in : Place → Option TyId → Bool
@@ -159,7 +159,7 @@ module _ (items : ItemTable) (local_ty : ℕ → Option TyId) (is_target : ℕ �
       false)
   cells_act (effects.Touch base) = leads base.place
   cells_act (effects.Print operand) = moved_cell operand && is_int IntKind.I32 (form_of operand)
-  cells_act (effects.Forget operand) = true
+  cells_act (effects.Forget operand) = moved_cell operand && is_some (form_of operand)
   cells_act (effects.Free box) = false
   cells_act (effects.Compute to operator left right) =
       (target to.place && same_int (form_of left) (ty_of to.place))
@@ -182,9 +182,13 @@ module _ (items : ItemTable) (local_ty : ℕ → Option TyId) (is_target : ℕ �
   cells_test (effects.HasVariant site variant) =
       leads site.place && option_map_or (λ ty. is_enum items ty) (ty_of site.place) false
 
-  -- an entry is dropped, or a place of which the value is replaced
+  -- a local that holds no reference
+  abbrev pub plain_local : Place → Bool
+  plain_local place = option_map_or (no_reference items) (local_ty place.local) false
+
+  -- such an entry is dropped, or a place of which the value is replaced
   abbrev pub cells_drop : Mode → Place → Bool
-  cells_drop mode place = no_steps place.steps
+  cells_drop mode place = (no_steps place.steps && plain_local place)
       || (checks.is_normal items local_ty is_target mode && (value_at place && checks.needs items local_ty is_target place))
 
   abbrev pub cells_give : Place → Bool

@@ -1,23 +1,24 @@
 -- The frame of an evaluation: what is kept by all effects that change only some places is kept by each rule of
 -- evaluation. Scopes that were there before are not looked at; those that a node opens hold what may be dropped.
-use Rattle.std.proofs.Common.{◌≡◌, ◌||◌, not, ℕ, zero, suc, Bool, true, false, List, [], ◌∷◌, ◌++◌, Option, if◌then◌else◌, ◌==◌}
+use Rattle.std.proofs.Common.{◌≡◌, ◌||◌, not, ℕ, zero, suc, Bool, true, false, List, [], ◌∷◌, ◌++◌, Option, if◌then◌else◌, ◌==◌, refl}
 use Rattle.mir_base.specs.declared.operator.Cmp.{Cmp}
 use Rattle.mir_base.specs.declared.trace.Why.{Why}
 use Rattle.mir_ty.specs.Facts.{needs_drop}
 use Rattle.mir_ty.specs.ItemTable.{ItemTable}
 use Rattle.store_model.specs.Effects as effects
-use Rattle.store_model.specs.Effects.{EffectSite, Operand, Copied, Moved, Action, Test, Mode, Normal, Unwinding, Out, Go, Unwind, Halts, Choice, Yes, No, Neither, Effects}
+use Rattle.store_model.specs.Effects.{EffectSite, Operand, Copied, Moved, Action, Test, Mode, Normal, Unwinding, Halt, Out, Go, Unwind, Halts, Choice, Yes, No, Neither, Effects}
 use Rattle.store_model.specs.Places.Place.{Place, whole_local}
 use Rattle.src_meaning.specs.Forms as forms
 use Rattle.src_meaning.specs.Forms.{Destination, Into, Coerced, LoopsAndGuards, Meaning, entry_of, bound_entry, site_in, site_of_key, moved, keys_of, changed_if, site_of, place_of}
 use Rattle.src_meaning.specs.Scopes.{Entry, Scope, Scopes, with_scope, innermost, around_innermost, nearest_temporary, nearest_from, with_entry, with_pending, without_pending, becomes_entry, without_operands, needing_drop, Exit, Value, Breaks, Continues, Returns, Panics, Run, At, Over, Does, ◌>>◌, on_value, in_scopes, doing, changing, chosen, choosing, back_in, leave, leaving, in_scope, in_scope_with, then_or_leave, drop_normally, drop_unwinding, entry_site}
 use Rattle.src_meaning.specs.Shape.{NodeHead, Shape, site_at, operand_at, operand_of_bound, BoundName, PatternTest, IsVariant, IsNumber, IsTruth, AnyOf, PatternTests, no_test, a_test, Alternatives, no_alternative, an_alternative}
-use Rattle.soundness.proofs.Leaving.{AllOf}
-use Rattle.soundness.proofs.PassFrameActs.{TestOwn, TestsOwn, AnyOwn, BoundsMay, AllCells, DestCell, Takes, Allowed, KeptOut, KeptChoice, Keeping}
+use Rattle.soundness.proofs.Leaving.{AllOf, ShownOut}
+use Rattle.soundness.proofs.PassFrameActs.{is_plain, TestOwn, TestsOwn, AnyOwn, BoundsMay, AllCells, DestCell, Takes, Allowed, AnsweredSo, KeepingSo}
 use Rattle.soundness.proofs.PassRules.{all_without, all_without_keys}
 
-module _ {V : Type 0} (items : ItemTable) (q : Effects V) (May : Place → Type 0) (I : V → Type 0)
-    (keeping : Keeping q May I) where
+module _ {V : Type 0} (items : ItemTable) (q : Effects V) (over : Halt → V → Type 0) (Does_ : Action → Type 0)
+    (Drops : EffectSite → Type 0) (May : Place → Type 0) (I : V → Type 0)
+    (keeping : KeepingSo q over Does_ Drops May I) where
   abbrev pub Cell : ℕ → Type 0
   Cell key = May (whole_local key)
 
@@ -37,7 +38,7 @@ module _ {V : Type 0} (items : ItemTable) (q : Effects V) (May : Place → Type 
 
   abbrev pub KeptAt : ℕ → Run V → Type 0
   KeptAt k (At exit S v) = Fine S k × I v
-  KeptAt k (Over halt v) = Unit {0}
+  KeptAt k (Over halt v) = over halt v
 
   -- what is done keeps it, in whatever scopes
   pub record Keeps (does : Does V) : Type 0 where
@@ -64,14 +65,17 @@ module _ {V : Type 0} (items : ItemTable) (q : Effects V) (May : Place → Type 
   one_then one other f g =
       record { kept = λ k S v fine i. on_kept k (one S v) other (f.kept k S v fine i) g }
 
-  in_scopes_kept : (k : ℕ) (S : Scopes) (o : Out V) → Fine S k → KeptOut I o → KeptAt k (in_scopes S o)
+  in_scopes_kept : (k : ℕ) (S : Scopes) (o : Out V) → Fine S k → ShownOut over I I o → KeptAt k (in_scopes S o)
   in_scopes_kept k S (Go v) f h = (f, h)
   in_scopes_kept k S (Unwind v) f h = (f, h)
-  in_scopes_kept k S (Halts halt v) f h = tt
+  in_scopes_kept k S (Halts halt v) f h = h
 
-  pub acts_kept : (action : Action) → Allowed May action → Keeps (forms.acts items q action)
-  acts_kept action a =
-      record { kept = λ k S v f i. in_scopes_kept k S (q.act action v) f (keeping.acts action v a i) }
+  pub acts_so : (action : Action) → Allowed May action → Does_ action → Keeps (forms.acts items q action)
+  acts_so action a d =
+      record { kept = λ k S v f i. in_scopes_kept k S (q.act action v) f (keeping.acts action v a d i) }
+
+  pub acts_kept : (action : Action) → Allowed May action → is_plain action ≡ true → Keeps (forms.acts items q action)
+  acts_kept action a p = acts_so action a (keeping.plain action p)
 
   pub panics_kept : (why : Why) → Keeps (forms.panics items q why)
   panics_kept why = record { kept = λ k S v f i. (f, keeping.panics why v i) }
@@ -154,18 +158,18 @@ module _ {V : Type 0} (items : ItemTable) (q : Effects V) (May : Place → Type 
   unwinding_kept [] d k S v f i = (f, i)
   unwinding_kept (e ∷ es) d k S v f i = by (needs_drop items e.ty) (λ w j. unwinding_kept es d.1 k S w f j)
     where
-      dropped : (o : Out V) → KeptOut I o →
+      dropped : (o : Out V) → ShownOut over I I o →
           ((w : V) → I w → KeptAt k (drop_unwinding items q (needing_drop items es) S w)) →
           KeptAt k (Rattle.src_meaning.specs.Scopes.dropped_unwinding items q o
           (drop_unwinding items q (needing_drop items es) S))
       dropped (Go w) h later = later w h
-      dropped (Unwind w) h later = tt
-      dropped (Halts halt w) h later = tt
+      dropped (Unwind w) h later = keeping.aborts w
+      dropped (Halts halt w) h later = h
 
       by : (b : Bool) → ((w : V) → I w → KeptAt k (drop_unwinding items q (needing_drop items es) S w)) →
           KeptAt k (drop_unwinding items q (if b then e ∷ needing_drop items es else needing_drop items es) S v)
       by true later = dropped (q.drop Unwinding (entry_site e) v)
-          (keeping.drops Unwinding (entry_site e) v d.0 i) later
+          (keeping.drops Unwinding (entry_site e) v d.0 (keeping.whole e.key) i) later
       by false later = later v i
 
   normally_kept : (exit : Exit) (es : List Entry) → AllOf Droppable es → (k : ℕ) (S : Scopes) (v : V) → Fine S k → I v →
@@ -175,20 +179,20 @@ module _ {V : Type 0} (items : ItemTable) (q : Effects V) (May : Place → Type 
       by (needs_drop items e.ty) (λ w j. normally_kept exit es d.1 k S w f j)
       (λ w j. unwinding_kept es d.1 k S w f j)
     where
-      dropped : (o : Out V) → KeptOut I o →
+      dropped : (o : Out V) → ShownOut over I I o →
           ((w : V) → I w → KeptAt k (drop_normally items q exit (needing_drop items es) S w)) →
           ((w : V) → I w → KeptAt k (drop_unwinding items q (needing_drop items es) S w)) →
           KeptAt k (Rattle.src_meaning.specs.Scopes.dropped_normally items q o
           (drop_normally items q exit (needing_drop items es) S) (drop_unwinding items q (needing_drop items es) S))
       dropped (Go w) h later panicked = later w h
       dropped (Unwind w) h later panicked = panicked w h
-      dropped (Halts halt w) h later panicked = tt
+      dropped (Halts halt w) h later panicked = h
 
       by : (b : Bool) → ((w : V) → I w → KeptAt k (drop_normally items q exit (needing_drop items es) S w)) →
           ((w : V) → I w → KeptAt k (drop_unwinding items q (needing_drop items es) S w)) →
           KeptAt k (drop_normally items q exit (if b then e ∷ needing_drop items es else needing_drop items es) S v)
       by true later panicked = dropped (q.drop Normal (entry_site e) v)
-          (keeping.drops Normal (entry_site e) v d.0 i) later panicked
+          (keeping.drops Normal (entry_site e) v d.0 (keeping.whole e.key) i) later panicked
       by false later panicked = later v i
 
   pub leave_kept : (k : ℕ) (r : Run V) → KeptAt (suc k) r → KeptAt k (leave items q r)
@@ -200,7 +204,7 @@ module _ {V : Type 0} (items : ItemTable) (q : Effects V) (May : Place → Type 
   leave_kept k (At Returns (s ∷ S) v) h = normally_kept Returns s.entries h.0.0.0 k S v h.0.1 h.1
   leave_kept k (At Panics (s ∷ S) v) h = unwinding_kept (s.pending ++ s.entries)
       (all_both s.pending s.entries h.0.0.1 h.0.0.0) k S v h.0.1 h.1
-  leave_kept k (Over halt v) h = tt
+  leave_kept k (Over halt v) h = h
 
   pub leaving_kept : (does : Does V) → Keeps does → Leaves (leaving items q does)
   leaving_kept does d = record { left = λ k S v f i. leave_kept k (does S v) (d.kept (suc k) S v f i) }
@@ -222,7 +226,7 @@ module _ {V : Type 0} (items : ItemTable) (q : Effects V) (May : Place → Type 
       by k (At (Continues loop) T w) h = leave_kept k (At (Continues loop) T w) h
       by k (At Returns T w) h = leave_kept k (At Returns T w) h
       by k (At Panics T w) h = leave_kept k (At Panics T w) h
-      by k (Over halt w) h = tt
+      by k (Over halt w) h = h
 
   pub own_kept : (h : NodeHead) (own : Bool) (does : Does V) → Keeps does →
       Keeps (forms.in_own_scope items q h own does)
@@ -240,7 +244,7 @@ module _ {V : Type 0} (items : ItemTable) (q : Effects V) (May : Place → Type 
   back_kept k S (At (Continues loop) T v) f h = h
   back_kept k S (At Returns T v) f h = h
   back_kept k S (At Panics T v) f h = h
-  back_kept k S (Over halt v) f h = tt
+  back_kept k S (Over halt v) f h = h
 
   pub alone_kept : (around : LoopsAndGuards) (m : Meaning V) (to : Destination) → Keeps (m.evaluate around true to) →
       Keeps (forms.alone items q around m to)
@@ -250,13 +254,13 @@ module _ {V : Type 0} (items : ItemTable) (q : Effects V) (May : Place → Type 
   -- ---- tests
 
   abbrev pub KeepsTest : (V → Choice V) → Type 0
-  KeepsTest test = (v : V) → I v → KeptChoice I (test v)
+  KeepsTest test = (v : V) → I v → AnsweredSo over I (test v)
 
-  chosen_kept : (k : ℕ) (S : Scopes) (o : Choice V) (f g : Does V) → KeptChoice I o →
+  chosen_kept : (k : ℕ) (S : Scopes) (o : Choice V) (f g : Does V) → AnsweredSo over I o →
       ((w : V) → I w → KeptAt k (f S w)) → ((w : V) → I w → KeptAt k (g S w)) → KeptAt k (chosen o (f S) (g S))
   chosen_kept k S (Yes w) f g h a b = a w h
   chosen_kept k S (No w) f g h a b = b w h
-  chosen_kept k S (Neither halt w) f g h a b = tt
+  chosen_kept k S (Neither halt w) f g h a b = h
 
   pub choosing_kept : (test : V → Choice V) (f g : Does V) → KeepsTest test → Keeps f → Keeps g →
       Keeps (choosing test f g)
@@ -279,28 +283,29 @@ module _ {V : Type 0} (items : ItemTable) (q : Effects V) (May : Place → Type 
       (choosing_kept (q.choose (effects.IsTrue (moved m.head.id m.head.id))) f g
       (λ v i. keeping.chooses (effects.IsTrue (moved m.head.id m.head.id)) v c i) a b)
 
-  after_tests : (o : Choice V) (rest : V → Choice V) → KeptChoice I o → KeepsTest rest →
-      KeptChoice I (forms.tests_after items q o rest)
+  after_tests : (o : Choice V) (rest : V → Choice V) → AnsweredSo over I o → KeepsTest rest →
+      AnsweredSo over I (forms.tests_after items q o rest)
   after_tests (Yes w) rest h f = f w h
   after_tests (No w) rest h f = h
-  after_tests (Neither halt w) rest h f = tt
+  after_tests (Neither halt w) rest h f = h
 
-  after_alternatives : (o : Choice V) (rest : V → Choice V) → KeptChoice I o → KeepsTest rest →
-      KeptChoice I (forms.alternatives_after items q o rest)
+  after_alternatives : (o : Choice V) (rest : V → Choice V) → AnsweredSo over I o → KeepsTest rest →
+      AnsweredSo over I (forms.alternatives_after items q o rest)
   after_alternatives (Yes w) rest h f = h
   after_alternatives (No w) rest h f = f w h
-  after_alternatives (Neither halt w) rest h f = tt
+  after_alternatives (Neither halt w) rest h f = h
 
   equals_kept : (site : EffectSite) (value : Operand) → Takes May value → Cell site.node →
       KeepsTest (forms.equals items q site value)
   equals_kept site value t c v i =
       by (q.act (effects.Compare (site_of_key site.node) Cmp.Eq (Copied site) value) v)
-      (keeping.acts (effects.Compare (site_of_key site.node) Cmp.Eq (Copied site) value) v (c, (tt, t)) i)
+      (keeping.acts (effects.Compare (site_of_key site.node) Cmp.Eq (Copied site) value) v (c, (tt, t))
+      (keeping.plain (effects.Compare (site_of_key site.node) Cmp.Eq (Copied site) value) refl) i)
     where
-      by : (o : Out V) → KeptOut I o → KeptChoice I (forms.tested items q o (moved site.node site.node))
+      by : (o : Out V) → ShownOut over I I o → AnsweredSo over I (forms.tested items q o (moved site.node site.node))
       by (Go w) k = keeping.chooses (effects.IsTrue (moved site.node site.node)) w c k
-      by (Unwind w) k = tt
-      by (Halts halt w) k = tt
+      by (Unwind w) k = keeping.stuck w
+      by (Halts halt w) k = k
 
   mutual
     holds_kept : (test : PatternTest) → TestOwn May test → KeepsTest (forms.holds items q test)
@@ -314,7 +319,8 @@ module _ {V : Type 0} (items : ItemTable) (q : Effects V) (May : Place → Type 
     all_kept (a_test first rest) h v i = after_tests (forms.holds items q first v) (forms.all_hold items q rest)
         (holds_kept first h.0 v i) (λ w j. all_kept rest h.1 w j)
 
-    any_kept : (alternatives : Alternatives) → AnyOwn May alternatives → KeepsTest (forms.any_holds items q alternatives)
+    any_kept : (alternatives : Alternatives) → AnyOwn May alternatives →
+        KeepsTest (forms.any_holds items q alternatives)
     any_kept no_alternative h v i = i
     any_kept (an_alternative tests rest) h v i = after_alternatives (forms.all_hold items q tests v)
         (forms.any_holds items q rest) (all_kept tests h.0 v i) (λ w j. any_kept rest h.1 w j)
@@ -325,7 +331,7 @@ module _ {V : Type 0} (items : ItemTable) (q : Effects V) (May : Place → Type 
       BoundsMay May bounds → Keeps (forms.bind items q in_that bounds)
   bind_kept in_that c [] h = at_exit Value
   bind_kept in_that c (b ∷ bounds) h = one_then _ _
-      (acts_kept (effects.Put (site_of_key b.key) (operand_of_bound b)) (h.0.0, h.0.1))
+      (acts_kept (effects.Put (site_of_key b.key) (operand_of_bound b)) (h.0.0, h.0.1) refl)
       (one_then _ _ (changes_kept (in_that (with_entry (bound_entry b)))
       (c (with_entry (bound_entry b)) (entered (bound_entry b) h.0.0)))
       (bind_kept in_that c bounds h.1))
@@ -334,17 +340,24 @@ module _ {V : Type 0} (items : ItemTable) (q : Effects V) (May : Place → Type 
 
   -- an action that may be done wherever its answer goes
   abbrev pub Delivers : NodeHead → (EffectSite → Action) → Type 0
-  Delivers h action = (key : ℕ) → Cell key → Allowed May (action (site_in h.id key))
+  Delivers h action =
+      (key : ℕ) → Cell key → Allowed May (action (site_in h.id key)) × Does_ (action (site_in h.id key))
+
+  -- of an action that the form alone tells
+  pub plainly : (h : NodeHead) (action : EffectSite → Action) → ((site : EffectSite) → is_plain (action site) ≡ true) →
+      ((key : ℕ) → Cell key → Allowed May (action (site_in h.id key))) → Delivers h action
+  plainly h action p d = λ key c. (d key c, keeping.plain (action (site_in h.id key)) (p (site_in h.id key)))
 
   pub deliver_kept : (h : NodeHead) (action : EffectSite → Action) (to : Destination) → Delivers h action →
       DestCell May to → Keeps (forms.deliver items q h action to)
-  deliver_kept h action (Into key) d c = acts_kept (action (site_in h.id key)) (d key c)
+  deliver_kept h action (Into key) d c = acts_so (action (site_in h.id key)) (d key c).0 (d key c).1
   deliver_kept h action (Coerced key trait_no to) d c = one_then _ _
-      (acts_kept (action (site_in h.id key)) (d key c.0))
-      (acts_kept (effects.Unsize (site_in h.id to) trait_no (moved h.id key)) (c.1, c.0))
+      (acts_so (action (site_in h.id key)) (d key c.0).0 (d key c.0).1)
+      (acts_kept (effects.Unsize (site_in h.id to) trait_no (moved h.id key)) (c.1, c.0) refl)
 
   pub unit_kept : (h : NodeHead) (to : Destination) → DestCell May to → Keeps (forms.put_unit items q h to)
-  unit_kept h to c = deliver_kept h (λ site. effects.Put site effects.UnitValue) to (λ key d. (d, tt)) c
+  unit_kept h to c = deliver_kept h (λ site. effects.Put site effects.UnitValue) to
+      (plainly h (λ site. effects.Put site effects.UnitValue) (λ site. refl) (λ key d. (d, tt))) c
 
   -- ---- operands
 
@@ -387,47 +400,59 @@ module _ {V : Type 0} (items : ItemTable) (q : Effects V) (May : Place → Type 
       (to : Destination) → Keeps (reach around) → Takes May (operand_at h (s.place around.aliases)) → DestCell May to →
       Keeps (forms.use_of_place items q h s reach around own to)
   use_kept h s reach around own to d t c = own_kept h own _ (one_then _ _ d
-      (deliver_kept h (λ site. effects.Put site (operand_at h (s.place around.aliases))) to (λ key k. (k, t)) c))
+      (deliver_kept h (λ site. effects.Put site (operand_at h (s.place around.aliases))) to
+      (plainly h (λ site. effects.Put site (operand_at h (s.place around.aliases))) (λ site. refl) (λ key k. (k, t)))
+      c))
 
   pub element_kept : (h : NodeHead) (s : Shape) (base index : Meaning V) (length : ℕ) (around : LoopsAndGuards) →
       Keeps (base.reach around) → Keeps (index.evaluate around false (Into index.head.id)) →
       Keeps (forms.reach_element items q h s base index length around)
   element_kept h s base index length around b i = one_then _ _ b (one_then _ _ i (one_then _ _
-      (acts_kept (effects.Touch (site_at h (forms.array_around items q (s.place around.aliases)))) tt)
-      (acts_kept (effects.Bounds (Copied (site_of_key index.head.id)) length) tt)))
+      (acts_kept (effects.Touch (site_at h (forms.array_around items q (s.place around.aliases)))) tt refl)
+      (acts_kept (effects.Bounds (Copied (site_of_key index.head.id)) length) tt refl)))
 
+  -- a borrow goes to its own cell
   pub borrowing_kept : (h : NodeHead) (unique : Bool) (base : Meaning V) (around : LoopsAndGuards) (own : Bool)
-      (to : Destination) → Keeps (base.reach around) → (unique ≡ true → May (place_of base around)) → DestCell May to →
+      (key : ℕ) → Keeps (base.reach around) → (unique ≡ true → May (place_of base around)) →
+      Does_ (effects.Borrow (site_in base.head.id key) unique (site_of base around)) → Cell key →
+      Keeps (forms.borrowing items q h unique base around own (Into key))
+  borrowing_kept h unique base around own key b m d c = own_kept h own _ (one_then _ _ b
+      (acts_so (effects.Borrow (site_in base.head.id key) unique (site_of base around)) (c, m) d))
+
+  -- or anywhere, if that is known of it
+  pub borrowing_anywhere : (h : NodeHead) (unique : Bool) (base : Meaning V) (around : LoopsAndGuards) (own : Bool)
+      (to : Destination) → Keeps (base.reach around) → (unique ≡ true → May (place_of base around)) →
+      ((key : ℕ) → Does_ (effects.Borrow (site_in base.head.id key) unique (site_of base around))) → DestCell May to →
       Keeps (forms.borrowing items q h unique base around own to)
-  borrowing_kept h unique base around own to b m c = own_kept h own _ (one_then _ _ b
+  borrowing_anywhere h unique base around own to b m d c = own_kept h own _ (one_then _ _ b
       (deliver_kept h (λ site. effects.Borrow (record site { node = base.head.id }) unique (site_of base around)) to
-      (λ key k. (k, m)) c))
+      (λ key k. ((k, m), d key)) c))
 
   -- ---- assignment
 
   stored_kept : (site : EffectSite) (key : ℕ) → May site.place → Cell key → Keeps (forms.stored items q site key)
   stored_kept site key m c = one_then _ _ (take_kept (key ∷ []))
-      (acts_kept (effects.Put site (moved site.node key)) (m, c))
+      (acts_kept (effects.Put site (moved site.node key)) (m, c) refl)
 
-  replacing_kept : (drops : Bool) (site : EffectSite) (key : ℕ) → May site.place → Cell key →
+  replacing_kept : (drops : Bool) (site : EffectSite) (key : ℕ) → May site.place → Drops site → Cell key →
       Keeps (forms.replacing items q drops site key)
-  replacing_kept true site key m c = record {
-    kept = λ k S v f i. by k S f (q.drop Normal site v) (keeping.drops Normal site v m i);
+  replacing_kept true site key m d c = record {
+    kept = λ k S v f i. by k S f (q.drop Normal site v) (keeping.drops Normal site v m d i);
   }
     where
-      by : (k : ℕ) (S : Scopes) → Fine S k → (o : Out V) → KeptOut I o →
+      by : (k : ℕ) (S : Scopes) → Fine S k → (o : Out V) → ShownOut over I I o →
           KeptAt k (forms.stored_after items q site key S o)
       by k S f (Go w) h = (stored_kept site key m c).kept k S w f h
       by k S f (Unwind w) h = (one_then _ _ (stored_kept site key m c) (at_exit Panics)).kept k S w f h
-      by k S f (Halts halt w) h = tt
-  replacing_kept false site key m c = record { kept = λ k S v f i. (stored_kept site key m c).kept k S v f i }
+      by k S f (Halts halt w) h = h
+  replacing_kept false site key m d c = record { kept = λ k S v f i. (stored_kept site key m c).kept k S v f i }
 
   pub assigning_kept : (h : NodeHead) (place value : Meaning V) (around : LoopsAndGuards) (own : Bool)
       (to : Destination) → Evaluated around value → Keeps (place.reach around) → May (place_of place around) →
-      DestCell May to → Keeps (forms.assigning items q h place value around own to)
-  assigning_kept h place value around own to e p m c = in_scope_kept h.id own _
+      Drops (site_of place around) → DestCell May to → Keeps (forms.assigning items q h place value around own to)
+  assigning_kept h place value around own to e p m d c = in_scope_kept h.id own _
       (one_then _ _ (operand_kept around value e) (one_then _ _ p (one_then _ _
-      (replacing_kept (needs_drop items place.head.ty) (site_of place around) value.head.id m e.1)
+      (replacing_kept (needs_drop items place.head.ty) (site_of place around) value.head.id m d e.1)
       (unit_kept h to c))))
 
   -- ---- branches
@@ -437,7 +462,7 @@ module _ {V : Type 0} (items : ItemTable) (q : Effects V) (May : Place → Type 
   scrutinised_kept around m d = one_then _ _ d (by m.shape.is_place)
     where
       by : (b : Bool) → Keeps (forms.touched items q b (site_of m around))
-      by true = acts_kept (effects.Touch (site_of m around)) tt
+      by true = acts_kept (effects.Touch (site_of m around)) tt refl
       by false = at_exit Value
 
   pub if_taken_kept : (h : NodeHead) (around : LoopsAndGuards) (pattern scrutinee : Meaning V)
@@ -532,7 +557,7 @@ module _ {V : Type 0} (items : ItemTable) (q : Effects V) (May : Place → Type 
       by true = at_exit Value
       by false = record {
         kept = λ k S v f i. in_scopes_kept k S (q.drop Normal (site_of_key b.key) v) f
-            (keeping.drops Normal (site_of_key b.key) v c.0 i);
+            (keeping.drops Normal (site_of_key b.key) v c.0 (keeping.whole b.key) i);
       }
 
   -- ---- loops and jumps
@@ -552,18 +577,19 @@ module _ {V : Type 0} (items : ItemTable) (q : Effects V) (May : Place → Type 
       by false = h
   turned_kept id k begun (At Returns S v) next f h n = h
   turned_kept id k begun (At Panics S v) next f h n = h
-  turned_kept id k begun (Over halt v) next f h n = tt
+  turned_kept id k begun (Over halt v) next f h n = h
 
   pub turns_kept : (fuel id : ℕ) (turn : Does V) → Keeps turn → Keeps (forms.turns items q fuel id turn)
-  turns_kept zero id turn d = record { kept = λ k S v f i. tt }
+  turns_kept zero id turn d = record { kept = λ k S v f i. keeping.lapses v }
   turns_kept (suc n) id turn d = by (turns_kept n id turn d)
     where
-      ticked : (k : ℕ) (S : Scopes) → Fine S k → (o : Out V) → KeptOut I o → Keeps (forms.turns items q n id turn) →
+      ticked : (k : ℕ) (S : Scopes) → Fine S k → (o : Out V) → ShownOut over I I o →
+          Keeps (forms.turns items q n id turn) →
           KeptAt k (forms.ticked items q o (λ w. forms.turned items q id S (turn S w) (forms.turns items q n id turn)))
       ticked k S f (Go w) h later =
           turned_kept id k S (turn S w) (forms.turns items q n id turn) f (d.kept k S w f h) later
-      ticked k S f (Unwind w) h later = tt
-      ticked k S f (Halts halt w) h later = tt
+      ticked k S f (Unwind w) h later = keeping.stuck w
+      ticked k S f (Halts halt w) h later = h
 
       by : Keeps (forms.turns items q n id turn) → Keeps (forms.turns items q (suc n) id turn)
       by later = record { kept = λ k S v f i. ticked k S f (q.tick v) (keeping.ticks v i) later }

@@ -1,12 +1,14 @@
--- What an effect may change: the places into which it stores, out of which it moves, and which it borrows by `&mut`; and
+-- What an effect may change: the places into which it stores, out of which it moves, and which it borrows by `&mut`;
+-- and
 -- that effects which change no other places keep something.
-use Rattle.std.proofs.Common.{◌≡◌, ℕ, true, List, [], ◌∷◌}
+use Rattle.std.proofs.Common.{◌≡◌, ℕ, Bool, true, false, List, [], ◌∷◌, refl}
 use Rattle.mir_base.specs.declared.trace.Why.{Why}
 use Rattle.store_model.specs.Effects as effects
-use Rattle.store_model.specs.Effects.{EffectSite, Operand, Moved, Action, Test, Mode, Out, Go, Unwind, Halts, Choice, Yes, No, Neither, Effects}
+use Rattle.store_model.specs.Effects.{EffectSite, Operand, Moved, Action, Test, Mode, Halt, Aborted, OutOfTicks, Stuck, Out, Go, Unwind, Halts, Choice, Yes, No, Neither, Effects}
 use Rattle.store_model.specs.Places.Place.{Place, whole_local}
-use Rattle.src_meaning.specs.Forms.{Destination, Into, Coerced}
+use Rattle.src_meaning.specs.Forms.{Destination, Into, Coerced, site_of_key}
 use Rattle.src_meaning.specs.Shape.{operand_of_bound, BoundName, PatternTest, IsVariant, IsNumber, IsTruth, AnyOf, PatternTests, no_test, a_test, Alternatives, no_alternative, an_alternative}
+use Rattle.soundness.proofs.Leaving.{ShownOut}
 
 module _ (May : Place → Type 0) where
   abbrev pub Takes : Operand → Type 0
@@ -92,3 +94,63 @@ pub record Keeping {V : Type 0} (q : Effects V) (May : Place → Type 0) (I : V 
   pub drops : (mode : Mode) (site : EffectSite) (v : V) → May site.place → I v → KeptOut I (q.drop mode site v)
   pub panics : (why : Why) (v : V) → I v → I (q.panic why v)
   pub ticks : (v : V) → I v → KeptOut I (q.tick v)
+
+-- ---- the same, of runs that halt in some ways alone, by effects of which something is known
+
+-- an action that the form of a node alone tells: no borrow and no call; no form frees a box
+abbrev pub is_plain : Action → Bool
+is_plain (effects.Borrow to unique base) = false
+is_plain (effects.Free box) = false
+is_plain (effects.Call to body args) = false
+is_plain (effects.CallVirtual to trait_no method args) = false
+is_plain action = true
+
+abbrev pub AnsweredSo : {V : Type 0} → (Halt → V → Type 0) → (V → Type 0) → Choice V → Type 0
+AnsweredSo over I (Yes v) = I v
+AnsweredSo over I (No v) = I v
+AnsweredSo over I (Neither halt v) = over halt v
+
+-- what is known of the actions that are done, and of the places that are dropped
+pub record KeepingSo {V : Type 0} (q : Effects V) (over : Halt → V → Type 0) (Does : Action → Type 0)
+    (Drops : EffectSite → Type 0) (May : Place → Type 0) (I : V → Type 0) : Type 0 where
+  pub acts : (action : Action) (v : V) → Allowed May action → Does action → I v → ShownOut over I I (q.act action v)
+  pub chooses : (test : Test) (v : V) → AllowedTest May test → I v → AnsweredSo over I (q.choose test v)
+  pub drops : (mode : Mode) (site : EffectSite) (v : V) → May site.place → Drops site → I v →
+      ShownOut over I I (q.drop mode site v)
+  pub panics : (why : Why) (v : V) → I v → I (q.panic why v)
+  pub ticks : (v : V) → I v → ShownOut over I I (q.tick v)
+  pub plain : (action : Action) → is_plain action ≡ true → Does action
+  pub whole : (key : ℕ) → Drops (site_of_key key)
+  pub aborts : (v : V) → over Aborted v
+  pub lapses : (v : V) → over OutOfTicks v
+  pub stuck : (v : V) → over Stuck v
+
+module _ {V : Type 0} (I : V → Type 0) where
+  abbrev any_halt : Halt → V → Type 0
+  any_halt halt v = Unit {0}
+
+  shown_kept : (o : Out V) → KeptOut I o → ShownOut any_halt I I o
+  shown_kept (Go v) k = k
+  shown_kept (Unwind v) k = k
+  shown_kept (Halts halt v) k = tt
+
+  answered_kept : (o : Choice V) → KeptChoice I o → AnsweredSo any_halt I o
+  answered_kept (Yes v) k = k
+  answered_kept (No v) k = k
+  answered_kept (Neither halt v) k = tt
+
+  -- however a run halts, and whatever is done
+  pub keeping_so : (q : Effects V) (May : Place → Type 0) → Keeping q May I →
+      KeepingSo q (λ halt v. Unit {0}) (λ action. Unit {0}) (λ site. Unit {0}) May I
+  keeping_so q May k = record {
+    acts = λ action v a d i. shown_kept (q.act action v) (k.acts action v a i);
+    chooses = λ test v t i. answered_kept (q.choose test v) (k.chooses test v t i);
+    drops = λ mode site v m d i. shown_kept (q.drop mode site v) (k.drops mode site v m i);
+    panics = k.panics;
+    ticks = λ v i. shown_kept (q.tick v) (k.ticks v i);
+    plain = λ action p. tt;
+    whole = λ key. tt;
+    aborts = λ v. tt;
+    lapses = λ v. tt;
+    stuck = λ v. tt;
+  }

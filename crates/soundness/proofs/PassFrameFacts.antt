@@ -34,7 +34,7 @@ any_kept {A = A} test keep (a ∷ list) f h = by (test a) (keep a) refl refl h (
     by false true e k h later = ap (λ b. b || list_any test (filter keep list)) e ∙ later h
     by false false e k h later = later h
 
-find_kept : {A : Type 0} (test keep : A → Bool) (list : List A) (m : A) → keep m ≡ true → find test list ≡ Some m →
+pub find_kept : {A : Type 0} (test keep : A → Bool) (list : List A) (m : A) → keep m ≡ true → find test list ≡ Some m →
     find test (filter keep list) ≡ Some m
 find_kept test keep [] m k h = h
 find_kept {A = A} test keep (a ∷ list) m k h = by (test a) (keep a) refl refl h (find_kept test keep list m k)
@@ -72,7 +72,7 @@ steps_same (s ∷ a) (t ∷ b) h =
     ap (λ x. x ∷ a) (step_same s t (first_so (same_step s t) (pointwise same_step a b) h))
     ∙ ap (λ l. t ∷ l) (steps_same a b (second_so (same_step s t) (pointwise same_step a b) h))
 
-place_same : (a b : Place) → same_place a b ≡ true → a ≡ b
+pub place_same : (a b : Place) → same_place a b ≡ true → a ≡ b
 place_same a b h =
     let l : a.local ≡ b.local =
     (Decides-eqb a.local b.local).0 (first_so (a.local == b.local) (pointwise same_step a.steps b.steps) h) in

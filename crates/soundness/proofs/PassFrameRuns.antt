@@ -1,27 +1,30 @@
--- A node of a checked run, and of one that says which test failed, keeps what is known and what is present of all places
+-- A node of a checked run, and of one that says which test failed, keeps what is known and what is present of all
+-- places
 -- apart from those that it may change: at each of its exits so much is known and present as before.
 use Rattle.std.proofs.Common.{ℕ, Bool, true, false, List, [], ◌∷◌, map, Option, Some, None}
 use Rattle.mir_ty.specs.ItemTable.{ItemTable}
 use Rattle.store_model.specs.Abstract.Effects.{AbstractState, abstract_effects}
 use Rattle.store_model.specs.Effects as effects
-use Rattle.store_model.specs.Effects.{EffectSite, Operand, Action, Test, Mode, Out, Go, Unwind, Halts, Choice, Yes, No, Neither, Effects}
+use Rattle.store_model.specs.Effects.{EffectSite, Operand, Action, Test, Mode, Halt, Out, Go, Unwind, Halts, Choice, Yes, No, Neither, Effects}
 use Rattle.store_model.specs.Places.Place.{Place}
-use Rattle.typed_tree.specs.Tree.{Node, BodyTree}
+use Rattle.typed_tree.specs.Tree.{Node, Form, BodyTree}
 use Rattle.src_meaning.specs.Evaluation.{meaning}
 use Rattle.src_meaning.specs.Forms.{Destination, LoopsAndGuards}
 use Rattle.src_meaning.specs.Locals.Effects.{at_locals, place_at, operand_at, action_at, test_at, site_at}
 use Rattle.src_meaning.specs.Locals.OfBody.{local_ty, local_of}
 use Rattle.src_meaning.specs.Scopes.{Scopes, Run, At, Over}
+use Rattle.src_meaning.specs.Shape.{Aliases}
 use Rattle.soundness.proofs.AlsoTests.{Also, checks_also}
 use Rattle.soundness.proofs.Checked.{Checking, checked_effects, with_facts, chosen_with, if_ok, chosen_if_ok}
 use Rattle.soundness.proofs.CheckedBodies.{checks_of, is_reference_param}
 use Rattle.soundness.proofs.Facts.{Facts}
 use Rattle.soundness.proofs.PassFrame as frame
-use Rattle.soundness.proofs.PassFrameActs.{Takes, AllTake, Allowed, AllowedTest, DestCell, KeptOut, KeptChoice, Keeping}
+use Rattle.soundness.proofs.PassFrameActs.{Takes, AllTake, Allowed, AllowedTest, DestCell, KeptOut, KeptChoice, Keeping, KeepingSo, keeping_so}
 use Rattle.soundness.proofs.PassFrameCells.{Cells, CellsKept, free_keeping}
 use Rattle.soundness.proofs.PassFrameFacts as facts_of
 use Rattle.soundness.proofs.PassFrameFacts.{FactsKept}
 use Rattle.soundness.proofs.PassFrameForms as forms_of
+use Rattle.soundness.proofs.PassFrameForms.{Telling}
 use Rattle.soundness.proofs.PassMarks.{Marks, marked, chosen_marked, marked_effects}
 use Rattle.soundness.proofs.PassWithin.{Around, Within, Reaching}
 
@@ -175,6 +178,17 @@ module _ (items : ItemTable) (body : BodyTree) (May : Place → Type 0) (facts :
     ticks = λ v i. ticked_kept v i;
   }
 
+  -- whatever other tests there are
+  pub also_keeping : (also : Also) (marks : Marks Facts) →
+      Keeping (marked_effects (checks_also also (checks_of items body)) marks p) May Known
+  also_keeping also marks = record {
+    acts = λ action v a i. marked_kept (marks.acting action v.free v.facts) v _ (acted_kept action v a i);
+    chooses = λ test v t i. chosen_marked_kept (marks.choosing test v.free v.facts) v _ (tested_kept test v t i);
+    drops = λ mode site v m i. marked_kept (marks.dropping mode site v.free v.facts) v _ (dropped_kept mode site v m i);
+    panics = λ why v i. i;
+    ticks = λ v i. ticked_kept v i;
+  }
+
   -- ---- nodes
 
   module _ (q : Effects (Checking Facts)) (keeping : Keeping q May Known) where
@@ -184,32 +198,59 @@ module _ (items : ItemTable) (body : BodyTree) (May : Place → Type 0) (facts :
     abbrev pub May_ : Place → Type 0
     May_ = MayAt (local_of items body) May
 
-    run_keeping : Keeping run May_ Known
-    run_keeping = keeping_at (local_of items body) May q Known keeping
+    -- however it halts, whatever is done
+    abbrev any_halt : Halt → Checking Facts → Type 0
+    any_halt halt v = Unit {0}
+
+    abbrev any_action : Action → Type 0
+    any_action action = Unit {0}
+
+    abbrev any_site : EffectSite → Type 0
+    any_site site = Unit {0}
+
+    abbrev pub nothing_said : Aliases → ℕ → Form → Type 0
+    nothing_said aliases id form = Unit {0}
+
+    run_keeping : KeepingSo run any_halt any_action any_site May_ Known
+    run_keeping = keeping_so Known run May_ (keeping_at (local_of items body) May q Known keeping)
+
+    nothing_told : Telling items any_action any_site nothing_said
+    nothing_told = record {
+      borrows = λ aliases id unique base s. tt;
+      assigns = λ aliases id place value s. tt;
+      calls = λ aliases id key callee args s. tt;
+      methods = λ aliases id key callee receiver args s. tt;
+      virtuals = λ aliases id key trait_no method receiver args s. tt;
+      closures = λ aliases id key callee value args s. tt;
+    }
 
     -- what holds where a run is at an exit
     abbrev pub Found : Run (Checking Facts) → Type 0
     Found (At exit S v) = Known v
     Found (Over halt v) = Unit {0}
 
-    none_looked_at : (S : Scopes) → frame.Fine items run May_ Known run_keeping S 0
+    none_looked_at : (S : Scopes) → frame.Fine items run any_halt any_action any_site May_ Known run_keeping S 0
     none_looked_at [] = tt
     none_looked_at (s ∷ S) = tt
 
-    found : (r : Run (Checking Facts)) → frame.KeptAt items run May_ Known run_keeping 0 r → Found r
+    found : (r : Run (Checking Facts)) → frame.KeptAt items run any_halt any_action any_site May_ Known run_keeping 0
+        r → Found r
     found (At exit S v) k = k.1
     found (Over halt v) k = tt
 
     -- a node that is evaluated, and one that is reached
     pub node_keeps : (fuel : ℕ) (n : Node) (around : LoopsAndGuards) (loops : List ℕ) → Around May_ around loops →
-        Within items May_ around.aliases loops n → (own : Bool) (to : Destination) → DestCell May_ to → (S : Scopes)
+        Within items May_ nothing_said around.aliases loops n → (own : Bool) (to : Destination) → DestCell May_ to →
+        (S : Scopes)
         (v : Checking Facts) → Known v → Found ((meaning items run fuel n).evaluate around own to S v)
     node_keeps fuel n around loops a w own to d S v i = found ((meaning items run fuel n).evaluate around own to S v)
-        ((forms_of.evaluated items run May_ Known run_keeping fuel n around loops a w own to d).kept 0 S v
+        ((forms_of.anywhere items run any_halt any_action any_site May_ Known run_keeping
+        nothing_said nothing_told fuel (λ aliases id key unique base s. tt) n around loops a w own to d).kept 0 S v
         (none_looked_at S) i)
 
     pub reach_keeps : (fuel : ℕ) (n : Node) (around : LoopsAndGuards) (loops : List ℕ) → Around May_ around loops →
-        Reaching items May_ around.aliases loops n → (S : Scopes) (v : Checking Facts) → Known v →
+        Reaching items May_ nothing_said around.aliases loops n → (S : Scopes) (v : Checking Facts) → Known v →
         Found ((meaning items run fuel n).reach around S v)
     reach_keeps fuel n around loops a w S v i = found ((meaning items run fuel n).reach around S v)
-        ((forms_of.reached items run May_ Known run_keeping fuel n around loops a w).kept 0 S v (none_looked_at S) i)
+        ((forms_of.reached items run any_halt any_action any_site May_ Known run_keeping nothing_said
+        nothing_told fuel n around loops a w).kept 0 S v (none_looked_at S) i)

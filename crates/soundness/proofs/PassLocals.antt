@@ -35,7 +35,7 @@ keys es = map (λ (e : Entry). e.key) es
 abbrev pub tys : List Entry → List TyId
 tys es = map (λ (e : Entry). e.ty) es
 
-abbrev stop : List ℕ → ℕ → ℕ
+abbrev pub stop : List ℕ → ℕ → ℕ
 stop ks key = prefix_len (λ k. not (k == key)) ks
 
 abbrev no_entry : Entry
@@ -49,7 +49,7 @@ stands ks key l = (Decides-eqb (get_or ks (stop ks key) 0) key).0
     is_so true e = refl
     is_so false e = absurd (false≢true (sym e))
 
-within_so : (ks : List ℕ) (key : ℕ) → nat_lt (stop ks key) (length ks) ≡ true → local_among ks key ≡ stop ks key
+pub within_so : (ks : List ℕ) (key : ℕ) → nat_lt (stop ks key) (length ks) ≡ true → local_among ks key ≡ stop ks key
 within_so ks key e = ap (λ b. option_map_or (λ n. n) (if b then Some (stop ks key) else None) (length ks + key)) e
 
 past_so : (ks : List ℕ) (key : ℕ) → nat_lt (stop ks key) (length ks) ≡ false → local_among ks key ≡ length ks + key

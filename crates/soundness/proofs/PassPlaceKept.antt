@@ -1,5 +1,6 @@
 -- While a node of a well typed body is evaluated, a place that none of the accesses told of it overlaps stays what it
--- is: where it was sure to lead on and could be used, it is and can at each exit of the node. So an argument leaves what
+-- is: where it was sure to lead on and could be used, it is and can at each exit of the node. So an argument leaves
+-- what
 -- earlier arguments name, and a guard its scrutinee.
 use Rattle.std.proofs.Common.{◌≡◌, ℕ, Bool, true, [], Some}
 use Rattle.mir_ty.specs.ItemTable.{ItemTable}
@@ -39,9 +40,11 @@ module _ (items : ItemTable) (body : BodyTree) (May : Place → Type 0) (v : Che
   sure = sure_place items (local_ty items body) (is_reference_param items body)
 
   abbrev usable : Cells → Place → Bool
-  usable cells place = may_use (watched items (local_ty items body place.local) place.steps) (presence place.local cells)
+  usable cells place = may_use (watched items (local_ty items body place.local) place.steps)
+      (presence place.local cells)
 
-  -- what holds at an exit, of all places that are clear of what may be changed, and of the references in locals that are
+  -- what holds at an exit, of all places that are clear of what may be changed, and of the references in locals that
+  -- are
   pub record Stayed (w : Checking Facts) : Type 0 where
     pub sure_still : (place : Place) → Clear May place → sure v.facts place ≡ true → sure w.facts place ≡ true
     pub usable_still : (place : Place) → Clear May place →
@@ -61,14 +64,16 @@ module _ (items : ItemTable) (body : BodyTree) (May : Place → Type 0) (v : Che
   stayed w k = record {
     sure_still = λ place c h. still_sure May items (local_ty items body) (is_reference_param items body) v.facts w.facts
         k.0 place c h;
-    usable_still = λ place c root. still_usable May items (local_ty items body place.local) v.free.cells w.free.cells k.1
+    usable_still = λ place c root. still_usable May items (local_ty items body place.local) v.free.cells w.free.cells
+        k.1
         place c root;
     named_still = k.0.naming;
     full_still = k.1.fixed;
     allowed_still = k.0.allowed;
   }
 
-  stayed_at : (q : Effects (Checking Facts)) (keeping : Keeping q May (StillKnown May v.facts v.free.cells)) (r : Run (Checking Facts)) → runs.Found items body May v.facts v.free.cells q keeping r → StayedAt r
+  stayed_at : (q : Effects (Checking Facts)) (keeping : Keeping q May (StillKnown May v.facts v.free.cells))
+      (r : Run (Checking Facts)) → runs.Found items body May v.facts v.free.cells q keeping r → StayedAt r
   stayed_at q keeping (At exit S w) k = stayed w k
   stayed_at q keeping (Over halt w) k = tt
 
@@ -88,11 +93,13 @@ module _ (items : ItemTable) (body : BodyTree) (May : Place → Type 0) (v : Che
 
   pub place_kept : (q : Effects (Checking Facts)) → Keeping q May (StillKnown May v.facts v.free.cells) → (fuel : ℕ)
       (n : Node) (standing : Standing) (aliases : rules.Aliases) (x : Standpoint) (around : LoopsAndGuards) →
-      IsValue standing → Here items May_ aliases around.aliases x (nodes_of n) →
-      Holds (typing.typed (context items x) standing n) → Told items May_ aliases (told aliases n) →
+      IsValue standing → Here items May_ (λ m. Unit {0}) aliases around.aliases x (nodes_of n) →
+      Holds (typing.typed (context items x) standing n) → Told items May_ (λ m. Unit {0}) aliases (told aliases n) →
       Around May_ around (ids x) → (own : Bool) (to : Destination) → DestCell May_ to → (S : Scopes) →
       StayedAt ((meaning items (at_locals (local_of items body) q) fuel n).evaluate around own to S v)
   place_kept q keeping fuel n standing aliases x around value here typed t a own to d S =
       stayed_at q keeping ((meaning items (at_locals (local_of items body) q) fuel n).evaluate around own to S v)
       (runs.node_keeps items body May v.facts v.free.cells q keeping fuel n around (ids x) a
-      (node_within items May_ n standing aliases around.aliases x value here typed t) own to d S v at_first)
+      (node_within items May_ (λ m. Unit {0}) (λ places id form. Unit {0})
+      (λ form id at ty by seen places y o h r k. tt) n standing aliases around.aliases x value here typed t) own to d
+      S v at_first)

@@ -1,6 +1,6 @@
 -- What is left of the tests of actions where the first test holds: that the cell into which an action stores holds
 -- nothing that needs dropping (`PassEmpty`), and that no place waits to be refilled (`PassRefilled`); what has to be known
--- of places; of moves, what may be moved and changed; of borrows, that they go to a cell apart; of calls and `forget` all.
+-- of places; of moves, what may be moved and changed; of borrows, that they go to a cell apart; of calls all.
 use Rattle.std.proofs.Common.{◌≡◌, is_some, nat_lt, ◌+◌, ◌==◌, length, ℕ, ◌&&◌, ◌||◌, not, Bool, true, false, List, [], ◌∷◌, Option, Some, None, refl, ap, sym, subst}
 use Rattle.std.specs.Prelude.{option_and_then}
 use Rattle.std.specs.Option.{option_map_or}
@@ -152,7 +152,7 @@ module _ (items : ItemTable) (local_ty : ℕ → Option TyId) (is_target : ℕ �
         && (checks.may_change items local_ty is_target place && checks.is_empty items local_ty is_target cells place)
 
     -- What is left to be tested of an action: what has to be known of the places that it names; what may be moved out
-    -- of them, and stored; of a borrow, that it goes to a cell apart; of `forget` and of calls all.
+    -- of them, and stored; of a borrow, that it goes to a cell apart; of calls all.
     abbrev pub rest_act : Facts → Cells → Action → Bool
     rest_act facts cells (effects.Put to (effects.Copied site)) = clear_cell cells to.place && known facts site.place
     rest_act facts cells (effects.Put to (effects.Moved site)) =
@@ -172,6 +172,7 @@ module _ (items : ItemTable) (local_ty : ℕ → Option TyId) (is_target : ℕ �
     rest_act facts cells (effects.NewBox to content) = clear_cell cells to.place
     rest_act facts cells (effects.Unsize to trait_no operand) = clear_cell cells to.place
     rest_act facts cells (effects.Print operand) = true
+    rest_act facts cells (effects.Forget operand) = true
     rest_act facts cells (effects.Compute to operator left right) = clear_cell cells to.place
     rest_act facts cells (effects.Negate to operand) = clear_cell cells to.place
     rest_act facts cells (effects.Bounds index length) = true
@@ -368,7 +369,8 @@ module _ (items : ItemTable) (local_ty : ℕ → Option TyId) (is_target : ℕ �
         (left_of (known facts base.place) _ more)) (right_of (known facts base.place) _ more)))
     rest_holds facts cells (effects.Touch base) h k = place_sure facts base.place h k
     rest_holds facts cells (effects.Print operand) h k = taken_and facts operand (is_int IntKind.I32 (form_of operand)) h
-    rest_holds facts cells (effects.Forget operand) h k = k
+    rest_holds facts cells (effects.Forget operand) h k =
+        taken_and facts operand (is_some (checks.form_of items local_ty is_target operand)) h
     rest_holds facts cells (effects.Free box) h k = k
     rest_holds facts cells (effects.Compute to operator left right) h k =
         two_answer facts cells to (same_int (form_of left)) left right (same_int (form_of left) (form_of right)) h k

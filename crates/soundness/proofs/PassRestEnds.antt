@@ -63,6 +63,34 @@ module _ (items : ItemTable) (local_ty : ℕ → Option TyId) (is_target : ℕ �
         subst (λ p. checks.may_drop items local_ty is_target mode facts p ≡ true) (sym w)
         (dropped_whole mode facts place.local (subst (λ p. checks.needs items local_ty is_target p ≡ true) w h) e)
 
+    -- a value in a whole local is no reference
+    pub plain_value : (place : Place) → no_steps place.steps ≡ true →
+        tests.value_at items local_ty is_target place ≡ true → tests.plain_local items local_ty is_target place ≡ true
+    plain_value place n h = by (local_ty place.local)
+        (subst (λ p. tests.value_at items local_ty is_target p ≡ true) (whole_is place n) h)
+      where
+        by : (o : Option TyId) → (tests.leads_in items local_ty is_target (whole_local place.local) o
+            && (not (is_reference (T o)) && not (Rattle.store_model.specs.Places.TypeForms.is_dyn (T o)))) ≡ true →
+            option_map_or (tests.no_reference items) o false ≡ true
+        by None h = absurd (false≢true h)
+        by (Some id) h = left_of (not (is_reference (type_at items id))) _
+            (right_of (tests.leads_in items local_ty is_target (whole_local place.local) (Some id)) _ h)
+
+    -- so may one that holds no reference, which needs it or not
+    pub plain_dropped : (mode : Mode) (facts : Facts) (place : Place) → no_steps place.steps ≡ true →
+        tests.plain_local items local_ty is_target place ≡ true → facts.refilled ≡ None →
+        checks.may_drop items local_ty is_target mode facts place ≡ true
+    plain_dropped mode facts place n h e =
+        let w = whole_is place n in
+        subst (λ p. checks.may_drop items local_ty is_target mode facts p ≡ true) (sym w)
+        (both_true (ap checks.is_none e) (both_true (by (local_ty place.local) refl h) refl))
+      where
+        by : (o : Option TyId) → local_ty place.local ≡ o → option_map_or (tests.no_reference items) o false ≡ true →
+            sure_in items local_ty is_target facts (whole_local place.local) o ≡ true
+        by None k h = absurd (false≢true h)
+        by (Some id) k h = acts.whole_sure items local_ty is_target own facts place.local id k
+            (is_false (is_reference (type_at items id)) h)
+
     -- a test of a truth needs no more
     pub truth_left : (facts : Facts) (operand : Operand) →
         tests.cells_test items local_ty is_target (effects.IsTrue operand) ≡ true → facts.refilled ≡ None →
@@ -87,21 +115,22 @@ module _ (items : ItemTable) (local_ty : ℕ → Option TyId) (is_target : ℕ �
         checks.may_change items local_ty is_target place ≡ true →
         checks.may_drop items local_ty is_target mode facts place ≡ true
     replaced_left mode facts place h inside e k c =
-        let t = by (no_steps place.steps) (checks.is_normal items local_ty is_target mode)
+        let t = by (no_steps place.steps) (tests.plain_local items local_ty is_target place)
+        (checks.is_normal items local_ty is_target mode)
         (tests.leads items local_ty is_target place) (checks.is_value items local_ty is_target place)
         (checks.may_change items local_ty is_target place) (checks.needs items local_ty is_target place) inside c h in
         both_true (ap checks.is_none e)
         (both_true (acts.place_sure items local_ty is_target own facts place t.0 k) t.1)
       where
-        by : (s n l v m d : Bool) → s ≡ false → m ≡ true → (s || (n && ((l && v) && d))) ≡ true →
+        by : (s p n l v m d : Bool) → s ≡ false → m ≡ true → ((s && p) || (n && ((l && v) && d))) ≡ true →
             (l ≡ true) × ((s || (n && ((v && m) && d))) ≡ true)
-        by true n l v m d is e h = absurd (false≢true (sym is))
-        by false true true true true true is e h = (refl, refl)
-        by false false l v m d is e h = absurd (false≢true h)
-        by false true false v m d is e h = absurd (false≢true h)
-        by false true true false m d is e h = absurd (false≢true h)
-        by false true true true false d is e h = absurd (false≢true e)
-        by false true true true true false is e h = absurd (false≢true h)
+        by true p n l v m d is e h = absurd (false≢true (sym is))
+        by false p true true true true true is e h = (refl, refl)
+        by false p false l v m d is e h = absurd (false≢true h)
+        by false p true false v m d is e h = absurd (false≢true h)
+        by false p true true false m d is e h = absurd (false≢true h)
+        by false p true true true false d is e h = absurd (false≢true e)
+        by false p true true true true false is e h = absurd (false≢true h)
 
     -- of a result it is left that it is whole
     pub gives_left : (facts : Facts) (cells : Cells) (place : Place) →

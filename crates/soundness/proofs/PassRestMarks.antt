@@ -1,6 +1,6 @@
 -- What it means that a marked run fails by a test that is left, where the other tests hold: a place that is copied, moved,
 -- borrowed, looked at or replaced is not known to lead on, may not be moved or changed; a borrow goes to no cell apart; a
--- call or `forget` is not in order; a result is not whole; or a test of protected parameters fails. No other effect fails so.
+-- call is not in order; a result is not whole; or a test of protected parameters fails. No other effect fails so.
 use Rattle.std.proofs.Common.{◌≡◌, ℕ, ◌==◌, ◌&&◌, ◌||◌, not, Bool, true, false, List, [], ◌∷◌, Option, Some, None, refl}
 use Rattle.std.specs.Prelude.{slice_get}
 use Rattle.std.specs.Option.{option_map_or}

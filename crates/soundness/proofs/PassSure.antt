@@ -1,5 +1,5 @@
--- A place that leads on by the types is sure to, as soon as the variants and the numbers of elements on its way are known,
--- and a reference at its root is a parameter. Of steps to parts and into boxes nothing has to be known.
+-- A place that leads on by the types is sure to, as soon as the variants and the numbers of elements on its way are known.
+-- Of steps to parts and into boxes nothing has to be known.
 use Rattle.std.proofs.Common.{◌≡◌, ℕ, ◌==◌, ◌&&◌, ◌||◌, not, Bool, true, false, List, [], ◌∷◌, ◌++◌, Option, Some, None, refl, ap}
 use Rattle.std.specs.Cmp.{first_so, second_so}
 use Rattle.std.specs.Cmp.Derive.{both_true}
@@ -136,9 +136,8 @@ module _ (items : ItemTable) (local_ty : ℕ → Option TyId) (is_target : ℕ �
       are_known items (bounded_by facts) (variant_at facts local (ToContent ∷ [])) [] steps to
   known_behind local to steps = true
 
-  -- a reference at the root is a parameter
   abbrev pub known_from : Place → TyId → Option TyId → Bool
-  known_from place id (Some to) = is_target place.local && known_behind place.local to place.steps
+  known_from place id (Some to) = known_behind place.local to place.steps
   known_from place id None =
       are_known items (bounded_by facts) (variant_at facts place.local []) [] place.steps id
 
@@ -174,8 +173,8 @@ module _ (items : ItemTable) (local_ty : ℕ → Option TyId) (is_target : ℕ �
         named : (id : TyId) → local_ty place.local ≡ Some id → (o : Option TyId) → named_by (type_at items id) ≡ o →
             leads_from items local_ty is_target place id o ≡ true → known_from place id o ≡ true →
             sure_from items local_ty is_target facts place id o ≡ true
-        named id e (Some to) n h k = both_true (first_so (is_target place.local) _ k)
-            (sure_of_behind place.local to place.steps h (second_so (is_target place.local) _ k))
+        named id e (Some to) n h k = both_true (first_so (is_target place.local) _ h)
+            (sure_of_behind place.local to place.steps (second_so (is_target place.local) _ h) k)
         named id e None n h k = both_true (ap not (own place.local id e (no_reference (type_at items id) n)))
             (known_sure items (bounded_by facts) (variant_at facts place.local []) [] place.steps id h k)
 
@@ -184,24 +183,24 @@ module _ (items : ItemTable) (local_ty : ℕ → Option TyId) (is_target : ℕ �
         by None e h k = absurd (false≢true h)
         by (Some id) e h k = named id e (named_by (type_at items id)) refl h k
 
-    -- a part of a local that is no reference, by steps to parts and into boxes, is sure to be there
+    -- what is reached by steps to parts and into boxes, in a local or behind a parameter, is sure to be there
     pub sure_outright : (place : Place) → leads items local_ty is_target place ≡ true →
-        asks_nothing place.steps ≡ true →
-        ((id : TyId) → local_ty place.local ≡ Some id → is_reference (type_at items id) ≡ false) →
-        sure_place items local_ty is_target facts place ≡ true
-    sure_outright place h a plain = sure_if_known place h (by (local_ty place.local) refl)
+        asks_nothing place.steps ≡ true → sure_place items local_ty is_target facts place ≡ true
+    sure_outright place h a = sure_if_known place h (by (local_ty place.local))
       where
-        named : (id : TyId) (o : Option TyId) → named_by (type_at items id) ≡ o →
-            is_reference (type_at items id) ≡ false → known_from place id o ≡ true
-        named id None n r = nothing_asked items (bounded_by facts) (variant_at facts place.local []) [] place.steps id a
-        named id (Some to) n r = absurd (never (type_at items id) n r)
-          where
-            never : (o : Option Ty) → named_by o ≡ Some to → is_reference o ≡ false → ⊥
-            never None n r = none-some to n
-            never (Some (Ty.Shared t)) n r = let no : ⊥ = cc in no
-            never (Some (Ty.Unique t)) n r = let no : ⊥ = cc in no
-            never (Some ty) n r = none-some to n
+        behind : (to : TyId) (steps : List Step) → asks_nothing steps ≡ true →
+            known_behind place.local to steps ≡ true
+        behind to (ToContent ∷ steps) a = nothing_asked items (bounded_by facts)
+            (variant_at facts place.local (ToContent ∷ [])) [] steps to a
+        behind to [] a = refl
+        behind to (ToPart n ∷ steps) a = refl
+        behind to (ToField v n ∷ steps) a = refl
+        behind to (ToElement i ∷ steps) a = refl
 
-        by : (o : Option TyId) → local_ty place.local ≡ o → known_in place o ≡ true
-        by None e = refl
-        by (Some id) e = named id (named_by (type_at items id)) refl (plain id e)
+        named : (id : TyId) (o : Option TyId) → known_from place id o ≡ true
+        named id None = nothing_asked items (bounded_by facts) (variant_at facts place.local []) [] place.steps id a
+        named id (Some to) = behind to place.steps a
+
+        by : (o : Option TyId) → known_in place o ≡ true
+        by None = refl
+        by (Some id) = named id (named_by (type_at items id))

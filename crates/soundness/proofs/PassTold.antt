@@ -1,6 +1,6 @@
 -- What a node changes lies within what may be changed, if the accesses that the rule of borrows tells of it allow that:
 -- each place that it changes is one of these, or a cell of its own. One line a form.
-use Rattle.std.proofs.Common.{◌≡◌, ℕ, ◌==◌, ◌&&◌, ◌||◌, not, Bool, true, false, List, [], ◌∷◌, ◌++◌, map, length, Option, Some, None, if◌then◌else◌, refl, ap, sym, ◌∙◌, subst}
+use Rattle.std.proofs.Common.{◌≡◌, ◌⊎◌, inl, inr, ℕ, ◌==◌, ◌&&◌, ◌||◌, not, Bool, true, false, List, [], ◌∷◌, ◌++◌, map, length, Option, Some, None, if◌then◌else◌, refl, ap, sym, ◌∙◌, subst}
 use Rattle.std.specs.Prelude.{option_and_then, option_map}
 use Rattle.std.specs.List.{find, filter_map, list_any}
 use Rattle.std.proofs.lemmas.Bool.{false≢true}
@@ -22,14 +22,16 @@ use Rattle.typing_rules.specs.Accesses.{AccessPlace, Accessed, CollectedAccesses
 use Rattle.well_typed.specs.Claim.{Holds, fact, both}
 use Rattle.well_typed.specs.Nodes as typing
 use Rattle.well_typed.specs.Patterns.{entries_of}
-use Rattle.well_typed.specs.Places.{InScope, LoopAround, Context, loop_with, is_place, is_borrow, is_taken, is_by, taking, may_move_by, may_take, stands, Standing, Taken, Wanted, Passed, Base, Used, Stored}
+use Rattle.well_typed.specs.Places.{InScope, LoopAround, Context, entry_with, loop_with, is_place, is_borrow, is_taken, is_by, taking, may_move_by, may_take, stands, Standing, Taken, Wanted, Passed, Base, Used, Stored}
 use Rattle.well_typed.specs.Types as types
-use Rattle.soundness.proofs.PassCells.{Above}
+use Rattle.soundness.proofs.PassCells.{Above, NodeIn, node_left, node_right}
 use Rattle.soundness.proofs.PassFacts.{Standpoint, context, with_names, in_a_loop, left}
+use Rattle.soundness.proofs.PassKeys.{Keys, keys_more}
+use Rattle.soundness.proofs.PassNames.{NameIn, named_by}
 use Rattle.soundness.proofs.PassFrameActs.{Takes}
 use Rattle.soundness.proofs.PassToldPatterns.{same_order}
 use Rattle.soundness.proofs.PassToldPlaces as told_places
-use Rattle.soundness.proofs.PassToldPlaces.{Rises, rises_left, rises_right, name_above, no_name, name_entry, found_in, marked, still_there, above_left, above_right, Unnamed, Owned, AllOwned, MaySeen, Permits, AllPermit, Sees, Past}
+use Rattle.soundness.proofs.PassToldPlaces.{Rises, rises_left, rises_right, name_above, no_name, name_entry, found_in, marked, still_there, above_left, above_right, Unnamed, is_alias, Owned, AllOwned, MaySeen, Permits, AllPermit, Sees, Past}
 use Rattle.soundness.proofs.PassWithin.{is_among, if_place}
 
 abbrev pub ids : Standpoint → List ℕ
@@ -94,7 +96,8 @@ mutual
       place_of_form aliases form ≡ None → Unnamed aliases key
   form_unnamed (tree.Variable k) aliases key r p = subst (Unnamed aliases) (same_some r) p
   form_unnamed (tree.Captured closure part name) aliases key r p =
-      subst (Unnamed aliases) (same_some r) (unmapped (with_step (rules.ToPart part)) (rules.place_of_key aliases closure) p)
+      subst (Unnamed aliases) (same_some r) (unmapped (with_step (rules.ToPart part))
+      (rules.place_of_key aliases closure) p)
   form_unnamed (tree.Field base part) aliases key r p =
       root_unnamed base aliases key r (unmapped (with_step (rules.ToPart part)) (place_of aliases base) p)
   form_unnamed (tree.Index base index length) aliases key r p =
@@ -103,7 +106,7 @@ mutual
       root_unnamed base aliases key r (unmapped (with_step rules.ToContent) (place_of aliases base) p)
   form_unnamed form aliases key r p = absurd (none-some key r)
 
-module _ (items : ItemTable) (May : Place → Type 0) where
+module _ (items : ItemTable) (May : Place → Type 0) (Of : Node → Type 0) where
   abbrev K : Standpoint → Context
   K = context items
 
@@ -114,6 +117,9 @@ module _ (items : ItemTable) (May : Place → Type 0) where
     pub outer : (y : InScope) → x.closure ≡ Some y → Above y.key ns
     pub rises : Rises ns
     pub owned : AllOwned items May ns
+    pub all : (n : Node) → NodeIn ns n → Of n
+    pub low : (key : ℕ) (y : InScope) → entry_with key x.entries ≡ Some y →
+        Keys (λ k. Above k ns) (shapes.place_of_key key places)
 
   pub here_left : (aliases : rules.Aliases) (places : shapes.Aliases) (x : Standpoint) (a b : List Node) →
       Here aliases places x (a ++ b) → Here aliases places x a
@@ -123,6 +129,9 @@ module _ (items : ItemTable) (May : Place → Type 0) where
     outer = λ y e. above_left y.key a b (h.outer y e);
     rises = rises_left a b h.rises;
     owned = told_places.owned_left items May a b h.owned;
+    all = λ n i. h.all n (node_left a b n i);
+    low = λ key y e. keys_more (λ k. Above k (a ++ b)) (λ k. Above k a) (λ k. above_left k a b)
+        (shapes.place_of_key key places) (h.low key y e);
   }
 
   pub here_right : (aliases : rules.Aliases) (places : shapes.Aliases) (x : Standpoint) (a b : List Node) →
@@ -133,6 +142,9 @@ module _ (items : ItemTable) (May : Place → Type 0) where
     outer = λ y e. above_right y.key a b (h.outer y e);
     rises = rises_right a b h.rises;
     owned = told_places.owned_right items May a b h.owned;
+    all = λ n i. h.all n (node_right a b n i);
+    low = λ key y e. keys_more (λ k. Above k (a ++ b)) (λ k. Above k b) (λ k. above_right k a b)
+        (shapes.place_of_key key places) (h.low key y e);
   }
 
   pub here_in : (aliases : rules.Aliases) (places : shapes.Aliases) (x : Standpoint) (n : Node) (ns : List Node) →
@@ -141,24 +153,41 @@ module _ (items : ItemTable) (May : Place → Type 0) where
 
   -- with the names of a pattern
   pub here_names : (aliases : rules.Aliases) (places : shapes.Aliases) (x : Standpoint) (p : Node) (ns : List Node) →
-      Past items May aliases (nodes_of p) → Here aliases places x ns →
-      Here aliases places (with_names (entries_of p) x) ns
-  here_names aliases places x p ns past h = record {
+      Past items May aliases (nodes_of p) → ((key : ℕ) → NameIn (nodes_of p) key → Above key ns) →
+      Here aliases places x ns → Here aliases places (with_names (entries_of p) x) ns
+  here_names aliases places x p ns past above h = record {
     sees = told_places.sees_names items May aliases places x p past h.sees;
     past = h.past;
     outer = h.outer;
     rises = h.rises;
     owned = h.owned;
+    all = h.all;
+    low = λ key y e. by key y (found_in key (entries_of p) x.entries y e);
   }
+    where
+      -- a name of the pattern is no binding of a guard around
+      new : (key : ℕ) → NameIn (nodes_of p) key → (b : Bool) → is_alias aliases key ≡ b →
+          Keys (λ k. Above k ns) (shapes.place_of_key key places)
+      new key i true a = absurd (no_name (nodes_of p) key (past key a) i)
+      new key i false a = subst (Keys (λ k. Above k ns)) (sym (h.sees.plain key a)) (above key i, tt)
 
-  pub here_loop : (aliases : rules.Aliases) (places : shapes.Aliases) (x : Standpoint) (a : LoopAround) (ns : List Node) →
+      by : (key : ℕ) (y : InScope) → (entry_with key (entries_of p) ≡ Some y)
+          ⊎ ((entry_with key (entries_of p) ≡ None) × (entry_with key x.entries ≡ Some y)) →
+          Keys (λ k. Above k ns) (shapes.place_of_key key places)
+      by key y (inl e) = new key (named_by (nodes_of p) key y e) (is_alias aliases key) refl
+      by key y (inr e) = h.low key y e.1
+
+  pub here_loop : (aliases : rules.Aliases) (places : shapes.Aliases) (x : Standpoint) (a : LoopAround)
+      (ns : List Node) →
       Here aliases places x ns → Here aliases places (in_a_loop a x) ns
   here_loop aliases places x a ns h = record {
-    sees = record { seen = h.sees.seen; guarded = h.sees.guarded; closure = h.sees.closure };
+    sees = record { seen = h.sees.seen; guarded = h.sees.guarded; closure = h.sees.closure; plain = h.sees.plain };
     past = h.past;
     outer = h.outer;
     rises = h.rises;
     owned = h.owned;
+    all = h.all;
+    low = h.low;
   }
 
   -- what is told is allowed, and nothing conflicts
@@ -199,7 +228,8 @@ module _ (items : ItemTable) (May : Place → Type 0) where
       may_move_by (K x) form ≡ true
   moved_so Taken x ty by form v h p e = is_taken_so x ty by form h p e
   moved_so (Wanted want) x ty by form v h p e = is_taken_so x ty by form h.0 p e
-  moved_so (Passed want) x ty by form v h p e = passed (types.is_reference items want && not (types.is_never items ty)) h
+  moved_so (Passed want) x ty by form v h p e = passed (types.is_reference items want && not
+      (types.is_never items ty)) h
     where
       passed : (b : Bool) → Holds (if b then
           fact (is_borrow form && Rattle.std.specs.Prelude.is_none by && types.is_same ty want)

@@ -1,8 +1,9 @@
--- What the accesses that the rule of borrows tells of a node allow: a place that the rule sees may be changed where each
+-- What the accesses that the rule of borrows tells of a node allow: a place that the rule sees may be changed where
+-- each
 -- place that is seen so may; a place of a temporary may be changed where the cells of the node may.
-use Rattle.std.proofs.Common.{◌≡◌, ◌⊎◌, inl, inr, ℕ, ◌<◌, nat_lt, ◌==◌, ◌&&◌, not, Bool, true, false, List, [], ◌∷◌, ◌++◌, map, Option, Some, None, if◌then◌else◌, refl, ap, sym, ◌∙◌, subst, arith}
+use Rattle.std.proofs.Common.{◌≡◌, ◌⊎◌, inl, inr, ℕ, ◌<◌, nat_lt, ◌==◌, ◌&&◌, ◌||◌, not, Bool, true, false, List, [], ◌∷◌, ◌++◌, map, Option, Some, None, if◌then◌else◌, refl, ap, sym, ◌∙◌, subst, arith}
 use Rattle.std.specs.Prelude.{option_map}
-use Rattle.std.specs.List.{filter_map}
+use Rattle.std.specs.List.{filter_map, find, list_any}
 use Rattle.std.specs.Option.{option_map_or}
 use Rattle.std.proofs.lemmas.Bool.{false≢true}
 use Rattle.std.proofs.lemmas.Bool.Decides.{Decides-eqb}
@@ -12,7 +13,7 @@ use Rattle.mir_ty.specs.Facts.{has_drop_impl}
 use Rattle.mir_ty.specs.ItemTable.{ItemTable}
 use Rattle.mir_ty.specs.Parts.{field_ty}
 use Rattle.store_model.specs.Effects.{EffectSite}
-use Rattle.store_model.specs.Places.Place.{Step, Place}
+use Rattle.store_model.specs.Places.Place.{Step, Place, whole_local}
 use Rattle.typed_tree.specs.declared.node.Use.{Use}
 use Rattle.typed_tree.specs.Nodes.{number_of, nodes_of, nodes_in}
 use Rattle.typed_tree.specs.Tree as tree
@@ -205,6 +206,20 @@ mapped_none f (Some a) e = absurd (none-some (f a) (sym e))
 abbrev pub Unnamed : rules.Aliases → ℕ → Type 0
 Unnamed aliases key = rules.place_of_key aliases key ≡ None
 
+-- any binding of a guard
+abbrev pub is_alias : rules.Aliases → ℕ → Bool
+is_alias aliases key = list_any (λ (a : ℕ × Option AccessPlace). a.0 == key) aliases
+
+pub unnamed_alias : (aliases : rules.Aliases) (key : ℕ) → Unnamed aliases key → is_alias aliases key ≡ true
+unnamed_alias [] key u = absurd (none-some (rules.variable_place key) (sym u))
+unnamed_alias (a ∷ aliases) key u = by (a.0 == key) u (λ v. unnamed_alias aliases key v)
+  where
+    by : (b : Bool) →
+        rules.or_variable key (if b then Some a else find (λ (x : ℕ × Option AccessPlace). x.0 == key) aliases) ≡ None →
+        (Unnamed aliases key → is_alias aliases key ≡ true) → (b || is_alias aliases key) ≡ true
+    by true u later = refl
+    by false u later = later u
+
 module _ (items : ItemTable) (May : Place → Type 0) where
   -- a cell, and all its parts
   abbrev pub Owned : ℕ → Type 0
@@ -229,7 +244,7 @@ module _ (items : ItemTable) (May : Place → Type 0) where
 
   pub record Permits (aliases : rules.Aliases) (a : Accessed) : Type 0 where
     pub changed : changes a.access ≡ true → MaySeen a.place
-    pub replaced : (key : ℕ) → replaces a.access ≡ true → a.root ≡ Some key → Unnamed aliases key → ⊥
+    pub replaced : (key : ℕ) → replaces a.access ≡ true → a.root ≡ Some key → is_alias aliases key ≡ true → ⊥
 
   abbrev pub AllPermit : rules.Aliases → List Accessed → Type 0
   AllPermit aliases [] = Unit {0}
@@ -249,11 +264,12 @@ module _ (items : ItemTable) (May : Place → Type 0) where
     pub seen : (key : ℕ) → SeenIf (rules.place_of_key aliases key) (shapes.place_of_key key places)
     pub guarded : (key : ℕ) (y : InScope) → Unnamed aliases key → entry_with key x.entries ≡ Some y →
         y.is_in_guard ≡ true
-    pub closure : (y : InScope) → x.closure ≡ Some y → Unnamed aliases y.key → ⊥
+    pub closure : (y : InScope) → x.closure ≡ Some y → is_alias aliases y.key ≡ true → ⊥
+    pub plain : (key : ℕ) → is_alias aliases key ≡ false → shapes.place_of_key key places ≡ whole_local key
 
   -- such bindings have numbers below those of some nodes
   abbrev pub Past : rules.Aliases → List Node → Type 0
-  Past aliases ns = (key : ℕ) → Unnamed aliases key → Above key ns
+  Past aliases ns = (key : ℕ) → is_alias aliases key ≡ true → Above key ns
 
   pub past_left : (aliases : rules.Aliases) (a b : List Node) → Past aliases (a ++ b) → Past aliases a
   past_left aliases a b p key u = above_left key a b (p key u)
@@ -268,12 +284,14 @@ module _ (items : ItemTable) (May : Place → Type 0) where
     seen = s.seen;
     guarded = λ key y u e. by key y u (found_in key (entries_of p) x.entries y e);
     closure = s.closure;
+    plain = s.plain;
   }
     where
       by : (key : ℕ) (y : InScope) → Unnamed aliases key →
           (entry_with key (entries_of p) ≡ Some y)
           ⊎ ((entry_with key (entries_of p) ≡ None) × (entry_with key x.entries ≡ Some y)) → y.is_in_guard ≡ true
-      by key y u (inl e) = absurd (no_name (nodes_of p) key (past key u) (named_by (nodes_of p) key y e))
+      by key y u (inl e) =
+          absurd (no_name (nodes_of p) key (past key (unnamed_alias aliases key u)) (named_by (nodes_of p) key y e))
       by key y u (inr e) = s.guarded key y u e.1
 
   -- ---- the place of a node
@@ -326,8 +344,9 @@ module _ (items : ItemTable) (May : Place → Type 0) where
         ∙ s.guarded key t.0 e t.1.0)) ∙ m))
     form_root (tree.Captured closure part name) id ty aliases places x s h m e =
         let t = some_holds x.closure (λ y. both (fact (y.key == closure)) (types_part y.ty)) h in
-        absurd (s.closure t.0 t.1.0 (ap (rules.place_of_key aliases) ((Decides-eqb t.0.key closure).0 t.1.1.0)
-        ∙ mapped_none (rules.with_step (rules.ToPart part)) (rules.place_of_key aliases closure) e))
+        absurd (s.closure t.0 t.1.0 (unnamed_alias aliases t.0.key
+        (ap (rules.place_of_key aliases) ((Decides-eqb t.0.key closure).0 t.1.1.0)
+        ∙ mapped_none (rules.with_step (rules.ToPart part)) (rules.place_of_key aliases closure) e)))
       where
         types_part : TyId → Claim
         types_part own = Rattle.well_typed.specs.Claim.some (field_ty items own 0 part) (λ t. fact (types.is_same ty t))

@@ -87,7 +87,7 @@ module _ {V : Type 0} (items : ItemTable) (q : Effects V) (over : Halt → V →
       named T w = At Value (around_innermost (with_entry e) (innermost (without_pending e) T)) w
 
   pub let_parts_well : (c : Context) (h : NodeHead) (pattern m : Meaning V) (around : LoopsAndGuards) →
-      AroundWell c around → Reach c m → Droppable (forms.entry_of m.head) →
+      AroundWell c around → Reach c m → (m.shape.is_place ≡ false → Droppable (forms.entry_of m.head)) →
       (Reached m → BoundsOk (pattern.shape.bindings (place_of m around))) → (S : Scopes) (v : V) → Fine S →
       Shown over (Post c (Reached m)) (forms.let_parts items q h pattern m around S v)
   let_parts_well c h pattern m around ok m_well droppable bounds S v f =
@@ -95,11 +95,7 @@ module _ {V : Type 0} (items : ItemTable) (q : Effects V) (over : Halt → V →
       (on_value (m.reach around begun v) bind)
       (rules.then_well items q over Acts Tests Drops Made well Cell May Names c (Reached m) (Reached m)
       (m.reach around begun v) bind
-      (m_well around begun v ok (rules.fine_if items q over Acts Tests Drops Made well Cell May Names
-      (not (m.shape.is_place || m.shape.in_destination)) (innermost (with_pending e)) (with_scope h.id true S)
-      (rules.opened items q over Acts Tests Drops Made well Cell May Names h.id true S f)
-      (rules.fine_innermost items q over Acts Tests Drops Made well Cell May Names (with_pending e)
-      (rules.pended items q over Acts Tests Drops Made well Cell May Names e droppable) (with_scope h.id true S))))
+      (m_well around begun v ok (of_place m.shape.is_place droppable))
       (λ T w x g. rules.more_valued items q over Acts Tests Drops Made well Cell May Names c (Unit {0}) (Reached m) (λ y. x)
       (bind T w) (branches.bind_well items q over Acts Tests Drops Made well Cell May Names c around_innermost
       (λ change k U l. rules.fine_around items q over Acts Tests Drops Made well Cell May Names change k U l)
@@ -114,6 +110,17 @@ module _ {V : Type 0} (items : ItemTable) (q : Effects V) (over : Halt → V →
 
       bind : Does V
       bind = forms.bind items q around_innermost (pattern.shape.bindings (place_of m around))
+
+      opened : Fine (with_scope h.id true S)
+      opened = rules.opened items q over Acts Tests Drops Made well Cell May Names h.id true S f
+
+      of_place : (b : Bool) → (b ≡ false → Droppable e) →
+          Fine (changed_if (not (b || m.shape.in_destination)) (innermost (with_pending e)) (with_scope h.id true S))
+      of_place true d = opened
+      of_place false d = rules.fine_if items q over Acts Tests Drops Made well Cell May Names
+          (not m.shape.in_destination) (innermost (with_pending e)) (with_scope h.id true S) opened
+          (rules.fine_innermost items q over Acts Tests Drops Made well Cell May Names (with_pending e)
+          (rules.pended items q over Acts Tests Drops Made well Cell May Names e (d refl)) (with_scope h.id true S))
 
   -- names without a value: what needs no dropping may be emptied
   abbrev pub DeclaredOk : List BoundName → Type 0

@@ -1,4 +1,5 @@
--- What a node changes lies within what may be changed, by its text alone: the cells of its nodes, the places out of which
+-- What a node changes lies within what may be changed, by its text alone: the cells of its nodes, the places out of
+-- which
 -- it moves, into which it stores, and which it borrows by `&mut`. One line a form.
 use Rattle.std.proofs.Common.{◌≡◌, ℕ, ◌==◌, Bool, true, false, List, ◌∷◌}
 use Rattle.std.specs.List.{list_any}
@@ -9,6 +10,7 @@ use Rattle.typed_tree.specs.Tree.{Node, node, Form, Nodes, no_node, a_node, Fiel
 use Rattle.src_meaning.specs.Forms.{LoopsAndGuards, aliases_with, loop_destination}
 use Rattle.src_meaning.specs.Locals.OfBody.{is_place_form}
 use Rattle.src_meaning.specs.Shape.{Aliases, head, operand_at, shape, shape_of}
+use Rattle.well_typed.specs.Places.{form_of, is_borrow}
 use Rattle.soundness.proofs.PassFrameActs.{Takes, DestCell, TestsOwn, BoundsMay, AllCells}
 
 abbrev pub is_among : ℕ → List ℕ → Bool
@@ -24,7 +26,12 @@ Around May around loops =
     DestCell May around.answer
     × ((loop : ℕ) → is_among loop loops ≡ true → DestCell May (loop_destination loop around.loops))
 
-module _ (items : ItemTable) (May : Place → Type 0) where
+-- no borrow: of a node whose value is made elsewhere than in its own cell
+abbrev pub Loose : Node → Type 0
+Loose n = is_borrow (form_of n) ≡ false
+
+-- beside that, what is said of calls, borrows and assignments
+module _ (items : ItemTable) (May : Place → Type 0) (Says : Aliases → ℕ → Form → Type 0) where
   abbrev Cell : ℕ → Type 0
   Cell key = May (whole_local key)
 
@@ -57,17 +64,24 @@ module _ (items : ItemTable) (May : Place → Type 0) where
         Within aliases loops left × Within aliases loops right
     WithinIn aliases loops id (tree.Comparison operator left right) =
         Within aliases loops left × Within aliases loops right
-    WithinIn aliases loops id (tree.And left right) = Within aliases loops left × Within aliases loops right
-    WithinIn aliases loops id (tree.Or left right) = Within aliases loops left × Within aliases loops right
+    WithinIn aliases loops id (tree.And left right) =
+        Within aliases loops left × (Loose right × Within aliases loops right)
+    WithinIn aliases loops id (tree.Or left right) =
+        Within aliases loops left × (Loose right × Within aliases loops right)
     WithinIn aliases loops id (tree.Assign place value) =
-        Within aliases loops value × (Reaching aliases loops place × May ((shape items place).place aliases))
-    WithinIn aliases loops id (tree.Call body args) = AllWithin aliases loops args
+        (Within aliases loops value × (Reaching aliases loops place × May ((shape items place).place aliases)))
+        × Says aliases id (tree.Assign place value)
+    WithinIn aliases loops id (tree.Call body args) = AllWithin aliases loops args × Says aliases id
+        (tree.Call body args)
     WithinIn aliases loops id (tree.MethodCall body receiver args) =
-        Within aliases loops receiver × AllWithin aliases loops args
+        (Within aliases loops receiver × AllWithin aliases loops args)
+        × Says aliases id (tree.MethodCall body receiver args)
     WithinIn aliases loops id (tree.VirtualCall trait_no method receiver args) =
-        Within aliases loops receiver × AllWithin aliases loops args
+        (Within aliases loops receiver × AllWithin aliases loops args)
+        × Says aliases id (tree.VirtualCall trait_no method receiver args)
     WithinIn aliases loops id (tree.ClosureCall body callee args) =
-        Within aliases loops callee × AllWithin aliases loops args
+        (Within aliases loops callee × AllWithin aliases loops args)
+        × Says aliases id (tree.ClosureCall body callee args)
     WithinIn aliases loops id (tree.Make adt variant fields) = FieldsWithin aliases loops fields
     WithinIn aliases loops id (tree.Tuple parts) = AllWithin aliases loops parts
     WithinIn aliases loops id (tree.Array elements) = AllWithin aliases loops elements
@@ -77,22 +91,24 @@ module _ (items : ItemTable) (May : Place → Type 0) where
     WithinIn aliases loops id (tree.DropValue operand) = Within aliases loops operand
     WithinIn aliases loops id (tree.Forget operand) = Within aliases loops operand
     WithinIn aliases loops id (tree.Borrow unique base) =
-        Reaching aliases loops base × (unique ≡ true → May ((shape items base).place aliases))
-    WithinIn aliases loops id (tree.Unsize trait_no operand) = Within aliases loops operand
+        (Reaching aliases loops base × (unique ≡ true → May ((shape items base).place aliases)))
+        × Says aliases id (tree.Borrow unique base)
+    WithinIn aliases loops id (tree.Unsize trait_no operand) = Loose operand × Within aliases loops operand
     WithinIn aliases loops id (tree.Block statements tail) =
-        AllWithin aliases loops statements × WithinIfAny aliases loops tail
+        AllWithin aliases loops statements × LooseIfAny aliases loops tail
     WithinIn aliases loops id (tree.Let pattern absent) = AllCells May ((shape items pattern).bindings (whole_local 0))
     WithinIn aliases loops id (tree.Let (node pid pat pty pby (tree.Binding name)) (present value)) =
-        Cell pid × Within aliases loops value
+        Cell pid × (Loose value × Within aliases loops value)
     WithinIn aliases loops id (tree.Let pattern (present value)) =
         Reaching aliases loops value
         × BoundsMay May ((shape items pattern).bindings ((shape items value).place aliases))
     WithinIn aliases loops id (tree.Evaluate expression) = Within aliases loops expression
     WithinIn aliases loops id (tree.If condition body otherwise) =
-        Within aliases loops condition × (Within aliases loops body × WithinIfAny aliases loops otherwise)
+        Within aliases loops condition
+        × ((Loose body × Within aliases loops body) × LooseIfAny aliases loops otherwise)
     WithinIn aliases loops id (tree.IfLet pattern scrutinee body otherwise) =
         (Reaching aliases loops scrutinee × Matches pattern ((shape items scrutinee).place aliases))
-        × (Within aliases loops body × WithinIfAny aliases loops otherwise)
+        × ((Loose body × Within aliases loops body) × LooseIfAny aliases loops otherwise)
     WithinIn aliases loops id (tree.Match scrutinee arms) =
         Reaching aliases loops scrutinee × ArmsWithin aliases loops ((shape items scrutinee).place aliases) arms
     WithinIn aliases loops id (tree.Loop body) = Within aliases (id ∷ loops) body
@@ -102,8 +118,8 @@ module _ (items : ItemTable) (May : Place → Type 0) where
         (Reaching aliases (id ∷ loops) scrutinee × Matches pattern ((shape items scrutinee).place aliases))
         × Within aliases (id ∷ loops) body
     WithinIn aliases loops id (tree.Break loop value) =
-        (is_among loop loops ≡ true) × WithinIfAny aliases loops value
-    WithinIn aliases loops id (tree.Return value) = WithinIfAny aliases loops value
+        (is_among loop loops ≡ true) × LooseIfAny aliases loops value
+    WithinIn aliases loops id (tree.Return value) = LooseIfAny aliases loops value
     WithinIn aliases loops id form = Unit {0}
 
     pub AllWithin : Aliases → List ℕ → Nodes → Type 0
@@ -119,6 +135,10 @@ module _ (items : ItemTable) (May : Place → Type 0) where
     WithinIfAny aliases loops absent = Unit {0}
     WithinIfAny aliases loops (present value) = Within aliases loops value
 
+    pub LooseIfAny : Aliases → List ℕ → MaybeNode → Type 0
+    LooseIfAny aliases loops absent = Unit {0}
+    LooseIfAny aliases loops (present value) = Loose value × Within aliases loops value
+
     pub ArmsWithin : Aliases → List ℕ → Place → Nodes → Type 0
     ArmsWithin aliases loops matched no_node = Unit {0}
     ArmsWithin aliases loops matched (a_node first rest) =
@@ -128,5 +148,5 @@ module _ (items : ItemTable) (May : Place → Type 0) where
     ArmWithin aliases loops matched (node id at ty by (tree.Arm pattern guard body)) =
         Matches pattern matched
         × (WithinIfAny (aliases_with ((shape items pattern).bindings matched) aliases) loops guard
-        × Within aliases loops body)
+        × (Loose body × Within aliases loops body))
     ArmWithin aliases loops matched other = Unit {0}

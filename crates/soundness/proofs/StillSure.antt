@@ -68,7 +68,7 @@ index_above key (ToElement i ∷ a) b h =
 
 -- ---- what is known of fewer facts
 
-kept_any : {A : Type 0} (test keep : A → Bool) (list : List A) → ((a : A) → test a ≡ true → keep a ≡ true) →
+pub kept_any : {A : Type 0} (test keep : A → Bool) (list : List A) → ((a : A) → test a ≡ true → keep a ≡ true) →
     list_any test list ≡ true → list_any test (filter keep list) ≡ true
 kept_any test keep [] f h = h
 kept_any {A} test keep (a ∷ list) f h = by (test a) refl (keep a) refl h (kept_any test keep list f)
