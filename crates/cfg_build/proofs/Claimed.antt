@@ -22,7 +22,7 @@ use Rattle.lower_laws.proofs.Whole.{graphs_are_well_formed}
 use Rattle.lower_laws.specs.Refused.{MeetsExactly, MeetsItsRefusals}
 use Rattle.lower_laws.proofs.Exact.{lowered-paths-meet-exactly, well_typed_rise}
 use Rattle.lower_laws.proofs.Law.{lowered-paths-meet}
-use Rattle.lower_ready.specs.Prepared.{IsPreparedButForReferences}
+use Rattle.lower_ready.specs.Prepared.{IsPreparedButForNamedStays}
 use Rattle.lower_ready.proofs.Prepared.{graphs_are_prepared}
 use Rattle.cfg_build.specs.Claims.{EachBody, HasOrderedEdges, HasScheduledDrops, IsSmall, RunsAsItsSource, WalksAsItRunsFreely}
 
@@ -80,8 +80,8 @@ module _ (program : ProgramTree) (graph : Graph) (same : graph ≡ graph_of prog
       (each (HasScheduledDrops program.items) program
       (λ n tree is. lowered_is_prepared program.items tree (well_typed_names_loops program typed n tree is)))
 
-  pub prepared : WellTyped program → IsLowerable program → IsPreparedButForReferences graph
-  prepared typed low = of_graph IsPreparedButForReferences (graphs_are_prepared program typed low)
+  pub prepared : WellTyped program → IsLowerable program → IsPreparedButForNamedStays graph
+  prepared typed low = of_graph IsPreparedButForNamedStays (graphs_are_prepared program typed low)
 
   pub formed : WellTyped program → IsLowerable program → IsWellFormed graph
   formed typed low = of_graph IsWellFormed (graphs_are_well_formed program typed low)

@@ -9,7 +9,7 @@ ghost use Rattle.well_typed.specs.Program.{WellTyped};
 ghost use Rattle.cfg_graph.specs.WellFormed.Faults.{IsCounted, IsCountedBody, IsWellFormed};
 ghost use Rattle.lower_laws.specs.Lowerable.{IsLowerable};
 ghost use Rattle.lower_laws.specs.Refused.{MeetsExactly, MeetsItsRefusals};
-ghost use Rattle.lower_ready.specs.Prepared.{IsPreparedButForReferences};
+ghost use Rattle.lower_ready.specs.Prepared.{IsPreparedButForNamedStays};
 ghost use Rattle.cfg_build.specs.Claims.{EachBody, HasOrderedEdges, HasScheduledDrops, IsSmall, RunsAsItsSource};
 ghost use Rattle.cfg_build.specs.Claims.{WalksAsItRunsFreely};
 
@@ -155,7 +155,7 @@ pub fn lower(alloc: Global, typed: &Typed) -> Result<Lowered, NoMemory>
     ensures drops { IfOk result (λ lowered. WellTyped (program_of typed.now) →
         EachBody (HasScheduledDrops typed.now.items) (program_of typed.now) lowered.graph) }
     ensures prepared { IfOk result (λ lowered. WellTyped (program_of typed.now) →
-        IsLowerable (program_of typed.now) → IsPreparedButForReferences lowered.graph) }
+        IsLowerable (program_of typed.now) → IsPreparedButForNamedStays lowered.graph) }
     ensures well_formed { IfOk result (λ lowered. WellTyped (program_of typed.now) →
         IsLowerable (program_of typed.now) → IsWellFormed lowered.graph) }
     ensures paths { IfOk result (λ lowered. WellTyped (program_of typed.now) →

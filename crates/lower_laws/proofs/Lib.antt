@@ -6,15 +6,15 @@ pub mod Items
 pub mod Bodies
 pub mod Whole
 mod Examples
-mod Base
-mod Rules
-mod Patterns
-mod Names
-mod Branches
+pub mod Base
+pub mod Rules
+pub mod Patterns
+pub mod Names
+pub mod Branches
 mod Fields
-mod MovedOut
-mod Forms
-mod LineCells
+pub mod MovedOut
+pub mod Forms
+pub mod LineCells
 pub mod Facts
 pub mod WholeLines
 pub mod AcceptedWhole

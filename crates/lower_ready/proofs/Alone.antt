@@ -1,5 +1,5 @@
 -- The types of a well typed program have `bool`, and references stand alone in them.
-use Rattle.std.proofs.Common.{◌≡◌, ℕ, zero, suc, ◌&&◌, ◌||◌, not, Bool, true, false, List, [], ◌∷◌, Option, Some, None, refl, sym, ap, ◌∙◌, arith}
+use Rattle.std.proofs.Common.{◌≡◌, ℕ, suc, ◌&&◌, ◌||◌, not, Bool, true, false, List, [], ◌∷◌, Option, Some, None, refl, sym, ap, ◌∙◌, arith}
 use Rattle.std.specs.Prelude.{Contains, is_some, option_and_then}
 use Rattle.std.specs.List.{list_any, list_all}
 use Rattle.cfg_graph.specs.Ready.{holds_no_reference}
@@ -13,10 +13,8 @@ use Rattle.mir_ty.specs.declared.ty.TyId.{TyId}
 use Rattle.mir_ty.specs.AreItems.{types_in}
 use Rattle.mir_ty.specs.ItemTable.{ItemTable, type_at}
 use Rattle.store_model.specs.Places.Place.{is_reference}
-use Rattle.typed_tree.specs.Tree.{ProgramTree}
 use Rattle.well_typed.specs.Claim.{Claim, Holds, ◌&◌, each, nothing}
 use Rattle.well_typed.specs.Items as of_items
-use Rattle.well_typed.specs.Program.{WellTyped}
 use Rattle.well_typed.specs.Types as types
 use Rattle.lower_ready.specs.Laws.{TypesHaveBool, ReferencesStandAlone}
 
@@ -74,7 +72,7 @@ all_numbered : {A : Type 0} (claim : ℕ → A → Claim) (test : A → Bool) (n
 all_numbered claim test n [] h k = refl
 all_numbered claim test n (x ∷ xs) h k = both (test x) _ (h n x k.0) (all_numbered claim test (suc n) xs h k.1)
 
-same_reference : (o : Option Ty) → is_some (option_and_then types.reference_in o) ≡ is_reference o
+pub same_reference : (o : Option Ty) → is_some (option_and_then types.reference_in o) ≡ is_reference o
 same_reference None = refl
 same_reference (Some (Ty.Shared to)) = refl
 same_reference (Some (Ty.Unique to)) = refl

@@ -10,9 +10,10 @@ use Rattle.lower_rules.specs.Lower.{body_of}
 use Rattle.lower_laws.specs.Lowerable.{IsLowerable}
 use Rattle.lower_laws.proofs.Whole.{graphs_are_well_formed, no_local_has_a_fault}
 use Rattle.lower_laws.proofs.WholeLines.{moves_are_well}
-use Rattle.lower_ready.specs.Laws.{FreeNothing, BeginOnce, MovesAreWell, DropsAreRefilled, GraphsArePreparedButForReferences}
-use Rattle.lower_ready.specs.Prepared.{IsPreparedBodyButForReferences}
+use Rattle.lower_ready.specs.Laws.{FreeNothing, BeginOnce, MovesAreWell, DropsAreRefilled, ReferencesAreWell, GraphsArePreparedButForNamedStays}
+use Rattle.lower_ready.specs.Prepared.{IsPreparedBodyButForNamedStays}
 use Rattle.lower_ready.proofs.Alone.{types_have_bool, references_are_alone}
+use Rattle.lower_ready.proofs.References.{references_are_well}
 
 pub they_free_nothing : FreeNothing
 they_free_nothing p w low n tree is = (lowered_is_prepared p.items tree (well_typed_names_loops p w n tree is)).0
@@ -26,26 +27,30 @@ drops_are_refilled p w low n tree is = (lowered_is_prepared p.items tree (well_t
 pub they_move_well : MovesAreWell
 they_move_well p w low n tree is = moves_are_well p w n tree is (no_local_has_a_fault p w low n tree is)
 
+pub they_hold_references_well : ReferencesAreWell
+they_hold_references_well p w low n tree is = references_are_well p w n tree is (no_local_has_a_fault p w low n tree is)
+
 -- ---- the graph
 from_mapped : {X Y : Type 0} (f : X → Y) (xs : List X) (n : ℕ) (y : Y) → slice_get (map f xs) n ≡ Some y → (x : X) × (slice_get xs n ≡ Some x) × (f x ≡ y)
 from_mapped f [] n y e = absurd (none-some y e)
 from_mapped f (x ∷ xs) zero y e = (x, refl, same_Some (f x) y e)
 from_mapped f (x ∷ xs) (suc n) y e = from_mapped f xs n y e
 
-one_prepared : (p : ProgramTree) → WellTyped p → IsLowerable p → (n : ℕ) (tree : BodyTree) → slice_get p.bodies n ≡ Some tree → IsPreparedBodyButForReferences p.items (body_of p.items tree)
+one_prepared : (p : ProgramTree) → WellTyped p → IsLowerable p → (n : ℕ) (tree : BodyTree) → slice_get p.bodies n ≡ Some tree → IsPreparedBodyButForNamedStays p.items (body_of p.items tree)
 one_prepared p w low n tree is = record {
   no_free = they_free_nothing p w low n tree is;
   one_beginning = they_begin_once p w low n tree is;
   moves = they_move_well p w low n tree is;
   drops = drops_are_refilled p w low n tree is;
+  references = they_hold_references_well p w low n tree is;
 }
 
-pub graphs_are_prepared : GraphsArePreparedButForReferences
+pub graphs_are_prepared : GraphsArePreparedButForNamedStays
 graphs_are_prepared p w low = record {
   well_formed = graphs_are_well_formed p w low;
   has_bool = types_have_bool p w;
   alone = references_are_alone p w;
   prepared = λ n body is.
       let tree = from_mapped (body_of p.items) p.bodies n body is in
-      subst (λ (b : Body). IsPreparedBodyButForReferences p.items b) tree.2 (one_prepared p w low n tree.0 tree.1);
+      subst (λ (b : Body). IsPreparedBodyButForNamedStays p.items b) tree.2 (one_prepared p w low n tree.0 tree.1);
 }

@@ -2,14 +2,14 @@
 -- well typed and lowerable.
 use Rattle.std.specs.Prelude.{◌≡◌, ℕ, true, Some, slice_get, Contains}
 use Rattle.cfg_graph.specs.declared.graph.Body.{Body}
-use Rattle.cfg_graph.specs.Ready.{begins_once, frees_nothing, moves_well, references_stand_alone, refills_dropped}
+use Rattle.cfg_graph.specs.Ready.{begins_once, frees_nothing, moves_well, references_in_locals, references_stand_alone, refills_dropped}
 use Rattle.mir_ty.specs.declared.ty.Ty.{Ty}
 use Rattle.mir_ty.specs.ItemTable.{ItemTable}
 use Rattle.typed_tree.specs.Tree.{BodyTree, ProgramTree}
 use Rattle.well_typed.specs.Program.{WellTyped}
 use Rattle.lower_laws.specs.Lowerable.{IsLowerable}
 use Rattle.lower_rules.specs.Lower.{body_of, graph_of}
-use Rattle.lower_ready.specs.Prepared.{IsPreparedButForReferences}
+use Rattle.lower_ready.specs.Prepared.{IsPreparedButForNamedStays}
 
 -- something holds of each raw body of such a program, among its items
 abbrev pub OfEachBody : (ItemTable → Body → Type 0) → Type 0
@@ -41,7 +41,12 @@ MovesAreWell = OfEachBody (λ items body. moves_well items body ≡ true)
 abbrev pub DropsAreRefilled : Type 0
 DropsAreRefilled = OfEachBody (λ items body. refills_dropped items body ≡ true)
 
--- so the graph of such a program is prepared, but for references
-abbrev pub GraphsArePreparedButForReferences : Type 0
-GraphsArePreparedButForReferences =
-    (p : ProgramTree) → WellTyped p → IsLowerable p → IsPreparedButForReferences (graph_of p)
+-- a local of a reference type is a parameter, which is not stored into, or one whose reference is made by one statement
+-- and by nothing else, or one that no line names
+abbrev pub ReferencesAreWell : Type 0
+ReferencesAreWell = OfEachBody (λ items body. references_in_locals items body ≡ true)
+
+-- so the graph of such a program is prepared, but for what references name
+abbrev pub GraphsArePreparedButForNamedStays : Type 0
+GraphsArePreparedButForNamedStays =
+    (p : ProgramTree) → WellTyped p → IsLowerable p → IsPreparedButForNamedStays (graph_of p)

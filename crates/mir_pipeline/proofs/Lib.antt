@@ -1,4 +1,5 @@
 pub mod Accepted
+pub mod ExactDrops
 pub mod Fewer
 pub mod Finding
 pub mod FirstBad

@@ -1,5 +1,5 @@
 -- The typed program of a text is well typed, so its jumps name loops around them, the numbers of its nodes rise, and its
--- graph has no fault and is, but for references, prepared for drop elaboration.
+-- graph has no fault and is, but for what references name, prepared for drop elaboration.
 use Rattle.std.proofs.Common.{ℕ, List, Result, Ok, Err, IfOk}
 use Rattle.lower_laws.proofs.AcceptedWhole.{are_lowerable, accepted_graphs_are_well_formed}
 use Rattle.lower_ready.proofs.Prepared.{graphs_are_prepared}

@@ -19,7 +19,7 @@ use Rattle.lower_laws.proofs.Exact.{lowered-paths-meet-exactly}
 use Rattle.lower_laws.specs.Told as told
 use Rattle.lower_laws.specs.Told.{LineOfBody, has_site}
 use Rattle.lower_laws.proofs.UseLaw.{lowered_uses_have_sites}
-use Rattle.lower_ready.specs.Prepared.{IsPreparedButForReferences}
+use Rattle.lower_ready.specs.Prepared.{IsPreparedButForNamedStays}
 use Rattle.lower_rules.proofs.FormSizes.{lowered_is_small}
 use Rattle.move_errors.specs.Refusal.{named_use}
 use Rattle.move_errors.specs.declared.errors.BadUse.{BadUse}
@@ -107,7 +107,7 @@ is_graph program (named, rises, well_formed, prepared) same made listed counted 
       graph = made;
       sites = listed;
       well_formed = subst IsWellFormed (sym made) well_formed;
-      prepared = subst IsPreparedButForReferences (sym made) prepared;
+      prepared = subst IsPreparedButForNamedStays (sym made) prepared;
       small = subst (EachBody IsSmall program) (sym made) (each IsSmall program (λ n tree there. lowered_is_small program.items tree));
       counted = counted;
       values = subst (RunsAsItsSource program) (sym made) (lowered_runs_as_its_source program named);

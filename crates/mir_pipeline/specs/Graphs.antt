@@ -13,7 +13,7 @@ use Rattle.cfg_graph.specs.WellFormed.Faults.{IsCounted, IsWellFormed}
 use Rattle.cfg_build.specs.Claims.{EachBody, IsSmall, RunsAsItsSource, WalksAsItRunsFreely}
 use Rattle.cfg_build.specs.declared.programs.Lowered.{Lowered}
 use Rattle.lower_laws.specs.Refused.{ruled_by, MeetsExactly}
-use Rattle.lower_ready.specs.Prepared.{IsPreparedButForReferences}
+use Rattle.lower_ready.specs.Prepared.{IsPreparedButForNamedStays}
 use Rattle.move_errors.specs.Refusal.{IsRefused}
 use Rattle.move_errors.specs.declared.errors.BadUse.{BadUse}
 use Rattle.move_paths.specs.declared.uses.Use.{Use}
@@ -69,15 +69,15 @@ abbrev pub AreSited : Lowered → Type 0
 AreSited lowered =
     (rule : UseRule) (bad : BadUse) → IsFirstBad lowered.graph rule bad → is_some (site_of lowered bad) ≡ true
 
--- The raw graph of a program, with the sites of its uses. It is well formed and, but for references, prepared for drop
--- elaboration; its lists are short, and a body has few blocks for the nodes of its source. It runs as the program does,
+-- The raw graph of a program, with the sites of its uses. It is well formed and, but for what references name, prepared
+-- for drop elaboration; its lists are short, and a body has few blocks for the nodes of its source. It runs as the program does,
 -- up to the place where both are stuck; each body walks as it runs freely, its paths meet exactly the refused uses of
 -- its free runs, and each bad use has a site.
 pub record IsGraphOf (program : ProgramTree) (lowered : Lowered) : Type 0 where
   pub graph : lowered.graph ≡ graph_of program
   pub sites : lowered.sites ≡ program_sites program
   pub well_formed : IsWellFormed lowered.graph
-  pub prepared : IsPreparedButForReferences lowered.graph
+  pub prepared : IsPreparedButForNamedStays lowered.graph
   pub small : EachBody IsSmall program lowered.graph
   pub counted : IsCounted lowered.graph
   pub values : RunsAsItsSource program lowered.graph

@@ -1,4 +1,5 @@
 pub mod Building
+pub mod Built
 pub mod Graphs
 pub mod Programs
 pub mod Trees

@@ -1,5 +1,5 @@
 use Rattle.lower_ready.proofs.Alone.{types_have_bool, references_are_alone}
-use Rattle.lower_ready.proofs.Prepared.{they_free_nothing, they_begin_once, they_move_well, drops_are_refilled, graphs_are_prepared}
+use Rattle.lower_ready.proofs.Prepared.{they_free_nothing, they_begin_once, they_move_well, drops_are_refilled, they_hold_references_well, graphs_are_prepared}
 use Rattle.lower_ready.proofs.laws.law_of_prepared_graphs.Goals as goal
 
 pub returns : goal.returns
@@ -10,5 +10,6 @@ returns c = record {
   one_beginning = they_begin_once;
   moves = they_move_well;
   drops = drops_are_refilled;
+  references = they_hold_references_well;
   graphs = graphs_are_prepared;
 }

@@ -1,0 +1,31 @@
+//! The graph with exact drops of a text.
+ghost use Rattle.std.specs.Prelude.{◌<◌, ◌-◌, ◌^◌, IfOk, IfErr, length};
+ghost use Rattle.mir_pipeline.specs.Built.{IsBuiltOf};
+ghost use Rattle.mir_pipeline.specs.Graphs.{IsNotAccepted};
+
+use crate::refusal::Refusal;
+use crate::uses::checked;
+use drop_graphs::{Elaborated, elaborate};
+use mir_base::NoMemory;
+use std::alloc::Global;
+
+/// The graph with exact drops of an accepted text of at most 4,294,967,294 bytes, and how many drops of its raw graph are
+/// of each kind. It is well formed, and by strict steps it runs as the program does, wherever that is not stuck; in the
+/// raw graph what a reference names has to stay while it is used.
+///
+/// # Errors
+///
+/// As [`checked`]: it refuses what `checked` refuses, and for the same reason.
+pub fn build(alloc: Global, text: &[u8]) -> Result<Elaborated, Refusal>
+    requires { length text.now < 2 ^ 32 - 1 }
+    ensures built { IfOk result (λ done. IsBuiltOf text.now done) }
+    ensures refused { IfErr result (λ refusal. IsNotAccepted text.now refusal) }
+{
+    let lowered = checked(alloc, text)?;
+    let done = elaborate(alloc, &lowered.graph);
+    lowered.discard();
+    match done {
+        Ok(done) => Ok(done),
+        Err(NoMemory) => Err(Refusal::Memory),
+    }
+}
