@@ -96,6 +96,13 @@ pub mod PassBorrowApart
 pub mod PassBorrowKnown
 pub mod PassBranches
 pub mod PassCallsAlone
+pub mod PassAloneRun
+pub mod PassAloneArgs
+pub mod PassAloneBrings
+pub mod PassAloneLeft
+pub mod PassAloneFrame
+pub mod PassAloneLeaves
+pub mod PassAloneSteps
 pub mod PassCellActs
 pub mod PassCellChoices
 pub mod PassCellCopies
@@ -140,6 +147,7 @@ pub mod PassFrameBodies
 pub mod PassFrameCells
 pub mod PassFrameFacts
 pub mod PassFrameForms
+pub mod PassFrameCalls
 pub mod PassFrameRuns
 pub mod PassFree
 pub mod PassFreeAgain
@@ -219,6 +227,7 @@ pub mod PassTold
 pub mod PassConflicts
 pub mod PassPlacesApart
 pub mod PassArgsLeft
+pub mod PassStays
 pub mod PassToldAliases
 pub mod PassToldForms
 pub mod PassToldParts

@@ -39,7 +39,7 @@ find_none {A = A} test keep (a ∷ list) e = by (test a) (keep a) refl e (find_n
     by false true k e later = ap (λ b. if b then Some a else find test (filter keep list)) k ∙ later e
     by false false k e later = later e
 
-found_local : (local : ℕ) (list : List Naming) (n : Naming) → find (λ (x : Naming). x.local == local) list ≡ Some n →
+pub found_local : (local : ℕ) (list : List Naming) (n : Naming) → find (λ (x : Naming). x.local == local) list ≡ Some n →
     (n.local == local) ≡ true
 found_local local [] n e = absurd (none-some n e)
 found_local local (x ∷ list) n e = by (x.local == local) refl e (found_local local list n)
@@ -247,7 +247,7 @@ module _ (items : ItemTable) (local_ty : ℕ → Option TyId) (is_target : ℕ �
         later [] f = tt
         later (l ∷ ls) f = (f.0.1, later ls f.1)
 
-    named_left : (at_node : ℕ) (facts : Facts) (ls : List ℕ) (os : List (Option Naming)) → Distinct ls →
+    pub named_left : (at_node : ℕ) (facts : Facts) (ls : List ℕ) (os : List (Option Naming)) → Distinct ls →
         AllOff ls os → AllNames facts ls os →
         checks.named_by_all items local_ty is_target facts (args_in at_node ls) ≡ named_of os
     named_left at_node facts [] [] d f n = refl

@@ -113,7 +113,7 @@ carry_apart true false true true true = λ same. other 8 7 refl same
 carry_apart false false true true true = λ same. other 8 7 refl same
 
 -- what it means that an effect has the last mark
-eight : (more own others places apart : Bool) → alone_mark more own others places apart ≡ Some 8 →
+pub eight : (more own others places apart : Bool) → alone_mark more own others places apart ≡ Some 8 →
     (apart ≡ true) × (split_mark own own others places ≡ Some 6)
 eight true true others places apart e = absurd (let never : ⊥ = cc in never)
 eight false true others places apart e = other 6 8 refl (same_Some 6 8 e)
@@ -227,7 +227,7 @@ module _ (items : ItemTable) (body : BodyTree) (also : Also) where
       (now_so facts w.cells action facts.refilled (calls_so facts w.cells action k.0 h)) k.1
 
 module _ (p : ProgramTree) (sound : IsSound p) where
-  abbrev also : ℕ → Also
+  abbrev pub also : ℕ → Also
   also = protect_tests p.items (protected p)
 
   -- no run fails by a call

@@ -53,7 +53,7 @@ module _ {V : Type 0} (items : ItemTable) (q : Effects V) (over : Halt → V →
   pub at_exit : (exit : Exit) → Keeps (At exit)
   at_exit exit = record { kept = λ k S v f i. (f, i) }
 
-  on_kept : (k : ℕ) (r : Run V) (next : Does V) → KeptAt k r → Keeps next → KeptAt k (on_value r next)
+  pub on_kept : (k : ℕ) (r : Run V) (next : Does V) → KeptAt k r → Keeps next → KeptAt k (on_value r next)
   on_kept k (At Value S v) next h n = n.kept k S v h.0 h.1
   on_kept k (At (Breaks loop) S v) next h n = h
   on_kept k (At (Continues loop) S v) next h n = h
@@ -65,7 +65,7 @@ module _ {V : Type 0} (items : ItemTable) (q : Effects V) (over : Halt → V →
   one_then one other f g =
       record { kept = λ k S v fine i. on_kept k (one S v) other (f.kept k S v fine i) g }
 
-  in_scopes_kept : (k : ℕ) (S : Scopes) (o : Out V) → Fine S k → ShownOut over I I o → KeptAt k (in_scopes S o)
+  pub in_scopes_kept : (k : ℕ) (S : Scopes) (o : Out V) → Fine S k → ShownOut over I I o → KeptAt k (in_scopes S o)
   in_scopes_kept k S (Go v) f h = (f, h)
   in_scopes_kept k S (Unwind v) f h = (f, h)
   in_scopes_kept k S (Halts halt v) f h = h
@@ -125,7 +125,7 @@ module _ {V : Type 0} (items : ItemTable) (q : Effects V) (over : Halt → V →
   completed : (e : Entry) → Droppable e → KeepsScope (becomes_entry e)
   completed e d s f = ((d, f.0), all_without Droppable e.key s.pending f.1)
 
-  untaken : (keys : List ℕ) → KeepsScope (without_operands keys)
+  pub untaken : (keys : List ℕ) → KeepsScope (without_operands keys)
   untaken keys s f = (all_without_keys Droppable keys s.entries f.0, f.1)
 
   pub changes_kept : (change : Scopes → Scopes) → ((S : Scopes) (k : ℕ) → Fine S k → Fine (change S) k) →
@@ -143,7 +143,7 @@ module _ {V : Type 0} (items : ItemTable) (q : Effects V) (over : Halt → V →
   complete_kept in_that h c d =
       changes_kept (in_that (becomes_entry (entry_of h))) (c (becomes_entry (entry_of h)) (completed (entry_of h) d))
 
-  take_kept : (keys : List ℕ) → Keeps (forms.take items q keys)
+  pub take_kept : (keys : List ℕ) → Keeps (forms.take items q keys)
   take_kept keys =
       changes_kept (innermost (without_operands keys)) (fine_innermost (without_operands keys) (untaken keys))
 
@@ -373,7 +373,7 @@ module _ {V : Type 0} (items : ItemTable) (q : Effects V) (over : Halt → V →
   operand_kept around m e = one_then _ _ (pending_kept m.shape.in_destination innermost m.head fine_innermost e.1)
       (one_then _ _ e.0 (complete_kept innermost m.head fine_innermost e.1))
 
-  operands_kept : (around : LoopsAndGuards) (ms : List (Meaning V)) → AllEvaluated around ms →
+  pub operands_kept : (around : LoopsAndGuards) (ms : List (Meaning V)) → AllEvaluated around ms →
       Keeps (forms.operands items q around ms)
   operands_kept around [] e = at_exit Value
   operands_kept around (m ∷ ms) e = one_then _ _ (operand_kept around m e.0) (operands_kept around ms e.1)

@@ -19,7 +19,7 @@ use Rattle.soundness.proofs.Leaving.{ShownOut}
 use Rattle.soundness.proofs.PassFrame as frame
 use Rattle.soundness.proofs.PassFrameActs.{Takes, BoundsMay, KeepingSo}
 use Rattle.soundness.proofs.PassFrameForms as forms
-use Rattle.soundness.proofs.PassFrameForms.{Telling}
+use Rattle.soundness.proofs.PassFrameForms.{Saying}
 use Rattle.soundness.proofs.PassWithin.{Around, Within, is_among}
 
 -- every place may be changed
@@ -39,7 +39,8 @@ any_bounds (b ∷ bounds) = ((tt, any_taken (operand_of_bound b)), any_bounds bo
 
 module _ {V : Type 0} (items : ItemTable) (q : Effects V) (over : Halt → V → Type 0) (Does_ : Action → Type 0)
     (Drops : EffectSite → Type 0) (I : V → Type 0) (keeping : KeepingSo q over Does_ Drops any_place I)
-    (Says : Aliases → ℕ → Form → Type 0) (telling : Telling items Does_ Drops Says) (fuel : ℕ)
+    (Says : Aliases → ℕ → Form → Type 0) (fuel : ℕ) (telling : Saying items Does_ Drops Says)
+    (at_calls : forms.AtCalls items q over Does_ Drops any_place I keeping Says fuel)
     (gives : (site : EffectSite) (v : V) → I v → ShownOut over I I (q.give site v)) where
   abbrev Keeps : Does V → Type 0
   Keeps = frame.Keeps items q over Does_ Drops any_place I keeping
@@ -99,10 +100,21 @@ module _ {V : Type 0} (items : ItemTable) (q : Effects V) (over : Halt → V →
     entire_kept : Keeps (entire_function items q fuel body)
     entire_kept = frame.in_scope_kept items q over Does_ Drops any_place I keeping (answer_key body) true _
         (frame.one_then items q over Does_ Drops any_place I keeping _ _ (params_kept body.params)
-        (forms.evaluated items q over Does_ Drops any_place I keeping Says telling fuel body.block
+        (forms.evaluated items q over Does_ Drops any_place I keeping Says fuel telling at_calls body.block
         (around_body items q fuel body) [] (around_any (around_body items q fuel body)) within false
         (Into (answer_key body)) (tt, λ b. refl)))
 
-    pub body_kept : (v : V) → I v → ShownOut over I I (activation items q fuel body v)
-    body_kept v i = ended (answer_key body) (entire_function items q fuel body (answer_scope items q fuel body) v)
+    pub body_kept_by : (v : V) → I v → ShownOut over I I (activation items q fuel body v)
+    body_kept_by v i = ended (answer_key body) (entire_function items q fuel body (answer_scope items q fuel body) v)
         (entire_kept.kept 0 (answer_scope items q fuel body) v (none_looked_at (answer_scope items q fuel body)) i)
+
+-- the same, of calls by what the text tells alone
+pub body_kept : {V : Type 0} (items : ItemTable) (q : Effects V) (over : Halt → V → Type 0) (Does_ : Action → Type 0)
+    (Drops : EffectSite → Type 0) (I : V → Type 0) (keeping : KeepingSo q over Does_ Drops any_place I)
+    (Says : Aliases → ℕ → Form → Type 0) (telling : forms.Telling items Does_ Drops Says) (fuel : ℕ)
+    (gives : (site : EffectSite) (v : V) → I v → ShownOut over I I (q.give site v)) (body : BodyTree) →
+    Within items any_place Says [] [] body.block → (v : V) → I v →
+    ShownOut over I I (activation items q fuel body v)
+body_kept items q over Does_ Drops I keeping Says telling fuel gives body within v i =
+    body_kept_by items q over Does_ Drops I keeping Says fuel (forms.saying_of items Does_ Drops Says telling)
+    (forms.by_telling items q over Does_ Drops any_place I keeping Says fuel telling) gives body within v i

@@ -21,7 +21,7 @@ use Rattle.soundness.proofs.Steps.{step_same}
 
 -- ---- lists of which some are left out
 
-any_kept : {A : Type 0} (test keep : A → Bool) (list : List A) → ((a : A) → test a ≡ true → keep a ≡ true) →
+pub any_kept : {A : Type 0} (test keep : A → Bool) (list : List A) → ((a : A) → test a ≡ true → keep a ≡ true) →
     list_any test list ≡ true → list_any test (filter keep list) ≡ true
 any_kept test keep [] f h = h
 any_kept {A = A} test keep (a ∷ list) f h = by (test a) (keep a) refl refl h (any_kept test keep list f)

@@ -56,10 +56,33 @@ pub record Telling (items : ItemTable) (Does_ : Action → Type 0) (Drops : Effe
       Says aliases id (tree.ClosureCall body callee args) →
       Does_ (effects.Call (site_in id key) body (moved_nodes id (a_node callee args)))
 
+-- so much of borrows and assignments alone
+pub record Saying (items : ItemTable) (Does_ : Action → Type 0) (Drops : EffectSite → Type 0)
+    (Says : Aliases → ℕ → Form → Type 0) : Type 0 where
+  pub borrows : (aliases : Aliases) (id : ℕ) (unique : Bool) (base : Node) →
+      Says aliases id (tree.Borrow unique base) →
+      Does_ (effects.Borrow (site_in (number_of base) id) unique (node_site items aliases base))
+  pub assigns : (aliases : Aliases) (id : ℕ) (place value : Node) → Says aliases id (tree.Assign place value) →
+      Drops (node_site items aliases place)
+
+pub saying_of : (items : ItemTable) (Does_ : Action → Type 0) (Drops : EffectSite → Type 0)
+    (Says : Aliases → ℕ → Form → Type 0) → Telling items Does_ Drops Says → Saying items Does_ Drops Says
+saying_of items Does_ Drops Says telling = record { borrows = telling.borrows; assigns = telling.assigns }
+
+-- a form that calls, its arguments and the action
+pub data Calls : Form → Nodes → (EffectSite → List Operand → Action) → Type 0 where
+  a_call : (body : ℕ) (args : Nodes) → Calls (tree.Call body args) args (λ site. effects.Call site body)
+  a_method : (body : ℕ) (receiver : Node) (args : Nodes) →
+      Calls (tree.MethodCall body receiver args) (a_node receiver args) (λ site. effects.Call site body)
+  a_virtual : (trait_no method : ℕ) (receiver : Node) (args : Nodes) →
+      Calls (tree.VirtualCall trait_no method receiver args) (a_node receiver args)
+      (λ site. effects.CallVirtual site trait_no method)
+  a_closure : (body : ℕ) (callee : Node) (args : Nodes) →
+      Calls (tree.ClosureCall body callee args) (a_node callee args) (λ site. effects.Call site body)
+
 module _ {V : Type 0} (items : ItemTable) (q : Effects V) (over : Halt → V → Type 0) (Does_ : Action → Type 0)
     (Drops : EffectSite → Type 0) (May : Place → Type 0) (I : V → Type 0)
-    (keeping : KeepingSo q over Does_ Drops May I) (Says : Aliases → ℕ → Form → Type 0)
-    (telling : Telling items Does_ Drops Says) (fuel : ℕ) where
+    (keeping : KeepingSo q over Does_ Drops May I) (Says : Aliases → ℕ → Form → Type 0) (fuel : ℕ) where
   abbrev M : Node → Meaning V
   M = meaning items q fuel
 
@@ -115,7 +138,7 @@ module _ {V : Type 0} (items : ItemTable) (q : Effects V) (over : Halt → V →
       ∙ ap (λ (s : Shape). record { node = number_of n; place = s.place around.aliases })
       (heads.shape_is items q fuel n)
 
-  all_by_number : (at_node : ℕ) (ns : Nodes) → all_moved at_node (Ms ns) ≡ moved_nodes at_node ns
+  pub all_by_number : (at_node : ℕ) (ns : Nodes) → all_moved at_node (Ms ns) ≡ moved_nodes at_node ns
   all_by_number at_node no_node = refl
   all_by_number at_node (a_node first rest) =
       ap (λ k. moved at_node k ∷ all_moved at_node (Ms rest)) (heads.number_is items q fuel first)
@@ -130,11 +153,6 @@ module _ {V : Type 0} (items : ItemTable) (q : Effects V) (over : Halt → V →
       (subst (λ site. Does_ (effects.Borrow (site_in (number_of base) key) unique site))
       (sym (node_site_of base around)) d)
 
-  assigned : (id : ℕ) (place value : Node) (around : LoopsAndGuards) →
-      Says around.aliases id (tree.Assign place value) → Drops (site_of (M place) around)
-  assigned id place value around s =
-      subst Drops (sym (node_site_of place around)) (telling.assigns around.aliases id place value s)
-
   called : (at_node : ℕ) (ns : Nodes) (action : List Operand → Action) → Does_ (action (moved_nodes at_node ns)) →
       Does_ (action (all_moved at_node (Ms ns)))
   called at_node ns action d = subst (λ l. Does_ (action l)) (sym (all_by_number at_node ns)) d
@@ -143,7 +161,7 @@ module _ {V : Type 0} (items : ItemTable) (q : Effects V) (over : Halt → V →
   own_key true id to e = refl
   own_key false id to e = e
 
-  own_dest : (b : Bool) (id : ℕ) (to : Destination) → Cell id → DestCell May to → DestCell May (to_own_key b id to)
+  pub own_dest : (b : Bool) (id : ℕ) (to : Destination) → Cell id → DestCell May to → DestCell May (to_own_key b id to)
   own_dest true id to c d = c
   own_dest false id to c d = d
 
@@ -189,7 +207,7 @@ module _ {V : Type 0} (items : ItemTable) (q : Effects V) (over : Halt → V →
 
   -- ---- operands
 
-  all_taken : (at_node : ℕ) (around : LoopsAndGuards) (ms : List (Meaning V)) →
+  pub all_taken : (at_node : ℕ) (around : LoopsAndGuards) (ms : List (Meaning V)) →
       frame.AllEvaluated items q over Does_ Drops May I keeping around ms → AllTake May (all_moved at_node ms)
   all_taken at_node around [] e = tt
   all_taken at_node around (m ∷ ms) e = (e.0.1, all_taken at_node around ms e.1)
@@ -296,7 +314,7 @@ module _ {V : Type 0} (items : ItemTable) (q : Effects V) (over : Halt → V →
   Evaluates n around = (own : Bool) (to : Destination) → Goes n to → Keeps ((M n).evaluate around own to)
 
   -- one whose value is made in a cell of its own
-  operand_from : (n : Node) (around : LoopsAndGuards) (loops : List ℕ) → Within around.aliases loops n →
+  pub operand_from : (n : Node) (around : LoopsAndGuards) (loops : List ℕ) → Within around.aliases loops n →
       Evaluates n around → frame.Evaluated items q over Does_ Drops May I keeping around (M n)
   operand_from n around loops w e =
       let c = within_cell n around.aliases loops w in (e false (Into (M n).head.id) (own_goes n c), c)
@@ -345,401 +363,436 @@ module _ {V : Type 0} (items : ItemTable) (q : Effects V) (over : Halt → V →
       delivered_kept (head id ty by) s ms (λ site. action site (all_moved id ms)) around own to e
       (λ key x. (d key x (all_taken id around ms e), does key)) c k
 
-  let_from : (form : Form) (pid : ℕ) (pat : Pos) (pty : TyId) (pby : Option Use) (value : Node) (id : ℕ) (ty : TyId)
-      (by : Option Use) (around : LoopsAndGuards) (loops : List ℕ) →
-      WithinIn around.aliases loops id (tree.Let (node pid pat pty pby form) (present value)) →
-      (Within around.aliases loops value → Evaluates value around) →
-      (Reaching around.aliases loops value → Keeps ((M value).reach around)) →
-      Keeps (forms.letting items q (head id ty by) (M (node pid pat pty pby form)) (Some (M value)) around)
-  let_from (tree.Binding name) pid pat pty pby value id ty by around loops w e r =
-      frame.let_name_kept items q over Does_ Drops May I keeping (head id ty by) (head pid pty pby) (M value) around
-      (e w.1.1 false (Into pid) (loose_goes value (Into pid) w.1.0 w.0)) w.0
-  let_from form pid pat pty pby value id ty by around loops w e r =
-      frame.let_parts_kept items q over Does_ Drops May I keeping (head id ty by) (M (node pid pat pty pby form))
-      (M value) around
-      (r w.0) (reaching_cell value around.aliases loops w.0) (bound_with (node pid pat pty pby form) value around w.1)
+  -- what is known of each form that calls, once its arguments keep it
+  pub record AtCalls : Type 0 where
+    pub called_kept : (form : Form) (ns : Nodes) (action : EffectSite → List Operand → Action) → Calls form ns action →
+        (id : ℕ) (ty : TyId) (by : Option Use) (s : Shape) (around : LoopsAndGuards) (loops : List ℕ) →
+        Around around loops → within.AllWithin items May Says around.aliases loops ns → Says around.aliases id form →
+        frame.AllEvaluated items q over Does_ Drops May I keeping around (Ms ns) → Cell id → (own : Bool)
+        (to : Destination) → DestCell May to →
+        Keeps ((evaluation.on_all items q fuel (head id ty by) s (Ms ns) action).evaluate around own to)
 
-  -- ---- the forms
+  pub called_allowed : (form : Form) (ns : Nodes) (action : EffectSite → List Operand → Action) → Calls form ns action →
+      (id key : ℕ) (args : List Operand) → Cell key → AllTake May args → Allowed May (action (site_in id key) args)
+  called_allowed _ _ _ (a_call body args) id key operands c t = (c, t)
+  called_allowed _ _ _ (a_method body receiver args) id key operands c t = (c, t)
+  called_allowed _ _ _ (a_virtual trait_no method receiver args) id key operands c t = (c, t)
+  called_allowed _ _ _ (a_closure body callee args) id key operands c t = (c, t)
 
-  mutual
-    pub evaluated : (n : Node) (around : LoopsAndGuards) (loops : List ℕ) → Around around loops →
-        Within around.aliases loops n → (own : Bool) (to : Destination) → Goes n to →
-        Keeps ((M n).evaluate around own to)
-    evaluated (node id at ty by form) around loops a w own to d =
-        form_kept form id ty by around loops a w.0 w.1.0 w.1.1 own to d.0 d.1
+  told_of : Telling items Does_ Drops Says → (form : Form) (ns : Nodes)
+      (action : EffectSite → List Operand → Action) → Calls form ns action → (aliases : Aliases) (id key : ℕ) →
+      Says aliases id form → Does_ (action (site_in id key) (moved_nodes id ns))
+  told_of telling _ _ _ (a_call body args) aliases id key s = telling.calls aliases id key body args s
+  told_of telling _ _ _ (a_method body receiver args) aliases id key s =
+      telling.methods aliases id key body receiver args s
+  told_of telling _ _ _ (a_virtual trait_no method receiver args) aliases id key s =
+      telling.virtuals aliases id key trait_no method receiver args s
+  told_of telling _ _ _ (a_closure body callee args) aliases id key s =
+      telling.closures aliases id key body callee args s
 
-    pub reached : (n : Node) (around : LoopsAndGuards) (loops : List ℕ) → Around around loops →
-        Reaching around.aliases loops n → Keeps ((M n).reach around)
-    reached (node id at ty by form) around loops a w =
-        by_place form id at ty by around w.0 (is_place_form form) refl
-        (λ p. place_reached form id ty by around loops a w.1 p)
-        (λ u to d. form_kept form id ty by around loops a w.0 u w.1 false to d.0 d.1)
+  -- by what the text tells of calls alone
+  pub by_telling : Telling items Does_ Drops Says → AtCalls
+  by_telling telling = record {
+    called_kept = λ form ns action c id ty by s around loops a w says e own_cell own to d.
+        on_all id ty by s (Ms ns) action around own to e
+        (λ key x t. called_allowed form ns action c id key (all_moved id (Ms ns)) x t)
+        (λ key. called id ns (action (site_in id key))
+        (told_of telling form ns action c around.aliases id key says)) own_cell d;
+  }
 
-    place_reached : (form : Form) (id : ℕ) (ty : TyId) (by : Option Use) (around : LoopsAndGuards) (loops : List ℕ) →
-        Around around loops → WithinIn around.aliases loops id form → is_place_form form ≡ true →
-        Keeps ((Of form id ty by).reach around)
-    place_reached (tree.Variable key) id ty by around loops a w p =
-        frame.at_exit items q over Does_ Drops May I keeping Value
-    place_reached (tree.Captured closure part name) id ty by around loops a w p =
-        frame.at_exit items q over Does_ Drops May I keeping Value
-    place_reached (tree.Field base part) id ty by around loops a w p = reached base around loops a w
-    place_reached (tree.Index base index length) id ty by around loops a w p =
-        frame.element_kept items q over Does_ Drops May I keeping (head id ty by)
-        (shape_of items (tree.Index base index length) (head id ty by)) (M base) (M index) length around
-        (reached base around loops a w.0) (operand_from index around loops w.1 (evaluated index around loops a w.1)).0
-    place_reached (tree.Deref base) id ty by around loops a w p = reached base around loops a w
-    place_reached form id ty by around loops a w p = absurd (false≢true p)
+  module _ (telling : Saying items Does_ Drops Says) (at_calls : AtCalls) where
+    assigned : (id : ℕ) (place value : Node) (around : LoopsAndGuards) →
+        Says around.aliases id (tree.Assign place value) → Drops (site_of (M place) around)
+    assigned id place value around s =
+        subst Drops (sym (node_site_of place around)) (telling.assigns around.aliases id place value s)
 
-    operands : (ns : Nodes) (around : LoopsAndGuards) (loops : List ℕ) → Around around loops →
-        within.AllWithin items May Says around.aliases loops ns →
-        frame.AllEvaluated items q over Does_ Drops May I keeping around (Ms ns)
-    operands no_node around loops a w = tt
-    operands (a_node first rest) around loops a w =
-        (operand_from first around loops w.0 (evaluated first around loops a w.0), operands rest around loops a w.1)
+    let_from : (form : Form) (pid : ℕ) (pat : Pos) (pty : TyId) (pby : Option Use) (value : Node) (id : ℕ) (ty : TyId)
+        (by : Option Use) (around : LoopsAndGuards) (loops : List ℕ) →
+        WithinIn around.aliases loops id (tree.Let (node pid pat pty pby form) (present value)) →
+        (Within around.aliases loops value → Evaluates value around) →
+        (Reaching around.aliases loops value → Keeps ((M value).reach around)) →
+        Keeps (forms.letting items q (head id ty by) (M (node pid pat pty pby form)) (Some (M value)) around)
+    let_from (tree.Binding name) pid pat pty pby value id ty by around loops w e r =
+        frame.let_name_kept items q over Does_ Drops May I keeping (head id ty by) (head pid pty pby) (M value) around
+        (e w.1.1 false (Into pid) (loose_goes value (Into pid) w.1.0 w.0)) w.0
+    let_from form pid pat pty pby value id ty by around loops w e r =
+        frame.let_parts_kept items q over Does_ Drops May I keeping (head id ty by) (M (node pid pat pty pby form))
+        (M value) around
+        (r w.0) (reaching_cell value around.aliases loops w.0) (bound_with (node pid pat pty pby form) value around w.1)
 
-    field_operands : (fields : Fields) (around : LoopsAndGuards) (loops : List ℕ) → Around around loops →
-        within.FieldsWithin items May Says around.aliases loops fields →
-        frame.AllEvaluated items q over Does_ Drops May I keeping around (values_of (Mf fields))
-    field_operands no_field around loops a w = tt
-    field_operands (a_field number value rest) around loops a w = (
-      operand_from value around loops w.0 (evaluated value around loops a w.0),
-      field_operands rest around loops a w.1,
-    )
+    -- ---- the forms
 
-    done : (ns : Nodes) (around : LoopsAndGuards) (loops : List ℕ) → Around around loops →
-        within.AllWithin items May Says around.aliases loops ns →
-        frame.AllDone items q over Does_ Drops May I keeping around (Ms ns)
-    done no_node around loops a w = tt
-    done (a_node first rest) around loops a w =
-        ((operand_from first around loops w.0 (evaluated first around loops a w.0)).0, done rest around loops a w.1)
+    mutual
+      pub evaluated : (n : Node) (around : LoopsAndGuards) (loops : List ℕ) → Around around loops →
+          Within around.aliases loops n → (own : Bool) (to : Destination) → Goes n to →
+          Keeps ((M n).evaluate around own to)
+      evaluated (node id at ty by form) around loops a w own to d =
+          form_kept form id ty by around loops a w.0 w.1.0 w.1.1 own to d.0 d.1
 
-    -- a branch, or what is done where there is none
-    branched : (value : MaybeNode) (around : LoopsAndGuards) (loops : List ℕ) → Around around loops →
-        within.LooseIfAny items May Says around.aliases loops value → (to : Destination) → DestCell May to →
-        (without : Does V) → Keeps without → Keeps (forms.branch items q around to (Mi value) without)
-    branched absent around loops a w to d without o = o
-    branched (present value) around loops a w to d without o =
-        frame.alone_kept items q over Does_ Drops May I keeping around (M value) to
-        (evaluated value around loops a w.1 true to (loose_goes value to w.0 d))
+      pub reached : (n : Node) (around : LoopsAndGuards) (loops : List ℕ) → Around around loops →
+          Reaching around.aliases loops n → Keeps ((M n).reach around)
+      reached (node id at ty by form) around loops a w =
+          by_place form id at ty by around w.0 (is_place_form form) refl
+          (λ p. place_reached form id ty by around loops a w.1 p)
+          (λ u to d. form_kept form id ty by around loops a w.0 u w.1 false to d.0 d.1)
 
-    jump : (value : MaybeNode) (h : NodeHead) (around : LoopsAndGuards) (loops : List ℕ) → Around around loops →
-        within.LooseIfAny items May Says around.aliases loops value → (to : Destination) → DestCell May to →
-        Keeps (forms.value_of_jump items q h (Mi value) around to)
-    jump absent h around loops a w to d = frame.unit_kept items q over Does_ Drops May I keeping h to d
-    jump (present value) h around loops a w to d =
-        evaluated value around loops a w.1 false to (loose_goes value to w.0 d)
+      place_reached : (form : Form) (id : ℕ) (ty : TyId) (by : Option Use) (around : LoopsAndGuards) (loops : List ℕ) →
+          Around around loops → WithinIn around.aliases loops id form → is_place_form form ≡ true →
+          Keeps ((Of form id ty by).reach around)
+      place_reached (tree.Variable key) id ty by around loops a w p =
+          frame.at_exit items q over Does_ Drops May I keeping Value
+      place_reached (tree.Captured closure part name) id ty by around loops a w p =
+          frame.at_exit items q over Does_ Drops May I keeping Value
+      place_reached (tree.Field base part) id ty by around loops a w p = reached base around loops a w
+      place_reached (tree.Index base index length) id ty by around loops a w p =
+          frame.element_kept items q over Does_ Drops May I keeping (head id ty by)
+          (shape_of items (tree.Index base index length) (head id ty by)) (M base) (M index) length around
+          (reached base around loops a w.0) (operand_from index around loops w.1 (evaluated index around loops a w.1)).0
+      place_reached (tree.Deref base) id ty by around loops a w p = reached base around loops a w
+      place_reached form id ty by around loops a w p = absurd (false≢true p)
 
-    tail : (value : MaybeNode) (h : NodeHead) (around : LoopsAndGuards) (loops : List ℕ) → Around around loops →
-        within.LooseIfAny items May Says around.aliases loops value → (to : Destination) → DestCell May to →
-        Keeps (forms.tail_of items q h (Mi value) around to)
-    tail absent h around loops a w to d = frame.unit_if_kept items q over Does_ Drops May I keeping
-        (is_never items h.ty) h to d
-    tail (present value) h around loops a w to d =
-        alone_from value around (evaluated value around loops a w.1) to (loose_goes value to w.0 d)
+      operands : (ns : Nodes) (around : LoopsAndGuards) (loops : List ℕ) → Around around loops →
+          within.AllWithin items May Says around.aliases loops ns →
+          frame.AllEvaluated items q over Does_ Drops May I keeping around (Ms ns)
+      operands no_node around loops a w = tt
+      operands (a_node first rest) around loops a w =
+          (operand_from first around loops w.0 (evaluated first around loops a w.0), operands rest around loops a w.1)
 
-    arms : (ns : Nodes) (matched : Place) (around : LoopsAndGuards) (loops : List ℕ) → Around around loops →
-        within.ArmsWithin items May Says around.aliases loops matched ns → (to : Destination) → DestCell May to →
-        frame.AllArms items q over Does_ Drops May I keeping around matched to (Ms ns)
-    arms no_node matched around loops a w to d = tt
-    arms (a_node (node id at ty by form) rest) matched around loops a w to d = (
-      λ otherwise o. arm form id at ty by matched around loops a w.0 to d otherwise o,
-      arms rest matched around loops a w.1 to d,
-    )
+      field_operands : (fields : Fields) (around : LoopsAndGuards) (loops : List ℕ) → Around around loops →
+          within.FieldsWithin items May Says around.aliases loops fields →
+          frame.AllEvaluated items q over Does_ Drops May I keeping around (values_of (Mf fields))
+      field_operands no_field around loops a w = tt
+      field_operands (a_field number value rest) around loops a w = (
+        operand_from value around loops w.0 (evaluated value around loops a w.0),
+        field_operands rest around loops a w.1,
+      )
 
-    arm : (form : Form) (id : ℕ) (at : Pos) (ty : TyId) (by : Option Use) (matched : Place) (around : LoopsAndGuards)
-        (loops : List ℕ) → Around around loops →
-        within.ArmWithin items May Says around.aliases loops matched (node id at ty by form) → (to : Destination) →
-        DestCell May to → (otherwise : Does V) → Keeps otherwise →
-        Keeps ((Of form id ty by).arm matched otherwise around to)
-    arm (tree.Arm pattern guard body) id at ty by matched around loops a w to d otherwise o =
-        let m = matched_at pattern matched w.0 in
-        let taken = frame.taken_kept items q over Does_ Drops May I keeping (head id ty by) around
-        ((M pattern).shape.bindings matched) (M body) to m.1
-        (evaluated body around loops a w.1.1.1 true to (loose_goes body to w.1.1.0 d)) in
-        frame.choosing_kept items q over Does_ Drops May I keeping _ _ _
-        (frame.all_kept items q over Does_ Drops May I keeping ((M pattern).shape.tests matched) m.0)
-        (guarded pattern guard matched around loops a w.1.0 _ otherwise taken o) o
-    arm form id at ty by matched around loops a w to d otherwise o =
-        frame.at_exit items q over Does_ Drops May I keeping Value
+      done : (ns : Nodes) (around : LoopsAndGuards) (loops : List ℕ) → Around around loops →
+          within.AllWithin items May Says around.aliases loops ns →
+          frame.AllDone items q over Does_ Drops May I keeping around (Ms ns)
+      done no_node around loops a w = tt
+      done (a_node first rest) around loops a w =
+          ((operand_from first around loops w.0 (evaluated first around loops a w.0)).0, done rest around loops a w.1)
 
-    guarded : (pattern : Node) (guard : MaybeNode) (matched : Place) (around : LoopsAndGuards) (loops : List ℕ) →
-        Around around loops →
-        within.WithinIfAny items May Says (forms.aliases_with ((shape items pattern).bindings matched) around.aliases)
-        loops
-        guard → (taken otherwise : Does V) → Keeps taken → Keeps otherwise →
-        Keeps (forms.guarded items q around ((M pattern).shape.bindings matched) (Mi guard) taken otherwise)
-    guarded pattern absent matched around loops a w taken otherwise t o = t
-    guarded pattern (present guard) matched around loops a w taken otherwise t o =
-        let g = subst (λ (s : Shape). Within (forms.aliases_with (s.bindings matched) around.aliases) loops guard)
-        (sym (heads.shape_is items q fuel pattern)) w in
-        condition_from guard (in_guard ((M pattern).shape.bindings matched) around) loops g
-        (evaluated guard (in_guard ((M pattern).shape.bindings matched) around) loops a g) taken otherwise t o
+      -- a branch, or what is done where there is none
+      branched : (value : MaybeNode) (around : LoopsAndGuards) (loops : List ℕ) → Around around loops →
+          within.LooseIfAny items May Says around.aliases loops value → (to : Destination) → DestCell May to →
+          (without : Does V) → Keeps without → Keeps (forms.branch items q around to (Mi value) without)
+      branched absent around loops a w to d without o = o
+      branched (present value) around loops a w to d without o =
+          frame.alone_kept items q over Does_ Drops May I keeping around (M value) to
+          (evaluated value around loops a w.1 true to (loose_goes value to w.0 d))
 
-    form_kept : (form : Form) (id : ℕ) (ty : TyId) (by : Option Use) (around : LoopsAndGuards) (loops : List ℕ) →
-        Around around loops → Cell id →
-        if_place (is_place_form form)
-        (Takes May (operand_at (head id ty by) ((shape_of items form (head id ty by)).place around.aliases))) →
-        WithinIn around.aliases loops id form → (own : Bool) (to : Destination) → DestCell May to →
-        (is_borrow form ≡ true → to ≡ Into id) → Keeps ((Of form id ty by).evaluate around own to)
-    form_kept (tree.Number value) id ty by around loops a c u w own to d g =
-        effect_kept (head id ty by) (shape_of items (tree.Number value) (head id ty by))
-        (λ site. effects.Put site (effects.Number value (kind_of items ty))) around own to (λ site. refl)
-        (λ key x. (x, tt)) c d
-    form_kept (tree.Truth value) id ty by around loops a c u w own to d g =
-        effect_kept (head id ty by) (shape_of items (tree.Truth value) (head id ty by))
-        (λ site. effects.Put site (effects.Truth value)) around own to (λ site. refl) (λ key x. (x, tt)) c d
-    form_kept tree.UnitValue id ty by around loops a c u w own to d g =
-        effect_kept (head id ty by) (shape_of items tree.UnitValue (head id ty by))
-        (λ site. effects.Put site effects.UnitValue) around own to (λ site. refl) (λ key x. (x, tt)) c d
-    form_kept (tree.Variable key) id ty by around loops a c u w own to d g =
-        place_kept (head id ty by) (shape_of items (tree.Variable key) (head id ty by))
-        (Of (tree.Variable key) id ty by).reach around own to
-        (frame.at_exit items q over Does_ Drops May I keeping Value)
-        u c d
-    form_kept (tree.Captured closure part name) id ty by around loops a c u w own to d g =
-        place_kept (head id ty by) (shape_of items (tree.Captured closure part name) (head id ty by))
-        (Of (tree.Captured closure part name) id ty by).reach around own to
-        (frame.at_exit items q over Does_ Drops May I keeping Value) u c d
-    form_kept (tree.Field base part) id ty by around loops a c u w own to d g =
-        place_kept (head id ty by) (shape_of items (tree.Field base part) (head id ty by))
-        (Of (tree.Field base part) id ty by).reach around own to (reached base around loops a w)
-        u c d
-    form_kept (tree.Index base index length) id ty by around loops a c u w own to d g =
-        place_kept (head id ty by) (shape_of items (tree.Index base index length) (head id ty by))
-        (Of (tree.Index base index length) id ty by).reach around own to
-        (frame.element_kept items q over Does_ Drops May I keeping (head id ty by)
-        (shape_of items (tree.Index base index length) (head id ty by)) (M base) (M index) length around
-        (reached base around loops a w.0)
-        (operand_from index around loops w.1 (evaluated index around loops a w.1)).0) u c d
-    form_kept (tree.Deref base) id ty by around loops a c u w own to d g =
-        place_kept (head id ty by) (shape_of items (tree.Deref base) (head id ty by))
-        (Of (tree.Deref base) id ty by).reach around own to (reached base around loops a w)
-        u c d
-    form_kept (tree.Not value) id ty by around loops a c u w own to d g =
-        let e = operand_from value around loops w (evaluated value around loops a w) in
-        operands_kept (head id ty by) (shape_of items (tree.Not value) (head id ty by))
-        (M value ∷ []) (λ site. effects.Not site (moved id (M value).head.id)) around own to (e, tt) (λ site. refl)
-        (λ key x. (x, e.1)) c d
-    form_kept (tree.Negate value) id ty by around loops a c u w own to d g =
-        let e = operand_from value around loops w (evaluated value around loops a w) in
-        operands_kept (head id ty by) (shape_of items (tree.Negate value) (head id ty by))
-        (M value ∷ []) (λ site. effects.Negate site (moved id (M value).head.id)) around own to (e, tt) (λ site. refl)
-        (λ key x. (x, e.1)) c d
-    form_kept (tree.Arithmetic operator left right) id ty by around loops a c u w own to d g =
-        let e = operand_from left around loops w.0 (evaluated left around loops a w.0) in
-        let f = operand_from right around loops w.1 (evaluated right around loops a w.1) in
-        operands_kept (head id ty by) (shape_of items (tree.Arithmetic operator left right) (head id ty by))
-        (M left ∷ M right ∷ []) (λ site. effects.Compute site operator (moved id (M left).head.id)
-        (moved id (M right).head.id)) around own to (e, (f, tt)) (λ site. refl) (λ key x. (x, (e.1, f.1))) c
-        d
-    form_kept (tree.Comparison operator left right) id ty by around loops a c u w own to d g =
-        let e = operand_from left around loops w.0 (evaluated left around loops a w.0) in
-        let f = operand_from right around loops w.1 (evaluated right around loops a w.1) in
-        operands_kept (head id ty by) (shape_of items (tree.Comparison operator left right) (head id ty by))
-        (M left ∷ M right ∷ []) (λ site. effects.Compare site operator (moved id (M left).head.id)
-        (moved id (M right).head.id)) around own to (e, (f, tt)) (λ site. refl) (λ key x. (x, (e.1, f.1))) c
-        d
-    form_kept (tree.And left right) id ty by around loops a c u w own to d g =
-        let k = own_dest (is_never items ty) id to c d in
-        frame.own_kept items q over Does_ Drops May I keeping (head id ty by) own _
-        (condition_from left around loops w.0 (evaluated left around loops a w.0) _ _
-        (alone_from right around (evaluated right around loops a w.1.1) (to_own_key (is_never items ty) id to)
-        (loose_goes right _ w.1.0 k))
-        (frame.deliver_kept items q over Does_ Drops May I keeping (head id ty by)
-        (λ site. effects.Put site (effects.Truth false))
-        (to_own_key (is_never items ty) id to) (frame.plainly items q over Does_ Drops May I keeping (head id ty by)
-        (λ site. effects.Put site (effects.Truth false)) (λ site. refl) (λ key x. (x, tt))) k))
-    form_kept (tree.Or left right) id ty by around loops a c u w own to d g =
-        let k = own_dest (is_never items ty) id to c d in
-        frame.own_kept items q over Does_ Drops May I keeping (head id ty by) own _
-        (condition_from left around loops w.0 (evaluated left around loops a w.0) _ _
-        (frame.deliver_kept items q over Does_ Drops May I keeping (head id ty by)
-        (λ site. effects.Put site (effects.Truth true))
-        (to_own_key (is_never items ty) id to) (frame.plainly items q over Does_ Drops May I keeping (head id ty by)
-        (λ site. effects.Put site (effects.Truth true)) (λ site. refl) (λ key x. (x, tt))) k)
-        (alone_from right around (evaluated right around loops a w.1.1) (to_own_key (is_never items ty) id to)
-        (loose_goes right _ w.1.0 k)))
-    form_kept (tree.Assign place value) id ty by around loops a c u w own to d g =
-        frame.assigning_kept items q over Does_ Drops May I keeping (head id ty by) (M place) (M value) around own _
-        (operand_from value around loops w.0.0 (evaluated value around loops a w.0.0))
-        (reached place around loops a w.0.1.0) (may_place place around w.0.1.1)
-        (assigned id place value around w.1)
-        (own_dest (is_never items ty) id to c d)
-    form_kept (tree.Call body args) id ty by around loops a c u w own to d g =
-        on_all id ty by (shape_of items (tree.Call body args) (head id ty by)) (Ms args)
-        (λ site. effects.Call site body) around own to (operands args around loops a w.0)
-        (λ key x t. (x, t)) (λ key. called id args (effects.Call (site_in id key) body)
-        (telling.calls around.aliases id key body args w.1)) c d
-    form_kept (tree.MethodCall body receiver args) id ty by around loops a c u w own to d g =
-        on_all id ty by (shape_of items (tree.MethodCall body receiver args) (head id ty by)) (M receiver ∷ Ms args)
-        (λ site. effects.Call site body) around own to (
-          operand_from receiver around loops w.0.0 (evaluated receiver around loops a w.0.0),
-          operands args around loops a w.0.1,
-        ) (λ key x t. (x, t))
-        (λ key. called id (a_node receiver args) (effects.Call (site_in id key) body)
-        (telling.methods around.aliases id key body receiver args w.1)) c d
-    form_kept (tree.VirtualCall trait_no method receiver args) id ty by around loops a c u w own to d g =
-        on_all id ty by (shape_of items (tree.VirtualCall trait_no method receiver args) (head id ty by))
-        (M receiver ∷ Ms args) (λ site. effects.CallVirtual site trait_no method) around own to (
-          operand_from receiver around loops w.0.0 (evaluated receiver around loops a w.0.0),
-          operands args around loops a w.0.1,
-        ) (λ key x t. (x, t))
-        (λ key. called id (a_node receiver args) (effects.CallVirtual (site_in id key) trait_no method)
-        (telling.virtuals around.aliases id key trait_no method receiver args w.1)) c d
-    form_kept (tree.ClosureCall body callee args) id ty by around loops a c u w own to d g =
-        on_all id ty by (shape_of items (tree.ClosureCall body callee args) (head id ty by)) (M callee ∷ Ms args)
-        (λ site. effects.Call site body) around own to (
-          operand_from callee around loops w.0.0 (evaluated callee around loops a w.0.0),
-          operands args around loops a w.0.1,
-        ) (λ key x t. (x, t))
-        (λ key. called id (a_node callee args) (effects.Call (site_in id key) body)
-        (telling.closures around.aliases id key body callee args w.1)) c d
-    form_kept (tree.Make adt variant fields) id ty by around loops a c u w own to d g =
-        let e = field_operands fields around loops a w in
-        operands_kept (head id ty by) (shape_of items (tree.Make adt variant fields) (head id ty by))
-        (values_of (Mf fields)) (λ site. effects.Build site (effects.OfVariant adt variant)
-        (all_moved id (values_of (in_number_order (Mf fields))))) around own to e (λ site. refl)
-        (λ key x. (
-          x,
-          fields_taken id (in_number_order (Mf fields))
-              (ordered (Mf fields) (field_cells around (Mf fields) e)),
-        ))
-        c d
-    form_kept (tree.Tuple parts) id ty by around loops a c u w own to d g =
-        on_all id ty by (shape_of items (tree.Tuple parts) (head id ty by)) (Ms parts)
-        (λ site. effects.Build site effects.OfTuple) around own to
-        (operands parts around loops a w) (λ key x t. (x, t))
-        (λ key. keeping.plain (effects.Build (site_in id key) effects.OfTuple (all_moved id (Ms parts))) refl) c d
-    form_kept (tree.Array elements) id ty by around loops a c u w own to d g =
-        on_all id ty by (shape_of items (tree.Array elements) (head id ty by)) (Ms elements)
-        (λ site. effects.Build site effects.OfArray) around own to
-        (operands elements around loops a w) (λ key x t. (x, t))
-        (λ key. keeping.plain (effects.Build (site_in id key) effects.OfArray (all_moved id (Ms elements))) refl) c d
-    form_kept (tree.Closure closure captures) id ty by around loops a c u w own to d g =
-        on_all id ty by (shape_of items (tree.Closure closure captures) (head id ty by)) (Ms captures)
-        (λ site. effects.Build site (effects.OfClosure closure)) around own to
-        (operands captures around loops a w) (λ key x t. (x, t))
-        (λ key. keeping.plain (effects.Build (site_in id key) (effects.OfClosure closure)
-        (all_moved id (Ms captures))) refl) c d
-    form_kept (tree.NewBox content) id ty by around loops a c u w own to d g =
-        let e = operand_from content around loops w (evaluated content around loops a w) in
-        operands_kept (head id ty by) (shape_of items (tree.NewBox content) (head id ty by))
-        (M content ∷ []) (λ site. effects.NewBox site (moved id (M content).head.id)) around own to (e, tt)
-        (λ site. refl) (λ key x. (x, e.1)) c d
-    form_kept (tree.Print value) id ty by around loops a c u w own to d g =
-        let e = operand_from value around loops w (evaluated value around loops a w) in
-        gives_unit_kept (head id ty by) (shape_of items (tree.Print value) (head id ty by))
-        (M value) effects.Print around own to e e.1 refl c d
-    form_kept tree.Ask id ty by around loops a c u w own to d g =
-        effect_kept (head id ty by) (shape_of items tree.Ask (head id ty by)) effects.Ask around own to (λ site. refl)
-        (λ key x. x) c d
-    form_kept (tree.DropValue value) id ty by around loops a c u w own to d g =
-        let e = operand_from value around loops w (evaluated value around loops a w) in
-        frame.dropping_kept items q over Does_ Drops May I keeping (head id ty by) around own (M value) _ e
-        (frame.unit_kept items q over Does_ Drops May I keeping (head id ty by) _
-        (own_dest (is_never items ty) id to c d))
-    form_kept (tree.Forget value) id ty by around loops a c u w own to d g =
-        let e = operand_from value around loops w (evaluated value around loops a w) in
-        gives_unit_kept (head id ty by) (shape_of items (tree.Forget value) (head id ty by))
-        (M value) effects.Forget around own to e e.1 refl c d
-    form_kept tree.Panic id ty by around loops a c u w own to d g =
-        frame.panics_kept items q over Does_ Drops May I keeping Why.Explicit
-    form_kept (tree.Borrow unique base) id ty by around loops a c u w own to d g =
-        subst (λ (x : Destination). Keeps (forms.borrowing items q (head id ty by) unique (M base) around own x))
-        (sym (own_key (is_never items ty) id to (g refl)))
-        (frame.borrowing_kept items q over Does_ Drops May I keeping (head id ty by) unique (M base) around own id
-        (reached base around loops a w.0.0) (λ e. may_place base around (w.0.1 e)) (borrowed id unique base around
-        (telling.borrows around.aliases id unique base w.1)) c)
-    form_kept (tree.Unsize trait_no value) id ty by around loops a c u w own to d g =
-        evaluated value around loops a w.1 own _
-        (loose_goes value _ w.0 (coerced_dest (M value).head.id trait_no (to_own_key (is_never items ty) id to)
-        (within_cell value around.aliases loops w.1) (own_dest (is_never items ty) id to c d)))
-    form_kept (tree.Block statements value) id ty by around loops a c u w own to d g =
-        frame.block_kept items q over Does_ Drops May I keeping (head id ty by) (Ms statements) (Mi value) around own _
-        (done statements around loops a w.0)
-        (tail value (head id ty by) around loops a w.1 _ (own_dest (is_never items ty) id to c d))
-    form_kept (tree.Let pattern absent) id ty by around loops a c u w own to d g =
-        frame.declared_kept items q over Does_ Drops May I keeping ((M pattern).shape.bindings (whole_local 0))
-        (subst (λ (s : Shape). AllCells May (s.bindings (whole_local 0))) (sym (heads.shape_is items q fuel pattern)) w)
-    form_kept (tree.Let (node pid pat pty pby pform) (present value)) id ty by around loops a c u w own to d g =
-        let_from pform pid pat pty pby value id ty by around loops w (λ x. evaluated value around loops a x)
-        (λ x. reached value around loops a x)
-    form_kept (tree.Evaluate expression) id ty by around loops a c u w own to d g =
-        frame.evaluating_kept items q over Does_ Drops May I keeping (head id ty by) (M expression) around
-        (operand_from expression around loops w (evaluated expression around loops a w))
-    form_kept (tree.If test body otherwise) id ty by around loops a c u w own to d g =
-        let k = own_dest (is_never items ty) id to c d in
-        frame.own_kept items q over Does_ Drops May I keeping (head id ty by) own _
-        (condition_from test around loops w.0 (evaluated test around loops a w.0) _ _
-        (alone_from body around (evaluated body around loops a w.1.0.1) _
-        (loose_goes body _ w.1.0.0 k))
-        (branched otherwise around loops a w.1.1 _ k _ (frame.unit_kept items q over Does_ Drops May I keeping
-        (head id ty by) _ k)))
-    form_kept (tree.IfLet pattern scrutinee body otherwise) id ty by around loops a c u w own to d g =
-        let k = own_dest (is_never items ty) id to c d in
-        let m = matched_with pattern scrutinee around w.0.1 in
-        frame.own_kept items q over Does_ Drops May I keeping (head id ty by) own _
-        (frame.if_taken_kept items q over Does_ Drops May I keeping (head id ty by) around (M pattern) (M scrutinee) _ _
-        (reached scrutinee around loops a w.0.0) m.0 m.1 (alone_from body around
-        (evaluated body around loops a w.1.0.1) _
-        (loose_goes body _ w.1.0.0 k))
-        (branched otherwise around loops a w.1.1 _ k _ (frame.unit_kept items q over Does_ Drops May I keeping
-        (head id ty by) _ k)))
-    form_kept (tree.Match scrutinee ns) id ty by around loops a c u w own to d g =
-        frame.matching_kept items q over Does_ Drops May I keeping (head id ty by) (M scrutinee) (Ms ns) around own _
-        (reached scrutinee around loops a w.0)
-        (arms ns (place_of (M scrutinee) around) around loops a
-        (subst (λ (s : Shape). within.ArmsWithin items May Says around.aliases loops (s.place around.aliases) ns)
-        (sym (heads.shape_is items q fuel scrutinee)) w.1) _ (own_dest (is_never items ty) id to c d))
-    form_kept (tree.Loop body) id ty by around loops a c u w own to d g =
-        let k = own_dest (is_never items ty) id to c d in
-        frame.own_kept items q over Does_ Drops May I keeping (head id ty by) own _
-        (frame.turns_kept items q over Does_ Drops May I keeping fuel id _
-        (body_from body (in_loop id (to_own_key (is_never items ty) id to) around) (id ∷ loops) w
-        (evaluated body (in_loop id (to_own_key (is_never items ty) id to) around) (id ∷ loops)
-        (looped id _ around loops a k) w)))
-    form_kept (tree.While test body) id ty by around loops a c u w own to d g =
-        let k = own_dest (is_never items ty) id to c d in
-        let inner = in_loop id (to_own_key (is_never items ty) id to) around in
-        let b = looped id (to_own_key (is_never items ty) id to) around loops a k in
-        frame.own_kept items q over Does_ Drops May I keeping (head id ty by) own _
-        (frame.turns_kept items q over Does_ Drops May I keeping fuel id _
-        (condition_from test inner (id ∷ loops) w.0 (evaluated test inner (id ∷ loops) b w.0) _ _
-        (body_from body inner (id ∷ loops) w.1 (evaluated body inner (id ∷ loops) b w.1))
-        (frame.ends_kept items q over Does_ Drops May I keeping (head id ty by) _ k)))
-    form_kept (tree.WhileLet pattern scrutinee body) id ty by around loops a c u w own to d g =
-        let k = own_dest (is_never items ty) id to c d in
-        let inner = in_loop id (to_own_key (is_never items ty) id to) around in
-        let b = looped id (to_own_key (is_never items ty) id to) around loops a k in
-        let m = matched_with pattern scrutinee inner w.0.1 in
-        frame.own_kept items q over Does_ Drops May I keeping (head id ty by) own _
-        (frame.turns_kept items q over Does_ Drops May I keeping fuel id _
-        (frame.if_taken_kept items q over Does_ Drops May I keeping (head id ty by) inner (M pattern) (M scrutinee) _ _
-        (reached scrutinee inner (id ∷ loops) b w.0.0) m.0 m.1
-        (body_from body inner (id ∷ loops) w.1 (evaluated body inner (id ∷ loops) b w.1))
-        (frame.ends_kept items q over Does_ Drops May I keeping (head id ty by) _ k)))
-    form_kept (tree.Break loop value) id ty by around loops a c u w own to d g =
-        frame.own_kept items q over Does_ Drops May I keeping (head id ty by) own _
-        (frame.jumping_kept items q over Does_ Drops May I keeping (Breaks loop) (head id ty by) (Mi value) around _
-        (jump value (head id ty by) around loops a w.1 _ (a.1 loop w.0)))
-    form_kept (tree.Continue loop) id ty by around loops a c u w own to d g =
-        frame.at_exit items q over Does_ Drops May I keeping (Continues loop)
-    form_kept (tree.Return value) id ty by around loops a c u w own to d g =
-        frame.own_kept items q over Does_ Drops May I keeping (head id ty by) own _
-        (frame.jumping_kept items q over Does_ Drops May I keeping Returns (head id ty by) (Mi value) around _
-        (jump value (head id ty by) around loops a w _ a.0))
-    form_kept form id ty by around loops a c u w own to d g = frame.at_exit items q over Does_ Drops May I keeping Value
+      jump : (value : MaybeNode) (h : NodeHead) (around : LoopsAndGuards) (loops : List ℕ) → Around around loops →
+          within.LooseIfAny items May Says around.aliases loops value → (to : Destination) → DestCell May to →
+          Keeps (forms.value_of_jump items q h (Mi value) around to)
+      jump absent h around loops a w to d = frame.unit_kept items q over Does_ Drops May I keeping h to d
+      jump (present value) h around loops a w to d =
+          evaluated value around loops a w.1 false to (loose_goes value to w.0 d)
 
-  -- a borrow may go anywhere too, where that is known of it
-  pub anywhere : ((aliases : Aliases) (id key : ℕ) (unique : Bool) (base : Node) →
-      Says aliases id (tree.Borrow unique base) →
-      Does_ (effects.Borrow (site_in (number_of base) key) unique (node_site items aliases base))) → (n : Node)
-      (around : LoopsAndGuards) (loops : List ℕ) → Around around loops → Within around.aliases loops n → (own : Bool)
-      (to : Destination) → DestCell May to → Keeps ((M n).evaluate around own to)
-  anywhere f (node id at ty by (tree.Borrow unique base)) around loops a w own to d =
-      frame.borrowing_anywhere items q over Does_ Drops May I keeping (head id ty by) unique (M base) around own _
-      (reached base around loops a w.1.1.0.0) (λ e. may_place base around (w.1.1.0.1 e))
-      (λ key. borrowed key unique base around (f around.aliases id key unique base w.1.1.1))
-      (own_dest (is_never items ty) id to w.0 d)
-  anywhere f (node id at ty by form) around loops a w own to d =
-      evaluated (node id at ty by form) around loops a w own to (d, λ b. absurd (false≢true b))
+      tail : (value : MaybeNode) (h : NodeHead) (around : LoopsAndGuards) (loops : List ℕ) → Around around loops →
+          within.LooseIfAny items May Says around.aliases loops value → (to : Destination) → DestCell May to →
+          Keeps (forms.tail_of items q h (Mi value) around to)
+      tail absent h around loops a w to d = frame.unit_if_kept items q over Does_ Drops May I keeping
+          (is_never items h.ty) h to d
+      tail (present value) h around loops a w to d =
+          alone_from value around (evaluated value around loops a w.1) to (loose_goes value to w.0 d)
+
+      arms : (ns : Nodes) (matched : Place) (around : LoopsAndGuards) (loops : List ℕ) → Around around loops →
+          within.ArmsWithin items May Says around.aliases loops matched ns → (to : Destination) → DestCell May to →
+          frame.AllArms items q over Does_ Drops May I keeping around matched to (Ms ns)
+      arms no_node matched around loops a w to d = tt
+      arms (a_node (node id at ty by form) rest) matched around loops a w to d = (
+        λ otherwise o. arm form id at ty by matched around loops a w.0 to d otherwise o,
+        arms rest matched around loops a w.1 to d,
+      )
+
+      arm : (form : Form) (id : ℕ) (at : Pos) (ty : TyId) (by : Option Use) (matched : Place) (around : LoopsAndGuards)
+          (loops : List ℕ) → Around around loops →
+          within.ArmWithin items May Says around.aliases loops matched (node id at ty by form) → (to : Destination) →
+          DestCell May to → (otherwise : Does V) → Keeps otherwise →
+          Keeps ((Of form id ty by).arm matched otherwise around to)
+      arm (tree.Arm pattern guard body) id at ty by matched around loops a w to d otherwise o =
+          let m = matched_at pattern matched w.0 in
+          let taken = frame.taken_kept items q over Does_ Drops May I keeping (head id ty by) around
+          ((M pattern).shape.bindings matched) (M body) to m.1
+          (evaluated body around loops a w.1.1.1 true to (loose_goes body to w.1.1.0 d)) in
+          frame.choosing_kept items q over Does_ Drops May I keeping _ _ _
+          (frame.all_kept items q over Does_ Drops May I keeping ((M pattern).shape.tests matched) m.0)
+          (guarded pattern guard matched around loops a w.1.0 _ otherwise taken o) o
+      arm form id at ty by matched around loops a w to d otherwise o =
+          frame.at_exit items q over Does_ Drops May I keeping Value
+
+      guarded : (pattern : Node) (guard : MaybeNode) (matched : Place) (around : LoopsAndGuards) (loops : List ℕ) →
+          Around around loops →
+          within.WithinIfAny items May Says (forms.aliases_with ((shape items pattern).bindings matched) around.aliases)
+          loops
+          guard → (taken otherwise : Does V) → Keeps taken → Keeps otherwise →
+          Keeps (forms.guarded items q around ((M pattern).shape.bindings matched) (Mi guard) taken otherwise)
+      guarded pattern absent matched around loops a w taken otherwise t o = t
+      guarded pattern (present guard) matched around loops a w taken otherwise t o =
+          let g = subst (λ (s : Shape). Within (forms.aliases_with (s.bindings matched) around.aliases) loops guard)
+          (sym (heads.shape_is items q fuel pattern)) w in
+          condition_from guard (in_guard ((M pattern).shape.bindings matched) around) loops g
+          (evaluated guard (in_guard ((M pattern).shape.bindings matched) around) loops a g) taken otherwise t o
+
+      form_kept : (form : Form) (id : ℕ) (ty : TyId) (by : Option Use) (around : LoopsAndGuards) (loops : List ℕ) →
+          Around around loops → Cell id →
+          if_place (is_place_form form)
+          (Takes May (operand_at (head id ty by) ((shape_of items form (head id ty by)).place around.aliases))) →
+          WithinIn around.aliases loops id form → (own : Bool) (to : Destination) → DestCell May to →
+          (is_borrow form ≡ true → to ≡ Into id) → Keeps ((Of form id ty by).evaluate around own to)
+      form_kept (tree.Number value) id ty by around loops a c u w own to d g =
+          effect_kept (head id ty by) (shape_of items (tree.Number value) (head id ty by))
+          (λ site. effects.Put site (effects.Number value (kind_of items ty))) around own to (λ site. refl)
+          (λ key x. (x, tt)) c d
+      form_kept (tree.Truth value) id ty by around loops a c u w own to d g =
+          effect_kept (head id ty by) (shape_of items (tree.Truth value) (head id ty by))
+          (λ site. effects.Put site (effects.Truth value)) around own to (λ site. refl) (λ key x. (x, tt)) c d
+      form_kept tree.UnitValue id ty by around loops a c u w own to d g =
+          effect_kept (head id ty by) (shape_of items tree.UnitValue (head id ty by))
+          (λ site. effects.Put site effects.UnitValue) around own to (λ site. refl) (λ key x. (x, tt)) c d
+      form_kept (tree.Variable key) id ty by around loops a c u w own to d g =
+          place_kept (head id ty by) (shape_of items (tree.Variable key) (head id ty by))
+          (Of (tree.Variable key) id ty by).reach around own to
+          (frame.at_exit items q over Does_ Drops May I keeping Value)
+          u c d
+      form_kept (tree.Captured closure part name) id ty by around loops a c u w own to d g =
+          place_kept (head id ty by) (shape_of items (tree.Captured closure part name) (head id ty by))
+          (Of (tree.Captured closure part name) id ty by).reach around own to
+          (frame.at_exit items q over Does_ Drops May I keeping Value) u c d
+      form_kept (tree.Field base part) id ty by around loops a c u w own to d g =
+          place_kept (head id ty by) (shape_of items (tree.Field base part) (head id ty by))
+          (Of (tree.Field base part) id ty by).reach around own to (reached base around loops a w)
+          u c d
+      form_kept (tree.Index base index length) id ty by around loops a c u w own to d g =
+          place_kept (head id ty by) (shape_of items (tree.Index base index length) (head id ty by))
+          (Of (tree.Index base index length) id ty by).reach around own to
+          (frame.element_kept items q over Does_ Drops May I keeping (head id ty by)
+          (shape_of items (tree.Index base index length) (head id ty by)) (M base) (M index) length around
+          (reached base around loops a w.0)
+          (operand_from index around loops w.1 (evaluated index around loops a w.1)).0) u c d
+      form_kept (tree.Deref base) id ty by around loops a c u w own to d g =
+          place_kept (head id ty by) (shape_of items (tree.Deref base) (head id ty by))
+          (Of (tree.Deref base) id ty by).reach around own to (reached base around loops a w)
+          u c d
+      form_kept (tree.Not value) id ty by around loops a c u w own to d g =
+          let e = operand_from value around loops w (evaluated value around loops a w) in
+          operands_kept (head id ty by) (shape_of items (tree.Not value) (head id ty by))
+          (M value ∷ []) (λ site. effects.Not site (moved id (M value).head.id)) around own to (e, tt) (λ site. refl)
+          (λ key x. (x, e.1)) c d
+      form_kept (tree.Negate value) id ty by around loops a c u w own to d g =
+          let e = operand_from value around loops w (evaluated value around loops a w) in
+          operands_kept (head id ty by) (shape_of items (tree.Negate value) (head id ty by))
+          (M value ∷ []) (λ site. effects.Negate site (moved id (M value).head.id)) around own to (e, tt) (λ site. refl)
+          (λ key x. (x, e.1)) c d
+      form_kept (tree.Arithmetic operator left right) id ty by around loops a c u w own to d g =
+          let e = operand_from left around loops w.0 (evaluated left around loops a w.0) in
+          let f = operand_from right around loops w.1 (evaluated right around loops a w.1) in
+          operands_kept (head id ty by) (shape_of items (tree.Arithmetic operator left right) (head id ty by))
+          (M left ∷ M right ∷ []) (λ site. effects.Compute site operator (moved id (M left).head.id)
+          (moved id (M right).head.id)) around own to (e, (f, tt)) (λ site. refl) (λ key x. (x, (e.1, f.1))) c
+          d
+      form_kept (tree.Comparison operator left right) id ty by around loops a c u w own to d g =
+          let e = operand_from left around loops w.0 (evaluated left around loops a w.0) in
+          let f = operand_from right around loops w.1 (evaluated right around loops a w.1) in
+          operands_kept (head id ty by) (shape_of items (tree.Comparison operator left right) (head id ty by))
+          (M left ∷ M right ∷ []) (λ site. effects.Compare site operator (moved id (M left).head.id)
+          (moved id (M right).head.id)) around own to (e, (f, tt)) (λ site. refl) (λ key x. (x, (e.1, f.1))) c
+          d
+      form_kept (tree.And left right) id ty by around loops a c u w own to d g =
+          let k = own_dest (is_never items ty) id to c d in
+          frame.own_kept items q over Does_ Drops May I keeping (head id ty by) own _
+          (condition_from left around loops w.0 (evaluated left around loops a w.0) _ _
+          (alone_from right around (evaluated right around loops a w.1.1) (to_own_key (is_never items ty) id to)
+          (loose_goes right _ w.1.0 k))
+          (frame.deliver_kept items q over Does_ Drops May I keeping (head id ty by)
+          (λ site. effects.Put site (effects.Truth false))
+          (to_own_key (is_never items ty) id to) (frame.plainly items q over Does_ Drops May I keeping (head id ty by)
+          (λ site. effects.Put site (effects.Truth false)) (λ site. refl) (λ key x. (x, tt))) k))
+      form_kept (tree.Or left right) id ty by around loops a c u w own to d g =
+          let k = own_dest (is_never items ty) id to c d in
+          frame.own_kept items q over Does_ Drops May I keeping (head id ty by) own _
+          (condition_from left around loops w.0 (evaluated left around loops a w.0) _ _
+          (frame.deliver_kept items q over Does_ Drops May I keeping (head id ty by)
+          (λ site. effects.Put site (effects.Truth true))
+          (to_own_key (is_never items ty) id to) (frame.plainly items q over Does_ Drops May I keeping (head id ty by)
+          (λ site. effects.Put site (effects.Truth true)) (λ site. refl) (λ key x. (x, tt))) k)
+          (alone_from right around (evaluated right around loops a w.1.1) (to_own_key (is_never items ty) id to)
+          (loose_goes right _ w.1.0 k)))
+      form_kept (tree.Assign place value) id ty by around loops a c u w own to d g =
+          frame.assigning_kept items q over Does_ Drops May I keeping (head id ty by) (M place) (M value) around own _
+          (operand_from value around loops w.0.0 (evaluated value around loops a w.0.0))
+          (reached place around loops a w.0.1.0) (may_place place around w.0.1.1)
+          (assigned id place value around w.1)
+          (own_dest (is_never items ty) id to c d)
+      form_kept (tree.Call body args) id ty by around loops a c u w own to d g =
+          at_calls.called_kept _ _ _ (a_call body args) id ty by (shape_of items (tree.Call body args) (head id ty by))
+          around loops a w.0 w.1 (operands args around loops a w.0) c own to d
+      form_kept (tree.MethodCall body receiver args) id ty by around loops a c u w own to d g =
+          at_calls.called_kept _ _ _ (a_method body receiver args) id ty by
+          (shape_of items (tree.MethodCall body receiver args) (head id ty by)) around loops a w.0 w.1 (
+            operand_from receiver around loops w.0.0 (evaluated receiver around loops a w.0.0),
+            operands args around loops a w.0.1,
+          ) c own to d
+      form_kept (tree.VirtualCall trait_no method receiver args) id ty by around loops a c u w own to d g =
+          at_calls.called_kept _ _ _ (a_virtual trait_no method receiver args) id ty by
+          (shape_of items (tree.VirtualCall trait_no method receiver args) (head id ty by)) around loops a w.0 w.1 (
+            operand_from receiver around loops w.0.0 (evaluated receiver around loops a w.0.0),
+            operands args around loops a w.0.1,
+          ) c own to d
+      form_kept (tree.ClosureCall body callee args) id ty by around loops a c u w own to d g =
+          at_calls.called_kept _ _ _ (a_closure body callee args) id ty by
+          (shape_of items (tree.ClosureCall body callee args) (head id ty by)) around loops a w.0 w.1 (
+            operand_from callee around loops w.0.0 (evaluated callee around loops a w.0.0),
+            operands args around loops a w.0.1,
+          ) c own to d
+      form_kept (tree.Make adt variant fields) id ty by around loops a c u w own to d g =
+          let e = field_operands fields around loops a w in
+          operands_kept (head id ty by) (shape_of items (tree.Make adt variant fields) (head id ty by))
+          (values_of (Mf fields)) (λ site. effects.Build site (effects.OfVariant adt variant)
+          (all_moved id (values_of (in_number_order (Mf fields))))) around own to e (λ site. refl)
+          (λ key x. (
+            x,
+            fields_taken id (in_number_order (Mf fields))
+                (ordered (Mf fields) (field_cells around (Mf fields) e)),
+          ))
+          c d
+      form_kept (tree.Tuple parts) id ty by around loops a c u w own to d g =
+          on_all id ty by (shape_of items (tree.Tuple parts) (head id ty by)) (Ms parts)
+          (λ site. effects.Build site effects.OfTuple) around own to
+          (operands parts around loops a w) (λ key x t. (x, t))
+          (λ key. keeping.plain (effects.Build (site_in id key) effects.OfTuple (all_moved id (Ms parts))) refl) c d
+      form_kept (tree.Array elements) id ty by around loops a c u w own to d g =
+          on_all id ty by (shape_of items (tree.Array elements) (head id ty by)) (Ms elements)
+          (λ site. effects.Build site effects.OfArray) around own to
+          (operands elements around loops a w) (λ key x t. (x, t))
+          (λ key. keeping.plain (effects.Build (site_in id key) effects.OfArray (all_moved id (Ms elements))) refl) c d
+      form_kept (tree.Closure closure captures) id ty by around loops a c u w own to d g =
+          on_all id ty by (shape_of items (tree.Closure closure captures) (head id ty by)) (Ms captures)
+          (λ site. effects.Build site (effects.OfClosure closure)) around own to
+          (operands captures around loops a w) (λ key x t. (x, t))
+          (λ key. keeping.plain (effects.Build (site_in id key) (effects.OfClosure closure)
+          (all_moved id (Ms captures))) refl) c d
+      form_kept (tree.NewBox content) id ty by around loops a c u w own to d g =
+          let e = operand_from content around loops w (evaluated content around loops a w) in
+          operands_kept (head id ty by) (shape_of items (tree.NewBox content) (head id ty by))
+          (M content ∷ []) (λ site. effects.NewBox site (moved id (M content).head.id)) around own to (e, tt)
+          (λ site. refl) (λ key x. (x, e.1)) c d
+      form_kept (tree.Print value) id ty by around loops a c u w own to d g =
+          let e = operand_from value around loops w (evaluated value around loops a w) in
+          gives_unit_kept (head id ty by) (shape_of items (tree.Print value) (head id ty by))
+          (M value) effects.Print around own to e e.1 refl c d
+      form_kept tree.Ask id ty by around loops a c u w own to d g =
+          effect_kept (head id ty by) (shape_of items tree.Ask (head id ty by)) effects.Ask around own to (λ site. refl)
+          (λ key x. x) c d
+      form_kept (tree.DropValue value) id ty by around loops a c u w own to d g =
+          let e = operand_from value around loops w (evaluated value around loops a w) in
+          frame.dropping_kept items q over Does_ Drops May I keeping (head id ty by) around own (M value) _ e
+          (frame.unit_kept items q over Does_ Drops May I keeping (head id ty by) _
+          (own_dest (is_never items ty) id to c d))
+      form_kept (tree.Forget value) id ty by around loops a c u w own to d g =
+          let e = operand_from value around loops w (evaluated value around loops a w) in
+          gives_unit_kept (head id ty by) (shape_of items (tree.Forget value) (head id ty by))
+          (M value) effects.Forget around own to e e.1 refl c d
+      form_kept tree.Panic id ty by around loops a c u w own to d g =
+          frame.panics_kept items q over Does_ Drops May I keeping Why.Explicit
+      form_kept (tree.Borrow unique base) id ty by around loops a c u w own to d g =
+          subst (λ (x : Destination). Keeps (forms.borrowing items q (head id ty by) unique (M base) around own x))
+          (sym (own_key (is_never items ty) id to (g refl)))
+          (frame.borrowing_kept items q over Does_ Drops May I keeping (head id ty by) unique (M base) around own id
+          (reached base around loops a w.0.0) (λ e. may_place base around (w.0.1 e)) (borrowed id unique base around
+          (telling.borrows around.aliases id unique base w.1)) c)
+      form_kept (tree.Unsize trait_no value) id ty by around loops a c u w own to d g =
+          evaluated value around loops a w.1 own _
+          (loose_goes value _ w.0 (coerced_dest (M value).head.id trait_no (to_own_key (is_never items ty) id to)
+          (within_cell value around.aliases loops w.1) (own_dest (is_never items ty) id to c d)))
+      form_kept (tree.Block statements value) id ty by around loops a c u w own to d g =
+          frame.block_kept items q over Does_ Drops May I keeping (head id ty by) (Ms statements) (Mi value) around own _
+          (done statements around loops a w.0)
+          (tail value (head id ty by) around loops a w.1 _ (own_dest (is_never items ty) id to c d))
+      form_kept (tree.Let pattern absent) id ty by around loops a c u w own to d g =
+          frame.declared_kept items q over Does_ Drops May I keeping ((M pattern).shape.bindings (whole_local 0))
+          (subst (λ (s : Shape). AllCells May (s.bindings (whole_local 0))) (sym (heads.shape_is items q fuel pattern)) w)
+      form_kept (tree.Let (node pid pat pty pby pform) (present value)) id ty by around loops a c u w own to d g =
+          let_from pform pid pat pty pby value id ty by around loops w (λ x. evaluated value around loops a x)
+          (λ x. reached value around loops a x)
+      form_kept (tree.Evaluate expression) id ty by around loops a c u w own to d g =
+          frame.evaluating_kept items q over Does_ Drops May I keeping (head id ty by) (M expression) around
+          (operand_from expression around loops w (evaluated expression around loops a w))
+      form_kept (tree.If test body otherwise) id ty by around loops a c u w own to d g =
+          let k = own_dest (is_never items ty) id to c d in
+          frame.own_kept items q over Does_ Drops May I keeping (head id ty by) own _
+          (condition_from test around loops w.0 (evaluated test around loops a w.0) _ _
+          (alone_from body around (evaluated body around loops a w.1.0.1) _
+          (loose_goes body _ w.1.0.0 k))
+          (branched otherwise around loops a w.1.1 _ k _ (frame.unit_kept items q over Does_ Drops May I keeping
+          (head id ty by) _ k)))
+      form_kept (tree.IfLet pattern scrutinee body otherwise) id ty by around loops a c u w own to d g =
+          let k = own_dest (is_never items ty) id to c d in
+          let m = matched_with pattern scrutinee around w.0.1 in
+          frame.own_kept items q over Does_ Drops May I keeping (head id ty by) own _
+          (frame.if_taken_kept items q over Does_ Drops May I keeping (head id ty by) around (M pattern) (M scrutinee) _ _
+          (reached scrutinee around loops a w.0.0) m.0 m.1 (alone_from body around
+          (evaluated body around loops a w.1.0.1) _
+          (loose_goes body _ w.1.0.0 k))
+          (branched otherwise around loops a w.1.1 _ k _ (frame.unit_kept items q over Does_ Drops May I keeping
+          (head id ty by) _ k)))
+      form_kept (tree.Match scrutinee ns) id ty by around loops a c u w own to d g =
+          frame.matching_kept items q over Does_ Drops May I keeping (head id ty by) (M scrutinee) (Ms ns) around own _
+          (reached scrutinee around loops a w.0)
+          (arms ns (place_of (M scrutinee) around) around loops a
+          (subst (λ (s : Shape). within.ArmsWithin items May Says around.aliases loops (s.place around.aliases) ns)
+          (sym (heads.shape_is items q fuel scrutinee)) w.1) _ (own_dest (is_never items ty) id to c d))
+      form_kept (tree.Loop body) id ty by around loops a c u w own to d g =
+          let k = own_dest (is_never items ty) id to c d in
+          frame.own_kept items q over Does_ Drops May I keeping (head id ty by) own _
+          (frame.turns_kept items q over Does_ Drops May I keeping fuel id _
+          (body_from body (in_loop id (to_own_key (is_never items ty) id to) around) (id ∷ loops) w
+          (evaluated body (in_loop id (to_own_key (is_never items ty) id to) around) (id ∷ loops)
+          (looped id _ around loops a k) w)))
+      form_kept (tree.While test body) id ty by around loops a c u w own to d g =
+          let k = own_dest (is_never items ty) id to c d in
+          let inner = in_loop id (to_own_key (is_never items ty) id to) around in
+          let b = looped id (to_own_key (is_never items ty) id to) around loops a k in
+          frame.own_kept items q over Does_ Drops May I keeping (head id ty by) own _
+          (frame.turns_kept items q over Does_ Drops May I keeping fuel id _
+          (condition_from test inner (id ∷ loops) w.0 (evaluated test inner (id ∷ loops) b w.0) _ _
+          (body_from body inner (id ∷ loops) w.1 (evaluated body inner (id ∷ loops) b w.1))
+          (frame.ends_kept items q over Does_ Drops May I keeping (head id ty by) _ k)))
+      form_kept (tree.WhileLet pattern scrutinee body) id ty by around loops a c u w own to d g =
+          let k = own_dest (is_never items ty) id to c d in
+          let inner = in_loop id (to_own_key (is_never items ty) id to) around in
+          let b = looped id (to_own_key (is_never items ty) id to) around loops a k in
+          let m = matched_with pattern scrutinee inner w.0.1 in
+          frame.own_kept items q over Does_ Drops May I keeping (head id ty by) own _
+          (frame.turns_kept items q over Does_ Drops May I keeping fuel id _
+          (frame.if_taken_kept items q over Does_ Drops May I keeping (head id ty by) inner (M pattern) (M scrutinee) _ _
+          (reached scrutinee inner (id ∷ loops) b w.0.0) m.0 m.1
+          (body_from body inner (id ∷ loops) w.1 (evaluated body inner (id ∷ loops) b w.1))
+          (frame.ends_kept items q over Does_ Drops May I keeping (head id ty by) _ k)))
+      form_kept (tree.Break loop value) id ty by around loops a c u w own to d g =
+          frame.own_kept items q over Does_ Drops May I keeping (head id ty by) own _
+          (frame.jumping_kept items q over Does_ Drops May I keeping (Breaks loop) (head id ty by) (Mi value) around _
+          (jump value (head id ty by) around loops a w.1 _ (a.1 loop w.0)))
+      form_kept (tree.Continue loop) id ty by around loops a c u w own to d g =
+          frame.at_exit items q over Does_ Drops May I keeping (Continues loop)
+      form_kept (tree.Return value) id ty by around loops a c u w own to d g =
+          frame.own_kept items q over Does_ Drops May I keeping (head id ty by) own _
+          (frame.jumping_kept items q over Does_ Drops May I keeping Returns (head id ty by) (Mi value) around _
+          (jump value (head id ty by) around loops a w _ a.0))
+      form_kept form id ty by around loops a c u w own to d g = frame.at_exit items q over Does_ Drops May I keeping Value
+
+    -- a borrow may go anywhere too, where that is known of it
+    pub anywhere : ((aliases : Aliases) (id key : ℕ) (unique : Bool) (base : Node) →
+        Says aliases id (tree.Borrow unique base) →
+        Does_ (effects.Borrow (site_in (number_of base) key) unique (node_site items aliases base))) → (n : Node)
+        (around : LoopsAndGuards) (loops : List ℕ) → Around around loops → Within around.aliases loops n → (own : Bool)
+        (to : Destination) → DestCell May to → Keeps ((M n).evaluate around own to)
+    anywhere f (node id at ty by (tree.Borrow unique base)) around loops a w own to d =
+        frame.borrowing_anywhere items q over Does_ Drops May I keeping (head id ty by) unique (M base) around own _
+        (reached base around loops a w.1.1.0.0) (λ e. may_place base around (w.1.1.0.1 e))
+        (λ key. borrowed key unique base around (f around.aliases id key unique base w.1.1.1))
+        (own_dest (is_never items ty) id to w.0 d)
+    anywhere f (node id at ty by form) around loops a w own to d =
+        evaluated (node id at ty by form) around loops a w own to (d, λ b. absurd (false≢true b))

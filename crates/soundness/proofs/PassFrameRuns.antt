@@ -45,7 +45,7 @@ module _ (local_of : ℕ → ℕ) (May : Place → Type 0) where
   all_at [] t = tt
   all_at (operand ∷ operands) t = (takes_at operand t.0, all_at operands t.1)
 
-  allowed_at : (action : Action) → Allowed MayAt action → Allowed May (action_at local_of action)
+  pub allowed_at : (action : Action) → Allowed MayAt action → Allowed May (action_at local_of action)
   allowed_at (effects.Put to from) a = (a.0, takes_at from a.1)
   allowed_at (effects.Compare to operator left right) a = (a.0, (takes_at left a.1.0, takes_at right a.1.1))
   allowed_at (effects.Not to operand) a = (a.0, takes_at operand a.1)
@@ -64,7 +64,7 @@ module _ (local_of : ℕ → ℕ) (May : Place → Type 0) where
   allowed_at (effects.CallVirtual to trait_no method args) a = (a.0, all_at args a.1)
   allowed_at (effects.Ask to) a = a
 
-  test_allowed : (test : Test) → AllowedTest MayAt test → AllowedTest May (test_at local_of test)
+  pub test_allowed : (test : Test) → AllowedTest MayAt test → AllowedTest May (test_at local_of test)
   test_allowed (effects.IsTrue operand) t = takes_at operand t
   test_allowed (effects.HasVariant site variant) t = t
 
@@ -245,7 +245,9 @@ module _ (items : ItemTable) (body : BodyTree) (May : Place → Type 0) (facts :
         (v : Checking Facts) → Known v → Found ((meaning items run fuel n).evaluate around own to S v)
     node_keeps fuel n around loops a w own to d S v i = found ((meaning items run fuel n).evaluate around own to S v)
         ((forms_of.anywhere items run any_halt any_action any_site May_ Known run_keeping
-        nothing_said nothing_told fuel (λ aliases id key unique base s. tt) n around loops a w own to d).kept 0 S v
+        nothing_said fuel (forms_of.saying_of items any_action any_site nothing_said nothing_told)
+        (forms_of.by_telling items run any_halt any_action any_site May_ Known run_keeping nothing_said fuel nothing_told)
+        (λ aliases id key unique base s. tt) n around loops a w own to d).kept 0 S v
         (none_looked_at S) i)
 
     pub reach_keeps : (fuel : ℕ) (n : Node) (around : LoopsAndGuards) (loops : List ℕ) → Around May_ around loops →
@@ -253,4 +255,6 @@ module _ (items : ItemTable) (body : BodyTree) (May : Place → Type 0) (facts :
         Found ((meaning items run fuel n).reach around S v)
     reach_keeps fuel n around loops a w S v i = found ((meaning items run fuel n).reach around S v)
         ((forms_of.reached items run any_halt any_action any_site May_ Known run_keeping nothing_said
-        nothing_told fuel n around loops a w).kept 0 S v (none_looked_at S) i)
+        fuel (forms_of.saying_of items any_action any_site nothing_said nothing_told)
+        (forms_of.by_telling items run any_halt any_action any_site May_ Known run_keeping nothing_said fuel nothing_told)
+        n around loops a w).kept 0 S v (none_looked_at S) i)

@@ -76,7 +76,7 @@ pub some_head : (o : Option (List TyId × TyId)) (f : List TyId × TyId → Bool
 some_head None f h = absurd (false≢true h)
 some_head (Some head) f h = (head, (refl, h))
 
-referred : (unique : Bool) (o : Option Ty) (id : TyId) → option_map_or (same_id id) (referent unique o) false ≡ true →
+pub referred : (unique : Bool) (o : Option Ty) (id : TyId) → option_map_or (same_id id) (referent unique o) false ≡ true →
     is_reference o ≡ true
 referred true None id h = absurd (false≢true h)
 referred false None id h = absurd (false≢true h)
@@ -87,7 +87,7 @@ referred false (Some (Ty.Unique to)) id h = refl
 referred true (Some ty) id h = absurd (false≢true h)
 referred false (Some ty) id h = absurd (false≢true h)
 
-of_some : (o : Option TyId) (f : TyId → Bool) (P : Type 0) → option_map_or f o false ≡ true →
+pub of_some : (o : Option TyId) (f : TyId → Bool) (P : Type 0) → option_map_or f o false ≡ true →
     ((id : TyId) → f id ≡ true → P) → P
 of_some None f P h k = absurd (false≢true h)
 of_some (Some id) f P h k = k id h
