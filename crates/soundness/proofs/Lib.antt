@@ -103,6 +103,9 @@ pub mod PassAloneLeft
 pub mod PassAloneFrame
 pub mod PassAloneLeaves
 pub mod PassAloneSteps
+pub mod PassAloneApart
+pub mod PassAloneSuit
+pub mod PassAloneKeys
 pub mod PassCellActs
 pub mod PassCellChoices
 pub mod PassCellCopies

@@ -151,7 +151,7 @@ module _ (items : ItemTable) (body : BodyTree) (also : Also) (fuel : ℕ) (rise 
   -- ---- any other node
 
   -- the local of a node that is no borrow names nothing
-  names_nothing : (n : Node) → NodeIn (nodes_of body.block) n → is_borrow (form_of n) ≡ false → (w : V) → Known w →
+  pub names_nothing : (n : Node) → NodeIn (nodes_of body.block) n → is_borrow (form_of n) ≡ false → (w : V) → Known w →
       named_by (local (number_of n)) w.facts ≡ None
   names_nothing n i b w k = by (named_by (local (number_of n)) w.facts) refl
     where

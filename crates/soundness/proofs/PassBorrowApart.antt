@@ -204,7 +204,7 @@ module _ (items : ItemTable) (body : BodyTree) (also : Also) where
 
 -- ---- no index on the way has another number
 
-no_index : (keys : List ℕ) (id : ℕ) (steps : List Step) → KeysIn (λ k. k ≡ id → ⊥) steps →
+pub no_index : (keys : List ℕ) (id : ℕ) (steps : List Step) → KeysIn (λ k. k ≡ id → ⊥) steps →
     takes_index (Rattle.src_meaning.specs.Locals.OfBody.local_among keys id)
     (map (step_at (Rattle.src_meaning.specs.Locals.OfBody.local_among keys)) steps) ≡ false
 no_index keys id [] h = refl

@@ -49,7 +49,7 @@ Saying items May Of Says = (form : Form) (id : ℕ) (at : Pos) (ty : TyId) (by :
     Told items May Of aliases (told_form aliases at form) → Says places id form
 
 -- a node has a number below those behind
-node_above : (a b : List Node) (m : Node) → Rises (a ++ b) → NodeIn a m → Above (number_of m) b
+pub node_above : (a b : List Node) (m : Node) → Rises (a ++ b) → NodeIn a m → Above (number_of m) b
 node_above [] b m r i = absurd i
 node_above (n ∷ a) b m r (inl e) =
     subst (λ k. Above k b) (ap number_of e) (told_places.above_right (number_of n) a b (rising n (a ++ b) r).0)
