@@ -106,6 +106,9 @@ pub mod PassAloneSteps
 pub mod PassAloneApart
 pub mod PassAloneSuit
 pub mod PassAloneKeys
+pub mod PassAloneTyped
+pub mod PassAloneOff
+pub mod PassAloneGiven
 pub mod PassCellActs
 pub mod PassCellChoices
 pub mod PassCellCopies

@@ -2,7 +2,7 @@
 -- numbers, and so have the nodes of the argument itself.
 use Rattle.std.proofs.Common.{◌≡◌, ◌<◌, Bool, true, false, List, ◌++◌, Some, refl, sym, subst, arith}
 use Rattle.mir_ty.specs.ItemTable.{ItemTable}
-use Rattle.store_model.specs.Places.Place.{Place}
+use Rattle.store_model.specs.Places.Place.{Place, whole_local}
 use Rattle.typed_tree.specs.Nodes.{number_of, nodes_of}
 use Rattle.typed_tree.specs.Tree.{Node}
 use Rattle.src_meaning.specs.Shape as shapes
@@ -42,3 +42,19 @@ module _ (items : ItemTable) (May : Place → Type 0) (Of : Node → Type 0) whe
       of_closure y e true u = absurd (o.sees.closure y e u)
       of_closure y e false u = subst (Keys (λ k. Above k later)) (sym (o.sees.plain y.key u))
           (above_right y.key a later (o.outer y e), tt)
+
+  -- of a place none of whose nodes is one of some nodes
+  pub other_place : (aliases : rules.Aliases) (places : shapes.Aliases) (x : Standpoint) (ns : List Node) →
+      Here items May Of aliases places x ns → (base m : Node) (standing : Standing) →
+      Holds (typing.typed (context items x) standing base) → NodeIn ns m →
+      ((j : Node) → NodeIn (nodes_of base) j → number_of j ≡ number_of m → ⊥) →
+      Keys (λ k. k ≡ number_of m → ⊥) ((shape items base).place places)
+  other_place aliases places x ns o base m standing h i apart = place_keys (λ k. k ≡ number_of m → ⊥) items places x
+      (λ key y e. other_keys ns m (shapes.place_of_key key places) i (o.low key y e))
+      (λ y e. of_closure y e (is_alias aliases y.key) refl) base standing h apart
+    where
+      of_closure : (y : InScope) → x.closure ≡ Some y → (c : Bool) → is_alias aliases y.key ≡ c →
+          Keys (λ k. k ≡ number_of m → ⊥) (shapes.place_of_key y.key places)
+      of_closure y e true u = absurd (o.sees.closure y e u)
+      of_closure y e false u = subst (Keys (λ k. k ≡ number_of m → ⊥)) (sym (o.sees.plain y.key u))
+          (other_keys ns m (whole_local y.key) i (o.outer y e, tt))
