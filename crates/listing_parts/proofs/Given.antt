@@ -1,5 +1,5 @@
 -- A type that was given a number.
-use Rattle.std.proofs.Common.{◌≡◌, ℕ, List, length, sym, subst, arith}
+use Rattle.std.proofs.Common.{◌≡◌, length, sym, subst, arith}
 use Rattle.std.specs.Prelude.{Result, Ok, Err}
 use Rattle.std.specs.Result.{IsErr}
 use Rattle.std.proofs.lemmas.Bool.{false≢true}
@@ -7,9 +7,8 @@ use Rattle.mir_ty.specs.declared.ty.Ty.{Ty}
 use Rattle.mir_ty.specs.declared.ty.TyId.{TyId}
 use Rattle.mir_ty.specs.AreItems.{AreItems}
 use Rattle.mir_ty.specs.ItemTable.{ItemTable, Interns}
-use Rattle.listing_write.specs.Types.{form_text}
 use Rattle.mir_base.specs.declared.memory.NoMemory.{NoMemory}
-use Rattle.listing_parts.specs.Table.{AreRead, Grow, MayStand, under, text_under}
+use Rattle.listing_parts.specs.Table.{AreRead, Grow, MayStand}
 use Rattle.listing_parts.specs.TypesRead.{GivesType}
 use Rattle.listing_parts.proofs.Texts.{interned_grow, interned_within, interned_text, same_types}
 

@@ -13,3 +13,7 @@ pub mod PlainNumbers
 pub mod Sound
 pub mod Splits
 pub mod Texts
+pub mod DepthFree
+mod OpenTypes
+mod OpenEnds
+mod OpenSteps

@@ -8,3 +8,4 @@ pub mod Table
 pub mod TypeReading
 pub mod TypesFound
 pub mod TypesRead
+pub mod OpenTypes
