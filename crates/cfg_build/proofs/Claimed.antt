@@ -1,9 +1,10 @@
 -- What the laws of the lowering say of the raw graph of a program.
-use Rattle.std.proofs.Common.{◌≡◌, ◌∙◌, ◌++◌, ◌∷◌, ◌+◌, ◌<◌, ℕ, suc, List, [], Some, length, map, drop, sym, ap, subst, arith}
+use Rattle.std.proofs.Common.{◌≡◌, ◌∙◌, ◌++◌, ◌∷◌, ◌+◌, ◌<◌, ℕ, suc, List, [], Some, None, length, map, drop, sym, ap, subst, arith}
 use Rattle.std.specs.Prelude.{slice_get, option_map, get_or}
 use Rattle.std.proofs.lemmas.Option.{slice_get-map}
 use Rattle.cfg_graph.specs.declared.graph.Body.{Body}
 use Rattle.cfg_graph.specs.declared.graph.Graph.{Graph}
+use Rattle.cfg_graph.specs.Ready.{IsPrepared}
 use Rattle.cfg_graph.specs.WellFormed.Faults.{IsWellFormed}
 use Rattle.mir_ty.specs.ItemTable.{ItemTable}
 use Rattle.typed_tree.specs.Tree.{BodyTree, ProgramTree}
@@ -12,6 +13,7 @@ use Rattle.typed_tree.specs.declared.body.TBody.{TBody}
 use Rattle.lower_rules.specs.Listed.{body_sites, of_bodies}
 use Rattle.lower_rules.specs.declared.site.Site.{Site}
 use Rattle.cfg_build.proofs.Numbered.{numbered_more}
+use Rattle.typing_rules.specs.Borrows.{broken_borrow}
 use Rattle.well_typed.specs.Program.{WellTyped}
 use Rattle.lower_rules.specs.Lower.{body_of, graph_of}
 use Rattle.lower_rules.proofs.Bodies.{lowered_runs_as_its_source, lowered_walks_as_it_runs_freely, lowered_is_ranked, lowered_keeps_to_cleanup, lowered_is_prepared}
@@ -22,7 +24,6 @@ use Rattle.lower_laws.proofs.Whole.{graphs_are_well_formed}
 use Rattle.lower_laws.specs.Refused.{MeetsExactly, MeetsItsRefusals}
 use Rattle.lower_laws.proofs.Exact.{lowered-paths-meet-exactly, well_typed_rise}
 use Rattle.lower_laws.proofs.Law.{lowered-paths-meet}
-use Rattle.lower_ready.specs.Prepared.{IsPreparedButForNamedStays}
 use Rattle.lower_ready.proofs.Prepared.{graphs_are_prepared}
 use Rattle.cfg_build.specs.Claims.{EachBody, HasOrderedEdges, HasScheduledDrops, IsSmall, RunsAsItsSource, WalksAsItRunsFreely}
 
@@ -80,8 +81,8 @@ module _ (program : ProgramTree) (graph : Graph) (same : graph ≡ graph_of prog
       (each (HasScheduledDrops program.items) program
       (λ n tree is. lowered_is_prepared program.items tree (well_typed_names_loops program typed n tree is)))
 
-  pub prepared : WellTyped program → IsLowerable program → IsPreparedButForNamedStays graph
-  prepared typed low = of_graph IsPreparedButForNamedStays (graphs_are_prepared program typed low)
+  pub prepared : WellTyped program → IsLowerable program → broken_borrow program ≡ None → IsPrepared graph
+  prepared typed low borrows = of_graph IsPrepared (graphs_are_prepared program typed low borrows)
 
   pub formed : WellTyped program → IsLowerable program → IsWellFormed graph
   formed typed low = of_graph IsWellFormed (graphs_are_well_formed program typed low)

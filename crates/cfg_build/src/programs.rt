@@ -1,15 +1,16 @@
 //! Programs that are lowered.
-ghost use Rattle.std.specs.Prelude.{◌≡◌, ◌<◌, ◌-◌, ◌^◌, ◌++◌, ◌∷◌, [], All, OnOk, IfOk, length, map};
+ghost use Rattle.std.specs.Prelude.{◌≡◌, ◌<◌, ◌-◌, ◌^◌, ◌++◌, ◌∷◌, [], All, None, OnOk, IfOk, length, map};
 ghost use Rattle.lower_rules.specs.Lower as low;
 ghost use Rattle.src_meaning.specs.Locals.OfBody as of_body;
 ghost use Rattle.typed_tree.specs.View.{body_of, program_of};
 ghost use Rattle.lower_rules.specs.Listed as listed;
 ghost use Rattle.lower_rules.specs.Listed.{ids_of, nodes_of_body};
+ghost use Rattle.typing_rules.specs.Borrows.{broken_borrow};
 ghost use Rattle.well_typed.specs.Program.{WellTyped};
+ghost use Rattle.cfg_graph.specs.Ready.{IsPrepared};
 ghost use Rattle.cfg_graph.specs.WellFormed.Faults.{IsCounted, IsCountedBody, IsWellFormed};
 ghost use Rattle.lower_laws.specs.Lowerable.{IsLowerable};
 ghost use Rattle.lower_laws.specs.Refused.{MeetsExactly, MeetsItsRefusals};
-ghost use Rattle.lower_ready.specs.Prepared.{IsPreparedButForNamedStays};
 ghost use Rattle.cfg_build.specs.Claims.{EachBody, HasOrderedEdges, HasScheduledDrops, IsSmall, RunsAsItsSource};
 ghost use Rattle.cfg_build.specs.Claims.{WalksAsItRunsFreely};
 
@@ -155,7 +156,8 @@ pub fn lower(alloc: Global, typed: &Typed) -> Result<Lowered, NoMemory>
     ensures drops { IfOk result (λ lowered. WellTyped (program_of typed.now) →
         EachBody (HasScheduledDrops typed.now.items) (program_of typed.now) lowered.graph) }
     ensures prepared { IfOk result (λ lowered. WellTyped (program_of typed.now) →
-        IsLowerable (program_of typed.now) → IsPreparedButForNamedStays lowered.graph) }
+        IsLowerable (program_of typed.now) → broken_borrow (program_of typed.now) ≡ None →
+        IsPrepared lowered.graph) }
     ensures well_formed { IfOk result (λ lowered. WellTyped (program_of typed.now) →
         IsLowerable (program_of typed.now) → IsWellFormed lowered.graph) }
     ensures paths { IfOk result (λ lowered. WellTyped (program_of typed.now) →

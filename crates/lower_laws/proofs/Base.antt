@@ -43,6 +43,7 @@ use Rattle.lower_rules.specs.Lower as lower
 use Rattle.lower_rules.proofs.KnownTypes.{same_never}
 use Rattle.lower_rules.proofs.Lines as lines
 use Rattle.lower_rules.proofs.Lines.{Wanted}
+use Rattle.lower_rules.proofs.Stops as stops
 use Rattle.lower_rules.proofs.TypedLines as typed_lines
 use Rattle.lower_rules.proofs.TypedPlaces as typed_places
 
@@ -247,9 +248,9 @@ module _ (g : Ground) where
     goto = λ n node. (typed_lines.goto_ok g.items g.bodies B n, refl);
     resume = λ node. (typed_lines.resume_ok g.items g.bodies B, refl);
     drop = drop_ok;
-    behind = λ stmt stmts term. Unit {0};
+    behind = stops.Behind F (λ key. ⊥);
     returns = 1;
-    follows = λ action. lines.follows_any (done_by F action) (is_last F action);
+    follows = stops.follows F (λ key. ⊥);
     compares = λ site value stmts term. tt;
   }
 

@@ -22,12 +22,11 @@ use Rattle.mir_ty.specs.ItemTable.{type_at}
 use Rattle.mir_ty.specs.Parts.{parts_of}
 use Rattle.store_model.specs.Places.Place.{content_of, element_of}
 use Rattle.store_model.specs.Places.TypeForms as forms
-use Rattle.typed_tree.specs.Nodes.{nodes_of, param_nodes}
 use Rattle.typed_tree.specs.Tree as tree
 use Rattle.typed_tree.specs.Tree.{Node, Form, ParamTree, BodyTree, ProgramTree}
 use Rattle.src_meaning.specs.Locals.OfBody.{cells, cells_in, locals, param_key, answer_key, bool_ty}
 use Rattle.src_meaning.specs.Scopes.{Entry}
-use Rattle.well_typed.specs.Claim.{Claim, Holds, fact, nothing, ◌&◌, each}
+use Rattle.well_typed.specs.Claim.{Claim, Holds, fact, nothing, ◌&◌}
 use Rattle.well_typed.specs.Items as items_of
 use Rattle.well_typed.specs.Nodes as typing
 use Rattle.well_typed.specs.Patterns as patterns

@@ -1,7 +1,7 @@
 -- The cells of well typed nodes: each is of a type in the table, and of no `dyn` type. One line a form.
 use Rattle.std.proofs.Common.{◌≡◌, inl, inr, ℕ, zero, suc, ◌==◌, ◌&&◌, ◌||◌, not, Bool, true, false, List, [], ◌∷◌, ◌++◌, Option, Some, None, slice_get, if◌then◌else◌, cond, refl, sym, subst, ◌∙◌}
 use Rattle.std.specs.Prelude.{replicate, option_and_then}
-use Rattle.std.specs.List.{list_any, list_all, filter_map}
+use Rattle.std.specs.List.{list_any, filter_map}
 use Rattle.std.specs.Option.{option_map_or}
 use Rattle.std.proofs.lemmas.Option.{none-some, same_Some}
 use Rattle.mir_base.specs.declared.place_in_text.Pos.{Pos}

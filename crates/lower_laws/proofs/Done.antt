@@ -1,5 +1,5 @@
 -- What the actions on a path are done by: a statement that uses a place, a terminator that does, or a drop.
-use Rattle.std.proofs.Common.{◌≡◌, ◌≢◌, ◌∙◌, ℕ, zero, suc, Bool, true, false, if◌then◌else◌, List, [], ◌∷◌, ◌++◌, map, flat_map, length, Option, Some, None, slice_get, refl, sym, ap, subst}
+use Rattle.std.proofs.Common.{◌≡◌, ◌≢◌, ◌∙◌, ℕ, suc, Bool, true, false, if◌then◌else◌, List, [], ◌∷◌, ◌++◌, map, flat_map, length, Option, Some, None, slice_get, refl, sym, ap, subst}
 use Rattle.std.specs.Prelude.{nat_eq}
 use Rattle.std.specs.List.{list_any}
 use Rattle.std.specs.Option.{option_map_or}
@@ -15,7 +15,7 @@ use Rattle.cfg_graph.specs.Edges.{onward}
 use Rattle.cfg_graph.specs.Moves.Actions.{actions_on}
 use Rattle.cfg_graph.specs.Moves.Gone.{PathAction}
 use Rattle.cfg_graph.specs.Places.{named}
-use Rattle.cfg_graph.specs.Uses.{PlaceUse, Copies, Moves, Borrows, Touches, Tests, Stores, Drops, Frees, operand_uses, operands_of_stmt, operands_of_term, other_uses, other_term_uses, stmt_uses, term_uses, stored_by_stmt, stored_by_term, place_used, places_of_stmt, places_of_term}
+use Rattle.cfg_graph.specs.Uses.{PlaceUse, Stores, Drops, operand_uses, operands_of_stmt, other_uses, stmt_uses, term_uses, stored_by_stmt, stored_by_term, place_used, places_of_stmt, places_of_term}
 
 -- the actions of a path, as the definition has them
 abbrev at_line : (block line : ℕ) → List (PlaceUse × Place) → List PathAction
@@ -99,8 +99,8 @@ module _ (body : Body) where
         is_dropping action.how ≡ false → ByLine block action
     by_the_term : action.line ≡ length block.stmts → used_by_term block.term ≢ [] → is_dropping action.how ≡ false →
         ByLine block action
-    by_a_drop : (place : Place) (next : ℕ) (unwind : Unwind) → block.term ≡ Term.DropAt place next unwind →
-        action.place ≡ named place → action.how ≡ Drops → ByLine block action
+    by_a_drop : (place : Place) (next : ℕ) (unwind : Unwind) → action.line ≡ length block.stmts →
+        block.term ≡ Term.DropAt place next unwind → action.place ≡ named place → action.how ≡ Drops → ByLine block action
 
   pub record IsDone (action : PathAction) : Type 0 where
     pub block : Block
@@ -197,7 +197,7 @@ module _ (body : Body) where
     of_term : (term : Term) → block.term ≡ term →
         AllDone (at_line n (length block.stmts) (term_uses term)) × AllDone (at_line n (length block.stmts) (map (λ place. (Stores, place)) (stored_by_term term)))
     of_term (Term.DropAt place next unwind) is = (
-      (record { block = block; there = there; by_line = by_a_drop place next unwind is refl refl }, tt),
+      (record { block = block; there = there; by_line = by_a_drop place next unwind refl is refl refl }, tt),
       tt,
     )
     of_term (Term.Case on variant if_true if_false) is = plain (Term.Case on variant if_true if_false) is (λ some. some) (refl, tt)

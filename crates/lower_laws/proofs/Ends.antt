@@ -7,7 +7,7 @@ use Rattle.std.specs.Option.{option_map_or}
 use Rattle.std.specs.Cmp.{second_so}
 use Rattle.std.proofs.lemmas.Bool.{false≢true, eqb-true}
 use Rattle.std.proofs.lemmas.Option.{none-some, same_Some}
-use Rattle.std.proofs.lemmas.List.{append_assoc, append_cancel_left, append_cancel_right}
+use Rattle.std.proofs.lemmas.List.{append-nil, append_assoc, append_cancel_left, append_cancel_right}
 use Rattle.mir_base.specs.declared.int_kind.IntKind.{IntKind}
 use Rattle.mir_ty.specs.declared.ty.Ty.{Ty}
 use Rattle.mir_ty.specs.ItemTable.{ItemTable}
@@ -18,7 +18,7 @@ use Rattle.cfg_graph.specs.declared.graph.Kind.{Kind}
 use Rattle.cfg_graph.specs.declared.place.Place.{Place}
 use Rattle.cfg_graph.specs.declared.terminator.Term.{Term}
 use Rattle.cfg_graph.specs.declared.terminator.Unwind.{Unwind}
-use Rattle.cfg_graph.specs.Edges.{BlockExit, ToBlock, LeavesBody, onward, unwind_exit, unwind_targets}
+use Rattle.cfg_graph.specs.Edges.{BlockExit, ToBlock, LeavesBody, is_turn, is_turn_kind, onward, unwind_exit, unwind_targets}
 use Rattle.cfg_graph.specs.Places.{ty_of_place, ty_of_operand}
 use Rattle.cfg_graph.specs.Uses.{Stores, stored_by_term, term_uses}
 use Rattle.cfg_graph.specs.WellFormed.Typing.{stmt_is_typed, term_is_typed, term_has_types}
@@ -26,13 +26,15 @@ use Rattle.cfg_graph.specs.Moves.Actions.{actions_on}
 use Rattle.cfg_graph.specs.Moves.BadUses.{BadUse}
 use Rattle.cfg_graph.specs.Moves.Gone.{PathAction, is_param}
 use Rattle.cfg_graph.specs.Moves.Paths.{PathWay, ways, IsPath}
-use Rattle.init_flow.proofs.Along.{actions_in, actions_between}
-use Rattle.move_errors.proofs.Pathways.{in-flat, in-map, map-in, along, entry_choices, choices_between, between-way, way-between, path-snoc, actions-snoc}
+use Rattle.init_flow.specs.Carried.{last_of}
+use Rattle.init_flow.proofs.Along.{actions_in, actions_between, came, came-is}
+use Rattle.move_errors.proofs.Pathways.{ends as path-ends, in-flat, in-map, map-in, along, entry_choices, choices_between, between-way, way-between, path-snoc, actions-snoc}
 use Rattle.move_errors.proofs.Sorted.{here, none-in, first-or}
 use Rattle.move_errors.specs.Reaches.{first_bad, Reaches, MeetsNone}
+use Rattle.lower_laws.specs.Given.{GivesBeforeBad, up_to_block, by_way_out}
 use Rattle.lower_laws.specs.Meets.{PanicsLeadElsewhere, before_bad, RunsReach, in_block, on_way}
 use Rattle.lower_laws.proofs.Lines.{at_line, stmt_actions}
-use Rattle.lower_laws.proofs.Performing.{some-rest}
+use Rattle.lower_laws.proofs.Performing.{none-first, none-rest, none-of-both, some-rest}
 use Rattle.lower_rules.specs.Build.{LoweringFrame}
 use Rattle.lower_rules.proofs.Stops.{BlockStops}
 use Rattle.lower_laws.proofs.Clean.{none-after}
@@ -194,6 +196,16 @@ module _ (items : ItemTable) (body : Body) where
     pub meets_none : MeetsNone items body
     meets_none path given is = none-after items body path (none_met path given is)
 
+  -- a list that a path gives is given without a value of type `!` before
+  pub data GivesCalmly (list : List Bool) : Type 0 where
+    calm_to : (front : List ℕ) (last : ℕ) (earlier : List PathAction) → IsPath items body (front ++ last ∷ []) list →
+        actions_on body (front ++ last ∷ []) ≡ earlier ++ actions_on body (last ∷ []) → first_bad items body [] earlier ≡ None →
+        ends_any items body earlier ≡ false → GivesCalmly list
+    calm_by : (front : List ℕ) (last : ℕ) (before : List Bool) (block : Block) (way : PathWay) (earlier : List PathAction) → IsPath items body (front ++ last ∷ []) before →
+        actions_on body (front ++ last ∷ []) ≡ earlier ++ actions_on body (last ∷ []) → first_bad items body [] earlier ≡ None → ends_any items body earlier ≡ false →
+        first_bad items body earlier (actions_in body last) ≡ None → ends_any items body (actions_in body last) ≡ false →
+        slice_get body.blocks last ≡ Some block → Contains (ways items body block.term) way → list ≡ before ++ way.choices → GivesCalmly list
+
   -- ---- along a path of a lowered body
   module _ (f : LoweringFrame) (own : ℕ → Type 0) (same_items : f.items ≡ items) (same_tys : f.tys ≡ body.locals) (owned : (key : ℕ) → own key → is_param items body (f.local_of key) ≡ false)
       (stop : (n : ℕ) (block : Block) → slice_get body.blocks n ≡ Some block → BlockStops f own block.stmts block.term)
@@ -263,6 +275,156 @@ module _ (items : ItemTable) (body : Body) where
     of_path (zero ∷ rest) given is =
         let it = in-map (λ (rest : List Bool). entry_choices items body 0 ++ rest) (along items body 0 rest) given is in
         comes rest 0 [] refl it.0 it.1
+
+    -- Along a path to its last block, before which no value of type `!` is copied or stored; or to the block before that
+    -- one, where it is the block that returns.
+    data Calm (last : ℕ) (tail : List PathAction) (list : List Bool) : Type 0 where
+      arrives : (front : List ℕ) (earlier : List PathAction) → IsPath items body (front ++ last ∷ []) list →
+          actions_on body (front ++ last ∷ []) ≡ earlier ++ actions_on body (last ∷ []) → first_bad items body [] earlier ≡ None →
+          ends_any items body earlier ≡ false → first_bad items body earlier tail ≡ None → Calm last tail list
+      returns_next : (front : List ℕ) (n : ℕ) (earlier : List PathAction) → last ≡ 1 → IsPath items body (front ++ n ∷ []) list →
+          actions_on body (front ++ n ∷ []) ≡ earlier ++ actions_on body (n ∷ []) → first_bad items body [] earlier ≡ None →
+          ends_any items body earlier ≡ false → Calm last tail list
+
+    no_entry : kind ≡ Kind.Plain → entry_choices items body 1 ≡ []
+    no_entry plain = ap (λ (o : Option Block). zero_if (option_map_or is_turn o false)) returns ∙ ap (λ (k : Kind). zero_if (is_turn_kind k)) plain
+      where
+        zero_if : Bool → List Bool
+        zero_if true = false ∷ []
+        zero_if false = []
+
+    module _ (plain : kind ≡ Kind.Plain) (tail : List PathAction) where
+      -- from the block that returns no way leads on
+      ends_there : (m : ℕ) → m ≡ 1 → (rest : List ℕ) (more : List Bool) → Contains (along items body m rest) more → (rest ≡ []) × (more ≡ [])
+      ends_there m is [] more has = (refl, elim (first-or more [] [] has) [ inl same ↦ sym same | inr stop ↦ absurd (none-in more stop) ])
+      ends_there m is (k ∷ rest) more has =
+          let one = in-flat (λ given. map (λ rest. given ++ entry_choices items body k ++ rest) (along items body k rest)) (choices_between items body m k) more has in
+          let way = between-way items body m k one.0 one.1 in
+          absurd (none-in (Out (ToBlock k) one.0) (subst (λ (block : Block). Contains (ways items body block.term) (Out (ToBlock k) one.0))
+          (sym (same_Some (record { kind = kind; rank = rank; stmts = []; term = Term.Return }) way.0 (sym returns ∙ ap (slice_get body.blocks) (sym is) ∙ way.1))) way.2))
+
+      calm_from : (rest front : List ℕ) (n : ℕ) (given : List Bool) → IsPath items body (front ++ n ∷ []) given → (earlier : List PathAction) →
+          actions_on body (front ++ n ∷ []) ≡ earlier ++ actions_on body (n ∷ []) → first_bad items body [] earlier ≡ None → ends_any items body earlier ≡ false →
+          (more : List Bool) → Contains (along items body n rest) more → first_bad items body earlier (came body n rest ++ tail) ≡ None →
+          Calm (last_of n rest) tail (given ++ more)
+      calm_from [] front n given is earlier before none lasts more has clean =
+          subst (Calm n tail) (sym (append-nil given) ∙ ap (λ (z : List Bool). given ++ z) (elim (first-or more [] [] has) [ inl same ↦ same | inr stop ↦ absurd (none-in more stop) ]))
+          (arrives front earlier is before none lasts clean)
+      calm_from (m ∷ rest) front n given is earlier before none lasts more has clean =
+          let one = in-flat (λ given. map (λ rest. given ++ entry_choices items body m ++ rest) (along items body m rest)) (choices_between items body n m) more has in
+          let two = in-map (λ (rest : List Bool). one.0 ++ entry_choices items body m ++ rest) (along items body m rest) more one.2 in
+          let way = between-way items body n m one.0 one.1 in
+          by_block one.0 two.0 way.0 way.1 way.2 one.1 two.1 two.2 (λ given is earlier before none lasts clean. calm_from rest (front ++ n ∷ []) m given is earlier before none lasts two.0 two.1 clean)
+          (in_this n way.0 way.1 earlier lasts)
+        where
+          both : List PathAction
+          both = actions_in body n ++ actions_between body n m
+
+          -- what is done on the rest of the path, block by block
+          parts : (came body n (m ∷ rest) ++ tail) ≡ both ++ (came body m rest ++ tail)
+          parts = append_assoc both (came body m rest) tail
+
+          clean_parts : first_bad items body earlier (both ++ (came body m rest ++ tail)) ≡ None
+          clean_parts = ap (first_bad items body earlier) (sym parts) ∙ clean
+
+          clean_both : first_bad items body earlier both ≡ None
+          clean_both = none-first items body earlier both (came body m rest ++ tail) clean_parts
+
+          clean_block : first_bad items body earlier (actions_in body n) ≡ None
+          clean_block = none-first items body earlier (actions_in body n) (actions_between body n m) clean_both
+
+          by_block : (choices later : List Bool) (block : Block) → slice_get body.blocks n ≡ Some block → Contains (ways items body block.term) (Out (ToBlock m) choices) →
+              Contains (choices_between items body n m) choices → Contains (along items body m rest) later → choices ++ entry_choices items body m ++ later ≡ more →
+              ((given : List Bool) → IsPath items body ((front ++ n ∷ []) ++ m ∷ []) given → (earlier : List PathAction) →
+              actions_on body ((front ++ n ∷ []) ++ m ∷ []) ≡ earlier ++ actions_on body (m ∷ []) → first_bad items body [] earlier ≡ None → ends_any items body earlier ≡ false →
+              first_bad items body earlier (came body m rest ++ tail) ≡ None → Calm (last_of m rest) tail (given ++ later)) →
+              Comes items body (block.term ≡ Term.Goto 1) earlier (actions_in body n) → Calm (last_of m rest) tail (given ++ more)
+          by_block choices later block there way between rest_so whole again (meets bad some free) = absurd (none-some bad (sym clean_block ∙ some))
+          by_block choices later block there way between rest_so whole again (clear fine free) =
+              subst (Calm (last_of m rest) tail) (grouped ∙ ap (λ (z : List Bool). given ++ z) whole)
+              (again ((given ++ choices) ++ entry_choices items body m) (path-snoc items body (front ++ n ∷ []) front n m given choices refl is between)
+              (earlier ++ both)
+              (actions-snoc body front n m ∙ ap (λ (z : List PathAction). (z ++ actions_between body n m) ++ actions_on body (m ∷ [])) before
+              ∙ ap (λ (z : List PathAction). z ++ actions_on body (m ∷ [])) (append_assoc earlier (actions_in body n) (actions_between body n m)))
+              (some-rest items body [] earlier both none ∙ clean_both)
+              (none_of_three (on_a_way n m block there choices way))
+              (none-rest items body earlier both (came body m rest ++ tail) clean_parts))
+            where
+              grouped : ((given ++ choices) ++ entry_choices items body m) ++ later ≡ given ++ (choices ++ entry_choices items body m ++ later)
+              grouped =
+                  append_assoc (given ++ choices) (entry_choices items body m) later ∙ append_assoc given choices (entry_choices items body m ++ later)
+                  ∙ ap (λ (z : List Bool). given ++ z) (sym (append_assoc choices (entry_choices items body m) later))
+
+              none_of_three : ends_any items body (actions_between body n m) ≡ false → ends_any items body (earlier ++ both) ≡ false
+              none_of_three on_the_way =
+                  none-of-both items body (λ block line. 0) earlier both lasts
+                  (none-of-both items body (λ block line. 0) (actions_in body n) (actions_between body n m) free on_the_way)
+          by_block choices later block there way between rest_so whole again (stops fine goto) =
+              let next = stopped n m block there goto choices way in
+              let nothing = ends_there m next.0 rest later rest_so in
+              let none_taken : choices ≡ [] =
+              ap (λ (w : PathWay). w.choices) (sym (only (Out (ToBlock 1) []) (Out (ToBlock m) choices) (subst (λ (term : Term). Contains (ways items body term) (Out (ToBlock m) choices)) goto way))) in
+              subst (Calm (last_of m rest) tail)
+              (sym (append-nil given) ∙ ap (λ (z : List Bool). given ++ z)
+              ((λ i. sym none_taken i ++ (sym (no_entry plain) ∙ ap (entry_choices items body) (sym next.0)) i ++ sym nothing.1 i) ∙ whole))
+              (returns_next front n earlier (ap (last_of m) nothing.0 ∙ next.0) is before none lasts)
+
+    module _ (plain : kind ≡ Kind.Plain) where
+      last_is : (front rest : List ℕ) (last : ℕ) → 0 ∷ rest ≡ front ++ last ∷ [] → last_of 0 rest ≡ last
+      last_is front rest last e = ap (λ (z : List ℕ). elim z [ [] ↦ last | n ∷ more ↦ last_of n more ]) e ∙ by_front front
+        where
+          by_front : (front : List ℕ) → (elim (front ++ last ∷ []) [ [] ↦ last | n ∷ more ↦ last_of n more ]) ≡ last
+          by_front [] = refl
+          by_front (n ∷ front) = path-ends n front last
+
+      calm_path : (tail : List PathAction) (front : List ℕ) (last : ℕ) (given : List Bool) (path : List ℕ) → path ≡ front ++ last ∷ [] → IsPath items body path given →
+          ((rest : List ℕ) → path ≡ 0 ∷ rest → first_bad items body [] (came body 0 rest ++ tail) ≡ None) → Calm last tail given
+      calm_path tail front last given [] path_is is clean = absurd (none-in given is)
+      calm_path tail front last given (suc n ∷ rest) path_is is clean = absurd (none-in given is)
+      calm_path tail front last given (zero ∷ rest) path_is is clean =
+          let it = in-map (λ (rest : List Bool). entry_choices items body 0 ++ rest) (along items body 0 rest) given is in
+          subst (λ (n : ℕ). Calm n tail given) (last_is front rest last path_is)
+          (subst (Calm (last_of 0 rest) tail) (whole it.0 it.2)
+          (calm_from plain tail rest [] 0 (entry_choices items body 0 ++ []) (map-in (λ (rest : List Bool). entry_choices items body 0 ++ rest) ([] ∷ []) [] (here [] []))
+          [] refl refl refl it.0 it.1 (clean rest refl)))
+        where
+          whole : (more : List Bool) → entry_choices items body 0 ++ more ≡ given → (entry_choices items body 0 ++ []) ++ more ≡ given
+          whole more e = append_assoc (entry_choices items body 0) [] more ∙ e
+
+      pub calmly : (list : List Bool) → GivesBeforeBad items body list → GivesCalmly list
+      calmly list (up_to_block front last earlier is acts none) = by (calm_path [] front last list (front ++ last ∷ []) refl is clean)
+        where
+          clean : (rest : List ℕ) → front ++ last ∷ [] ≡ 0 ∷ rest → first_bad items body [] (came body 0 rest ++ []) ≡ None
+          clean rest e =
+              ap (first_bad items body []) (append-nil (came body 0 rest)
+              ∙ append_cancel_right (came body 0 rest) earlier (actions_on body (last ∷ []))
+              (ap (λ (n : ℕ). came body 0 rest ++ actions_on body (n ∷ [])) (sym (last_is front rest last (sym e))) ∙ sym (came-is body 0 rest) ∙ ap (actions_on body) (sym e) ∙ acts))
+              ∙ none
+
+          by : Calm last [] list → GivesCalmly list
+          by (arrives front' earlier' is' acts' none' lasts' clean') = calm_to front' last earlier' is' acts' none' lasts'
+          by (returns_next front' n earlier' last' is' acts' none' lasts') = calm_to front' n earlier' is' acts' none' lasts'
+      calmly list (by_way_out front last before block way is none there has list_is) = by (calm_path (actions_in body last) front last before (front ++ last ∷ []) refl is clean)
+        where
+          clean : (rest : List ℕ) → front ++ last ∷ [] ≡ 0 ∷ rest → first_bad items body [] (came body 0 rest ++ actions_in body last) ≡ None
+          clean rest e =
+              ap (first_bad items body []) (ap (λ (n : ℕ). came body 0 rest ++ actions_on body (n ∷ [])) (sym (last_is front rest last (sym e))) ∙ sym (came-is body 0 rest) ∙ ap (actions_on body) (sym e))
+              ∙ none
+
+          by_block : (front' : List ℕ) (earlier' : List PathAction) → IsPath items body (front' ++ last ∷ []) before →
+              actions_on body (front' ++ last ∷ []) ≡ earlier' ++ actions_on body (last ∷ []) → first_bad items body [] earlier' ≡ None → ends_any items body earlier' ≡ false →
+              first_bad items body earlier' (actions_in body last) ≡ None → Comes items body (block.term ≡ Term.Goto 1) earlier' (actions_in body last) → GivesCalmly list
+          by_block front' earlier' is' acts' none' lasts' clean' (meets bad some free) = absurd (none-some bad (sym clean' ∙ some))
+          by_block front' earlier' is' acts' none' lasts' clean' (clear fine free) = calm_by front' last before block way earlier' is' acts' none' lasts' clean' free there has list_is
+          by_block front' earlier' is' acts' none' lasts' clean' (stops fine goto) =
+              let none_taken : way.choices ≡ [] = ap (λ (w : PathWay). w.choices) (sym (only (Out (ToBlock 1) []) way (subst (λ (term : Term). Contains (ways items body term) way) goto has))) in
+              calm_to front' last earlier' (subst (IsPath items body (front' ++ last ∷ [])) (sym (append-nil before) ∙ ap (λ (z : List Bool). before ++ z) (sym none_taken) ∙ sym list_is) is') acts' none' lasts'
+
+          by : Calm last (actions_in body last) before → GivesCalmly list
+          by (arrives front' earlier' is' acts' none' lasts' clean') = by_block front' earlier' is' acts' none' lasts' clean' (in_this last block there earlier' lasts')
+          by (returns_next front' n earlier' last' is' acts' none' lasts') =
+              absurd (none-in way (subst (λ (block : Block). Contains (ways items body block.term) way)
+              (sym (same_Some (record { kind = kind; rank = rank; stmts = []; term = Term.Return }) block (sym returns ∙ ap (slice_get body.blocks) (sym last') ∙ there))) has))
 
     before_it : (acts : List PathAction) (bad : BadUse) → Comes items body (Unit {0}) [] acts → first_bad items body [] acts ≡ Some bad → ends_any items body (before_bad items body [] acts) ≡ false
     before_it acts bad (meets other is before) some = before

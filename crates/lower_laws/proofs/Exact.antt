@@ -1,8 +1,9 @@
 -- The law without a word of values of type `!`: the lines of a graph without a fault have their types, and the value of an
 -- assignment has a cell that is no parameter's.
-use Rattle.std.proofs.Common.{◌≡◌, inl, inr, ℕ, zero, suc, ◌+◌, ◌&&◌, Bool, true, List, [], ◌∷◌, ◌++◌, length, Some, slice_get, refl, sym, ap, subst, ◌∙◌}
+use Rattle.std.proofs.Common.{◌≡◌, inl, inr, ℕ, zero, suc, ◌+◌, ◌&&◌, Bool, true, false, List, [], ◌∷◌, ◌++◌, length, Option, Some, slice_get, refl, sym, ap, subst, ◌∙◌}
 use Rattle.std.specs.Prelude.{option_map}
 use Rattle.std.specs.List.{list_all}
+use Rattle.std.specs.Option.{option_map_or}
 use Rattle.std.proofs.lemmas.Bool.{false≢true}
 use Rattle.std.proofs.lemmas.Option.{none-some, same_Some, slice_get-map}
 use Rattle.mir_ty.specs.declared.def.Sig.{Sig}
@@ -17,23 +18,33 @@ use Rattle.cfg_graph.specs.WellFormed.Faults.{at_line, of_each, item_faults, own
 use Rattle.cfg_graph.specs.WellFormed.LineFaults.{stmt_tests, stmt_faults, term_tests, term_faults}
 use Rattle.cfg_graph.specs.WellFormed.Typing.{stmt_is_typed, term_is_typed}
 use Rattle.cfg_graph.proofs.NoFaults.{first_empty, second_empty, map_empty, of_each-empty, broken-holds}
+use Rattle.cfg_graph.specs.Edges.{IsRanked, is_turn, is_turn_kind}
+use Rattle.cfg_meaning.specs.Programs.{free_walk}
+use Rattle.cfg_meaning.specs.Walk.{renamed}
+use Rattle.move_errors.proofs.Pathways.{entry_choices}
 use Rattle.move_errors.specs.Reaches.{Reaches}
-use Rattle.lower_laws.specs.Meets.{site_of, RunsReach, in_block, on_way}
+use Rattle.lower_laws.specs.Meets.{PanicsLeadElsewhere, site_of, RunsReach, in_block, on_way}
 use Rattle.lower_laws.proofs.Elsewhere.{kept-elsewhere}
 use Rattle.typed_tree.specs.Nodes.{numbers_of}
 use Rattle.typed_tree.specs.Tree.{BodyTree, ProgramTree}
-use Rattle.src_meaning.specs.Programs.{reached_by}
+use Rattle.src_meaning.specs.Programs.{free_run, reached_by}
+use Rattle.store_model.specs.Abstract.Effects.{AbstractState}
+use Rattle.store_model.specs.Effects.{Aborted, BadStore, BadUse as BadRead, Infeasible, NoChoice, OutOfTicks, Stuck, StuckAt, Unreachable, Out, Go, Halts, Unwind}
 use Rattle.well_typed.specs.Claim.{Holds}
 use Rattle.well_typed.specs.Names.{do_rise}
 use Rattle.well_typed.specs.Program.{are_bodies, WellTyped}
 use Rattle.lower_rules.specs.Laws.{AllNameTheirLoops}
 use Rattle.lower_rules.specs.Lower.{body_of, graph_of, node_of, frame}
-use Rattle.lower_rules.proofs.Bodies.{lowered_returns, lowered_keeps_to_cleanup}
+use Rattle.lower_rules.proofs.Bodies.{lowered_begins_plain, lowered_is_ranked, lowered_keeps_to_cleanup, lowered_returns, lowered_walks_as_it_runs_freely}
+use Rattle.lower_rules.specs.CodeLaws.{without_place}
 use Rattle.lower_rules.proofs.FormSites.{lowered_stops}
 use Rattle.lower_laws.specs.Refused.{ruled_by, MeetsExactly, AllNumbersRise, LoweredPathsMeetExactly}
 use Rattle.lower_laws.proofs.Ends as ends
+use Rattle.lower_laws.proofs.Ends.{GivesCalmly, calm_by, calm_to, calmly}
 use Rattle.lower_laws.proofs.Law.{lowered-paths-meet}
 use Rattle.lower_laws.proofs.Numbers.{IsNoParam, no_param_in}
+use Rattle.lower_laws.proofs.Taking.{given-where-taken, taken-by, taken-to}
+use Rattle.lower_laws.specs.Given.{GivesBeforeBad, choices_left}
 
 -- the numbers of the nodes of bodies that are well typed rise
 pub bodies_rise : (items : ItemTable) (n : ℕ) (sigs : List Sig) (bodies : List BodyTree) → Holds (are_bodies items n sigs bodies) → (i : ℕ) (tree : BodyTree) → slice_get bodies i ≡ Some tree → do_rise (numbers_of tree) ≡ true
@@ -105,6 +116,57 @@ module _ (program : ProgramTree) (named : AllNameTheirLoops program) (rises : Al
   refused : (path : List ℕ) (given : List Bool) (bad : BadUse) → Reaches items body path given bad → (reached_by items tree given ≡ Some (site_of (node_of items tree) bad.action)) × (ruled_by items tree given ≡ Some bad.rule)
   refused path given bad r = (lowered-paths-meet items tree (named n tree there)).refused path given bad (runs path given bad r)
 
+  -- ---- the lists of choices that paths give
+  abbrev node : ℕ → ℕ → ℕ
+  node = node_of items tree
+
+  leads_elsewhere : PanicsLeadElsewhere body
+  leads_elsewhere = kept-elsewhere body (lowered_keeps_to_cleanup items tree (named n tree there))
+
+  is_ranked : IsRanked body
+  is_ranked = lowered_is_ranked items tree (named n tree there)
+
+  -- a body begins with no turn
+  begins : entry_choices items body 0 ≡ []
+  begins =
+      let first = lowered_begins_plain items tree (named n tree there) in
+      ap (λ (o : Option Block). zero_if (option_map_or is_turn o false)) first.1 ∙ ap (λ (kind : Kind). zero_if (is_turn_kind kind)) first.2
+    where
+      zero_if : Bool → List Bool
+      zero_if true = false ∷ []
+      zero_if false = []
+
+  calm : (list : List Bool) → GivesBeforeBad items body list → GivesCalmly items body list
+  calm =
+      calmly items body (frame items tree) (IsNoParam items tree) refl refl (λ key h. h)
+      (lowered_stops items tree (IsNoParam items tree) (no_param_in items tree (rises n tree there)))
+      (typed_lines (graph_of program) formed n body found) leads_elsewhere 1 Kind.Plain (lowered_returns items tree (named n tree there)) refl
+
+  -- the walk of the graph and the free run of the source leave the same choices
+  same_left : (out : Out AbstractState) → choices_left (renamed without_place out) ≡ choices_left out
+  same_left (Go w) = refl
+  same_left (Unwind w) = refl
+  same_left (Halts Aborted w) = refl
+  same_left (Halts OutOfTicks w) = refl
+  same_left (Halts Stuck w) = refl
+  same_left (Halts (StuckAt number block) w) = refl
+  same_left (Halts (BadRead site) w) = refl
+  same_left (Halts (BadStore site) w) = refl
+  same_left (Halts NoChoice w) = refl
+  same_left (Halts Infeasible w) = refl
+  same_left (Halts Unreachable w) = refl
+
+  both_leave : (list : List Bool) → choices_left (free_walk items node body list) ≡ choices_left (free_run items tree list)
+  both_leave list =
+      sym (same_left (free_walk items node body list)) ∙ ap choices_left (lowered_walks_as_it_runs_freely items tree (named n tree there) list).0
+      ∙ same_left (free_run items tree list)
+
+  walk_takes : (list : List Bool) → GivesCalmly items body list → choices_left (free_walk items node body list) ≡ Some []
+  walk_takes list (calm_to front last earlier is acts clean lasts) =
+      taken-to items body is_ranked leads_elsewhere node list front last earlier is acts clean lasts
+  walk_takes list (calm_by front last before block way earlier is acts clean lasts clean_in lasts_in at has whole) =
+      taken-by items body is_ranked leads_elsewhere node list front last before block way earlier is acts clean lasts clean_in lasts_in at has whole
+
   meets_exactly : MeetsExactly items tree body
   meets_exactly = record {
     refused = refused;
@@ -114,6 +176,10 @@ module _ (program : ProgramTree) (named : AllNameTheirLoops program) (rises : Al
     exact = (
       (lowered-paths-meet items tree (named n tree there)).accepted,
       λ none. ends.meets_none items body (λ path given bad r. none-some (site_of (node_of items tree) bad.action) (sym (none given) ∙ (refused path given bad r).0)),
+    );
+    lists = λ list. (
+      λ gives. sym (both_leave list) ∙ walk_takes list (calm list gives),
+      λ taken. given-where-taken items body leads_elsewhere node list begins (both_leave list ∙ taken),
     );
   }
 

@@ -15,7 +15,7 @@ use Rattle.mir_ty.specs.declared.ty.Ty.{Ty}
 use Rattle.mir_ty.specs.declared.ty.TyId.{TyId}
 use Rattle.mir_ty.specs.ItemTable.{ItemTable}
 use Rattle.typed_tree.specs.declared.node.Use.{Use}
-use Rattle.typed_tree.specs.Tree.{Node, node, Form, no_node, a_node, absent, present, Number, Variable, Panic, Block, Let, Evaluate, Binding, TuplePattern, ParamTree, BodyTree, ProgramTree}
+use Rattle.typed_tree.specs.Tree.{Node, node, no_node, a_node, absent, present, Number, Variable, Panic, Block, Let, Evaluate, Binding, TuplePattern, ProgramTree}
 use Rattle.well_typed.specs.Program.{is_well_typed}
 use Rattle.lower_rules.specs.Lower.{graph_of}
 use Rattle.lower_laws.specs.Lowerable.{is_lowerable}

@@ -124,8 +124,8 @@ module _ (items : ItemTable) (body : Body) (ranked : IsRanked body) (elsewhere :
       by : Performed items body node done (actions_in body n) (LeavesBlock items body elsewhere node n block next) w out → Left n m w done left
       by (met bad v is same some long) = absurd (none-some bad (sym clean ∙ some))
       by (ended fine end) = absurd (false≢true (sym lasts ∙ ap ends_any (sym (before-none items body done (actions_in body n) clean)) ∙ end))
-      by (on v (stops fine no_way) told same none long) = absurd (no_way given m left way (same ∙ e))
-      by (on v (goes choices k u by_it list cells is only) told same none long) =
+      by (on v (stops s) told same none long) = absurd (s.no_way given m left way (same ∙ e))
+      by (on v (goes choices k u by_it list cells is only out) told same none long) =
           let it = only given m left way (same ∙ e) in
           let taken : choices ++ u.choices ≡ choices ++ left = sym list ∙ same ∙ e ∙ ap (λ (z : List Bool). z ++ left) it.0 in record {
             u = u;
@@ -216,19 +216,19 @@ module _ (items : ItemTable) (body : Body) (ranked : IsRanked body) (elsewhere :
 -- From the start of a walk.
 
 module _ (items : ItemTable) (body : Body) (ranked : IsRanked body) (elsewhere : PanicsLeadElsewhere body) (node : ℕ → ℕ → ℕ) where
-  abbrev fuel_for : List Bool → ℕ
+  abbrev pub fuel_for : List Bool → ℕ
   fuel_for list = suc (length list)
 
-  abbrev within : List Bool → ℕ → AbstractState → Out AbstractState
+  abbrev pub within : List Bool → ℕ → AbstractState → Out AbstractState
   within list = inside items body ranked elsewhere node (fuel_for list)
 
-  record Reached (list : List Bool) (path : List ℕ) (left : List Bool) : Type 0 where
-    rest : List ℕ
-    path_is : path ≡ 0 ∷ rest
-    come : first_bad items body [] (came body 0 rest) ≡ None → list_any (ends_runs items body) (came body 0 rest) ≡ false
+  pub record Reached (list : List Bool) (path : List ℕ) (left : List Bool) : Type 0 where
+    pub rest : List ℕ
+    pub path_is : path ≡ 0 ∷ rest
+    pub come : first_bad items body [] (came body 0 rest) ≡ None → list_any (ends_runs items body) (came body 0 rest) ≡ false
         → (v : AbstractState) × (free_walk items node body list ≡ within list (last_of 0 rest) v) × Tells items body v (came body 0 rest) × (v.choices ≡ left)
 
-  reached : (list : List Bool) (path : List ℕ) (used left : List Bool) → IsPath items body path used → list ≡ used ++ left → Reached list path left
+  pub reached : (list : List Bool) (path : List ℕ) (used left : List Bool) → IsPath items body path used → list ≡ used ++ left → Reached list path left
   reached list [] used left has e = absurd (none-in used has)
   reached list (suc k ∷ rest) used left has e = absurd (none-in used has)
   reached list (zero ∷ rest) used left has e =
@@ -297,6 +297,15 @@ module _ (items : ItemTable) (body : Body) (ranked : IsRanked body) (elsewhere :
             same ∙ out.choices,
           )
 
+  -- the last block of a path
+  pub last-is : (front : List ℕ) (last : ℕ) (list : List Bool) (path : List ℕ) (left : List Bool) → path ≡ front ++ last ∷ [] → (it : Reached list path left) → last_of 0 it.rest ≡ last
+  last-is front last list path left path_is it =
+      ap (λ (z : List ℕ). elim z [ [] ↦ last | n ∷ more ↦ last_of n more ]) (sym it.path_is ∙ path_is) ∙ by_front front
+    where
+      by_front : (front : List ℕ) → (elim (front ++ last ∷ []) [ [] ↦ last | n ∷ more ↦ last_of n more ]) ≡ last
+      by_front [] = refl
+      by_front (n ∷ front) = ends n front last
+
   pub path-meets : (path : List ℕ) (given left : List Bool) (bad : BadUse) → RunsReach items body path given bad → Meets (given ++ left) bad left
   path-meets path given left bad (in_block r lasts) = by (reached (given ++ left) path given left r.is_path refl)
     where
@@ -308,11 +317,7 @@ module _ (items : ItemTable) (body : Body) (ranked : IsRanked body) (elsewhere :
           (any-rest items body ranked elsewhere node 0 (came body 0 it.rest) (before_bad items body (came body 0 it.rest) (actions_on body (r.last ∷ []))) split)
         where
           last : last_of 0 it.rest ≡ r.last
-          last = ap (λ (z : List ℕ). elim z [ [] ↦ r.last | n ∷ more ↦ last_of n more ]) (sym it.path_is ∙ r.path_is) ∙ by_front r.front
-            where
-              by_front : (front : List ℕ) → (elim (front ++ r.last ∷ []) [ [] ↦ r.last | n ∷ more ↦ last_of n more ]) ≡ r.last
-              by_front [] = refl
-              by_front (n ∷ front) = ends n front r.last
+          last = last-is r.front r.last (given ++ left) path left r.path_is it
 
           same : r.earlier ≡ came body 0 it.rest
           same =
@@ -340,11 +345,7 @@ module _ (items : ItemTable) (body : Body) (ranked : IsRanked body) (elsewhere :
           ∙ any-rest items body ranked elsewhere node 0 (actions_on body path) (before_bad items body (actions_on body path) r.stored) split)
         where
           last : last_of 0 it.rest ≡ r.last
-          last = ap (λ (z : List ℕ). elim z [ [] ↦ r.last | n ∷ more ↦ last_of n more ]) (sym it.path_is ∙ r.path_is) ∙ by_front r.front
-            where
-              by_front : (front : List ℕ) → (elim (front ++ r.last ∷ []) [ [] ↦ r.last | n ∷ more ↦ last_of n more ]) ≡ r.last
-              by_front [] = refl
-              by_front (n ∷ front) = ends n front r.last
+          last = last-is r.front r.last (given ++ left) path (r.choices ++ left) r.path_is it
 
           whole : actions_on body path ≡ came body 0 it.rest ++ actions_in body r.last
           whole = ap (actions_on body) it.path_is ∙ came-is body 0 it.rest ∙ ap (λ (n : ℕ). came body 0 it.rest ++ actions_on body (n ∷ [])) last

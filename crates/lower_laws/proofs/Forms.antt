@@ -18,10 +18,9 @@ use Rattle.mir_ty.specs.declared.adt.Variant.{Variant}
 use Rattle.mir_ty.specs.declared.def.Sig.{Sig}
 use Rattle.mir_ty.specs.declared.ty.Ty.{Ty}
 use Rattle.mir_ty.specs.declared.ty.TyId.{TyId}
-use Rattle.mir_ty.specs.Facts.{needs_drop, is_copy, has_drop_impl, ty_has_drop_impl, adt_has_drop_impl}
+use Rattle.mir_ty.specs.Facts.{needs_drop, has_drop_impl}
 use Rattle.mir_ty.specs.ItemTable.{type_at}
 use Rattle.mir_ty.specs.Parts.{field_ty, parts_of}
-use Rattle.store_model.specs.Concrete.Drops.{drop_impl, with_drop_body}
 use Rattle.store_model.specs.Concrete.Effects.{impl_of}
 use Rattle.store_model.specs.Effects as effects
 use Rattle.store_model.specs.Effects.{EffectSite, Action, OfTuple, OfArray, OfVariant, OfClosure}
@@ -37,9 +36,9 @@ use Rattle.src_meaning.specs.Forms as source
 use Rattle.src_meaning.specs.Forms.{Destination, Into, Coerced, coerced, LoopsAndGuards, in_loop, loop_destination, in_guard, entry_of, site_in, site_of_key, moved}
 use Rattle.src_meaning.specs.Locals.OfBody.{cells, reached_cells, cells_in, all_cells, cells_of_fields, cells_if_any, initial_cells, is_place_form}
 use Rattle.src_meaning.specs.Scopes.{Entry, Breaks, Continues, Returns, innermost, around_innermost}
-use Rattle.src_meaning.specs.Shape.{NodeHead, head, moves, Shape, Aliases, kind_of, shape, shape_of, extended, place_of_key, site_at}
+use Rattle.src_meaning.specs.Shape.{NodeHead, head, Shape, Aliases, kind_of, shape, shape_of, extended, place_of_key, site_at}
 use Rattle.src_meaning.specs.FieldKeys.{field_keys, moved_fields}
-use Rattle.well_typed.specs.Claim.{Claim, Holds, fact, some, nothing, ◌&◌}
+use Rattle.well_typed.specs.Claim.{Claim, Holds, fact, some, ◌&◌}
 use Rattle.well_typed.specs.Names.{are_distinct_numbers}
 use Rattle.mir_ty.specs.DropBodies as of_drops
 use Rattle.well_typed.specs.Nodes as typing
@@ -800,7 +799,7 @@ module _ (g : Ground) where
       let d1 = base.fine_first g x a (nodes_of target) (nodes_of value_) d in
       base.scoped g id own _ (base.and_then g _ _ (rules.operand_sound g x (nodes_of value_) (L value_) (ty_of target) (op o c) a (base.fine_second g x a (nodes_of target) (nodes_of value_) d))
       (λ e. base.and_then g _ _ (p.reaches (place o c) a d1)
-      (λ q. base.and_then g _ _ (stored a (rules.operand_given g x (nodes_of value_) (L value_) (ty_of target) (op o c) a e).0 (p.place (place o c) a d1 q)) (λ e. rules.unit_put g h to ar is)))))
+      (λ q. base.and_then g _ _ (stored a (rules.operand_given g x (nodes_of value_) (L value_) (ty_of target) (op o c) a e) (p.place (place o c) a d1 q)) (λ e. rules.unit_put g h to ar is)))))
     where
       h : NodeHead
       h = head id ty by
@@ -818,12 +817,16 @@ module _ (g : Ground) where
       replaces_leave true site = record { spares = tt }
       replaces_leave false site = rules.leaves_changed g x.loops (taken F ((L value_).head.id ∷ [])) _ (base.leaves_none g x.loops site.node (effects.Put site (moved site.node (L value_).head.id)))
 
-      stored : (a : LoopsAndGuards) → base.KeyIs g (L value_).head.id (ty_of target) → base.Typed g (lower.place_in (L target) a) (L target).head.ty → Sound (build.replaces F (needs_drop g.items (L target).head.ty) (lower.site_of (L target) a) (L value_).head.id)
-      stored a key t =
-          let own : base.KeyIs g (L value_).head.id (L target).head.ty = subst (base.KeyIs g (L value_).head.id) (sym p.ty_is) key in
+      -- no value of type `!` is stored, since the code of the value has an end
+      stored : (a : LoopsAndGuards) → base.KeyIs g (L value_).head.id (ty_of target) × base.Made g (ty_of target) → base.Typed g (lower.place_in (L target) a) (L target).head.ty → Sound (build.replaces F (needs_drop g.items (L target).head.ty) (lower.site_of (L target) a) (L value_).head.id)
+      stored a given t =
+          let own : base.KeyIs g (L value_).head.id (L target).head.ty = subst (base.KeyIs g (L value_).head.id) (sym p.ty_is) given.0 in
           lines.replaces_sound F (base.wanted g) (needs_drop g.items (L target).head.ty) (lower.site_of (L target) a) (L value_).head.id
           (typed_lines.put_moved g.items g.bodies B _ _ (L target).head.ty t.0 t.1 (base.key_at g (L value_).head.id (L target).head.ty t.0 own t.1.known) (sized (L value_).head.id (L target).head.ty t.0 own t.1.known), refl)
-          (λ stmts term. tt) (λ n u. (typed_lines.drop_ok g.items g.bodies B _ (L target).head.ty t.0 t.1 n u, refl))
+          (λ stmts term never. absurd (base.never_and_made g (L target).head.ty
+          (sym (ap (λ (o : Option TyId). forms.is_never (option_and_then (type_at g.items) o)) t.1.is) ∙ never)
+          (subst (base.Made g) (sym p.ty_is) given.1)))
+          (λ n u. (typed_lines.drop_ok g.items g.bodies B _ (L target).head.ty t.0 t.1 n u, refl))
 
   borrow_good : (x : Context) (inner : Node) → Good x inner (L inner) → (id : ℕ) (at : Pos) (ty : TyId) (by : Option Use) (unique : Bool) → Plain (tree.node id at ty by (tree.Borrow unique inner)) (head id ty by) (S_of (tree.Borrow unique inner) (head id ty by)) →
       Holds (some (types.reference_of g.items ty) (λ r. fact (types.is_same (ty_of inner) r.1) & fact (if unique then r.0 else not r.0))) → ((o : Bool) → Cells (cells g.items o (tree.node id at ty by (tree.Borrow unique inner))) → Cells (reached_cells g.items inner)) →

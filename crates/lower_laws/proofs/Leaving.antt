@@ -3,7 +3,8 @@ use Rattle.std.proofs.Common.{◌≡◌, ◌⊎◌, inl, inr, ℕ, Bool, true, f
 use Rattle.std.specs.List.{list_any}
 use Rattle.std.specs.Option.{option_map_or}
 use Rattle.std.proofs.lemmas.Bool.{false≢true, eqb-true, eq-eqb}
-use Rattle.std.proofs.lemmas.List.{append-nil}
+use Rattle.std.proofs.lemmas.List.{append-nil, append_cancel_left}
+use Rattle.std.proofs.lemmas.Option.{none-some, same_Some}
 use Rattle.mir_ty.specs.declared.ty.TyId.{TyId}
 use Rattle.mir_ty.specs.Facts.{needs_drop}
 use Rattle.mir_ty.specs.ItemTable.{ItemTable}
@@ -24,6 +25,7 @@ use Rattle.cfg_meaning.specs.Actions.{site_of, operand_of, operands_of, mode_of}
 use Rattle.cfg_meaning.specs.Walk.{Next, stuck_in, branch, renamed, renamed_choice, unwinding, acts, term_does}
 use Rattle.move_errors.proofs.Sorted.{here, there, none-in, first-or}
 use Rattle.move_errors.specs.Reaches.{rule_of, is_bad}
+use Rattle.lower_laws.specs.Given.{choices_left}
 use Rattle.lower_laws.specs.Meets.{halt_by, is_refused, ends_runs}
 use Rattle.lower_laws.proofs.Allowing.{allowed, is-allowed}
 use Rattle.lower_laws.proofs.Lines.{Passes, at_line, stored, all-used, lasting-passes, store-is, all_effects}
@@ -49,40 +51,80 @@ block-is a b e = ap (λ (x : BlockExit). elim x [ ToBlock n ↦ n | LeavesBody �
 not-out : (a : ℕ) → LeavesBody ≡ ToBlock a → ⊥
 not-out a e = false≢true (ap (λ (x : BlockExit). elim x [ ToBlock n ↦ true | LeavesBody ↦ false ]) e)
 
-two-cases : (a m : ℕ) (e : BlockExit) (choices : List Bool) → Contains (by_way (false ∷ []) (ToBlock a) ∷ by_way (true ∷ []) e ∷ []) (by_way choices (ToBlock m))
-    → ((choices ≡ false ∷ []) × (m ≡ a)) ⊎ ((choices ≡ true ∷ []) × (e ≡ ToBlock m))
-two-cases a m e choices has = elim (first-or (by_way choices (ToBlock m)) (by_way (false ∷ []) (ToBlock a)) (by_way (true ∷ []) e ∷ []) has) [
-  | inl same ↦ inl (sym (ap (λ (x : PathWay). x.choices) same), sym (block-is a m (ap (λ (x : PathWay). x.exit) same)))
-  | inr later ↦ elim (first-or (by_way choices (ToBlock m)) (by_way (true ∷ []) e) [] later) [
+out-not : (a : ℕ) → ToBlock a ≡ LeavesBody → ⊥
+out-not a e = not-out a (sym e)
+
+no-cons : (x : Bool) (xs : List Bool) → x ∷ xs ≡ [] → ⊥
+no-cons x xs e = nil-cons x xs (sym e)
+
+-- which of two ways one is, and that one is the only one
+either-way : (a : ℕ) (e exit : BlockExit) (choices : List Bool) → Contains (by_way (false ∷ []) (ToBlock a) ∷ by_way (true ∷ []) e ∷ []) (by_way choices exit)
+    → ((choices ≡ false ∷ []) × (ToBlock a ≡ exit)) ⊎ ((choices ≡ true ∷ []) × (e ≡ exit))
+either-way a e exit choices has = elim (first-or (by_way choices exit) (by_way (false ∷ []) (ToBlock a)) (by_way (true ∷ []) e ∷ []) has) [
+  | inl same ↦ inl (sym (ap (λ (x : PathWay). x.choices) same), ap (λ (x : PathWay). x.exit) same)
+  | inr later ↦ elim (first-or (by_way choices exit) (by_way (true ∷ []) e) [] later) [
     | inl same ↦ inr (sym (ap (λ (x : PathWay). x.choices) same), ap (λ (x : PathWay). x.exit) same)
-    | inr stop ↦ absurd (none-in (by_way choices (ToBlock m)) stop)
+    | inr stop ↦ absurd (none-in (by_way choices exit) stop)
   ]
 ]
 
-one-case : (m : ℕ) (given choices : List Bool) (e : BlockExit) → Contains (by_way given e ∷ []) (by_way choices (ToBlock m)) → (choices ≡ given) × (e ≡ ToBlock m)
-one-case m given choices e has = elim (first-or (by_way choices (ToBlock m)) (by_way given e) [] has) [
-  | inl same ↦ (sym (ap (λ (x : PathWay). x.choices) same), ap (λ (x : PathWay). x.exit) same)
-  | inr stop ↦ absurd (none-in (by_way choices (ToBlock m)) stop)
+two-cases : (a m : ℕ) (e : BlockExit) (choices : List Bool) → Contains (by_way (false ∷ []) (ToBlock a) ∷ by_way (true ∷ []) e ∷ []) (by_way choices (ToBlock m))
+    → ((choices ≡ false ∷ []) × (m ≡ a)) ⊎ ((choices ≡ true ∷ []) × (e ≡ ToBlock m))
+two-cases a m e choices has = elim (either-way a e (ToBlock m) choices has) [
+  | inl first ↦ inl (first.0, sym (block-is a m first.1))
+  | inr second ↦ inr second
 ]
+
+-- the second of two ways alone may lead out of the body
+out-case : (a : ℕ) (e : BlockExit) (choices : List Bool) → Contains (by_way (false ∷ []) (ToBlock a) ∷ by_way (true ∷ []) e ∷ []) (by_way choices LeavesBody)
+    → (choices ≡ true ∷ []) × (e ≡ LeavesBody)
+out-case a e choices has = elim (either-way a e LeavesBody choices has) [
+  | inl first ↦ absurd (out-not a first.1)
+  | inr second ↦ second
+]
+
+one-way : (given choices : List Bool) (e exit : BlockExit) → Contains (by_way given e ∷ []) (by_way choices exit) → (choices ≡ given) × (e ≡ exit)
+one-way given choices e exit has = elim (first-or (by_way choices exit) (by_way given e) [] has) [
+  | inl same ↦ (sym (ap (λ (x : PathWay). x.choices) same), ap (λ (x : PathWay). x.exit) same)
+  | inr stop ↦ absurd (none-in (by_way choices exit) stop)
+]
+
+one-case : (m : ℕ) (given choices : List Bool) (e : BlockExit) → Contains (by_way given e ∷ []) (by_way choices (ToBlock m)) → (choices ≡ given) × (e ≡ ToBlock m)
+one-case m given choices e has = one-way given choices e (ToBlock m) has
+
+-- Which of the ways out of a block are those of a list of choices.
+
+abbrev pub OnlyWay : List PathWay → List Bool → List Bool → ℕ → Type 0
+OnlyWay all list choices m =
+    (others : List Bool) (k : ℕ) (rest : List Bool) → Contains all (by_way others (ToBlock k)) → list ≡ others ++ rest → (others ≡ choices) × (k ≡ m)
+
+abbrev pub NoWay : List PathWay → List Bool → Type 0
+NoWay all list = (others : List Bool) (k : ℕ) (rest : List Bool) → Contains all (by_way others (ToBlock k)) → list ≡ others ++ rest → ⊥
+
+-- no way out of the body is that of the choices
+abbrev pub NoWayOut : List PathWay → List Bool → Type 0
+NoWayOut all list = (others rest : List Bool) → Contains all (by_way others LeavesBody) → list ≡ others ++ rest → ⊥
+
+-- A walk goes to no block. It takes all choices exactly where there are none, or where they are those of a way out of the
+-- body.
+pub record Stops (items : ItemTable) (body : Body) (node : ℕ → ℕ → ℕ) (all : List PathWay) (list : List Bool) (out : Out AbstractState) : Type 0 where
+  pub fine : IsNotRefused items body node out
+  pub no_way : NoWay all list
+  pub taken : choices_left out ≡ Some [] → (list ≡ []) ⊎ Contains all (by_way list LeavesBody)
+  pub none : list ≡ [] → choices_left out ≡ Some []
+  pub by_way_out : Contains all (by_way list LeavesBody) → choices_left out ≡ Some []
 
 module _ (items : ItemTable) (body : Body) (node : ℕ → ℕ → ℕ) (n line : ℕ) (next : Next AbstractState) where
   -- the result of a terminator is stored on its way on
   abbrev pub result_of : Term → ℕ → List PathAction
   result_of term m = if list_any (nat_eq m) (onward term) then at_line n line (map (λ place. (Stores, place)) (stored_by_term term)) else []
 
-  abbrev pub OnlyWay : List PathWay → List Bool → List Bool → ℕ → Type 0
-  OnlyWay all list choices m =
-      (others : List Bool) (k : ℕ) (rest : List Bool) → Contains all (by_way others (ToBlock k)) → list ≡ others ++ rest → (others ≡ choices) × (k ≡ m)
-
-  abbrev pub NoWay : List PathWay → List Bool → Type 0
-  NoWay all list = (others : List Bool) (k : ℕ) (rest : List Bool) → Contains all (by_way others (ToBlock k)) → list ≡ others ++ rest → ⊥
-
   -- a walk leaves by a way, and stores the result there; or it goes to no block
   pub data Leaves (term : Term) (w : AbstractState) (out : Out AbstractState) : Type 0 where
     goes : (choices : List Bool) (m : ℕ) (v : AbstractState) → Contains (ways items body term) (by_way choices (ToBlock m))
         → w.choices ≡ choices ++ v.choices → v.cells ≡ w.cells → out ≡ perform items body node (result_of term m) (next m) v
-        → OnlyWay (ways items body term) w.choices choices m → Leaves term w out
-    stops : IsNotRefused items body node out → NoWay (ways items body term) w.choices → Leaves term w out
+        → OnlyWay (ways items body term) w.choices choices m → NoWayOut (ways items body term) w.choices → Leaves term w out
+    stops : Stops items body node (ways items body term) w.choices out → Leaves term w out
 
   abbrev with_choices : AbstractState → List Bool → AbstractState
   with_choices w rest = record w { choices = rest }
@@ -96,20 +138,54 @@ module _ (items : ItemTable) (body : Body) (node : ℕ → ℕ → ℕ) (n line 
   go-not-refused : (w : AbstractState) → IsNotRefused items body node (Go w)
   go-not-refused w other v is = absurd (false≢true (ap (λ (o : Out AbstractState). elim o [ Go x ↦ false | Unwind x ↦ false | Halts halt x ↦ true ]) is))
 
+  -- it goes out of the body by a way
+  leaves-body : (all : List PathWay) (list choices rest : List Bool) (out : Out AbstractState) → IsNotRefused items body node out → choices_left out ≡ Some rest
+      → Contains all (by_way choices LeavesBody) → list ≡ choices ++ rest
+      → ((others : List Bool) (k : ℕ) (more : List Bool) → Contains all (by_way others (ToBlock k)) → list ≡ others ++ more → (others ≡ choices) × (LeavesBody ≡ ToBlock k))
+      → ((others : List Bool) → Contains all (by_way others LeavesBody) → others ≡ choices)
+      → Stops items body node all list out
+  leaves-body all list choices rest out fine left has is only only_out = record {
+    fine = fine;
+    no_way = λ others k more there same. not-out k (only others k more there same).1;
+    taken = λ e. inr (subst (λ (z : List Bool). Contains all (by_way z LeavesBody)) (sym (whole (same_Some rest [] (sym left ∙ e)))) has);
+    none = λ e. left ∙ ap (λ (z : List Bool). Some z) (both choices (sym is ∙ e));
+    by_way_out = λ c. left ∙ ap (λ (z : List Bool). Some z) (append_cancel_left choices rest [] (sym is ∙ only_out list c ∙ sym (append-nil choices)));
+  }
+    where
+      whole : rest ≡ [] → list ≡ choices
+      whole e = is ∙ ap (λ (z : List Bool). choices ++ z) e ∙ append-nil choices
+
+      both : (choices : List Bool) → choices ++ rest ≡ [] → rest ≡ []
+      both [] e = e
+      both (x ∷ xs) e = absurd (no-cons x (xs ++ rest) e)
+
+  -- there is no choice left that it wants
+  wants-more : (all : List PathWay) (list : List Bool) (out : Out AbstractState) → IsNotRefused items body node out → choices_left out ≡ Some list → list ≡ []
+      → NoWay all list → NoWayOut all list → Stops items body node all list out
+  wants-more all list out fine left e no_way no_out = record {
+    fine = fine;
+    no_way = no_way;
+    taken = λ h. inl e;
+    none = λ h. left ∙ ap (λ (z : List Bool). Some z) e;
+    by_way_out = λ c. absurd (no_out list [] c (sym (append-nil list)));
+  }
+
   -- by a panic, where it is the way that is taken
   panics : (term : Term) (unwind : UnwindTo) (w v : AbstractState) (choices : List Bool)
       → Contains (ways items body term) (by_way choices (unwind_exit unwind))
       → ((b : ℕ) → unwind ≡ UnwindTo.Block b → result_of term b ≡ [])
       → w.choices ≡ choices ++ v.choices → v.cells ≡ w.cells
       → ((others : List Bool) (k : ℕ) (rest : List Bool) → Contains (ways items body term) (by_way others (ToBlock k)) → w.choices ≡ others ++ rest → (others ≡ choices) × (unwind_exit unwind ≡ ToBlock k))
+      → ((others : List Bool) → Contains (ways items body term) (by_way others LeavesBody) → (others ≡ choices) × (unwind_exit unwind ≡ LeavesBody))
       → Leaves term w (unwinding unwind next v)
-  panics term (UnwindTo.Block b) w v choices has none is cells only =
+  panics term (UnwindTo.Block b) w v choices has none is cells only only_out =
       goes choices b v has is cells (ap (λ (z : List PathAction). perform items body node z (next b) v) (sym (none b refl)))
       (λ others k rest there same. let it = only others k rest there same in (it.0, sym (block-is b k it.1)))
-  panics term UnwindTo.Resume w v choices has none is cells only =
-      stops (unwind-not-refused v) (λ others k rest there same. not-out k (only others k rest there same).1)
-  panics term UnwindTo.Abort w v choices has none is cells only =
-      stops (not-refused Aborted v refl) (λ others k rest there same. not-out k (only others k rest there same).1)
+      (λ others rest there same. out-not b (only_out others there).1)
+  panics term UnwindTo.Resume w v choices has none is cells only only_out =
+      stops (leaves-body (ways items body term) w.choices choices v.choices (Unwind v) (unwind-not-refused v) refl has is only (λ others there. (only_out others there).0))
+  panics term UnwindTo.Abort w v choices has none is cells only only_out =
+      stops (leaves-body (ways items body term) w.choices choices v.choices (Halts Aborted v) (not-refused Aborted v refl) refl has is only (λ others there. (only_out others there).0))
 
   -- two ways: on, or by a panic
   module _ (term : Term) (a : ℕ) (unwind : UnwindTo) (ways-are : ways items body term ≡ by_way (false ∷ []) (ToBlock a) ∷ by_way (true ∷ []) (unwind_exit unwind) ∷ [])
@@ -124,28 +200,34 @@ module _ (items : ItemTable) (body : Body) (node : ℕ → ℕ → ℕ) (n line 
     cases : (others : List Bool) (k : ℕ) → Contains (ways items body term) (by_way others (ToBlock k)) → ((others ≡ false ∷ []) × (k ≡ a)) ⊎ ((others ≡ true ∷ []) × (unwind_exit unwind ≡ ToBlock k))
     cases others k has = two-cases a k (unwind_exit unwind) others (subst (λ (z : List PathWay). Contains z (by_way others (ToBlock k))) ways-are has)
 
-    two : (w : AbstractState) (out : List Bool → Out AbstractState) → IsNotRefused items body node (out [])
+    cases-out : (others : List Bool) → Contains (ways items body term) (by_way others LeavesBody) → (others ≡ true ∷ []) × (unwind_exit unwind ≡ LeavesBody)
+    cases-out others has = out-case a (unwind_exit unwind) others (subst (λ (z : List PathWay). Contains z (by_way others LeavesBody)) ways-are has)
+
+    two : (w : AbstractState) (out : List Bool → Out AbstractState) → IsNotRefused items body node (out []) → choices_left (out []) ≡ Some w.choices
         → ((rest : List Bool) → out (false ∷ rest) ≡ perform items body node (result_of term a) (next a) (with_choices w rest))
         → ((rest : List Bool) → out (true ∷ rest) ≡ unwinding unwind next (with_choices w rest))
         → Leaves term w (out w.choices)
-    two w out stuck on-way panic = by w.choices refl
+    two w out stuck left on-way panic = by w.choices refl
       where
         by : (list : List Bool) → w.choices ≡ list → Leaves term w (out list)
-        by [] e = stops stuck (λ others k rest has is. elim (cases others k has) [
-          | inl first ↦ nil-cons false rest (sym e ∙ is ∙ ap (λ (z : List Bool). z ++ rest) first.0)
-          | inr second ↦ nil-cons true rest (sym e ∙ is ∙ ap (λ (z : List Bool). z ++ rest) second.0)
-        ])
+        by [] e = stops (wants-more (ways items body term) w.choices (out []) stuck left e
+            (λ others k rest has is. elim (cases others k has) [
+              | inl first ↦ nil-cons false rest (sym e ∙ is ∙ ap (λ (z : List Bool). z ++ rest) first.0)
+              | inr second ↦ nil-cons true rest (sym e ∙ is ∙ ap (λ (z : List Bool). z ++ rest) second.0)
+            ])
+            (λ others rest has is. nil-cons true rest (sym e ∙ is ∙ ap (λ (z : List Bool). z ++ rest) (cases-out others has).0)))
         by (false ∷ rest) e = goes (false ∷ []) a (with_choices w rest) here-on e refl (on-way rest)
             (λ others k more has is. elim (cases others k has) [
               | inl first ↦ (first.0, first.1)
               | inr second ↦ absurd (false≢true (first-is false true rest more (sym e ∙ is ∙ ap (λ (z : List Bool). z ++ more) second.0)))
             ])
+            (λ others more has is. false≢true (first-is false true rest more (sym e ∙ is ∙ ap (λ (z : List Bool). z ++ more) (cases-out others has).0)))
         by (true ∷ rest) e = subst (Leaves term w) (sym (panic rest))
             (panics term unwind w (with_choices w rest) (true ∷ []) here-panic elsewhere e refl
             (λ others k more has is. elim (cases others k has) [
               | inl first ↦ absurd (true-false (first-is true false rest more (sym e ∙ is ∙ ap (λ (z : List Bool). z ++ more) first.0)))
               | inr second ↦ (second.0, second.1)
-            ]))
+            ]) cases-out)
 
   -- a call that never returns leaves by a panic alone
   module _ (term : Term) (unwind : UnwindTo) (ways-are : ways items body term ≡ by_way (true ∷ []) (unwind_exit unwind) ∷ [])
@@ -153,20 +235,30 @@ module _ (items : ItemTable) (body : Body) (node : ℕ → ℕ → ℕ) (n line 
     cases-second : (others : List Bool) (k : ℕ) → Contains (ways items body term) (by_way others (ToBlock k)) → (others ≡ true ∷ []) × (unwind_exit unwind ≡ ToBlock k)
     cases-second others k has = one-case k (true ∷ []) others (unwind_exit unwind) (subst (λ (z : List PathWay). Contains z (by_way others (ToBlock k))) ways-are has)
 
-    second : (w : AbstractState) (out : List Bool → Out AbstractState) → IsNotRefused items body node (out [])
-        → ((rest : List Bool) → IsNotRefused items body node (out (false ∷ rest)))
+    out-second : (others : List Bool) → Contains (ways items body term) (by_way others LeavesBody) → (others ≡ true ∷ []) × (unwind_exit unwind ≡ LeavesBody)
+    out-second others has = one-way (true ∷ []) others (unwind_exit unwind) LeavesBody (subst (λ (z : List PathWay). Contains z (by_way others LeavesBody)) ways-are has)
+
+    second : (w : AbstractState) (out : List Bool → Out AbstractState) → IsNotRefused items body node (out []) → choices_left (out []) ≡ Some w.choices
+        → ((rest : List Bool) → IsNotRefused items body node (out (false ∷ rest)) × (choices_left (out (false ∷ rest)) ≡ None))
         → ((rest : List Bool) → out (true ∷ rest) ≡ unwinding unwind next (with_choices w rest))
         → Leaves term w (out w.choices)
-    second w out stuck infeasible panic = by w.choices refl
+    second w out stuck left infeasible panic = by w.choices refl
       where
         by : (list : List Bool) → w.choices ≡ list → Leaves term w (out list)
-        by [] e = stops stuck (λ others k rest has is. nil-cons true rest (sym e ∙ is ∙ ap (λ (z : List Bool). z ++ rest) (cases-second others k has).0))
-        by (false ∷ rest) e = stops (infeasible rest)
-            (λ others k more has is. false≢true (first-is false true rest more (sym e ∙ is ∙ ap (λ (z : List Bool). z ++ more) (cases-second others k has).0)))
+        by [] e = stops (wants-more (ways items body term) w.choices (out []) stuck left e
+            (λ others k rest has is. nil-cons true rest (sym e ∙ is ∙ ap (λ (z : List Bool). z ++ rest) (cases-second others k has).0))
+            (λ others rest has is. nil-cons true rest (sym e ∙ is ∙ ap (λ (z : List Bool). z ++ rest) (out-second others has).0)))
+        by (false ∷ rest) e = stops (record {
+          fine = (infeasible rest).0;
+          no_way = λ others k more has is. false≢true (first-is false true rest more (sym e ∙ is ∙ ap (λ (z : List Bool). z ++ more) (cases-second others k has).0));
+          taken = λ h. absurd (none-some [] (sym (infeasible rest).1 ∙ h));
+          none = λ h. absurd (no-cons false rest (sym e ∙ h));
+          by_way_out = λ c. absurd (false≢true (first-is false true rest [] (sym e ∙ (out-second w.choices c).0)));
+        })
         by (true ∷ rest) e = subst (Leaves term w) (sym (panic rest))
             (panics term unwind w (with_choices w rest) (true ∷ [])
             (subst (λ (z : List PathWay). Contains z (by_way (true ∷ []) (unwind_exit unwind))) (sym ways-are) (here (by_way (true ∷ []) (unwind_exit unwind)) []))
-            elsewhere e refl (λ others k more has is. cases-second others k has))
+            elsewhere e refl (λ others k more has is. cases-second others k has) out-second)
 
   -- a way without a choice
   only-way : (term : Term) (a : ℕ) (w : AbstractState) → ways items body term ≡ by_way [] (ToBlock a) ∷ [] → result_of term a ≡ [] → Leaves term w (next a w)
@@ -174,10 +266,16 @@ module _ (items : ItemTable) (body : Body) (node : ℕ → ℕ → ℕ) (n line 
       goes [] a w (subst (λ (z : List PathWay). Contains z (by_way [] (ToBlock a))) (sym ways-are) (here (by_way [] (ToBlock a)) [])) refl refl
       (ap (λ (z : List PathAction). perform items body node z (next a) w) (sym none))
       (λ others k rest has is. let it = one-case k [] others (ToBlock a) (subst (λ (z : List PathWay). Contains z (by_way others (ToBlock k))) ways-are has) in (it.0, sym (block-is a k it.1)))
+      (λ others rest has is. out-not a (one-way [] others (ToBlock a) LeavesBody (subst (λ (z : List PathWay). Contains z (by_way others LeavesBody)) ways-are has)).1)
 
-  no-way : (term : Term) (w : AbstractState) (out : Out AbstractState) → ways items body term ≡ [] → IsNotRefused items body node out → Leaves term w out
-  no-way term w out ways-are fine =
-      stops fine (λ others k rest has is. none-in (by_way others (ToBlock k)) (subst (λ (z : List PathWay). Contains z (by_way others (ToBlock k))) ways-are has))
+  no-way : (term : Term) (w : AbstractState) (out : Out AbstractState) → ways items body term ≡ [] → IsNotRefused items body node out → choices_left out ≡ Some w.choices → Leaves term w out
+  no-way term w out ways-are fine left = stops (record {
+    fine = fine;
+    no_way = λ others k rest has is. none-in (by_way others (ToBlock k)) (subst (λ (z : List PathWay). Contains z (by_way others (ToBlock k))) ways-are has);
+    taken = λ e. inl (same_Some w.choices [] (sym left ∙ e));
+    none = λ e. left ∙ ap (λ (z : List Bool). Some z) e;
+    by_way_out = λ c. absurd (none-in (by_way w.choices LeavesBody) (subst (λ (z : List PathWay). Contains z (by_way w.choices LeavesBody)) ways-are c));
+  })
 
   -- Results.
 
@@ -243,6 +341,14 @@ module _ (items : ItemTable) (body : Body) (node : ℕ → ℕ → ℕ) (n line 
   no-choice-by true a unwind w = not-refused NoChoice w refl
   no-choice-by false a unwind w = not-refused NoChoice w refl
 
+  left-by : (v : Bool) (a : ℕ) (unwind : UnwindTo) (w : AbstractState) → choices_left (from_effect a unwind (halting_if v Unreachable (Halts NoChoice w))) ≡ Some w.choices
+  left-by true a unwind w = refl
+  left-by false a unwind w = refl
+
+  none-by : (v : Bool) (a : ℕ) (unwind : UnwindTo) (w : AbstractState) → choices_left (from_effect a unwind (halting_if v Unreachable (Halts Infeasible w))) ≡ None
+  none-by true a unwind w = refl
+  none-by false a unwind w = refl
+
   infeasible-by : (v : Bool) (a : ℕ) (unwind : UnwindTo) (w : AbstractState) → IsNotRefused items body node (from_effect a unwind (halting_if v Unreachable (Halts Infeasible w)))
   infeasible-by true a unwind w = not-refused Infeasible w refl
   infeasible-by false a unwind w = not-refused Infeasible w refl
@@ -264,7 +370,7 @@ module _ (items : ItemTable) (body : Body) (node : ℕ → ℕ → ℕ) (n line 
       → (v : AbstractState) → Leaves term v (from_effect a unwind (halting_if (never_to to) Unreachable (computed_by_choice items locals (place_site to) v)))
   computed term to a unwind ways-are result elsewhere v =
       two term a unwind ways-are elsewhere v (λ list. from_effect a unwind (halting_if (never_to to) Unreachable (next_choice list v (store items locals (place_site to)) Unwind)))
-      (no-choice-by (never_to to) a unwind v)
+      (no-choice-by (never_to to) a unwind v) (left-by (never_to to) a unwind v)
       (λ rest. store-is items body node n line (from_effect a unwind) (from-passes a unwind) to (next a) (λ w. refl) (with_choices v rest)
       ∙ ap (λ (z : List PathAction). perform items body node z (next a) (with_choices v rest)) (sym result))
       (λ rest. unwinding-by (never_to to) a unwind (with_choices v rest))
@@ -276,13 +382,17 @@ module _ (items : ItemTable) (body : Body) (node : ℕ → ℕ → ℕ) (n line 
       → (v : AbstractState) → Leaves term v (from_effect a unwind (halting_if (never_to to) Unreachable (returns_by_choice items locals (place_site to) v)))
   returned term to a unwind true e ways-are result elsewhere v =
       second term unwind ways-are elsewhere v (λ list. from_effect a unwind (halting_if (never_to to) Unreachable (next_choice list v (if never_to to then Halts Infeasible else store items locals (place_site to)) Unwind)))
-      (no-choice-by (never_to to) a unwind v)
-      (λ rest. subst (λ (b : Bool). IsNotRefused items body node (from_effect a unwind (halting_if (never_to to) Unreachable ((if b then Halts Infeasible else store items locals (place_site to)) (with_choices v rest))))) (sym e)
-      (infeasible-by (never_to to) a unwind (with_choices v rest)))
+      (no-choice-by (never_to to) a unwind v) (left-by (never_to to) a unwind v)
+      (λ rest. (
+        subst (λ (b : Bool). IsNotRefused items body node (from_effect a unwind (halting_if (never_to to) Unreachable ((if b then Halts Infeasible else store items locals (place_site to)) (with_choices v rest))))) (sym e)
+            (infeasible-by (never_to to) a unwind (with_choices v rest)),
+        ap (λ (b : Bool). choices_left (from_effect a unwind (halting_if (never_to to) Unreachable ((if b then Halts Infeasible else store items locals (place_site to)) (with_choices v rest))))) e
+            ∙ none-by (never_to to) a unwind (with_choices v rest),
+      ))
       (λ rest. unwinding-by (never_to to) a unwind (with_choices v rest))
   returned term to a unwind false e ways-are result elsewhere v =
       two term a unwind ways-are elsewhere v (λ list. from_effect a unwind (halting_if (never_to to) Unreachable (next_choice list v (if never_to to then Halts Infeasible else store items locals (place_site to)) Unwind)))
-      (no-choice-by (never_to to) a unwind v)
+      (no-choice-by (never_to to) a unwind v) (left-by (never_to to) a unwind v)
       (λ rest. ap (λ (b : Bool). from_effect a unwind (halting_if (never_to to) Unreachable ((if b then Halts Infeasible else store items locals (place_site to)) (with_choices v rest)))) e
       ∙ store-is items body node n line (from_effect a unwind) (from-passes a unwind) to (next a) (λ w. refl) (with_choices v rest)
       ∙ ap (λ (z : List PathAction). perform items body node z (next a) (with_choices v rest)) (sym result))
@@ -293,7 +403,7 @@ module _ (items : ItemTable) (body : Body) (node : ℕ → ℕ → ℕ) (n line 
       → ((m : ℕ) → result_of term m ≡ []) → (v : AbstractState) → Leaves term v (from_choice if_true if_false (Go v))
   chosen term if_true if_false ways-are none v =
       two term if_false (UnwindTo.Block if_true) ways-are (λ b is. none b) v (λ list. branch (renamed_choice naming_halts (chosen_next list v)) (next if_true) (next if_false))
-      (not-refused NoChoice v refl)
+      (not-refused NoChoice v refl) refl
       (λ rest. ap (λ (z : List PathAction). perform items body node z (next if_false) (with_choices v rest)) (sym (none if_false)))
       (λ rest. refl)
 
@@ -334,7 +444,7 @@ module _ (items : ItemTable) (body : Body) (node : ℕ → ℕ → ℕ) (n line 
   dropping place a unwind true ways-are w =
       two (Term.DropAt place a unwind) a unwind ways-are (λ b is. nothing (list_any (nat_eq b) (a ∷ []))) (after_drop place w)
       (λ list. from_effect a unwind (next_choice list w (λ w. Go (after_drop place w)) (λ w. unwound items locals (mode_of unwind) (after_drop place w))))
-      (not-refused NoChoice w refl)
+      (not-refused NoChoice w refl) refl
       (λ rest. ap (λ (z : List PathAction). perform items body node z (next a) (with_choices (after_drop place w) rest)) (sym (nothing (list_any (nat_eq a) (a ∷ [])))))
       (λ rest. by unwind (with_choices (after_drop place w) rest))
     where
@@ -407,7 +517,7 @@ module _ (items : ItemTable) (body : Body) (node : ℕ → ℕ → ℕ) (n line 
   term-performs (Term.Bounds index count a unwind) apart done w tells =
       all-then (Term.Bounds index count a unwind) (index ∷ []) false a unwind (λ v. panics_by_choice v Go) done w
       (λ v. two (Term.Bounds index count a unwind) a unwind refl (λ b is. nothing (list_any (nat_eq b) (a ∷ []))) v (λ list. from_effect a unwind (next_choice list v Go Unwind))
-      (not-refused NoChoice v refl)
+      (not-refused NoChoice v refl) refl
       (λ rest. ap (λ (z : List PathAction). perform items body node z (next a) (with_choices v rest)) (sym (nothing (list_any (nat_eq a) (a ∷ [])))))
       (λ rest. refl)) tells
   term-performs (Term.Call to callee args a unwind) apart done w tells =
@@ -432,8 +542,9 @@ module _ (items : ItemTable) (body : Body) (node : ℕ → ℕ → ℕ) (n line 
   term-performs (Term.Panic why unwind) apart done w tells =
       performed items body node (Leaves (Term.Panic why unwind)) (unwinding unwind next)
       (λ v. panics (Term.Panic why unwind) unwind v v [] (here (by_way [] (unwind_exit unwind)) []) (λ b is. refl) refl refl
-      (λ others k rest has is. one-case k [] others (unwind_exit unwind) has)) [] done w tells
+      (λ others k rest has is. one-case k [] others (unwind_exit unwind) has)
+      (λ others has. one-way [] others (unwind_exit unwind) LeavesBody has)) [] done w tells
   term-performs Term.Return apart done w tells =
-      performed items body node (Leaves Term.Return) Go (λ v. no-way Term.Return v (Go v) refl (go-not-refused v)) [] done w tells
+      performed items body node (Leaves Term.Return) Go (λ v. no-way Term.Return v (Go v) refl (go-not-refused v) refl) [] done w tells
   term-performs Term.Resume apart done w tells =
-      performed items body node (Leaves Term.Resume) Unwind (λ v. no-way Term.Resume v (Unwind v) refl (unwind-not-refused v)) [] done w tells
+      performed items body node (Leaves Term.Resume) Unwind (λ v. no-way Term.Resume v (Unwind v) refl (unwind-not-refused v) refl) [] done w tells

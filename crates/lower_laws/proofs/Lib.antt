@@ -27,12 +27,14 @@ mod Stopping
 mod Done
 pub mod UseLaw
 mod Listed
+mod SitedLines
 mod Allowing
 mod Blocks
 mod Coming
 pub mod Elsewhere
 mod PathExamples
 mod Following
+mod Taking
 pub mod WalkLaw
 mod Leaving
 pub mod Lines

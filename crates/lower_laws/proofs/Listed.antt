@@ -10,7 +10,7 @@ use Rattle.cfg_graph.specs.declared.graph.Block.{Block}
 use Rattle.cfg_graph.specs.declared.statement.Stmt.{Stmt}
 use Rattle.mir_ty.specs.ItemTable.{ItemTable}
 use Rattle.typed_tree.specs.Tree.{BodyTree, ProgramTree}
-use Rattle.lower_rules.specs.Listed.{placed, at_line, of_lines, of_blocks, body_sites, of_bodies, program_sites}
+use Rattle.lower_rules.specs.Listed.{placed, at_line, of_lines, of_blocks, body_sites, of_bodies}
 use Rattle.lower_rules.specs.declared.site.Site.{Site}
 use Rattle.lower_laws.specs.Told.{LineOfBody, stands_at, has_site}
 

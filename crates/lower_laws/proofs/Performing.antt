@@ -17,6 +17,7 @@ use Rattle.cfg_graph.specs.Moves.Gone.{PathAction, leaves_gone, counts}
 use Rattle.cfg_graph.specs.Moves.Present.{changed_by, present_by, present_from, present_at_start, present_after}
 use Rattle.cfg_graph.specs.Moves.BadUses.{BadUse}
 use Rattle.move_errors.specs.Reaches.{rule_of, is_bad, first_bad}
+use Rattle.lower_laws.specs.Given.{choices_left}
 use Rattle.lower_laws.specs.Meets.{site_of, halt_by, halt_of, is_refused, ends_runs, before_bad}
 use Rattle.lower_laws.proofs.Watching.{Seen, whole, reference, element, seen}
 use Rattle.lower_laws.proofs.Allowing.{allowed, is-allowed}
@@ -264,13 +265,17 @@ module _ (items : ItemTable) (body : Body) where
     abbrev pub IsNotRefused : Out AbstractState → Type 0
     IsNotRefused out = (halt : Halt) (w : AbstractState) → out ≡ Halts halt w → is_refused halt ≡ false
 
+    -- it halts at no refused use, and has left the choices of a state
+    abbrev pub EndsWith : AbstractState → Out AbstractState → Type 0
+    EndsWith w out = IsNotRefused out × (choices_left out ≡ Some w.choices)
+
     -- Actions come to their end, where something holds of the rest; or to the first bad one; or to a value of type `!`.
     pub data Performed (done acts : List PathAction) (R : AbstractState → Out AbstractState → Type 0) (w : AbstractState) (out : Out AbstractState) : Type 0 where
       on : (v : AbstractState) → R v out → Tells v (done ++ acts) → v.choices ≡ w.choices → first_bad items body done acts ≡ None
           → list_any (ends_runs items body) acts ≡ false → Performed done acts R w out
       met : (bad : BadUse) (v : AbstractState) → out ≡ Halts (halt_of node bad) v → v.choices ≡ w.choices → first_bad items body done acts ≡ Some bad
           → list_any (ends_runs items body) (before_bad items body done acts) ≡ false → Performed done acts R w out
-      ended : IsNotRefused out → list_any (ends_runs items body) (before_bad items body done acts) ≡ true → Performed done acts R w out
+      ended : EndsWith w out → list_any (ends_runs items body) (before_bad items body done acts) ≡ true → Performed done acts R w out
 
     abbrev pub halted : Halt → AbstractState → Out AbstractState
     halted halt w = Halts halt w
@@ -316,15 +321,15 @@ module _ (items : ItemTable) (body : Body) where
               go : (ends : Bool) → ends_runs items body a ≡ ends
                   → Performed (done ++ a ∷ []) acts R (left_by a w) (perform acts next (left_by a w))
                   → Performed done (a ∷ acts) R w (unless_ended ends (perform acts next) (left_by a w))
-              go true f rest = ended (unreachable (left_by a w)) (ap (list_any (ends_runs items body)) before ∙ ap (λ (z : Bool). z || list_any (ends_runs items body) (before_bad items body (done ++ a ∷ []) acts)) f)
+              go true f rest = ended (unreachable (left_by a w), ap (λ (z : List Bool). Some z) (left-choices a w)) (ap (list_any (ends_runs items body)) before ∙ ap (λ (z : Bool). z || list_any (ends_runs items body) (before_bad items body (done ++ a ∷ []) acts)) f)
               go false f (on v r tells choices none clean) =
                   on v r (subst (Tells v) (append_assoc done (a ∷ []) acts) tells) (choices ∙ left-choices a w) (first ∙ none)
                   (ap (λ (z : Bool). z || list_any (ends_runs items body) acts) f ∙ clean)
               go false f (met it v is choices some clean) =
                   met it v is (choices ∙ left-choices a w) (first ∙ some)
                   (ap (list_any (ends_runs items body)) before ∙ ap (λ (z : Bool). z || list_any (ends_runs items body) (before_bad items body (done ++ a ∷ []) acts)) f ∙ clean)
-              go false f (ended not_refused end) =
-                  ended not_refused
+              go false f (ended with end) =
+                  ended (with.0, with.1 ∙ ap (λ (z : List Bool). Some z) (left-choices a w))
                   (ap (list_any (ends_runs items body)) before ∙ ap (λ (z : Bool). z || list_any (ends_runs items body) (before_bad items body (done ++ a ∷ []) acts)) f ∙ end)
 
     any-append : (xs ys : List PathAction) → list_any (ends_runs items body) (xs ++ ys) ≡ (list_any (ends_runs items body) xs || list_any (ends_runs items body) ys)
@@ -362,5 +367,5 @@ module _ (items : ItemTable) (body : Body) where
         more (met bad u is same some free) =
             met bad u is (same ∙ choices) (some-rest done xs ys none ∙ some)
             (ap (list_any (ends_runs items body)) (before-append done xs ys none) ∙ none-of-both xs (before_bad items body (done ++ xs) ys) clean free)
-        more (ended not_refused end) =
-            ended not_refused (ap (list_any (ends_runs items body)) (before-append done xs ys none) ∙ some-behind xs (before_bad items body (done ++ xs) ys) end)
+        more (ended with end) =
+            ended (with.0, with.1 ∙ ap (λ (z : List Bool). Some z) choices) (ap (list_any (ends_runs items body)) (before-append done xs ys none) ∙ some-behind xs (before_bad items body (done ++ xs) ys) end)

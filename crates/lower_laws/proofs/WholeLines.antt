@@ -44,6 +44,7 @@ use Rattle.lower_rules.specs.Lower as lower
 use Rattle.lower_rules.specs.Lower.{body_of, frame}
 use Rattle.lower_rules.proofs.Bodies.{lowered_is_ranked, lowered_keeps_to_cleanup}
 use Rattle.lower_rules.proofs.Lines as lines
+use Rattle.lower_rules.proofs.Stops as stops
 use Rattle.lower_rules.proofs.Typed.{well_typed_names_loops}
 use Rattle.lower_laws.specs.Lines.{LocalsHaveNoFault, LinesHaveNoFault, LoweredLinesHaveNoFault}
 use Rattle.lower_rules.proofs.TypedLines as typed_lines
@@ -447,6 +448,23 @@ module _ (p : ProgramTree) (w : WellTyped p) (n : ℕ) (body : BodyTree) (at_n :
       by_made : (o : Option MadeBlock) → slice_get (lower.built F body).blocks k ≡ Some o → (unwrap_or o lower.unmade).block ≡ block → Clean block
       by_made None q h = subst Clean h ((λ line stmt d. absurd (none-some stmt d)), (typed_lines.return_ok p.items (length p.bodies) (base.B g), refl))
       by_made (Some m) q h = subst Clean h (line_in m.block.stmts m.block.term m.nodes (built_ok.blocks k m q), term_in m.block.stmts m.block.term m.nodes (built_ok.blocks k m q))
+
+  -- ---- what stands behind a store of a value of type `!`: nothing but the way to the block that returns
+  abbrev pub Stands : List Stmt → Term → Type 0
+  Stands [] term = Unit {0}
+  Stands (stmt ∷ stmts) term = stops.Behind F (λ key. ⊥) stmt stmts term × Stands stmts term
+
+  stands_in : (stmts : List Stmt) (term : Term) (nodes : List ℕ) → lines.BlockOk F W stmts term nodes → Stands stmts term
+  stands_in [] term nodes h = tt
+  stands_in (x ∷ stmts) term [] h = absurd h
+  stands_in (x ∷ stmts) term (n ∷ nodes) h = (h.0.1, stands_in stmts term nodes h.1)
+
+  pub stands_behind : (k : ℕ) (block : Block) → slice_get (body_of p.items body).blocks k ≡ Some block → Stands block.stmts block.term
+  stands_behind k block e = let h = from_mapped _ (lower.built F body).blocks k block e in by_made h.0 h.1 h.2
+    where
+      by_made : (o : Option MadeBlock) → slice_get (lower.built F body).blocks k ≡ Some o → (unwrap_or o lower.unmade).block ≡ block → Stands block.stmts block.term
+      by_made None q h = subst (λ (b : Block). Stands b.stmts b.term) h tt
+      by_made (Some m) q h = subst (λ (b : Block). Stands b.stmts b.term) h (stands_in m.block.stmts m.block.term m.nodes (built_ok.blocks k m q))
 
   -- ---- edges
   named : NamesItsLoops body

@@ -5,3 +5,4 @@ pub mod Accepted
 pub mod Refused
 pub mod Told
 pub mod Meets
+pub mod Given

@@ -7,6 +7,7 @@ use Rattle.cfg_graph.specs.declared.graph.Body.{Body}
 use Rattle.cfg_graph.specs.Moves.BadUses.{UseRule, U1, U2, BadUse}
 use Rattle.cfg_graph.specs.WellFormed.Faults.{IsWellFormed}
 use Rattle.move_errors.specs.Reaches.{Reaches, MeetsNone}
+use Rattle.lower_laws.specs.Given.{GivesBeforeBad, IsTaken}
 use Rattle.lower_laws.specs.Meets.{site_of, RunsReach}
 use Rattle.typed_tree.specs.Nodes.{numbers_of}
 use Rattle.typed_tree.specs.Tree.{BodyTree, ProgramTree}
@@ -72,6 +73,8 @@ pub record MeetsExactly (items : ItemTable) (tree : BodyTree) (body : Body) : Ty
       × (site ≡ site_of (node_of items tree) bad.action) × (ruled_by items tree given ≡ Some bad.rule)
   -- no path meets a bad use exactly where no free run is refused
   pub exact : MeetsNone items body ↔ ((given : List Bool) → reached_by items tree given ≡ None)
+  -- the lists of choices that paths give before their first bad use are exactly those that free runs take
+  pub lists : (list : List Bool) → GivesBeforeBad items body list ↔ IsTaken items tree list
 
 -- the numbers of each body's nodes rise
 abbrev pub AllNumbersRise : ProgramTree → Type 0

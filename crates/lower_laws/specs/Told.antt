@@ -1,16 +1,18 @@
 -- The line by which a bad use of a lowered graph is told in the text, and its site.
-use Rattle.std.specs.Prelude.{◌≡◌, ◌==◌, ℕ, Bool, true, ◌&&◌, List, Option, Some, slice_get}
+use Rattle.std.specs.Prelude.{◌≡◌, ◌==◌, ℕ, Bool, true, ◌&&◌, All, List, Option, Some, slice_get}
 use Rattle.std.specs.List.{list_any}
 use Rattle.move_errors.specs.Reaches.{Reaches}
 use Rattle.lower_rules.specs.Laws.{AllNameTheirLoops}
-use Rattle.lower_rules.specs.Lower.{graph_of}
+use Rattle.lower_rules.specs.Lower.{graph_of, node_of}
+use Rattle.lower_rules.specs.Sites.{position_of}
 use Rattle.cfg_graph.specs.declared.graph.Block.{Block}
 use Rattle.cfg_graph.specs.declared.graph.Body.{Body}
 use Rattle.cfg_graph.specs.declared.terminator.Term.{Term}
 use Rattle.cfg_graph.specs.Moves.BadUses.{BadUse}
 use Rattle.cfg_graph.specs.Moves.Gone.{PathAction}
 use Rattle.cfg_graph.specs.Uses.{PlaceUse, Drops}
-use Rattle.typed_tree.specs.Tree.{ProgramTree}
+use Rattle.typed_tree.specs.Nodes.{body_nodes, first_with}
+use Rattle.typed_tree.specs.Tree.{Node, BodyTree, ProgramTree}
 use Rattle.lower_rules.specs.Listed.{program_sites}
 use Rattle.lower_rules.specs.declared.site.Site.{Site}
 
@@ -39,9 +41,19 @@ stands_at body at site = site.body == body && (site.block == at.block && site.li
 abbrev pub has_site : ProgramTree → ℕ → LineOfBody → Bool
 has_site program body at = list_any (stands_at body at) (program_sites program)
 
--- each bad use that a path reaches has a site
+-- A use of a body is told in the text: its line, or that of the store behind a drop, has a site, and each site of that
+-- line has the position of the node that the use's own line is of.
+pub record IsTold (program : ProgramTree) (n : ℕ) (body : Body) (action : PathAction) : Type 0 where
+  pub sited : has_site program n (line_told body action) ≡ true
+  pub tree : BodyTree
+  pub there : slice_get program.bodies n ≡ Some tree
+  pub node : Node
+  pub found : first_with (node_of program.items tree action.block action.line) (body_nodes tree) ≡ Some node
+  pub at : All (λ site. stands_at n (line_told body action) site ≡ true → site.at ≡ position_of node) (program_sites program)
+
+-- each bad use that a path reaches is told so
 abbrev pub LoweredUsesHaveSites : Type 0
 LoweredUsesHaveSites =
     (program : ProgramTree) → AllNameTheirLoops program → (n : ℕ) (body : Body) →
     slice_get (graph_of program).bodies n ≡ Some body → (path : List ℕ) (given : List Bool) (bad : BadUse) →
-    Reaches program.items body path given bad → has_site program n (line_told body bad.action) ≡ true
+    Reaches program.items body path given bad → IsTold program n body bad.action

@@ -1,10 +1,23 @@
 pub mod Alone
+pub mod NamedLines
+pub mod NamedKept
+pub mod NamedFrames
+pub mod NamedPassing
+pub mod NamedSource
+pub mod NamedApart
+pub mod NamedArgs
+pub mod NamedSaying
+pub mod NamedTogether
+pub mod NamedPlain
+pub mod NamedGraph
 pub mod NamedByRuns
 mod NamedExamples
+pub mod NamedOfLowered
 pub mod NamedStays
 pub mod NamedWatch
 pub mod Noting
 pub mod PathFollow
+pub mod PathGoes
 pub mod PathRun
 pub mod PathWatch
 pub mod PathWays
@@ -22,3 +35,6 @@ mod OncePatterns
 mod OnceRules
 mod OnceStanding
 mod References
+mod OnceUses
+pub mod NamedUsed
+pub mod NamedTyped

@@ -1,6 +1,7 @@
 -- Worked examples, by computation: in the raw bodies of accepted texts what references name stays on all paths of so
--- many blocks; and where something of it is taken between the making and a use, the definition says so.
-use Rattle.std.proofs.Common.{◌≡◌, ℕ, zero, suc, ◌+◌, ◌==◌, ◌&&◌, not, Bool, true, false, List, [], ◌∷◌, map, flat_map, length, slice_get, refl}
+-- many blocks, and the watch finds nothing bad in the runs of the source; where something of it is taken between the
+-- making and a use, the definition says so.
+use Rattle.std.proofs.Common.{◌≡◌, ℕ, zero, suc, ◌+◌, ◌==◌, ◌&&◌, not, Bool, true, false, List, [], ◌∷◌, ◌++◌, map, flat_map, length, slice_get, refl}
 use Rattle.std.specs.Prelude.{codes}
 use Rattle.std.specs.List.{list_all}
 use Rattle.std.specs.Option.{option_map_or}
@@ -15,7 +16,14 @@ use Rattle.cfg_graph.specs.NamedPlaces.{references_made, keeps_named}
 use Rattle.cfg_graph.specs.Uses.{PlaceUse, Moves, Stores, Drops}
 use Rattle.typed_tree.specs.Tree.{BodyTree}
 use Rattle.typing_rules.proofs.Words.{Outcome, Typed, outcome, lines}
+use Rattle.store_model.specs.Effects.{NoChoice, Out, Go, Unwind, Halts}
+use Rattle.src_meaning.specs.Locals.Effects.{at_locals}
+use Rattle.src_meaning.specs.Locals.OfBody.{local_of, local_ty}
+use Rattle.src_meaning.specs.Programs.{activation}
 use Rattle.lower_rules.specs.Lower.{body_of}
+use Rattle.lower_ready.proofs.NamedByRuns.{at_first}
+use Rattle.lower_ready.proofs.NamedWatch.{NamedState, see}
+use Rattle.lower_ready.proofs.Noting.{Watched, watching}
 
 module _ (items : ItemTable) (body : Body) where
   abbrev exits : PathWay → List ℕ
@@ -63,6 +71,29 @@ module _ (items : ItemTable) (body : Body) where
   abbrev all_told : Bool
   all_told = list_all taken_is_told (references_made body)
 
+-- nor does the watch find anything bad in the runs of the source, by whatever choices, so many at most
+module _ (items : ItemTable) (tree : BodyTree) (local : ℕ) where
+  abbrev watched : List Bool → Out (Watched NamedState)
+  watched list =
+      activation items
+      (at_locals (local_of items tree) (watching items (local_ty items tree) (λ call. see (body_of items tree) local)))
+      (suc (length list)) tree (record { seen = at_first; choices = list })
+
+  abbrev is_fine : List Bool → Out (Watched NamedState) → (List Bool → Bool) → Bool
+  is_fine list (Go w) rest = not w.seen.is_bad
+  is_fine list (Unwind w) rest = not w.seen.is_bad
+  is_fine list (Halts NoChoice w) rest =
+      not w.seen.is_bad && rest (list ++ false ∷ []) && rest (list ++ true ∷ [])
+  is_fine list (Halts halt w) rest = not w.seen.is_bad
+
+  abbrev none_bad : ℕ → List Bool → Bool
+  none_bad zero list = true
+  none_bad (suc n) list = is_fine list (watched list) (none_bad n)
+
+abbrev runs_fine : ItemTable → BodyTree → Bool
+runs_fine items tree =
+    list_all (λ one. none_bad items tree one.0 7 []) (references_made (body_of items tree))
+
 -- how many references the bodies of a text make
 abbrev made_in : ItemTable → List BodyTree → ℕ
 made_in items [] = 0
@@ -71,7 +102,8 @@ made_in items (tree ∷ trees) = length (references_made (body_of items tree)) +
 abbrev all_stay : ℕ → ItemTable → List BodyTree → Bool
 all_stay k items [] = true
 all_stay k items (tree ∷ trees) =
-    stays items (body_of items tree) k && all_told items (body_of items tree) && all_stay k items trees
+    stays items (body_of items tree) k && all_told items (body_of items tree) && runs_fine items tree
+    && all_stay k items trees
 
 abbrev program_stays : ℕ → ℕ → Outcome → Bool
 program_stays k made (Typed p) = all_stay k p.items p.bodies && (made_in p.items p.bodies == made)

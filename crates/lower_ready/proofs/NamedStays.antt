@@ -1,5 +1,5 @@
--- Where the watch over what the reference in a local names finds nothing bad along the actions of a path, it stays there
--- while the reference is used.
+-- Where the watch over what the reference in a local names finds nothing bad along the actions of a path, it stays
+-- there while the reference is used.
 use Rattle.std.proofs.Common.{◌≡◌, ℕ, zero, suc, ◌==◌, ◌||◌, ◌&&◌, not, Bool, true, false, List, [], ◌∷◌, ◌++◌, take_while, if◌then◌else◌, cond, Option, None, refl, sym, ap, subst, ◌∙◌}
 use Rattle.std.specs.List.{list_all}
 use Rattle.std.specs.Option.{option_map_or}
@@ -79,7 +79,7 @@ module _ (body : Body) (local : ℕ) where
   goes_first made zero place e = ap (λ (c : Bool). c || false) e
   goes_first made (suc most) place e = or_left (place.local == local) _ e
 
-  use_spares : (a : PathAction) → uses body local a ≡ true → spares body local a ≡ true
+  pub use_spares : (a : PathAction) → uses body local a ≡ true → spares body local a ≡ true
   use_spares a e =
       subst (λ (g : Bool). (not (takes body a) || g
       || not (overlap body (named_places body local) (followed body a.place))) ≡ true)
@@ -207,7 +207,8 @@ module _ (body : Body) (local : ℕ) where
       by again false e fine = again _ fine
 
   -- where the watch finds nothing bad on a path
-  pub stays_named : (n : ℕ) (path : List ℕ) (m : NamedState) → (path_seen (watch.see body local) body n path m).is_bad ≡ false →
+  pub stays_named : (n : ℕ) (path : List ℕ) (m : NamedState) → (path_seen
+      (watch.whole body local) body n path m).is_bad ≡ false →
       keeps_named body (actions_on body (n ∷ path)) local ≡ true
   stays_named n path m fine =
       all_stretches (actions_on body (n ∷ path)) (watch.from_path body local path n) m

@@ -17,14 +17,16 @@ use Rattle.cfg_graph.specs.Moves.Gone.{PathAction}
 use Rattle.cfg_graph.specs.NamedPlaces.{spares, makes, uses, stores}
 use Rattle.cfg_graph.specs.Places.{named}
 use Rattle.cfg_graph.specs.Uses.{PlaceUse, Stores, stmt_uses, term_uses, stored_by_term}
-use Rattle.lower_ready.proofs.Noting.{Note}
+use Rattle.lower_ready.proofs.Noting.{Note, Sees}
 use Rattle.lower_ready.proofs.PathWatch.{as_notes, lines_seen, block_seen, between, way_seen, path_seen}
 
--- since the reference was made, if it was
+-- since the reference was made, if it was; or one to another place was made in its local, and nothing is looked at
+-- any more
 pub data Since : Type 0 where
   Unmade : Since
   Kept : Since
   Taken : Since
+  Lost : Since
 
 pub record NamedState : Type 0 where
   pub since : Since
@@ -34,11 +36,13 @@ abbrev pub used_by : (by_store crossed : Bool) → Since → Bool → Bool
 used_by by_store crossed Unmade bad = bad
 used_by by_store crossed Kept bad = bad || (by_store || crossed)
 used_by by_store crossed Taken bad = true
+used_by by_store crossed Lost bad = bad
 
 abbrev pub taken_since : Since → Since
 taken_since Unmade = Unmade
 taken_since Kept = Taken
 taken_since Taken = Taken
+taken_since Lost = Lost
 
 or_first : (a b : Bool) → a || b ≡ false → a ≡ false
 or_first true b e = e
@@ -85,6 +89,10 @@ module _ (body : Body) (local : ℕ) where
   abbrev pub see : List Note → NamedState → NamedState
   see notes m = line_fold (crosses notes) notes m
 
+  -- of a call and of any other line
+  abbrev pub whole : Sees NamedState
+  whole call notes m = see notes m
+
   abbrev pub Bad : NamedState → Type 0
   Bad m = m.is_bad ≡ true
 
@@ -96,6 +104,7 @@ module _ (body : Body) (local : ℕ) where
   used_stays s c Kept true e = refl
   used_stays s c Kept false e = absurd (false≢true e)
   used_stays s c Taken bad e = refl
+  used_stays s c Lost bad e = e
 
   pub step_stays : (made used spared crossed : Bool) (x : Note) (m : NamedState) → Bad m →
       Bad (step_by made used spared crossed x m)
@@ -167,7 +176,7 @@ module _ (body : Body) (local : ℕ) where
   -- statements from a line on
   run_stmts : (n line : ℕ) (stmts : List Stmt) (term : Term) →
       ((i k : ℕ) → k ≡ line + i → line_notes n k ≡ notes_at stmts term i) → (m : NamedState) →
-      acts_run (stmt_actions n line stmts) m ≡ lines_seen see stmts m
+      acts_run (stmt_actions n line stmts) m ≡ lines_seen whole stmts m
   run_stmts n line [] term h m = refl
   run_stmts n line (stmt ∷ stmts) term h m =
       run_both (at_line n line (stmt_uses stmt)) (stmt_actions n (suc line) stmts) m
@@ -201,14 +210,14 @@ module _ (body : Body) (local : ℕ) where
 
   -- a block
   run_block : (n : ℕ) (block : Block) → slice_get body.blocks n ≡ Some block → (m : NamedState) →
-      acts_run (block_actions n block) m ≡ see (as_notes (term_uses block.term)) (lines_seen see block.stmts m)
+      acts_run (block_actions n block) m ≡ see (as_notes (term_uses block.term)) (lines_seen whole block.stmts m)
   run_block n block there m =
       run_both (stmt_actions n 0 block.stmts) (at_line n (length block.stmts) (term_uses block.term)) m
       ∙ ap (acts_run (at_line n (length block.stmts) (term_uses block.term)))
       (run_stmts n 0 block.stmts block.term (lines_of n block there) m)
-      ∙ run_line n (length block.stmts) (term_uses block.term) (lines_seen see block.stmts m)
+      ∙ run_line n (length block.stmts) (term_uses block.term) (lines_seen whole block.stmts m)
       ∙ ap (λ (notes : List Note). line_fold (crosses notes) (as_notes (term_uses block.term))
-      (lines_seen see block.stmts m))
+      (lines_seen whole block.stmts m))
       (end_of n block there)
 
   from_block : (n : ℕ) (block : Block) → slice_get body.blocks n ≡ Some block → AllFrom (block_actions n block)
@@ -231,6 +240,7 @@ module _ (body : Body) (local : ℕ) where
       used_same Unmade bad = refl
       used_same Kept bad = refl
       used_same Taken bad = refl
+      used_same Lost bad = refl
 
       same : (made used spared : Bool) (m : NamedState) →
           step_by made used spared c (Stores, named place) m ≡ step_by made used spared d (Stores, named place) m
@@ -241,7 +251,7 @@ module _ (body : Body) (local : ℕ) where
       same false false false m = refl
 
   run_result : (n next : ℕ) (block : Block) (m : NamedState) →
-      acts_run (result_actions n next block) m ≡ between see block.term next m
+      acts_run (result_actions n next block) m ≡ between whole block.term next m
   run_result n next block m = by (list_any (nat_eq next) (onward block.term))
     where
       results : List (PlaceUse × graph_place.Place)
@@ -269,19 +279,19 @@ module _ (body : Body) (local : ℕ) where
       by false = tt
 
   -- by number
-  run_in : (n : ℕ) (m : NamedState) → acts_run (actions_in body n) m ≡ block_seen see (slice_get body.blocks n) m
+  run_in : (n : ℕ) (m : NamedState) → acts_run (actions_in body n) m ≡ block_seen whole (slice_get body.blocks n) m
   run_in n m = by (slice_get body.blocks n) refl
     where
       by : (o : Option Block) → slice_get body.blocks n ≡ o → acts_run (option_map_or (block_actions n) o []) m ≡
-          block_seen see o m
+          block_seen whole o m
       by None missing = refl
       by (Some block) there = run_block n block there m
 
   run_between : (n next : ℕ) (m : NamedState) →
-      acts_run (actions_between body n next) m ≡ way_seen see (slice_get body.blocks n) next m
+      acts_run (actions_between body n next) m ≡ way_seen whole (slice_get body.blocks n) next m
   run_between n next m = by (slice_get body.blocks n)
     where
-      by : (o : Option Block) → acts_run (option_map_or (result_actions n next) o []) m ≡ way_seen see o next m
+      by : (o : Option Block) → acts_run (option_map_or (result_actions n next) o []) m ≡ way_seen whole o next m
       by None = refl
       by (Some block) = run_result n next block m
 
@@ -300,15 +310,15 @@ module _ (body : Body) (local : ℕ) where
       by (Some block) = from_result n next block
 
   pub run_path : (path : List ℕ) (n : ℕ) (m : NamedState) →
-      acts_run (actions_on body (n ∷ path)) m ≡ path_seen see body n path m
+      acts_run (actions_on body (n ∷ path)) m ≡ path_seen whole body n path m
   run_path [] n m = run_in n m
   run_path (k ∷ path) n m =
       run_both (actions_in body n ++ actions_between body n k) (actions_on body (k ∷ path)) m
       ∙ ap (acts_run (actions_on body (k ∷ path)))
       (run_both (actions_in body n) (actions_between body n k) m
       ∙ ap (acts_run (actions_between body n k)) (run_in n m)
-      ∙ run_between n k (block_seen see (slice_get body.blocks n) m))
-      ∙ run_path path k (way_seen see (slice_get body.blocks n) k (block_seen see (slice_get body.blocks n) m))
+      ∙ run_between n k (block_seen whole (slice_get body.blocks n) m))
+      ∙ run_path path k (way_seen whole (slice_get body.blocks n) k (block_seen whole (slice_get body.blocks n) m))
 
   pub from_path : (path : List ℕ) (n : ℕ) → AllFrom (actions_on body (n ∷ path))
   from_path [] n = from_in n

@@ -1,6 +1,5 @@
--- Effects that only look: each line that uses places is shown to a watch, whatever is present or gone. A condition
--- may go
--- either way, and what can panic may panic, as the choices say.
+-- Effects that only look: each line that uses places is shown to a watch, with whether it is a call, whatever is
+-- present or gone. A condition may go either way, and what can panic may panic, as the choices say.
 use Rattle.std.proofs.Common.{ℕ, ◌≤◌, Bool, true, false, List, [], ◌∷◌, ◌++◌, length, flat_map, Option, arith}
 use Rattle.std.specs.Option.{option_map_or}
 use Rattle.mir_ty.specs.declared.ty.TyId.{TyId}
@@ -75,6 +74,16 @@ may_panic (effects.CallVirtual to trait_no method args) = true
 may_panic (effects.Ask to) = true
 may_panic _ = false
 
+-- a call
+abbrev pub is_call : Action → Bool
+is_call (effects.Call to body args) = true
+is_call (effects.CallVirtual to trait_no method args) = true
+is_call _ = false
+
+-- what a watch makes of a line
+abbrev pub Sees : Type 0 → Type 0
+Sees M = (call : Bool) → List Note → M → M
+
 -- ---- the effects
 
 -- what a watch has seen, and the choices that are left
@@ -100,13 +109,14 @@ module _ {M : Type 0} where
   unwound Normal w = Unwind w
   unwound Unwinding w = Halts Aborted w
 
-module _ {M : Type 0} (items : ItemTable) (ty : ℕ → Option TyId) (see : List Note → M → M) where
+module _ {M : Type 0} (items : ItemTable) (ty : ℕ → Option TyId) (see : Sees M) where
   abbrev pub looked : List Note → Watched M → Watched M
-  looked notes w = record w { seen = see notes w.seen }
+  looked notes w = record w { seen = see false notes w.seen }
 
   abbrev pub acts_by : Bool → Action → Watched M → Out (Watched M)
   acts_by false action w = Go (looked (before action ++ stored action) w)
-  acts_by true action w = choice w.choices (see (before action) w.seen) (λ v. Go (looked (stored action) v)) Unwind
+  acts_by true action w = choice w.choices (see (is_call action) (before action) w.seen) (λ v. Go (looked
+      (stored action) v)) Unwind
 
   abbrev pub drops_by : Bool → Mode → Watched M → Out (Watched M)
   drops_by true mode w = choice w.choices w.seen Go (unwound mode)
@@ -119,7 +129,7 @@ module _ {M : Type 0} (items : ItemTable) (ty : ℕ → Option TyId) (see : List
   watching = record {
     act = λ action w. halting_if (stores_where (never_at items ty) action) Unreachable
         (acts_by (may_panic action) action w);
-    choose = λ test w. chosen w.choices (see (tested test) w.seen);
+    choose = λ test w. chosen w.choices (see false (tested test) w.seen);
     drop = λ mode site w. drops_by (needs_at site) mode (looked ((Drops, site.place) ∷ []) w);
     panic = λ why w. w;
     tick = λ w. choice w.choices w.seen Go (Halts Infeasible);
@@ -154,7 +164,8 @@ module _ {M : Type 0} (items : ItemTable) (ty : ℕ → Option TyId) (see : List
   acts_less : (b : Bool) (action : Action) (w : Watched M) → Less (left_of w) (acts_by b action w)
   acts_less false action w = omega arith
   acts_less true action w =
-      choice_less (left_of w) w.choices (see (before action) w.seen) (λ v. Go (looked (stored action) v)) Unwind
+      choice_less (left_of w) w.choices (see (is_call action) (before action) w.seen) (λ v. Go (looked
+      (stored action) v)) Unwind
       (omega arith) (λ v l. l) (λ v l. l)
 
   unwound_less : (m : ℕ) (mode : Mode) (v : Watched M) → left_of v ≤ m → Less m (unwound mode v)
@@ -177,7 +188,7 @@ module _ {M : Type 0} (items : ItemTable) (ty : ℕ → Option TyId) (see : List
   watching_laws = record {
     acting = λ action w. halting_less (left_of w) (stores_where (never_at items ty) action)
         (acts_by (may_panic action) action w) (acts_less (may_panic action) action w);
-    choosing = λ test w. chosen_less w.choices (see (tested test) w.seen);
+    choosing = λ test w. chosen_less w.choices (see false (tested test) w.seen);
     dropping = λ mode site w. drops_less (needs_at site) mode (looked ((Drops, site.place) ∷ []) w);
     panicking = λ why w. omega arith;
     ticking = λ w. ticks_less w w.choices;

@@ -1,6 +1,6 @@
 -- What is built of code, beside one local of a reference type: how many borrows into it, and that no other line stores
--- there; that no line names it, where nothing is borrowed into it; and that no jump leaves a loop of a reference type.
--- One lemma a rule of `Build`.
+-- there; that no line names it but that borrow and calls that take it whole; that none does where nothing is borrowed
+-- into it; and that no jump leaves a loop of a reference type. One lemma a rule of `Build`.
 use Rattle.std.proofs.Common.{◌≡◌, ◌⊎◌, inl, inr, ℕ, ◌+◌, ◌≤◌, ◌==◌, ◌&&◌, ◌||◌, not, Bool, true, false, List, [], ◌∷◌, ◌++◌, Some, slice_get, cond, if◌then◌else◌, refl, sym, ap, subst, ◌∙◌, arith}
 use Rattle.std.proofs.lemmas.Bool.{eqb-true}
 use Rattle.std.specs.List.{list_any, list_all}
@@ -30,6 +30,7 @@ use Rattle.lower_rules.proofs.Lines as lines
 use Rattle.lower_laws.proofs.Base as base
 use Rattle.lower_laws.proofs.Base.{Ground, untrue, and_first, and_second, and_false, both_false}
 use Rattle.lower_ready.proofs.Counted as counted
+use Rattle.lower_ready.proofs.OnceUses.{UsedWell, PassedWell}
 
 -- the local, the key under which its values are made, and that reference types stand alone
 pub record About (g : Ground) (L K : ℕ) : Type 0 where
@@ -70,11 +71,11 @@ module _ (g : Ground) (L K : ℕ) (about : About g L K) (Q : Type 0) where
   stores stmt = list_any whole (stored_by_stmt stmt)
 
   abbrev pub StmtIs : Bool → Stmt → Type 0
-  StmtIs false stmt = stores stmt ≡ false
+  StmtIs false stmt = (stores stmt ≡ false) × (Q → UsedWell L stmt)
   StmtIs true stmt = list_all elsewhere (places_of_stmt stmt) ≡ true
 
   abbrev pub TermIs : Bool → Term → Type 0
-  TermIs false term = list_any whole (stored_by_term term) ≡ false
+  TermIs false term = (list_any whole (stored_by_term term) ≡ false) × (Q → PassedWell L term)
   TermIs true term = list_all elsewhere (places_of_term term) ≡ true
 
   -- an entry that is dropped is another one
@@ -97,23 +98,23 @@ module _ (g : Ground) (L K : ℕ) (about : About g L K) (Q : Type 0) where
 
   pub goto_is : (b : Bool) (n : ℕ) → TermIs b (Term.Goto n)
   goto_is true n = refl
-  goto_is false n = refl
+  goto_is false n = (refl, λ q. refl)
 
   pub resume_is : (b : Bool) → TermIs b Term.Resume
   resume_is true = refl
-  resume_is false = refl
+  resume_is false = (refl, λ q. refl)
 
   pub return_is : (b : Bool) → TermIs b Term.Return
   return_is true = refl
-  return_is false = refl
+  return_is false = (refl, λ q. refl)
 
   pub panic_is : (b : Bool) (why : Why) (u : Unwind) → TermIs b (Term.Panic why u)
   panic_is true why u = refl
-  panic_is false why u = refl
+  panic_is false why u = (refl, λ q. refl)
 
   pub dropped_is : (b : Bool) (k : ℕ) → (k ≡ K → ⊥) → (n : ℕ) (u : Unwind) → TermIs b (Term.DropAt (build.place_of F (site_in k k)) n u)
   dropped_is true k h n u = both_so _ _ (is_away k h) refl
-  dropped_is false k h n u = refl
+  dropped_is false k h n u = (refl, λ q. both_so _ _ (is_away k h) refl)
 
   abbrev pub W : Bool → lines.Wanted F
   W b = record {
@@ -242,9 +243,9 @@ module _ (g : Ground) (L K : ℕ) (about : About g L K) (Q : Type 0) where
   one_under m o r a = let x : m ≤ o + r = omega (a, arith) in x
 
   -- one before the other, which may name the local where the first borrows into it
-  pub then_kept : (H M1 M2 M : Type 0) → (M → M1 ⊎ M2) → (loops : List LoopAround) (P Q' : Lowers) (o r : ℕ) (p : Once H loops P o) → Keeps P M1 p.count →
-      (P.has_end ≡ true → (q : Once (H × (p.count ≡ 0)) loops Q' r) × Keeps Q' M2 q.count) → (t : Once H loops (then_lower P Q') (o + r)) × Keeps (then_lower P Q') M t.count
-  then_kept H M1 M2 M split loops P Q' o r p kp next = by P.has_end refl
+  pub then_kept : (H First Second M : Type 0) → (M → First ⊎ Second) → (loops : List LoopAround) (P Q' : Lowers) (o r : ℕ) (p : Once H loops P o) → Keeps P First p.count →
+      (P.has_end ≡ true → (q : Once (H × (p.count ≡ 0)) loops Q' r) × Keeps Q' Second q.count) → (t : Once H loops (then_lower P Q') (o + r)) × Keeps (then_lower P Q') M t.count
+  then_kept H First Second M split loops P Q' o r p kp next = by P.has_end refl
     where
       by : (z : Bool) → P.has_end ≡ z → (t : Once H loops (then_lower P Q') (o + r)) × Keeps (then_lower P Q') M t.count
       by true e =

@@ -1,5 +1,5 @@
 -- Effects, tests, assignments and arms beside a local of a reference type: what they store into and name.
-use Rattle.std.proofs.Common.{◌≡◌, ℕ, ◌+◌, ◌≤◌, ◌==◌, ◌&&◌, ◌||◌, not, Bool, true, false, List, [], ◌∷◌, ◌++◌, length, map, flat_map, refl, sym, ap, subst, ◌∙◌, arith}
+use Rattle.std.proofs.Common.{◌≡◌, ◌⊎◌, inl, inr, ℕ, ◌+◌, ◌≤◌, ◌==◌, ◌&&◌, ◌||◌, not, Bool, true, false, List, [], ◌∷◌, ◌++◌, length, map, flat_map, refl, sym, ap, subst, ◌∙◌, arith}
 use Rattle.std.specs.List.{list_all}
 use Rattle.cfg_graph.specs.declared.graph.Kind.{Kind}
 use Rattle.cfg_graph.specs.declared.place.Place as graph_place
@@ -26,6 +26,7 @@ use Rattle.lower_laws.proofs.Base.{Ground, untrue, and_first, and_second, and_fa
 use Rattle.lower_ready.proofs.Counted as counted
 use Rattle.lower_ready.proofs.Once as once
 use Rattle.lower_ready.proofs.Once.{About}
+use Rattle.lower_ready.proofs.OnceUses.{AllWhole}
 
 module _ (g : Ground) (L K : ℕ) (about : About g L K) (Q : Type 0) where
   abbrev F : LoweringFrame
@@ -90,6 +91,13 @@ module _ (g : Ground) (L K : ℕ) (about : About g L K) (Q : Type 0) where
   NamesNone (effects.CallVirtual to trait_no method args) = Away to.place × AllAway args
   NamesNone (effects.Ask to) = Away to.place
 
+  -- a borrow may go there, and a call may take what is there
+  abbrev pub UsesWell : Action → Type 0
+  UsesWell (effects.Borrow to unique base) = Away base.place × (Away to.place ⊎ (once.whole g L K about Q (build.place_of F to) ≡ true))
+  UsesWell (effects.Call to body args) = Away to.place × AllWhole (map (build.operand_of F) args)
+  UsesWell (effects.CallVirtual to trait_no method args) = Away to.place × AllWhole (map (build.operand_of F) args)
+  UsesWell action = NamesNone action
+
   both_so : (a b : Bool) → a ≡ true → b ≡ true → a && b ≡ true
   both_so true b e d = d
   both_so false b e d = e
@@ -150,28 +158,6 @@ module _ (g : Ground) (L K : ℕ) (about : About g L K) (Q : Type 0) where
   one_away : (to : EffectSite) → Away to.place → list_all (once.elsewhere g L K about Q) (build.place_of F to ∷ []) ≡ true
   one_away to h = both_so _ _ (is_away to.place h) refl
 
-  plain_act : (node : ℕ) (action : Action) → StoresWell action → lines.ActOk F (W false) node action
-  plain_act node (effects.Put to from) h = not_whole to h
-  plain_act node (effects.Compare to operator left right) h = not_whole to h
-  plain_act node (effects.Not to operand) h = not_whole to h
-  plain_act node (effects.Build to OfTuple parts) h = not_whole to h
-  plain_act node (effects.Build to OfArray parts) h = not_whole to h
-  plain_act node (effects.Build to (OfVariant adt variant) parts) h = not_whole to h
-  plain_act node (effects.Build to (OfClosure closure) parts) h = not_whole to h
-  plain_act node (effects.NewBox to content) h = not_whole to h
-  plain_act node (effects.Unsize to trait_no operand) h = not_whole to h
-  plain_act node (effects.Borrow to unique base) h = refl
-  plain_act node (effects.Touch base) h = refl
-  plain_act node (effects.Print operand) h = refl
-  plain_act node (effects.Forget operand) h = refl
-  plain_act node (effects.Free box) h = refl
-  plain_act node (effects.Compute to operator left right) h = λ n u. not_whole to h
-  plain_act node (effects.Negate to operand) h = λ n u. not_whole to h
-  plain_act node (effects.Bounds index count) h = λ n u. refl
-  plain_act node (effects.Call to body args) h = λ n u. not_whole to h
-  plain_act node (effects.CallVirtual to trait_no method args) h = λ n u. not_whole to h
-  plain_act node (effects.Ask to) h = λ n u. not_whole to h
-
   quiet_act : (node : ℕ) (action : Action) → NamesNone action → lines.ActOk F (W true) node action
   quiet_act node (effects.Put to from) h = stmt_away (from ∷ []) to h.1 h.0
   quiet_act node (effects.Compare to operator left right) h = stmt_away (left ∷ right ∷ []) to h.1 h.0
@@ -193,6 +179,32 @@ module _ (g : Ground) (L K : ℕ) (about : About g L K) (Q : Type 0) where
   quiet_act node (effects.Call to body args) h = λ n u. term_away args (build.place_of F to ∷ []) h.1 (one_away to h.0)
   quiet_act node (effects.CallVirtual to trait_no method args) h = λ n u. term_away args (build.place_of F to ∷ []) h.1 (one_away to h.0)
   quiet_act node (effects.Ask to) h = λ n u. one_away to h
+
+  borrowed : (to : EffectSite) → Away to.place ⊎ (once.whole g L K about Q (build.place_of F to) ≡ true) → (once.elsewhere g L K about Q (build.place_of F to) ≡ true) ⊎ (once.whole g L K about Q (build.place_of F to) ≡ true)
+  borrowed to (inl away) = inl (is_away to.place away)
+  borrowed to (inr here) = inr here
+
+  plain_act : (node : ℕ) (action : Action) → StoresWell action → (Q → UsesWell action) → lines.ActOk F (W false) node action
+  plain_act node (effects.Put to from) h u = (not_whole to h, λ q. quiet_act node (effects.Put to from) (u q))
+  plain_act node (effects.Compare to operator left right) h u = (not_whole to h, λ q. quiet_act node (effects.Compare to operator left right) (u q))
+  plain_act node (effects.Not to operand) h u = (not_whole to h, λ q. quiet_act node (effects.Not to operand) (u q))
+  plain_act node (effects.Build to OfTuple parts) h u = (not_whole to h, λ q. quiet_act node (effects.Build to OfTuple parts) (u q))
+  plain_act node (effects.Build to OfArray parts) h u = (not_whole to h, λ q. quiet_act node (effects.Build to OfArray parts) (u q))
+  plain_act node (effects.Build to (OfVariant adt variant) parts) h u = (not_whole to h, λ q. quiet_act node (effects.Build to (OfVariant adt variant) parts) (u q))
+  plain_act node (effects.Build to (OfClosure closure) parts) h u = (not_whole to h, λ q. quiet_act node (effects.Build to (OfClosure closure) parts) (u q))
+  plain_act node (effects.NewBox to content) h u = (not_whole to h, λ q. quiet_act node (effects.NewBox to content) (u q))
+  plain_act node (effects.Unsize to trait_no operand) h u = (not_whole to h, λ q. quiet_act node (effects.Unsize to trait_no operand) (u q))
+  plain_act node (effects.Borrow to unique base) h u = (refl, λ q. (is_away base.place (u q).0, borrowed to (u q).1))
+  plain_act node (effects.Touch base) h u = (refl, λ q. quiet_act node (effects.Touch base) (u q))
+  plain_act node (effects.Print operand) h u = (refl, λ q. quiet_act node (effects.Print operand) (u q))
+  plain_act node (effects.Forget operand) h u = (refl, λ q. quiet_act node (effects.Forget operand) (u q))
+  plain_act node (effects.Free box) h u = (refl, λ q. quiet_act node (effects.Free box) (u q))
+  plain_act node (effects.Compute to operator left right) h u = λ n v. (not_whole to h, λ q. quiet_act node (effects.Compute to operator left right) (u q) n v)
+  plain_act node (effects.Negate to operand) h u = λ n v. (not_whole to h, λ q. quiet_act node (effects.Negate to operand) (u q) n v)
+  plain_act node (effects.Ask to) h u = λ n v. (not_whole to h, λ q. quiet_act node (effects.Ask to) (u q) n v)
+  plain_act node (effects.Bounds index count) h u = λ n v. (refl, λ q. quiet_act node (effects.Bounds index count) (u q) n v)
+  plain_act node (effects.Call to body args) h u = λ n v. (not_whole to h, λ q. (is_away to.place (u q).0, (u q).1))
+  plain_act node (effects.CallVirtual to trait_no method args) h u = λ n v. (not_whole to h, λ q. (is_away to.place (u q).0, (u q).1))
 
   uncounted : (action : Action) → StoresWell action → counted.in_done F borrows (λ site value. refl) (done_by F action) ≡ 0
   uncounted (effects.Put to from) h = refl
@@ -227,22 +239,22 @@ module _ (g : Ground) (L K : ℕ) (about : About g L K) (Q : Type 0) where
       by true = refl
       by false = refl
 
-  pub acts : (H : Type 0) (loops : List LoopAround) (node : ℕ) (action : Action) → StoresWell action → (H → Q → NamesNone action) → Once H loops (act F node action) 0
-  acts H loops node action s n =
+  pub acts : (H : Type 0) (loops : List LoopAround) (node : ℕ) (action : Action) → StoresWell action → (Q → UsesWell action) → (H → Q → NamesNone action) → Once H loops (act F node action) 0
+  acts H loops node action s u n =
       once.simply g L K about Q H loops (act F node action) (subst (once.Adds g L K about Q (act F node action)) (uncounted action s) (counted.act_adds F borrows (λ site value. refl) node action))
-      (lines.act_sound F (W false) node action (plain_act node action s)) (λ h q. lines.act_sound F (W true) node action (quiet_act node action (n h q))) (no_jumps node action)
+      (lines.act_sound F (W false) node action (plain_act node action s u)) (λ h q. lines.act_sound F (W true) node action (quiet_act node action (n h q))) (no_jumps node action)
 
   -- the borrow into the local
-  pub borrows_here : (H M : Type 0) (loops : List LoopAround) (node id key : ℕ) → key ≡ K → (unique : Bool) (base : EffectSite) →
+  pub borrows_here : (H M : Type 0) (loops : List LoopAround) (node id key : ℕ) → key ≡ K → (unique : Bool) (base : EffectSite) → (Q → Away base.place) →
       (p : Once H loops (act F node (effects.Borrow (record (site_in id key) { node = node }) unique base)) 1) × once.Keeps g L K about Q (act F node (effects.Borrow (record (site_in id key) { node = node }) unique base)) M p.count
-  borrows_here H M loops node id key same unique base =
+  borrows_here H M loops node id key same unique base out =
       let action = effects.Borrow (record (site_in id key) { node = node }) unique base in
       let here : (g.local_of key == L) ≡ true = subst (λ (z : ℕ). (g.local_of z == L) ≡ true) (sym same) about.here in (
         record {
           count = 1;
           adds = subst (once.Adds g L K about Q (act F node action)) (ap (λ (b : Bool). counted.one_if F borrows (λ site value. refl) ((b && true) && true)) here) (counted.act_adds F borrows (λ site value. refl) node action);
           bound = let r : 1 ≤ 1 = omega arith in r;
-          plain = lines.act_sound F (W false) node action refl;
+          plain = lines.act_sound F (W false) node action (refl, λ q. (is_away base.place (out q), inr (ap (λ (b : Bool). (b && true) && true) here)));
           quiet = λ h q z. absurd (let never : ⊥ = omega (z, arith) in never);
           stays = λ loop l is r. ap (build.is_left_by loop) (no_jumps node action);
         },
@@ -253,15 +265,15 @@ module _ (g : Ground) (L K : ℕ) (about : About g L K) (Q : Type 0) where
   pub replaced : (loops : List LoopAround) (x : Bool) (site : EffectSite) (key : ℕ) → NotWhole site.place → (Q → Away site.place × (key ≡ K → ⊥)) → Once (Unit {0}) loops (replaces F x site key) 0
   replaced loops true site key s n =
       once.simply g L K about Q (Unit {0}) loops (replaces F true site key) (counted.replaces_adds F borrows (λ site value. refl) (λ site key. refl) site key)
-      (lines.replaces_sound F (W false) true site key (not_whole site s) (λ stmts term. tt) (λ n u. refl))
+      (lines.replaces_sound F (W false) true site key (not_whole site s, λ q. stmt_away (moved site.node key ∷ []) site ((n q).1, tt) (n q).0) (λ stmts term. tt) (λ m u. (refl, λ q. both_so _ _ (is_away site.place (n q).0) refl)))
       (λ h q. lines.replaces_sound F (W true) true site key (stmt_away (moved site.node key ∷ []) site ((n q).1, tt) (n q).0) (λ stmts term. tt) (λ m u. both_so _ _ (is_away site.place (n q).0) refl)) refl
   replaced loops false site key s n =
       once.changed g L K about Q (Unit {0}) loops (taken F (key ∷ [])) (act F site.node (effects.Put site (moved site.node key))) 0 (λ b S o. lines.taken_ok F (W b) (key ∷ []) S o)
-      (acts (Unit {0}) loops site.node (effects.Put site (moved site.node key)) s (λ h q. ((n q).0, ((n q).1, tt))))
+      (acts (Unit {0}) loops site.node (effects.Put site (moved site.node key)) s (λ q. ((n q).0, ((n q).1, tt))) (λ h q. ((n q).0, ((n q).1, tt))))
 
   pub emptied : (loops : List LoopAround) (key : ℕ) → (Q → key ≡ K → ⊥) → Once (Unit {0}) loops (record nothing { build = λ c S. drop_one F (site_of_key key) (panic_drops F S) }) 0
   emptied loops key n =
-      once.simply g L K about Q (Unit {0}) loops _ (counted.drop_adds F borrows (λ site value. refl) (site_of_key key)) (lines.drop_sound F (W false) (site_of_key key) (λ n u. refl))
+      once.simply g L K about Q (Unit {0}) loops _ (counted.drop_adds F borrows (λ site value. refl) (site_of_key key)) (lines.drop_sound F (W false) (site_of_key key) (λ m u. (refl, λ q. both_so _ _ (is_away (whole_local key) (n q)) refl)))
       (λ h q. lines.drop_sound F (W true) (site_of_key key) (λ m u. both_so _ _ (is_away (whole_local key) (n q)) refl)) refl
 
   -- ---- tests
@@ -284,21 +296,6 @@ module _ (g : Ground) (L K : ℕ) (about : About g L K) (Q : Type 0) where
     AnyWell (an_alternative one rest) = TestsWell one × AnyWell rest
 
   mutual
-    plain_test : (t : PatternTest) → TestWell t → lines.OneTestOk F (W false) t
-    plain_test (IsVariant site variant) h = λ y n. refl
-    plain_test (IsNumber site value kind) h = (not_whole (site_of_key site.node) (λ k e. h.0 k), λ y n. refl)
-    plain_test (IsTruth site value) h = (not_whole (site_of_key site.node) (λ k e. h.0 k), λ y n. refl)
-    plain_test (AnyOf alternatives) h = plain_any alternatives h
-
-    plain_tests : (ts : PatternTests) → TestsWell ts → lines.TestsOk F (W false) ts
-    plain_tests no_test h = tt
-    plain_tests (a_test first rest) h = (plain_test first h.0, plain_tests rest h.1)
-
-    plain_any : (ts : Alternatives) → AnyWell ts → lines.AnyTestsOk F (W false) ts
-    plain_any no_alternative h = tt
-    plain_any (an_alternative one rest) h = (plain_tests one h.0, plain_any rest h.1)
-
-  mutual
     quiet_test : (t : PatternTest) → TestWell t → Q → lines.OneTestOk F (W true) t
     quiet_test (IsVariant site variant) h q = λ y n. both_so _ _ (is_away site.place (h q)) refl
     quiet_test (IsNumber site value kind) h q = (stmt_away (effects.Copied site ∷ effects.Number value kind ∷ []) (site_of_key site.node) (h.1 q, (tt, tt)) h.0, λ y n. both_so _ _ (is_away (whole_local site.node) h.0) refl)
@@ -313,6 +310,21 @@ module _ (g : Ground) (L K : ℕ) (about : About g L K) (Q : Type 0) where
     quiet_any no_alternative h q = tt
     quiet_any (an_alternative one rest) h q = (quiet_tests one h.0 q, quiet_any rest h.1 q)
 
+  mutual
+    plain_test : (t : PatternTest) → TestWell t → lines.OneTestOk F (W false) t
+    plain_test (IsVariant site variant) h = λ y n. (refl, λ q. quiet_test (IsVariant site variant) h q y n)
+    plain_test (IsNumber site value kind) h = ((not_whole (site_of_key site.node) (λ k e. h.0 k), λ q. (quiet_test (IsNumber site value kind) h q).0), λ y n. (refl, λ q. (quiet_test (IsNumber site value kind) h q).1 y n))
+    plain_test (IsTruth site value) h = ((not_whole (site_of_key site.node) (λ k e. h.0 k), λ q. (quiet_test (IsTruth site value) h q).0), λ y n. (refl, λ q. (quiet_test (IsTruth site value) h q).1 y n))
+    plain_test (AnyOf alternatives) h = plain_any alternatives h
+
+    plain_tests : (ts : PatternTests) → TestsWell ts → lines.TestsOk F (W false) ts
+    plain_tests no_test h = tt
+    plain_tests (a_test first rest) h = (plain_test first h.0, plain_tests rest h.1)
+
+    plain_any : (ts : Alternatives) → AnyWell ts → lines.AnyTestsOk F (W false) ts
+    plain_any no_alternative h = tt
+    plain_any (an_alternative one rest) h = (plain_tests one h.0, plain_any rest h.1)
+
   pub tested : (loops : List LoopAround) (node : ℕ) (ts : PatternTests) (P Q' : Lowers) (o r : ℕ) → TestsWell ts → Once (Unit {0}) loops P o → Once (Unit {0}) loops Q' r → Once (Unit {0}) loops (branches node (tests F ts) P Q') (o + r)
   tested loops node ts P Q' o r h p q =
       once.branched g L K about Q loops node (tests F ts) P Q' o r (λ y n s. counted.tests_both F borrows (λ site value. refl) ts y n s) (λ y n s. counted.tests_grow F borrows (λ site value. refl) ts y n s)
@@ -324,7 +336,7 @@ module _ (g : Ground) (L K : ℕ) (about : About g L K) (Q : Type 0) where
   pub asked : (loops : List LoopAround) (node key : ℕ) (P Q' : Lowers) (o r : ℕ) → (Q → key ≡ K → ⊥) → Once (Unit {0}) loops P o → Once (Unit {0}) loops Q' r → Once (Unit {0}) loops (branches node (if_true F (moved key key) key) P Q') (o + r)
   asked loops node key P Q' o r h p q =
       once.branched g L K about Q loops node (if_true F (moved key key) key) P Q' o r (λ y n s. if_both y n s) (λ y n s. grows_not s)
-      (lines.if_ok F (W false) (moved key key) key (λ y n. refl)) (λ k. lines.if_ok F (W true) (moved key key) key (λ y n. both_so _ _ (is_away (whole_local key) (h k)) refl)) p q
+      (lines.if_ok F (W false) (moved key key) key (λ y n. (refl, λ k. both_so _ _ (is_away (whole_local key) (h k)) refl))) (λ k. lines.if_ok F (W true) (moved key key) key (λ y n. both_so _ _ (is_away (whole_local key) (h k)) refl)) p q
     where
       if_both : (y n : ℕ) (s : Building) → counted.both F borrows (λ site value. refl) (if_true F (moved key key) key y n s) ≡ counted.total F borrows (λ site value. refl) s
       if_both y n s = let r : 0 + counted.total F borrows (λ site value. refl) s ≡ counted.total F borrows (λ site value. refl) s = omega arith in r
@@ -379,7 +391,7 @@ module _ (g : Ground) (L K : ℕ) (about : About g L K) (Q : Type 0) where
         count = a.count + counted.if_end z p.count;
         adds = subst (λ (x : Bool). counted.ArmAdds F borrows (λ site value. refl) (counted.with_guard F borrows (λ site value. refl) key guard P) (a.count + counted.if_end x p.count)) e (counted.guarded_adds F borrows (λ site value. refl) key guard P a.count p.count a.adds (λ e. p.adds));
         bound = under z;
-        plain = sound false a.plain p.plain (λ e y n. refl);
+        plain = sound false a.plain p.plain (λ e y n. (refl, λ q. quiet_if e q y n));
         quiet = λ q none. sound_if q z e none;
         stays = jumping (jumps_if guard.has_end P.jumps) (once.stays_if g L K about Q loops guard.has_end P.jumps (λ e. p.stays));
       }

@@ -1,7 +1,8 @@
 -- What the blocks of a body store into a local, and the references that they make there, counted as `Counted` counts them;
 -- and that no line names the local, where none of those that are built does.
-use Rattle.std.proofs.Common.{◌≡◌, ℕ, suc, ◌+◌, ◌==◌, ◌&&◌, not, Bool, true, false, List, [], ◌∷◌, ◌++◌, map, Option, Some, None, slice_get, cond, if◌then◌else◌, refl, ap, ◌∙◌, arith}
+use Rattle.std.proofs.Common.{◌≡◌, ℕ, zero, suc, ◌+◌, ◌==◌, ◌&&◌, not, Bool, true, false, List, [], ◌∷◌, ◌++◌, map, Option, Some, None, slice_get, cond, if◌then◌else◌, refl, ap, subst, ◌∙◌, arith}
 use Rattle.std.proofs.lemmas.List.Sums.{sum_by-append}
+use Rattle.std.proofs.lemmas.Option.{none-some, same_Some}
 use Rattle.std.specs.Prelude.{unwrap_or, count_by}
 use Rattle.std.specs.List.{flat_map, list_all, list_any}
 use Rattle.cfg_graph.specs.declared.graph.Block.{Block}
@@ -23,6 +24,7 @@ use Rattle.lower_laws.proofs.Names as names
 use Rattle.lower_ready.proofs.Counted as counted
 use Rattle.lower_ready.proofs.Once as once
 use Rattle.lower_ready.proofs.Once.{About}
+use Rattle.lower_ready.proofs.OnceUses.{UsedWell, PassedWell}
 use Rattle.lower_ready.proofs.AloneParts.{both_so, first_no, second_no}
 
 module _ (g : Ground) (L K : ℕ) (about : About g L K) (Q : Type 0) where
@@ -54,7 +56,7 @@ module _ (g : Ground) (L K : ℕ) (about : About g L K) (Q : Type 0) where
   same_count true = refl
   same_count false = refl
 
-  pub stored_by_one : (stmt : Stmt) → once.StmtIs g L K about Q false stmt → count_by stored_here (stored_by_stmt stmt) ≡ one_if (once.borrows g L K about Q stmt)
+  pub stored_by_one : (stmt : Stmt) → once.stores g L K about Q stmt ≡ false → count_by stored_here (stored_by_stmt stmt) ≡ one_if (once.borrows g L K about Q stmt)
   stored_by_one (Stmt.Borrow to unique of) h = same_count (stored_here to)
   stored_by_one (Stmt.Put to from) h = none_counted (to ∷ []) h
   stored_by_one (Stmt.Compare to op left right) h = none_counted (to ∷ []) h
@@ -118,11 +120,11 @@ module _ (g : Ground) (L K : ℕ) (about : About g L K) (Q : Type 0) where
 
   pub lines_stored : (stmts : List Stmt) (term : Term) (nodes : List ℕ) → lines.BlockOk F (W false) stmts term nodes → count_by stored_here (flat_map stored_by_stmt stmts ++ stored_by_term term) ≡ in_stmts stmts
   lines_stored [] term [] h = absurd h
-  lines_stored [] term (n ∷ ns) h = none_counted (stored_by_term term) h
+  lines_stored [] term (n ∷ ns) h = none_counted (stored_by_term term) h.0
   lines_stored (stmt ∷ stmts) term [] h = absurd h
   lines_stored (stmt ∷ stmts) term (n ∷ ns) h =
       let a = append_assoc_places (stored_by_stmt stmt) (flat_map stored_by_stmt stmts) (stored_by_term term) in
-      let one = stored_by_one stmt h.0.0 in
+      let one = stored_by_one stmt h.0.0.0 in
       let ih = lines_stored stmts term ns h.1 in
       let r : count_by stored_here (flat_map stored_by_stmt (stmt ∷ stmts) ++ stored_by_term term) ≡ in_stmts (stmt ∷ stmts) = omega (a, one, ih, arith) in r
 
@@ -184,3 +186,23 @@ module _ (g : Ground) (L K : ℕ) (about : About g L K) (Q : Type 0) where
       of : (q : Option MadeBlock) → o ≡ q → (list_all (λ stmt. list_all elsewhere (places_of_stmt stmt)) (block_of q).stmts ≡ true) × (list_all elsewhere (places_of_term (block_of q).term) ≡ true)
       of None e = (refl, refl)
       of (Some m) e = stmts_unnamed m.block.stmts m.block.term m.nodes (all 0 m (ap (λ (z : Option MadeBlock). Some z) e))
+
+  -- ---- each line uses it well
+  stmts_used : (stmts : List Stmt) (term : Term) (nodes : List ℕ) → lines.BlockOk F (W false) stmts term nodes → Q → ((k : ℕ) (stmt : Stmt) → slice_get stmts k ≡ Some stmt → UsedWell L stmt) × PassedWell L term
+  stmts_used [] term [] h q = absurd h
+  stmts_used [] term (n ∷ ns) h q = (λ k stmt e. absurd (none-some stmt e), h.1 q)
+  stmts_used (first ∷ stmts) term [] h q = absurd h
+  stmts_used (first ∷ stmts) term (n ∷ ns) h q = let it = stmts_used stmts term ns h.1 q in (at_each it.0, it.1)
+    where
+      at_each : ((k : ℕ) (stmt : Stmt) → slice_get stmts k ≡ Some stmt → UsedWell L stmt) → (k : ℕ) (stmt : Stmt) → slice_get (first ∷ stmts) k ≡ Some stmt → UsedWell L stmt
+      at_each later zero stmt e = subst (UsedWell L) (same_Some first stmt e) (h.0.0.1 q)
+      at_each later (suc k) stmt e = later k stmt e
+
+  pub blocks_used : (bs : List (Option MadeBlock)) → AllMade false bs → Q → (n : ℕ) (block : Block) → slice_get (map block_of bs) n ≡ Some block → ((k : ℕ) (stmt : Stmt) → slice_get block.stmts k ≡ Some stmt → UsedWell L stmt) × PassedWell L block.term
+  blocks_used [] all q n block e = absurd (none-some block e)
+  blocks_used (o ∷ bs) all q (suc n) block e = blocks_used bs (λ k m e. all (suc k) m e) q n block e
+  blocks_used (o ∷ bs) all q zero block e = subst (λ (b : Block). ((k : ℕ) (stmt : Stmt) → slice_get b.stmts k ≡ Some stmt → UsedWell L stmt) × PassedWell L b.term) (same_Some (block_of o) block e) (of o refl)
+    where
+      of : (x : Option MadeBlock) → o ≡ x → ((k : ℕ) (stmt : Stmt) → slice_get (block_of x).stmts k ≡ Some stmt → UsedWell L stmt) × PassedWell L (block_of x).term
+      of None same = (λ k stmt d. absurd (none-some stmt d), refl)
+      of (Some m) same = stmts_used m.block.stmts m.block.term m.nodes (all 0 m (ap (λ (z : Option MadeBlock). Some z) same)) q

@@ -99,11 +99,11 @@ module _ (g : Ground) (L K : ℕ) (about : About g L K) (Q : Type 0) where
   abbrev occ : List Entry → ℕ
   occ es = by_rule.occ g L K about Q es
 
-  abbrev OperandIs : Context → NodeLower → ℕ → Type 0
-  OperandIs x m o = by_rule.OperandIs g L K about Q x m o
+  abbrev OperandIs : Type 0 → Context → NodeLower → ℕ → Type 0
+  OperandIs T x m o = by_rule.OperandIs g L K about Q T x m o
 
-  abbrev OperandsAre : Context → List NodeLower → ℕ → Type 0
-  OperandsAre x ms o = by_rule.OperandsAre g L K about Q x ms o
+  abbrev OperandsAre : Type 0 → Context → List NodeLower → ℕ → Type 0
+  OperandsAre T x ms o = by_rule.OperandsAre g L K about Q T x ms o
 
   abbrev more : (loops : List LoopAround) (P : Lowers) (m n : ℕ) → m ≤ n → Once Free loops P m → Once Free loops P n
   more loops P m n le p = once.more g L K about Q Free loops P m n le p
@@ -136,14 +136,14 @@ module _ (g : Ground) (L K : ℕ) (about : About g L K) (Q : Type 0) where
         Known x (tree.node id at ty by form) (lower.lower_form F form (head id ty by) (S_of form (head id ty by)))
     known (tree.Number number) x id at ty by p good h r =
         let t = standing.number_at g L K about Q ty number h in
-        nodes.leaf g L K about Q x id at ty by (tree.Number number) (S_of (tree.Number number) (head id ty by)) (λ site. effects.Put site (effects.Number number (kind_of g.items ty))) good (λ c. c) (λ a. refl) (standing.no_ref g L K about Q ty (Ty.Int t.0) t.1 refl) (nodes.made_of g L K about Q ty (Ty.Int t.0) t.1 refl) (by_rule.puts g L K about Q Free (effects.Number number (kind_of g.items ty)) (λ f q. tt))
+        nodes.leaf g L K about Q x id at ty by (tree.Number number) (S_of (tree.Number number) (head id ty by)) (λ site. effects.Put site (effects.Number number (kind_of g.items ty))) good (λ c. c) (λ a. refl) (standing.no_ref g L K about Q ty (Ty.Int t.0) t.1 refl) (nodes.made_of g L K about Q ty (Ty.Int t.0) t.1 refl) (by_rule.puts g L K about Q Free (effects.Number number (kind_of g.items ty)) (λ q. tt))
     known (tree.Truth truth) x id at ty by p good h r =
-        nodes.leaf g L K about Q x id at ty by (tree.Truth truth) (S_of (tree.Truth truth) (head id ty by)) (λ site. effects.Put site (effects.Truth truth)) good (λ c. c) (λ a. refl) (standing.bool_no g L K about Q ty h) (standing.bool_made g L K about Q ty h) (by_rule.puts g L K about Q Free (effects.Truth truth) (λ f q. tt))
+        nodes.leaf g L K about Q x id at ty by (tree.Truth truth) (S_of (tree.Truth truth) (head id ty by)) (λ site. effects.Put site (effects.Truth truth)) good (λ c. c) (λ a. refl) (standing.bool_no g L K about Q ty h) (standing.bool_made g L K about Q ty h) (by_rule.puts g L K about Q Free (effects.Truth truth) (λ q. tt))
     known tree.UnitValue x id at ty by p good h r =
-        nodes.leaf g L K about Q x id at ty by tree.UnitValue (S_of tree.UnitValue (head id ty by)) (λ site. effects.Put site effects.UnitValue) good (λ c. c) (λ a. refl) (standing.unit_no g L K about Q ty h) (standing.unit_made g L K about Q ty h) (by_rule.puts g L K about Q Free effects.UnitValue (λ f q. tt))
+        nodes.leaf g L K about Q x id at ty by tree.UnitValue (S_of tree.UnitValue (head id ty by)) (λ site. effects.Put site effects.UnitValue) good (λ c. c) (λ a. refl) (standing.unit_no g L K about Q ty h) (standing.unit_made g L K about Q ty h) (by_rule.puts g L K about Q Free effects.UnitValue (λ q. tt))
     known tree.Ask x id at ty by p good h r =
         let t = i32_known g.items ty h in
-        nodes.leaf g L K about Q x id at ty by tree.Ask (S_of tree.Ask (head id ty by)) effects.Ask good (λ c. c) (λ a. refl) (standing.no_ref g L K about Q ty (Ty.Int IntKind.I32) t refl) (nodes.made_of g L K about Q ty (Ty.Int IntKind.I32) t refl) (λ i k away. (λ e z. away e, λ f q. away))
+        nodes.leaf g L K about Q x id at ty by tree.Ask (S_of tree.Ask (head id ty by)) effects.Ask good (λ c. c) (λ a. refl) (standing.no_ref g L K about Q ty (Ty.Int IntKind.I32) t refl) (nodes.made_of g L K about Q ty (Ty.Int IntKind.I32) t refl) (λ i k away. (λ e z. away e, (λ q. away, λ f q. away)))
     known (tree.Variable key) x id at ty by p good h r =
         nodes.place_known g L K about Q x id at ty by (tree.Variable key) (S_of (tree.Variable key) (head id ty by)) (λ around. build.nothing) good (λ o c. (base.cells_second g _ (cells_in g.items (tree.Variable key)) c)) (λ o c v. (rw v at c).0) refl
         (λ c a ar. once.nothing_done g L K about Q Free x.loops)
@@ -173,37 +173,37 @@ module _ (g : Ground) (L K : ℕ) (about : About g L K) (Q : Type 0) where
         more x.loops _ (occ (reached_cells g.items inner) + (occ (cells g.items true index) + (0 + 0))) _ (standing.index_under g L K about Q (reached_cells g.items inner) (cells g.items true index))
         (and_then x.loops ((N inner).reaches a) _ (occ (reached_cells g.items inner)) (occ (cells g.items true index) + (0 + 0)) (b.known.reaches cb a ar)
         (λ e. and_then x.loops ((N index).evaluates a false (Into (N index).head.id)) _ (occ (cells g.items true index)) (0 + 0) (i.known.evaluates true ci v a ar false (Into (N index).head.id) (by_rule.dest_own g L K about Q x index (N index) i ci))
-        (λ d. and_then x.loops _ _ 0 0 (on.acts g L K about Q Free x.loops id (effects.Touch (site_at (head id ty by) (lower.array_around F ((S_of (tree.Index inner index count) (head id ty by)).place a.aliases)))) tt (λ z q. by_part.reached_away g L K about Q x inner b cb a ar e q))
-        (λ w. on.acts g L K about Q Free x.loops (N index).head.id (effects.Bounds (effects.Copied (site_of_key (N index).head.id)) count) tt (λ z q. (λ k. by_rule.out g L K about Q x index (N index) i ci v a ar false (Into (N index).head.id) d k, tt)))))))
+        (λ d. and_then x.loops _ _ 0 0 (on.acts g L K about Q Free x.loops id (effects.Touch (site_at (head id ty by) (lower.array_around F ((S_of (tree.Index inner index count) (head id ty by)).place a.aliases)))) tt (λ q. by_part.reached_away g L K about Q x inner b cb a ar e q) (λ z q. by_part.reached_away g L K about Q x inner b cb a ar e q))
+        (λ w. on.acts g L K about Q Free x.loops (N index).head.id (effects.Bounds (effects.Copied (site_of_key (N index).head.id)) count) tt (λ q. (λ k. by_rule.out g L K about Q x index (N index) i ci v a ar false (Into (N index).head.id) d k, tt)) (λ z q. (λ k. by_rule.out g L K about Q x index (N index) i ci v a ar false (Into (N index).head.id) d k, tt)))))))
         (λ c a ar e. by_part.further_ok g L K about Q ty ((shape g.items inner).place a.aliases) (ToElement (number_of index)) (by_part.reached_away g L K about Q x inner b (base.cells_first g (reached_cells g.items inner) (cells g.items true index) c) a ar (and_first ((N inner).reaches a).has_end _ e)))
     known (tree.Not operand) x id at ty by p good h r =
         let k = taken_child x operand h.0 r in
-        nodes.operating g L K about Q x id at ty by (tree.Not operand) (S_of (tree.Not operand) (head id ty by)) (N operand ∷ []) (λ site. effects.Not site (moved id (N operand).head.id)) good (λ c. c) (λ a. refl) (standing.bool_no g L K about Q ty h.1.1)
+        nodes.operating g L K about Q Free x id at ty by (tree.Not operand) (S_of (tree.Not operand) (head id ty by)) (N operand ∷ []) (λ site. effects.Not site (moved id (N operand).head.id)) good (λ c. c) (λ a. refl) (standing.bool_no g L K about Q ty h.1.1)
         (λ o c v k. base.never_and_made g ty v (standing.bool_made g L K about Q ty h.1.1))
         (λ o c. by_part.one_operand g L K about Q x operand k (base.cells_second g _ (cells_in g.items (tree.Not operand)) c) (standing.taken_stands g L K about Q x operand h.0).valued)
-        (λ H f i k away. (λ e z. away e, λ a q. (away, (λ e. f a (inl e), tt))))
+        (λ H f u i k away. (λ e z. away e, (λ q. (away, (λ e. u tt (inl e), tt)), λ a q. (away, (λ e. f a (inl e), tt)))))
     known (tree.Negate operand) x id at ty by p good h r =
         let k = taken_child x operand h.0 r in
         let t = signed_known g.items ty h.1.1 in
-        nodes.operating g L K about Q x id at ty by (tree.Negate operand) (S_of (tree.Negate operand) (head id ty by)) (N operand ∷ []) (λ site. effects.Negate site (moved id (N operand).head.id)) good (λ c. c) (λ a. refl) (standing.no_ref g L K about Q ty (Ty.Int t.0) t.1 refl)
+        nodes.operating g L K about Q Free x id at ty by (tree.Negate operand) (S_of (tree.Negate operand) (head id ty by)) (N operand ∷ []) (λ site. effects.Negate site (moved id (N operand).head.id)) good (λ c. c) (λ a. refl) (standing.no_ref g L K about Q ty (Ty.Int t.0) t.1 refl)
         (λ o c v k. base.never_and_made g ty v (nodes.made_of g L K about Q ty (Ty.Int t.0) t.1 refl))
         (λ o c. by_part.one_operand g L K about Q x operand k (base.cells_second g _ (cells_in g.items (tree.Negate operand)) c) (standing.taken_stands g L K about Q x operand h.0).valued)
-        (λ H f i k away. (λ e z. away e, λ a q. (away, (λ e. f a (inl e), tt))))
+        (λ H f u i k away. (λ e z. away e, (λ q. (away, (λ e. u tt (inl e), tt)), λ a q. (away, (λ e. f a (inl e), tt)))))
     known (tree.Arithmetic operator left right) x id at ty by p good h r =
         let k = wanted_child x ty left h.0 (base.rise_first g (nodes_of left) (nodes_of right) r) in
         let l = wanted_child x ty right h.1.0 (base.rise_second g (nodes_of left) (nodes_of right) r) in
         let t = standing.int_at g L K about Q ty h.1.1.0 in
-        nodes.operating g L K about Q x id at ty by (tree.Arithmetic operator left right) (S_of (tree.Arithmetic operator left right) (head id ty by)) (N left ∷ N right ∷ []) (λ site. effects.Compute site operator (moved id (N left).head.id) (moved id (N right).head.id)) good (λ c. c) (λ a. refl) (standing.no_ref g L K about Q ty (Ty.Int t.0) t.1 refl)
+        nodes.operating g L K about Q Free x id at ty by (tree.Arithmetic operator left right) (S_of (tree.Arithmetic operator left right) (head id ty by)) (N left ∷ N right ∷ []) (λ site. effects.Compute site operator (moved id (N left).head.id) (moved id (N right).head.id)) good (λ c. c) (λ a. refl) (standing.no_ref g L K about Q ty (Ty.Int t.0) t.1 refl)
         (λ o c v k. base.never_and_made g ty v (nodes.made_of g L K about Q ty (Ty.Int t.0) t.1 refl))
         (λ o c. by_part.two_operands g L K about Q x left right k l (base.cells_second g _ (cells_in g.items (tree.Arithmetic operator left right)) c) (standing.wanted_stands g L K about Q x ty left h.0).valued (standing.wanted_stands g L K about Q x ty right h.1.0).valued)
-        (λ H f i k away. (λ e z. away e, λ a q. (away, (λ e. f a (inl e), (λ e. f a (inr (inl e)), tt)))))
+        (λ H f u i k away. (λ e z. away e, (λ q. (away, (λ e. u tt (inl e), (λ e. u tt (inr (inl e)), tt))), λ a q. (away, (λ e. f a (inl e), (λ e. f a (inr (inl e)), tt))))))
     known (tree.Comparison operator left right) x id at ty by p good h r =
         let k = taken_child x left h.0 (base.rise_first g (nodes_of left) (nodes_of right) r) in
         let l = taken_child x right h.1.0 (base.rise_second g (nodes_of left) (nodes_of right) r) in
-        nodes.operating g L K about Q x id at ty by (tree.Comparison operator left right) (S_of (tree.Comparison operator left right) (head id ty by)) (N left ∷ N right ∷ []) (λ site. effects.Compare site operator (moved id (N left).head.id) (moved id (N right).head.id)) good (λ c. c) (λ a. refl) (standing.bool_no g L K about Q ty h.1.1.1)
+        nodes.operating g L K about Q Free x id at ty by (tree.Comparison operator left right) (S_of (tree.Comparison operator left right) (head id ty by)) (N left ∷ N right ∷ []) (λ site. effects.Compare site operator (moved id (N left).head.id) (moved id (N right).head.id)) good (λ c. c) (λ a. refl) (standing.bool_no g L K about Q ty h.1.1.1)
         (λ o c v k. base.never_and_made g ty v (standing.bool_made g L K about Q ty h.1.1.1))
         (λ o c. by_part.two_operands g L K about Q x left right k l (base.cells_second g _ (cells_in g.items (tree.Comparison operator left right)) c) (standing.taken_stands g L K about Q x left h.0).valued (standing.taken_stands g L K about Q x right h.1.0).valued)
-        (λ H f i k away. (λ e z. away e, λ a q. (away, (λ e. f a (inl e), (λ e. f a (inr (inl e)), tt)))))
+        (λ H f u i k away. (λ e z. away e, (λ q. (away, (λ e. u tt (inl e), (λ e. u tt (inr (inl e)), tt))), λ a q. (away, (λ e. f a (inl e), (λ e. f a (inr (inl e)), tt))))))
     known (tree.And left right) x id at ty by p good h r =
         let k = taken_child x left h.0 (base.rise_first g (nodes_of left) (nodes_of right) r) in
         let l = taken_child x right h.1.0 (base.rise_second g (nodes_of left) (nodes_of right) r) in
@@ -214,7 +214,7 @@ module _ (g : Ground) (L K : ℕ) (about : About g L K) (Q : Type 0) where
         let cr = base.cells_second g (cells g.items true left) (cells g.items false right) cs in
         let clear = d (standing.bool_no g L K about Q ty h.1.1.1.1) (standing.bool_made g L K about Q ty h.1.1.1.1) in
         by_rule.owned g L K about Q x.loops (head id ty by) own _ _ (more x.loops _ _ _ (standing.and_under g L K about Q (cells g.items true left) (cells g.items false right))
-        (nodes.conditioned g L K about Q x left (N left) k cl (standing.taken_stands g L K about Q x left h.0).valued a ar _ _ (occ (cells g.items false right)) 0 (nodes.alone g L K about Q x right (N right) l false cr (standing.taken_stands g L K about Q x right h.1.0).valued a ar to (λ n m. clear)) (by_rule.delivered g L K about Q Free x.loops id (head id ty by) (λ site. effects.Put site (effects.Truth false)) to clear (by_rule.puts g L K about Q Free (effects.Truth false) (λ f q. tt))))))
+        (nodes.conditioned g L K about Q x left (N left) k cl (standing.taken_stands g L K about Q x left h.0).valued a ar _ _ (occ (cells g.items false right)) 0 (nodes.alone g L K about Q x right (N right) l false cr (standing.taken_stands g L K about Q x right h.1.0).valued a ar to (λ n m. clear)) (by_rule.delivered g L K about Q Free x.loops id (head id ty by) (λ site. effects.Put site (effects.Truth false)) to clear (by_rule.puts g L K about Q Free (effects.Truth false) (λ q. tt))))))
         (λ o c ref a ar own to. absurd (by_rule.not_both g L K about Q ty ref (standing.bool_no g L K about Q ty h.1.1.1.1)))
     known (tree.Or left right) x id at ty by p good h r =
         let k = taken_child x left h.0 (base.rise_first g (nodes_of left) (nodes_of right) r) in
@@ -226,7 +226,7 @@ module _ (g : Ground) (L K : ℕ) (about : About g L K) (Q : Type 0) where
         let cr = base.cells_second g (cells g.items true left) (cells g.items false right) cs in
         let clear = d (standing.bool_no g L K about Q ty h.1.1.1.1) (standing.bool_made g L K about Q ty h.1.1.1.1) in
         by_rule.owned g L K about Q x.loops (head id ty by) own _ _ (more x.loops _ _ _ (standing.or_under g L K about Q (cells g.items true left) (cells g.items false right))
-        (nodes.conditioned g L K about Q x left (N left) k cl (standing.taken_stands g L K about Q x left h.0).valued a ar _ _ 0 (occ (cells g.items false right)) (by_rule.delivered g L K about Q Free x.loops id (head id ty by) (λ site. effects.Put site (effects.Truth true)) to clear (by_rule.puts g L K about Q Free (effects.Truth true) (λ f q. tt))) (nodes.alone g L K about Q x right (N right) l false cr (standing.taken_stands g L K about Q x right h.1.0).valued a ar to (λ n m. clear)))))
+        (nodes.conditioned g L K about Q x left (N left) k cl (standing.taken_stands g L K about Q x left h.0).valued a ar _ _ 0 (occ (cells g.items false right)) (by_rule.delivered g L K about Q Free x.loops id (head id ty by) (λ site. effects.Put site (effects.Truth true)) to clear (by_rule.puts g L K about Q Free (effects.Truth true) (λ q. tt))) (nodes.alone g L K about Q x right (N right) l false cr (standing.taken_stands g L K about Q x right h.1.0).valued a ar to (λ n m. clear)))))
         (λ o c ref a ar own to. absurd (by_rule.not_both g L K about Q ty ref (standing.bool_no g L K about Q ty h.1.1.1.1)))
     known (tree.Assign target value_) x id at ty by p good h r =
         let t = child x target Stored refl (standing.stored_stands g L K about Q x target h.0).0 h.0 (base.rise_first g (nodes_of target) (nodes_of value_) r) in
@@ -238,7 +238,7 @@ module _ (g : Ground) (L K : ℕ) (about : About g L K) (Q : Type 0) where
         let ct = base.cells_first g (reached_cells g.items target) (cells g.items true value_) cs in
         let cv = base.cells_second g (reached_cells g.items target) (cells g.items true value_) cs in
         once.scoped g L K about Q Free x.loops id own _ _ (more x.loops _ _ _ (standing.assign_under g L K about Q (reached_cells g.items target) (cells g.items true value_))
-        (and_then x.loops (lower.operand F a (N value_)) _ (occ (cells g.items true value_)) (occ (reached_cells g.items target) + (0 + 0)) (by_rule.operand_is g L K about Q x value_ (N value_) k cv v a ar).0
+        (and_then x.loops (lower.operand F a (N value_)) _ (occ (cells g.items true value_)) (occ (reached_cells g.items target) + (0 + 0)) (by_rule.operand_is g L K about Q Free x value_ (N value_) k cv v a ar).0
         (λ e. and_then x.loops ((N target).reaches a) _ (occ (reached_cells g.items target)) (0 + 0) (t.known.reaches ct a ar)
         (λ w. and_then x.loops _ _ 0 0 (on.replaced g L K about Q x.loops (needs_drop g.items (N target).head.ty) (lower.site_of (N target) a) (N value_).head.id ((t.known.place ct a ar w).1 (standing.stored_stands g L K about Q x target h.0).1)
         (λ q. ((t.known.place ct a ar w).0 q, λ z. by_rule.out g L K about Q x value_ (N value_) k cv v a ar false (Into (N value_).head.id) (and_first ((N value_).evaluates a false (Into (N value_).head.id)).has_end true e) z)))
@@ -247,81 +247,81 @@ module _ (g : Ground) (L K : ℕ) (about : About g L K) (Q : Type 0) where
     known (tree.Call callee args) x id at ty by p good h r =
         let sig = found (slice_get g.items.bodies callee) _ h.0 in
         let nr = subst NotRef (sym (same_id ty sig.0.result sig.2.0)) (about.results callee sig.0 sig.1) in
-        nodes.operating g L K about Q x id at ty by (tree.Call callee args) (S_of (tree.Call callee args) (head id ty by)) (lower.lower_all F args) (λ site. effects.Call site callee (lower.all_moved id (lower.lower_all F args))) good (λ c. c) (λ a. refl) nr
+        nodes.operating g L K about Q ⊥ x id at ty by (tree.Call callee args) (S_of (tree.Call callee args) (head id ty by)) (lower.lower_all F args) (λ site. effects.Call site callee (lower.all_moved id (lower.lower_all F args))) good (λ c. c) (λ a. refl) nr
         (λ o c v k. by_rule.keyed_away g L K about Q id ty ((rw v at c).0) nr k)
         (λ o c. args_are x args sig.0.params sig.2.1 r (base.cells_second g _ (cells_in g.items (tree.Call callee args)) c))
-        (λ H f i k away. (λ e z. away e, λ a q. (away, by_rule.all_away g L K about Q id (lower.lower_all F args) (f a))))
+        (λ H f u i k away. (λ e z. away e, (λ q. (away, by_rule.all_whole g L K about Q id (lower.lower_all F args)), λ a q. (away, by_rule.all_away g L K about Q id (lower.lower_all F args) (f a)))))
     known (tree.MethodCall callee receiver args) x id at ty by p good h r =
         let sig = found (slice_get g.items.bodies callee) _ h.0 in
         let nr = subst NotRef (sym (same_id ty sig.0.result sig.2.0)) (about.results callee sig.0 sig.1) in
-        nodes.operating g L K about Q x id at ty by (tree.MethodCall callee receiver args) (S_of (tree.MethodCall callee receiver args) (head id ty by)) (N receiver ∷ lower.lower_all F args) (λ site. effects.Call site callee (lower.all_moved id (N receiver ∷ lower.lower_all F args))) good (λ c. c) (λ a. refl) nr
+        nodes.operating g L K about Q ⊥ x id at ty by (tree.MethodCall callee receiver args) (S_of (tree.MethodCall callee receiver args) (head id ty by)) (N receiver ∷ lower.lower_all F args) (λ site. effects.Call site callee (lower.all_moved id (N receiver ∷ lower.lower_all F args))) good (λ c. c) (λ a. refl) nr
         (λ o c v k. by_rule.keyed_away g L K about Q id ty ((rw v at c).0) nr k)
         (λ o c. by_part.receiver_given g L K about Q x receiver args sig.0.params (λ t z. arg_is x receiver t z (base.rise_first g (nodes_of receiver) (nodes_among args) r) (base.cells_first g (cells g.items true receiver) (all_cells g.items args) (base.cells_second g _ (cells_in g.items (tree.MethodCall callee receiver args)) c))) (λ ts z. args_are x args ts z (base.rise_second g (nodes_of receiver) (nodes_among args) r) (base.cells_second g (cells g.items true receiver) (all_cells g.items args) (base.cells_second g _ (cells_in g.items (tree.MethodCall callee receiver args)) c))) sig.2.1)
-        (λ H f i k away. (λ e z. away e, λ a q. (away, by_rule.all_away g L K about Q id (N receiver ∷ lower.lower_all F args) (f a))))
+        (λ H f u i k away. (λ e z. away e, (λ q. (away, by_rule.all_whole g L K about Q id (N receiver ∷ lower.lower_all F args)), λ a q. (away, by_rule.all_away g L K about Q id (N receiver ∷ lower.lower_all F args) (f a)))))
     known (tree.ClosureCall callee closure args) x id at ty by p good h r =
         let sig = found (slice_get g.items.bodies callee) _ h.0 in
         let nr = subst NotRef (sym (same_id ty sig.0.result sig.2.0)) (about.results callee sig.0 sig.1) in
-        nodes.operating g L K about Q x id at ty by (tree.ClosureCall callee closure args) (S_of (tree.ClosureCall callee closure args) (head id ty by)) (N closure ∷ lower.lower_all F args) (λ site. effects.Call site callee (lower.all_moved id (N closure ∷ lower.lower_all F args))) good (λ c. c) (λ a. refl) nr
+        nodes.operating g L K about Q ⊥ x id at ty by (tree.ClosureCall callee closure args) (S_of (tree.ClosureCall callee closure args) (head id ty by)) (N closure ∷ lower.lower_all F args) (λ site. effects.Call site callee (lower.all_moved id (N closure ∷ lower.lower_all F args))) good (λ c. c) (λ a. refl) nr
         (λ o c v k. by_rule.keyed_away g L K about Q id ty ((rw v at c).0) nr k)
         (λ o c. by_part.receiver_given g L K about Q x closure args sig.0.params (λ t z. arg_is x closure t z (base.rise_first g (nodes_of closure) (nodes_among args) r) (base.cells_first g (cells g.items true closure) (all_cells g.items args) (base.cells_second g _ (cells_in g.items (tree.ClosureCall callee closure args)) c))) (λ ts z. args_are x args ts z (base.rise_second g (nodes_of closure) (nodes_among args) r) (base.cells_second g (cells g.items true closure) (all_cells g.items args) (base.cells_second g _ (cells_in g.items (tree.ClosureCall callee closure args)) c))) sig.2.1)
-        (λ H f i k away. (λ e z. away e, λ a q. (away, by_rule.all_away g L K about Q id (N closure ∷ lower.lower_all F args) (f a))))
+        (λ H f u i k away. (λ e z. away e, (λ q. (away, by_rule.all_whole g L K about Q id (N closure ∷ lower.lower_all F args)), λ a q. (away, by_rule.all_away g L K about Q id (N closure ∷ lower.lower_all F args) (f a)))))
     known (tree.VirtualCall trait_no method receiver args) x id at ty by p good h r =
         let def = found (slice_get g.items.traits trait_no) _ h in
         let sig = found (slice_get def.0.methods method) _ def.2 in
         let nr = subst NotRef (sym (same_id ty sig.0.result sig.2.0)) (about.methods trait_no method def.0 sig.0 def.1 sig.1) in
-        nodes.operating g L K about Q x id at ty by (tree.VirtualCall trait_no method receiver args) (S_of (tree.VirtualCall trait_no method receiver args) (head id ty by)) (N receiver ∷ lower.lower_all F args) (λ site. effects.CallVirtual site trait_no method (lower.all_moved id (N receiver ∷ lower.lower_all F args))) good (λ c. c) (λ a. refl) nr
+        nodes.operating g L K about Q ⊥ x id at ty by (tree.VirtualCall trait_no method receiver args) (S_of (tree.VirtualCall trait_no method receiver args) (head id ty by)) (N receiver ∷ lower.lower_all F args) (λ site. effects.CallVirtual site trait_no method (lower.all_moved id (N receiver ∷ lower.lower_all F args))) good (λ c. c) (λ a. refl) nr
         (λ o c v k. by_rule.keyed_away g L K about Q id ty ((rw v at c).0) nr k)
         (λ o c. by_part.receiver_given g L K about Q x receiver args sig.0.params (λ t z. arg_is x receiver t z (base.rise_first g (nodes_of receiver) (nodes_among args) r) (base.cells_first g (cells g.items true receiver) (all_cells g.items args) (base.cells_second g _ (cells_in g.items (tree.VirtualCall trait_no method receiver args)) c))) (λ ts z. args_are x args ts z (base.rise_second g (nodes_of receiver) (nodes_among args) r) (base.cells_second g (cells g.items true receiver) (all_cells g.items args) (base.cells_second g _ (cells_in g.items (tree.VirtualCall trait_no method receiver args)) c))) sig.2.1)
-        (λ H f i k away. (λ e z. away e, λ a q. (away, by_rule.all_away g L K about Q id (N receiver ∷ lower.lower_all F args) (f a))))
+        (λ H f u i k away. (λ e z. away e, (λ q. (away, by_rule.all_whole g L K about Q id (N receiver ∷ lower.lower_all F args)), λ a q. (away, by_rule.all_away g L K about Q id (N receiver ∷ lower.lower_all F args) (f a)))))
     known (tree.Make adt variant fields) x id at ty by p good h r =
         let t = by_part.adt_at g L K about Q ty adt h.0 in
         let v = found (types.variant_at g.items adt variant) _ h.1 in
-        nodes.operating g L K about Q x id at ty by (tree.Make adt variant fields) (S_of (tree.Make adt variant fields) (head id ty by)) (lower.lower_fields F fields) (λ site. effects.Build site (OfVariant adt variant) (moved_fields id (in_number_order (field_keys fields)))) good (λ c. c) (λ a. refl) (standing.no_ref g L K about Q ty (Ty.Adt t.0) t.1 refl)
+        nodes.operating g L K about Q Free x id at ty by (tree.Make adt variant fields) (S_of (tree.Make adt variant fields) (head id ty by)) (lower.lower_fields F fields) (λ site. effects.Build site (OfVariant adt variant) (moved_fields id (in_number_order (field_keys fields)))) good (λ c. c) (λ a. refl) (standing.no_ref g L K about Q ty (Ty.Adt t.0) t.1 refl)
         (λ o c v k. base.never_and_made g ty v (nodes.made_of g L K about Q ty (Ty.Adt t.0) t.1 refl))
         (λ o c. fields_are x fields v.0.fields v.2.1 r (base.cells_second g _ (cells_in g.items (tree.Make adt variant fields)) c))
-        (λ H f i k away. (λ e z. away e, λ a q. (away, by_part.moved_away g L K about Q id (in_number_order (field_keys fields)) (by_part.ordered_away g L K about Q (field_keys fields) (field_keys_away x fields v.0.fields v.2.1 r (f a))))))
+        (λ H f u i k away. (λ e z. away e, (λ q. (away, by_part.moved_away g L K about Q id (in_number_order (field_keys fields)) (by_part.ordered_away g L K about Q (field_keys fields) (field_keys_away x fields v.0.fields v.2.1 r (u tt)))), λ a q. (away, by_part.moved_away g L K about Q id (in_number_order (field_keys fields)) (by_part.ordered_away g L K about Q (field_keys fields) (field_keys_away x fields v.0.fields v.2.1 r (f a)))))))
     known (tree.Tuple parts) x id at ty by p good h r =
         let tys = found (types.tuple_of g.items ty) _ h in
         let t = tuple_known g.items ty tys.0 tys.1 in
-        nodes.operating g L K about Q x id at ty by (tree.Tuple parts) (S_of (tree.Tuple parts) (head id ty by)) (lower.lower_all F parts) (λ site. effects.Build site OfTuple (lower.all_moved id (lower.lower_all F parts))) good (λ c. c) (λ a. refl) (standing.no_ref g L K about Q ty (Ty.Tuple tys.0) t refl)
+        nodes.operating g L K about Q Free x id at ty by (tree.Tuple parts) (S_of (tree.Tuple parts) (head id ty by)) (lower.lower_all F parts) (λ site. effects.Build site OfTuple (lower.all_moved id (lower.lower_all F parts))) good (λ c. c) (λ a. refl) (standing.no_ref g L K about Q ty (Ty.Tuple tys.0) t refl)
         (λ o c v k. base.never_and_made g ty v (nodes.made_of g L K about Q ty (Ty.Tuple tys.0) t refl))
         (λ o c. parts_are x parts tys.0 tys.2 r (base.cells_second g _ (cells_in g.items (tree.Tuple parts)) c))
-        (λ H f i k away. (λ e z. away e, λ a q. (away, by_rule.all_away g L K about Q id (lower.lower_all F parts) (f a))))
+        (λ H f u i k away. (λ e z. away e, (λ q. (away, by_rule.all_away g L K about Q id (lower.lower_all F parts) (u tt)), λ a q. (away, by_rule.all_away g L K about Q id (lower.lower_all F parts) (f a)))))
     known (tree.Array elements) x id at ty by p good h r =
         let e = found (types.array_of g.items ty) _ h in
         let t = array_known g.items ty e.0 e.1 in
-        nodes.operating g L K about Q x id at ty by (tree.Array elements) (S_of (tree.Array elements) (head id ty by)) (lower.lower_all F elements) (λ site. effects.Build site OfArray (lower.all_moved id (lower.lower_all F elements))) good (λ c. c) (λ a. refl) (standing.no_ref g L K about Q ty (Ty.Array e.0.0 e.0.1) t refl)
+        nodes.operating g L K about Q Free x id at ty by (tree.Array elements) (S_of (tree.Array elements) (head id ty by)) (lower.lower_all F elements) (λ site. effects.Build site OfArray (lower.all_moved id (lower.lower_all F elements))) good (λ c. c) (λ a. refl) (standing.no_ref g L K about Q ty (Ty.Array e.0.0 e.0.1) t refl)
         (λ o c v k. base.never_and_made g ty v (nodes.made_of g L K about Q ty (Ty.Array e.0.0 e.0.1) t refl))
         (λ o c. elements_are x elements e.0.0 e.2.1 r (base.cells_second g _ (cells_in g.items (tree.Array elements)) c))
-        (λ H f i k away. (λ e z. away e, λ a q. (away, by_rule.all_away g L K about Q id (lower.lower_all F elements) (f a))))
+        (λ H f u i k away. (λ e z. away e, (λ q. (away, by_rule.all_away g L K about Q id (lower.lower_all F elements) (u tt)), λ a q. (away, by_rule.all_away g L K about Q id (lower.lower_all F elements) (f a)))))
     known (tree.Closure closure captures) x id at ty by p good h r =
         let t = by_part.closure_at g L K about Q ty closure h.0 in
         let def = found (slice_get g.items.closures closure) _ h.1 in
-        nodes.operating g L K about Q x id at ty by (tree.Closure closure captures) (S_of (tree.Closure closure captures) (head id ty by)) (lower.lower_all F captures) (λ site. effects.Build site (OfClosure closure) (lower.all_moved id (lower.lower_all F captures))) good (λ c. c) (λ a. refl) (standing.no_ref g L K about Q ty (Ty.Closure t.0) t.1 refl)
+        nodes.operating g L K about Q Free x id at ty by (tree.Closure closure captures) (S_of (tree.Closure closure captures) (head id ty by)) (lower.lower_all F captures) (λ site. effects.Build site (OfClosure closure) (lower.all_moved id (lower.lower_all F captures))) good (λ c. c) (λ a. refl) (standing.no_ref g L K about Q ty (Ty.Closure t.0) t.1 refl)
         (λ o c v k. base.never_and_made g ty v (nodes.made_of g L K about Q ty (Ty.Closure t.0) t.1 refl))
         (λ o c. captures_are x captures def.0.captures def.2 r (base.cells_second g _ (cells_in g.items (tree.Closure closure captures)) c))
-        (λ H f i k away. (λ e z. away e, λ a q. (away, by_rule.all_away g L K about Q id (lower.lower_all F captures) (f a))))
+        (λ H f u i k away. (λ e z. away e, (λ q. (away, by_rule.all_away g L K about Q id (lower.lower_all F captures) (u tt)), λ a q. (away, by_rule.all_away g L K about Q id (lower.lower_all F captures) (f a)))))
     known (tree.NewBox content) x id at ty by p good h r =
         let e = found (types.boxed_of g.items ty) _ h in
         let t = boxed_known g.items ty e.0 e.1 in
         let k = wanted_child x e.0 content e.2.0 r in
-        nodes.operating g L K about Q x id at ty by (tree.NewBox content) (S_of (tree.NewBox content) (head id ty by)) (N content ∷ []) (λ site. effects.NewBox site (moved id (N content).head.id)) good (λ c. c) (λ a. refl) (standing.no_ref g L K about Q ty (Ty.Boxed e.0) t refl)
+        nodes.operating g L K about Q Free x id at ty by (tree.NewBox content) (S_of (tree.NewBox content) (head id ty by)) (N content ∷ []) (λ site. effects.NewBox site (moved id (N content).head.id)) good (λ c. c) (λ a. refl) (standing.no_ref g L K about Q ty (Ty.Boxed e.0) t refl)
         (λ o c v k. base.never_and_made g ty v (nodes.made_of g L K about Q ty (Ty.Boxed e.0) t refl))
         (λ o c. by_part.one_operand g L K about Q x content k (base.cells_second g _ (cells_in g.items (tree.NewBox content)) c) (standing.wanted_stands g L K about Q x e.0 content e.2.0).valued)
-        (λ H f i k away. (λ e z. away e, λ a q. (away, (λ e. f a (inl e), tt))))
+        (λ H f u i k away. (λ e z. away e, (λ q. (away, (λ e. u tt (inl e), tt)), λ a q. (away, (λ e. f a (inl e), tt)))))
     known (tree.Print operand) x id at ty by p good h r =
         let k = taken_child x operand h.0 r in
         nodes.giving_unit g L K about Q x id at ty by (tree.Print operand) (S_of (tree.Print operand) (head id ty by)) (N operand) effects.Print good (λ c. c) (λ a. refl) (standing.unit_no g L K about Q ty h.1.1) (standing.unit_made g L K about Q ty h.1.1)
-        (λ o c. by_part.one_operand g L K about Q x operand k (base.cells_second g _ (cells_in g.items (tree.Print operand)) c) (standing.taken_stands g L K about Q x operand h.0).valued) tt (λ f. (f, tt))
+        (λ o c. by_part.one_operand g L K about Q x operand k (base.cells_second g _ (cells_in g.items (tree.Print operand)) c) (standing.taken_stands g L K about Q x operand h.0).valued) tt (λ f. (f, tt)) (λ f. (f, tt))
     known (tree.Forget operand) x id at ty by p good h r =
         let k = taken_child x operand h.0 r in
         nodes.giving_unit g L K about Q x id at ty by (tree.Forget operand) (S_of (tree.Forget operand) (head id ty by)) (N operand) effects.Forget good (λ c. c) (λ a. refl) (standing.unit_no g L K about Q ty h.1) (standing.unit_made g L K about Q ty h.1)
-        (λ o c. by_part.one_operand g L K about Q x operand k (base.cells_second g _ (cells_in g.items (tree.Forget operand)) c) (standing.taken_stands g L K about Q x operand h.0).valued) tt (λ f. (f, tt))
+        (λ o c. by_part.one_operand g L K about Q x operand k (base.cells_second g _ (cells_in g.items (tree.Forget operand)) c) (standing.taken_stands g L K about Q x operand h.0).valued) tt (λ f. (f, tt)) (λ f. (f, tt))
     known (tree.DropValue operand) x id at ty by p good h r =
         let k = taken_child x operand h.0 r in
         nodes.flow g L K about Q x id at ty by (tree.DropValue operand) (S_of (tree.DropValue operand) (head id ty by)) _ good (λ c. c) (λ a. refl)
         (λ o c a ar own to d nv. once.scoped g L K about Q Free x.loops id own _ _ (more x.loops _ (occ (cells g.items true operand) + 0) _ (nodes.no_more g L K about Q _)
-        (and_then x.loops (lower.operand F a (N operand)) _ (occ (cells g.items true operand)) 0 (by_rule.operand_is g L K about Q x operand (N operand) k (base.cells_second g _ (cells_in g.items (tree.DropValue operand)) c) (standing.taken_stands g L K about Q x operand h.0).valued a ar).0
+        (and_then x.loops (lower.operand F a (N operand)) _ (occ (cells g.items true operand)) 0 (by_rule.operand_is g L K about Q Free x operand (N operand) k (base.cells_second g _ (cells_in g.items (tree.DropValue operand)) c) (standing.taken_stands g L K about Q x operand h.0).valued a ar).0
         (λ e. by_rule.unit_put g L K about Q Free x.loops (head id ty by) to (d (standing.unit_no g L K about Q ty h.1) (standing.unit_made g L K about Q ty h.1))))))
         (λ o c ref a ar own to. absurd (by_rule.not_both g L K about Q ty ref (standing.unit_no g L K about Q ty h.1)))
     known tree.Panic x id at ty by p good h r =
@@ -582,55 +582,55 @@ module _ (g : Ground) (L K : ℕ) (about : About g L K) (Q : Type 0) where
     inner_of (tree.Borrow unique inner) x id ty h r = child x inner (Used (scopes.borrow_by unique)) (moved_out.fair_borrow g unique) (standing.used_stands g L K about Q x (scopes.borrow_by unique) inner h.0).0 h.0 r
     inner_of _ x id ty h r = tt
 
-    arg_is : (x : Context) (n : Node) (want : TyId) → Holds (typing.typed (X x) (Passed want) n) → base.Rise g (nodes_of n) → Cells (cells g.items true n) → OperandIs x (N n) (occ (cells g.items true n))
+    arg_is : (x : Context) (n : Node) (want : TyId) → Holds (typing.typed (X x) (Passed want) n) → base.Rise g (nodes_of n) → Cells (cells g.items true n) → OperandIs ⊥ x (N n) (occ (cells g.items true n))
     arg_is x (tree.node id at ty by form) want h r c =
         let good = forms_of.node_good g x (tree.node id at ty by form) (Passed want) refl h r in
         by_part.arg_form g L K about Q form (types.is_reference g.items want && not (types.is_never g.items ty)) x id at ty by want refl h.0 good (λ p. known form x id at ty by p good h.1 r.1) (inner_of form x id ty h.1 r.1) c
 
-    args_are : (x : Context) (ns : Nodes) (tys : List TyId) → Holds (typing.arguments (X x) tys ns) → base.Rise g (nodes_among ns) → Cells (all_cells g.items ns) → OperandsAre x (lower.lower_all F ns) (occ (all_cells g.items ns))
-    args_are x no_node [] h r c = by_rule.no_operand g L K about Q x
+    args_are : (x : Context) (ns : Nodes) (tys : List TyId) → Holds (typing.arguments (X x) tys ns) → base.Rise g (nodes_among ns) → Cells (all_cells g.items ns) → OperandsAre ⊥ x (lower.lower_all F ns) (occ (all_cells g.items ns))
+    args_are x no_node [] h r c = by_rule.no_operand g L K about Q ⊥ x
     args_are x no_node (ty ∷ tys) h r c = absurd (untrue h)
     args_are x (a_node first rest) [] h r c = absurd (untrue h)
     args_are x (a_node first rest) (ty ∷ tys) h r c =
-        by_part.more_of g L K about Q x (N first) (lower.lower_all F rest) (cells g.items true first) (all_cells g.items rest)
+        by_part.more_of g L K about Q ⊥ x (N first) (lower.lower_all F rest) (cells g.items true first) (all_cells g.items rest)
         (arg_is x first ty h.0 (base.rise_first g (nodes_of first) (nodes_among rest) r) (base.cells_first g (cells g.items true first) (all_cells g.items rest) c))
         (args_are x rest tys h.1 (base.rise_second g (nodes_of first) (nodes_among rest) r) (base.cells_second g (cells g.items true first) (all_cells g.items rest) c))
 
-    parts_are : (x : Context) (ns : Nodes) (tys : List TyId) → Holds (typing.made_parts (X x) tys ns) → base.Rise g (nodes_among ns) → Cells (all_cells g.items ns) → OperandsAre x (lower.lower_all F ns) (occ (all_cells g.items ns))
-    parts_are x no_node [] h r c = by_rule.no_operand g L K about Q x
+    parts_are : (x : Context) (ns : Nodes) (tys : List TyId) → Holds (typing.made_parts (X x) tys ns) → base.Rise g (nodes_among ns) → Cells (all_cells g.items ns) → OperandsAre Free x (lower.lower_all F ns) (occ (all_cells g.items ns))
+    parts_are x no_node [] h r c = by_rule.no_operand g L K about Q Free x
     parts_are x no_node (ty ∷ tys) h r c = absurd (untrue h)
     parts_are x (a_node first rest) [] h r c = absurd (untrue h)
     parts_are x (a_node first rest) (ty ∷ tys) h r c =
         let c1 = base.cells_first g (cells g.items true first) (all_cells g.items rest) c in
-        by_part.more_of g L K about Q x (N first) (lower.lower_all F rest) (cells g.items true first) (all_cells g.items rest)
-        (by_rule.operand_is g L K about Q x first (N first) (wanted_child x ty first h.0 (base.rise_first g (nodes_of first) (nodes_among rest) r)) c1 (standing.wanted_stands g L K about Q x ty first h.0).valued)
+        by_part.more_of g L K about Q Free x (N first) (lower.lower_all F rest) (cells g.items true first) (all_cells g.items rest)
+        (by_rule.operand_is g L K about Q Free x first (N first) (wanted_child x ty first h.0 (base.rise_first g (nodes_of first) (nodes_among rest) r)) c1 (standing.wanted_stands g L K about Q x ty first h.0).valued)
         (parts_are x rest tys h.1 (base.rise_second g (nodes_of first) (nodes_among rest) r) (base.cells_second g (cells g.items true first) (all_cells g.items rest) c))
 
-    elements_are : (x : Context) (ns : Nodes) (ty : TyId) → Holds (typing.elements_of (X x) ty ns) → base.Rise g (nodes_among ns) → Cells (all_cells g.items ns) → OperandsAre x (lower.lower_all F ns) (occ (all_cells g.items ns))
-    elements_are x no_node ty h r c = by_rule.no_operand g L K about Q x
+    elements_are : (x : Context) (ns : Nodes) (ty : TyId) → Holds (typing.elements_of (X x) ty ns) → base.Rise g (nodes_among ns) → Cells (all_cells g.items ns) → OperandsAre Free x (lower.lower_all F ns) (occ (all_cells g.items ns))
+    elements_are x no_node ty h r c = by_rule.no_operand g L K about Q Free x
     elements_are x (a_node first rest) ty h r c =
         let c1 = base.cells_first g (cells g.items true first) (all_cells g.items rest) c in
-        by_part.more_of g L K about Q x (N first) (lower.lower_all F rest) (cells g.items true first) (all_cells g.items rest)
-        (by_rule.operand_is g L K about Q x first (N first) (wanted_child x ty first h.0 (base.rise_first g (nodes_of first) (nodes_among rest) r)) c1 (standing.wanted_stands g L K about Q x ty first h.0).valued)
+        by_part.more_of g L K about Q Free x (N first) (lower.lower_all F rest) (cells g.items true first) (all_cells g.items rest)
+        (by_rule.operand_is g L K about Q Free x first (N first) (wanted_child x ty first h.0 (base.rise_first g (nodes_of first) (nodes_among rest) r)) c1 (standing.wanted_stands g L K about Q x ty first h.0).valued)
         (elements_are x rest ty h.1 (base.rise_second g (nodes_of first) (nodes_among rest) r) (base.cells_second g (cells g.items true first) (all_cells g.items rest) c))
 
-    captures_are : (x : Context) (ns : Nodes) (tys : List TyId) → Holds (typing.captured (X x) tys ns) → base.Rise g (nodes_among ns) → Cells (all_cells g.items ns) → OperandsAre x (lower.lower_all F ns) (occ (all_cells g.items ns))
-    captures_are x no_node [] h r c = by_rule.no_operand g L K about Q x
+    captures_are : (x : Context) (ns : Nodes) (tys : List TyId) → Holds (typing.captured (X x) tys ns) → base.Rise g (nodes_among ns) → Cells (all_cells g.items ns) → OperandsAre Free x (lower.lower_all F ns) (occ (all_cells g.items ns))
+    captures_are x no_node [] h r c = by_rule.no_operand g L K about Q Free x
     captures_are x no_node (ty ∷ tys) h r c = absurd (untrue h)
     captures_are x (a_node first rest) [] h r c = absurd (untrue h)
     captures_are x (a_node first rest) (ty ∷ tys) h r c =
         let c1 = base.cells_first g (cells g.items true first) (all_cells g.items rest) c in
-        by_part.more_of g L K about Q x (N first) (lower.lower_all F rest) (cells g.items true first) (all_cells g.items rest)
-        (by_rule.operand_is g L K about Q x first (N first) (taken_child x first h.0 (base.rise_first g (nodes_of first) (nodes_among rest) r)) c1 (standing.taken_stands g L K about Q x first h.0).valued)
+        by_part.more_of g L K about Q Free x (N first) (lower.lower_all F rest) (cells g.items true first) (all_cells g.items rest)
+        (by_rule.operand_is g L K about Q Free x first (N first) (taken_child x first h.0 (base.rise_first g (nodes_of first) (nodes_among rest) r)) c1 (standing.taken_stands g L K about Q x first h.0).valued)
         (captures_are x rest tys h.1.1 (base.rise_second g (nodes_of first) (nodes_among rest) r) (base.cells_second g (cells g.items true first) (all_cells g.items rest) c))
 
-    fields_are : (x : Context) (fs : Fields) (tys : List TyId) → Holds (typing.made_fields (X x) tys fs) → base.Rise g (nodes_of_fields fs) → Cells (cells_of_fields g.items fs) → OperandsAre x (lower.lower_fields F fs) (occ (cells_of_fields g.items fs))
-    fields_are x no_field tys h r c = by_rule.no_operand g L K about Q x
+    fields_are : (x : Context) (fs : Fields) (tys : List TyId) → Holds (typing.made_fields (X x) tys fs) → base.Rise g (nodes_of_fields fs) → Cells (cells_of_fields g.items fs) → OperandsAre Free x (lower.lower_fields F fs) (occ (cells_of_fields g.items fs))
+    fields_are x no_field tys h r c = by_rule.no_operand g L K about Q Free x
     fields_are x (a_field number value_ rest) tys h r c =
         let want = found (slice_get tys number) _ h.0 in
         let c1 = base.cells_first g (cells g.items true value_) (cells_of_fields g.items rest) c in
-        by_part.more_of g L K about Q x (N value_) (lower.lower_fields F rest) (cells g.items true value_) (cells_of_fields g.items rest)
-        (by_rule.operand_is g L K about Q x value_ (N value_) (wanted_child x want.0 value_ want.2 (base.rise_first g (nodes_of value_) (nodes_of_fields rest) r)) c1 (standing.wanted_stands g L K about Q x want.0 value_ want.2).valued)
+        by_part.more_of g L K about Q Free x (N value_) (lower.lower_fields F rest) (cells g.items true value_) (cells_of_fields g.items rest)
+        (by_rule.operand_is g L K about Q Free x value_ (N value_) (wanted_child x want.0 value_ want.2 (base.rise_first g (nodes_of value_) (nodes_of_fields rest) r)) c1 (standing.wanted_stands g L K about Q x want.0 value_ want.2).valued)
         (fields_are x rest tys h.1 (base.rise_second g (nodes_of value_) (nodes_of_fields rest) r) (base.cells_second g (cells g.items true value_) (cells_of_fields g.items rest) c))
 
     field_keys_away : (x : Context) (fs : Fields) (tys : List TyId) → Holds (typing.made_fields (X x) tys fs) → base.Rise g (nodes_of_fields fs) → (by_rule.AnyKey g L K about Q (lower.lower_fields F fs) → ⊥) → by_part.FieldsAway g L K about Q (field_keys fs)

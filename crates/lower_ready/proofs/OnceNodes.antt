@@ -132,28 +132,28 @@ module _ (g : Ground) (L K : ℕ) (about : About g L K) (Q : Type 0) where
       (λ o c r a ar own to. absurd (by_rule.not_both g L K about Q ty r nr))
 
   -- a form with operands
-  pub operating : (x : Context) (id : ℕ) (at : Pos) (ty : TyId) (by : Option Use) (form : Form) (s : Shape) (ms : List NodeLower) (action : EffectSite → Action) → rules.Good g x (tree.node id at ty by form) (lower.on_operands F (head id ty by) s ms action) →
+  pub operating : (T : Type 0) (x : Context) (id : ℕ) (at : Pos) (ty : TyId) (by : Option Use) (form : Form) (s : Shape) (ms : List NodeLower) (action : EffectSite → Action) → rules.Good g x (tree.node id at ty by form) (lower.on_operands F (head id ty by) s ms action) →
       (Cells (reached_cells g.items (tree.node id at ty by form)) → Cells (cells g.items true (tree.node id at ty by form))) → ((a : Aliases) → s.place a ≡ whole_local id) → NotRef ty →
       ((o : Bool) → Cells (cells g.items o (tree.node id at ty by form)) → base.Never g ty → id ≡ K → ⊥) →
-      ((o : Bool) → Cells (cells g.items o (tree.node id at ty by form)) → by_rule.OperandsAre g L K about Q x ms (occ (cells_in g.items form))) →
-      ((H : Type 0) → (H → by_rule.AnyKey g L K about Q ms → ⊥) → by_rule.Answers g L K about Q H action) →
+      ((o : Bool) → Cells (cells g.items o (tree.node id at ty by form)) → by_rule.OperandsAre g L K about Q T x ms (occ (cells_in g.items form))) →
+      ((H : Type 0) → (H → by_rule.AnyKey g L K about Q ms → ⊥) → (T → by_rule.AnyKey g L K about Q ms → ⊥) → by_rule.Answers g L K about Q H action) →
       Known x (tree.node id at ty by form) (lower.on_operands F (head id ty by) s ms action)
-  operating x id at ty by form s ms action good reached_so whole nr out os ok =
+  operating T x id at ty by form s ms action good reached_so whole nr out os ok =
       flow x id at ty by form s _ good reached_so whole
-      (λ o c a ar own to d nv. by_rule.acting g L K about Q x (head id ty by) a own ms _ (os o c) ar _
-      (λ H f. by_rule.delivered g L K about Q H x.loops id (head id ty by) action to (base.by_never g ty (λ v. subst Clear (sym (nv v)) (out o c v)) (λ m. d nr m)) (ok H f)))
+      (λ o c a ar own to d nv. by_rule.acting g L K about Q T x (head id ty by) a own ms _ (os o c) ar _
+      (λ H f u. by_rule.delivered g L K about Q H x.loops id (head id ty by) action to (base.by_never g ty (λ v. subst Clear (sym (nv v)) (out o c v)) (λ m. d nr m)) (ok H f u)))
       (λ o c r a ar own to. absurd (by_rule.not_both g L K about Q ty r nr))
 
   -- a form with one operand, which gives `()`
   pub giving_unit : (x : Context) (id : ℕ) (at : Pos) (ty : TyId) (by : Option Use) (form : Form) (s : Shape) (m : NodeLower) (action : effects.Operand → Action) → rules.Good g x (tree.node id at ty by form) (lower.gives_unit F (head id ty by) s m action) →
       (Cells (reached_cells g.items (tree.node id at ty by form)) → Cells (cells g.items true (tree.node id at ty by form))) → ((a : Aliases) → s.place a ≡ whole_local id) → NotRef ty → base.Made g ty →
-      ((o : Bool) → Cells (cells g.items o (tree.node id at ty by form)) → by_rule.OperandsAre g L K about Q x (m ∷ []) (occ (cells_in g.items form))) →
-      on.StoresWell g L K about Q (action (moved id m.head.id)) → ((m.head.id ≡ K → ⊥) → on.NamesNone g L K about Q (action (moved id m.head.id))) →
+      ((o : Bool) → Cells (cells g.items o (tree.node id at ty by form)) → by_rule.OperandsAre g L K about Q Free x (m ∷ []) (occ (cells_in g.items form))) →
+      on.StoresWell g L K about Q (action (moved id m.head.id)) → ((m.head.id ≡ K → ⊥) → on.UsesWell g L K about Q (action (moved id m.head.id))) → ((m.head.id ≡ K → ⊥) → on.NamesNone g L K about Q (action (moved id m.head.id))) →
       Known x (tree.node id at ty by form) (lower.gives_unit F (head id ty by) s m action)
-  giving_unit x id at ty by form s m action good reached_so whole nr made os stores names =
+  giving_unit x id at ty by form s m action good reached_so whole nr made os stores uses names =
       flow x id at ty by form s _ good reached_so whole
-      (λ o c a ar own to d nv. by_rule.acting g L K about Q x (head id ty by) a own (m ∷ []) _ (os o c) ar _
-      (λ H f. once.more g L K about Q H x.loops _ (0 + 0) 0 (no_more 0) (once.and_then g L K about Q H x.loops _ _ 0 0 (on.acts g L K about Q H x.loops id (action (moved id m.head.id)) stores (λ h q. names (λ k. f h (inl k))))
+      (λ o c a ar own to d nv. by_rule.acting g L K about Q Free x (head id ty by) a own (m ∷ []) _ (os o c) ar _
+      (λ H f u. once.more g L K about Q H x.loops _ (0 + 0) 0 (no_more 0) (once.and_then g L K about Q H x.loops _ _ 0 0 (on.acts g L K about Q H x.loops id (action (moved id m.head.id)) stores (λ q. uses (λ k. u tt (inl k))) (λ h q. names (λ k. f h (inl k))))
       (λ e. by_rule.unit_put g L K about Q H x.loops (head id ty by) to (d nr made)))))
       (λ o c r a ar own to. absurd (by_rule.not_both g L K about Q ty r nr))
 
@@ -172,7 +172,7 @@ module _ (g : Ground) (L K : ℕ) (about : About g L K) (Q : Type 0) where
         (and_then x.loops (r a) _ (occ (cells_in g.items form)) 0 (reaches cs a ar)
         (λ e. by_rule.delivered g L K about Q Free x.loops id h (λ site. effects.Put site (operand_at h (s.place a.aliases))) (to_own_key (source.is_never g.items ty) id to)
         (by_rule.own_clear g L K about Q h to d nr (λ w. by_rule.keyed_away g L K about Q id ty (never o c w) nr))
-        (by_rule.puts g L K about Q Free (operand_at h (s.place a.aliases)) (λ f q. used (moves by) (s.place a.aliases) ((place cs a ar e).0 q)))))));
+        (by_rule.puts g L K about Q Free (operand_at h (s.place a.aliases)) (λ q. used (moves by) (s.place a.aliases) ((place cs a ar e).0 q)))))));
     ended = λ o c v r a ar own to. absurd (v is_place r);
     reaches = λ c a ar. more x.loops _ (occ (cells_in g.items form)) (occ (reached_cells g.items n)) (by_rule.reach_under g L K about Q n _ (same_under _)) (reaches c a ar);
     place = place;
@@ -204,7 +204,7 @@ module _ (g : Ground) (L K : ℕ) (about : About g L K) (Q : Type 0) where
       (and_then x.loops (m.reaches a) _ (occ (reached_cells g.items n)) 0 (c.known.reaches cs a ar) (λ e. touched m.shape.is_place (c.known.place cs a ar e).0))
     where
       touched : (b : Bool) → (Q → on.Away g L K about Q (lower.place_in m a)) → Once Free x.loops (lower.touched F b (lower.site_of m a)) 0
-      touched true away = on.acts g L K about Q Free x.loops m.head.id (effects.Touch (lower.site_of m a)) tt (λ f q. away q)
+      touched true away = on.acts g L K about Q Free x.loops m.head.id (effects.Touch (lower.site_of m a)) tt away (λ f q. away q)
       touched false away = once.nothing_done g L K about Q Free x.loops
 
   pub scrutinee_free : (x : Context) (n : Node) (m : NodeLower) → Child x n m → NotRef (ty_of n) → Cells (reached_cells g.items n) → (a : LoopsAndGuards) → Around x a → (m.reaches a).has_end ≡ true → by_rule.FreePlace g L K about Q (lower.place_in m a)

@@ -98,11 +98,11 @@ module _ (g : Ground) (L K : ℕ) (about : About g L K) (Q : Type 0) where
   abbrev occ : List Entry → ℕ
   occ es = by_rule.occ g L K about Q es
 
-  abbrev OperandIs : Context → NodeLower → ℕ → Type 0
-  OperandIs x m o = by_rule.OperandIs g L K about Q x m o
+  abbrev OperandIs : Type 0 → Context → NodeLower → ℕ → Type 0
+  OperandIs T x m o = by_rule.OperandIs g L K about Q T x m o
 
-  abbrev OperandsAre : Context → List NodeLower → ℕ → Type 0
-  OperandsAre x ms o = by_rule.OperandsAre g L K about Q x ms o
+  abbrev OperandsAre : Type 0 → Context → List NodeLower → ℕ → Type 0
+  OperandsAre T x ms o = by_rule.OperandsAre g L K about Q T x ms o
 
   abbrev more : (loops : List LoopAround) (P : Lowers) (m n : ℕ) → m ≤ n → Once Free loops P m → Once Free loops P n
   more loops P m n le p = once.more g L K about Q Free loops P m n le p
@@ -115,17 +115,17 @@ module _ (g : Ground) (L K : ℕ) (about : About g L K) (Q : Type 0) where
   not_true false h = refl
 
   -- ---- lists of operands
-  pub one_operand : (x : Context) (n : Node) → Child x n (N n) → Cells (cells g.items true n) → Valued n → OperandsAre x (N n ∷ []) (occ (cells g.items true n))
+  pub one_operand : (x : Context) (n : Node) → Child x n (N n) → Cells (cells g.items true n) → Valued n → OperandsAre Free x (N n ∷ []) (occ (cells g.items true n))
   one_operand x n c cs v =
-      by_rule.more_operands g L K about Q x (N n ∷ []) (occ (cells g.items true n) + 0) (occ (cells g.items true n)) (nodes.no_more g L K about Q _)
-      (by_rule.an_operand g L K about Q x (N n) [] (occ (cells g.items true n)) 0 (by_rule.operand_is g L K about Q x n (N n) c cs v) (by_rule.no_operand g L K about Q x))
+      by_rule.more_operands g L K about Q Free x (N n ∷ []) (occ (cells g.items true n) + 0) (occ (cells g.items true n)) (nodes.no_more g L K about Q _)
+      (by_rule.an_operand g L K about Q Free x (N n) [] (occ (cells g.items true n)) 0 (by_rule.operand_is g L K about Q Free x n (N n) c cs v) (by_rule.no_operand g L K about Q Free x))
 
-  pub more_of : (x : Context) (m : NodeLower) (ms : List NodeLower) (xs ys : List Entry) → OperandIs x m (occ xs) → OperandsAre x ms (occ ys) → OperandsAre x (m ∷ ms) (occ (xs ++ ys))
-  more_of x m ms xs ys one rest = by_rule.more_operands g L K about Q x (m ∷ ms) (occ xs + occ ys) (occ (xs ++ ys)) (standing.two_under g L K about Q xs ys) (by_rule.an_operand g L K about Q x m ms (occ xs) (occ ys) one rest)
+  pub more_of : (T : Type 0) (x : Context) (m : NodeLower) (ms : List NodeLower) (xs ys : List Entry) → OperandIs T x m (occ xs) → OperandsAre T x ms (occ ys) → OperandsAre T x (m ∷ ms) (occ (xs ++ ys))
+  more_of T x m ms xs ys one rest = by_rule.more_operands g L K about Q T x (m ∷ ms) (occ xs + occ ys) (occ (xs ++ ys)) (standing.two_under g L K about Q xs ys) (by_rule.an_operand g L K about Q T x m ms (occ xs) (occ ys) one rest)
 
-  pub two_operands : (x : Context) (n m : Node) → Child x n (N n) → Child x m (N m) → Cells (cells g.items true n ++ cells g.items true m) → Valued n → Valued m → OperandsAre x (N n ∷ N m ∷ []) (occ (cells g.items true n ++ cells g.items true m))
+  pub two_operands : (x : Context) (n m : Node) → Child x n (N n) → Child x m (N m) → Cells (cells g.items true n ++ cells g.items true m) → Valued n → Valued m → OperandsAre Free x (N n ∷ N m ∷ []) (occ (cells g.items true n ++ cells g.items true m))
   two_operands x n m c d cs v w =
-      more_of x (N n) (N m ∷ []) (cells g.items true n) (cells g.items true m) (by_rule.operand_is g L K about Q x n (N n) c (base.cells_first g (cells g.items true n) (cells g.items true m) cs) v)
+      more_of Free x (N n) (N m ∷ []) (cells g.items true n) (cells g.items true m) (by_rule.operand_is g L K about Q Free x n (N n) c (base.cells_first g (cells g.items true n) (cells g.items true m) cs) v)
       (one_operand x m d (base.cells_second g (cells g.items true n) (cells g.items true m) cs) w)
 
   -- ---- fields in the order of their numbers
@@ -151,8 +151,8 @@ module _ (g : Ground) (L K : ℕ) (about : About g L K) (Q : Type 0) where
 
   -- ---- an argument that is a borrow
   pub borrow_operand : (x : Context) (inner : Node) → Child x inner (N inner) → (id : ℕ) (at : Pos) (ty : TyId) (by : Option Use) (unique : Bool) → IsRef ty → base.Made g ty → Cells (reached_cells g.items inner) →
-      OperandIs x (N (tree.node id at ty by (tree.Borrow unique inner))) (occ (cells g.items true (tree.node id at ty by (tree.Borrow unique inner))))
-  borrow_operand x inner c id at ty by unique r made cs a ar = subst (λ (z : Destination). Goal z) own (of (names.eq_tells id K))
+      OperandIs ⊥ x (N (tree.node id at ty by (tree.Borrow unique inner))) (occ (cells g.items true (tree.node id at ty by (tree.Borrow unique inner))))
+  borrow_operand x inner c id at ty by unique r made cs a ar = let it = subst (λ (z : Destination). Goal z) own (of (names.eq_tells id K)) in (it.0, it.1, λ t e k. t)
     where
       h : NodeHead
       h = head id ty by
@@ -211,13 +211,13 @@ module _ (g : Ground) (L K : ℕ) (about : About g L K) (Q : Type 0) where
       of : (id ≡ K) ⊎ (id ≡ K → ⊥) → Goal (Into id)
       of (inl e) =
           let q = once.then_kept g L K about Q Free ⊥ (id ≡ K) (id ≡ K) (λ e. inr e) x.loops ((N inner).reaches a) (act F (N inner).head.id action) (occ (reached_cells g.items inner)) 1 (c.known.reaches cs a ar) (λ e m z. m)
-          (λ d. on.borrows_here g L K about Q (Free × ((c.known.reaches cs a ar).count ≡ 0)) (id ≡ K) x.loops (N inner).head.id id id e unique base_site) in
+          (λ d. on.borrows_here g L K about Q (Free × ((c.known.reaches cs a ar).count ≡ 0)) (id ≡ K) x.loops (N inner).head.id id id e unique base_site (c.known.place cs a ar d).0) in
           let w = by_rule.more_kept g L K about Q (id ≡ K) x.loops code (occ (reached_cells g.items inner) + 1) most (under 1 (λ e. refl) (λ f. absurd (f e))) q.0 q.1 in
           finish w.0 w.1
       of (inr f) =
           finish (more x.loops code (occ (reached_cells g.items inner) + 0) most (under 0 (λ e. absurd (f e)) (λ e. refl))
           (and_then x.loops ((N inner).reaches a) (act F (N inner).head.id action) (occ (reached_cells g.items inner)) 0 (c.known.reaches cs a ar)
-          (λ e. on.acts g L K about Q Free x.loops (N inner).head.id action (λ k d. f k) (λ h q. (f, (c.known.place cs a ar e).0 q)))))
+          (λ e. on.acts g L K about Q Free x.loops (N inner).head.id action (λ k d. f k) (λ q. ((c.known.place cs a ar e).0 q, inl f)) (λ h q. (f, (c.known.place cs a ar e).0 q)))))
           (λ e k z. f k)
 
   -- ---- places
@@ -358,11 +358,11 @@ module _ (g : Ground) (L K : ℕ) (about : About g L K) (Q : Type 0) where
   pub arg_form : (form : Form) (b : Bool) (x : Context) (id : ℕ) (at : Pos) (ty : TyId) (by : Option Use) (want : TyId) → (types.is_reference g.items want && not (types.is_never g.items ty)) ≡ b →
       Holds (if b then fact (scopes.is_borrow form && is_none by && types.is_same ty want) else (scopes.is_taken (X x) ty by form & fact (types.fits g.items want ty))) →
       Good x (tree.node id at ty by form) (N (tree.node id at ty by form)) → (scopes.is_borrow form ≡ false → Known x (tree.node id at ty by form) (N (tree.node id at ty by form))) → InnerIs x form →
-      Cells (cells g.items true (tree.node id at ty by form)) → OperandIs x (N (tree.node id at ty by form)) (occ (cells g.items true (tree.node id at ty by form)))
+      Cells (cells g.items true (tree.node id at ty by form)) → OperandIs ⊥ x (N (tree.node id at ty by form)) (occ (cells g.items true (tree.node id at ty by form)))
   arg_form form false x id at ty by want e s good k i c =
       let n = tree.node id at ty by form in
       let f = standing.taken_facts g L K about Q x ty by form s.0 in
-      by_rule.operand_is g L K about Q x n (N n) (record { good = good; known = k f.0 }) c f.1
+      by_rule.operand_is g L K about Q ⊥ x n (N n) (record { good = good; known = k f.0 }) c f.1
   arg_form (tree.Borrow unique inner) true x id at ty by want e s good k i c =
       let ref = subst IsRef (sym (same_id ty want (and_second (is_none by) _ s))) (and_first (types.is_reference g.items want) _ e) in
       let made = not_never ty (not_true (types.is_never g.items ty) (and_second (types.is_reference g.items want) _ e)) in
@@ -370,10 +370,10 @@ module _ (g : Ground) (L K : ℕ) (about : About g L K) (Q : Type 0) where
   arg_form _ true x id at ty by want e s good k i c = absurd (untrue s)
 
   -- a first argument and the others
-  pub receiver_given : (x : Context) (receiver : Node) (args : Nodes) (tys : List TyId) → ((t : TyId) → Holds (typing.typed (X x) (Passed t) receiver) → OperandIs x (N receiver) (occ (cells g.items true receiver))) → ((ts : List TyId) → Holds (typing.arguments (X x) ts args) → OperandsAre x (lower.lower_all F args) (occ (all_cells g.items args))) →
-      Holds (typing.first_and_rest (λ t. typing.typed (X x) (Passed t) receiver) (λ ts. typing.arguments (X x) ts args) tys) → OperandsAre x (N receiver ∷ lower.lower_all F args) (occ (cells g.items true receiver ++ all_cells g.items args))
+  pub receiver_given : (x : Context) (receiver : Node) (args : Nodes) (tys : List TyId) → ((t : TyId) → Holds (typing.typed (X x) (Passed t) receiver) → OperandIs ⊥ x (N receiver) (occ (cells g.items true receiver))) → ((ts : List TyId) → Holds (typing.arguments (X x) ts args) → OperandsAre ⊥ x (lower.lower_all F args) (occ (all_cells g.items args))) →
+      Holds (typing.first_and_rest (λ t. typing.typed (X x) (Passed t) receiver) (λ ts. typing.arguments (X x) ts args) tys) → OperandsAre ⊥ x (N receiver ∷ lower.lower_all F args) (occ (cells g.items true receiver ++ all_cells g.items args))
   receiver_given x receiver args [] one rest h = absurd (untrue h)
-  receiver_given x receiver args (ty ∷ tys) one rest h = more_of x (N receiver) (lower.lower_all F args) (cells g.items true receiver) (all_cells g.items args) (one ty h.0) (rest tys h.1)
+  receiver_given x receiver args (ty ∷ tys) one rest h = more_of ⊥ x (N receiver) (lower.lower_all F args) (cells g.items true receiver) (all_cells g.items args) (one ty h.0) (rest tys h.1)
 
   -- a `let` whose pattern takes a place apart
   pub parts_let : (x : Context) (p v : Node) (h : NodeHead) → Child x v (N v) → (m : Matched) → Holds (patterns.pattern g.items m (ty_of p) p) → types.fits g.items (ty_of p) (ty_of v) ≡ true → NotRef (ty_of v) → (not (scopes.is_place (form_of v)) || types.is_same (ty_of v) (ty_of p)) ≡ true → Cells (cells g.items true p) → Cells (reached_cells g.items v) → (a : LoopsAndGuards) → Around x a →

@@ -1,6 +1,6 @@
 -- The rules of `Lower` beside a local of a reference type: destinations, operands, what is around a node, and what a node
 -- is.
-use Rattle.std.proofs.Common.{◌≡◌, ◌⊎◌, inl, inr, ℕ, zero, suc, ◌+◌, ◌≤◌, ◌==◌, Bool, true, false, List, [], ◌∷◌, ◌++◌, length, Option, Some, None, slice_get, cond, if◌then◌else◌, refl, sym, ap, subst, ◌∙◌, arith}
+use Rattle.std.proofs.Common.{◌≡◌, ◌⊎◌, inl, inr, ℕ, zero, suc, ◌+◌, ◌≤◌, ◌==◌, Bool, true, false, List, [], ◌∷◌, ◌++◌, length, map, Option, Some, None, slice_get, cond, if◌then◌else◌, refl, sym, ap, subst, ◌∙◌, arith}
 use Rattle.std.proofs.lemmas.Bool.{eqb-true}
 use Rattle.std.proofs.lemmas.Option.{same_Some}
 use Rattle.std.specs.Prelude.{is_some, option_and_then}
@@ -23,6 +23,7 @@ use Rattle.src_meaning.specs.Shape.{NodeHead, BoundName, Aliases, place_of_key, 
 use Rattle.well_typed.specs.Places as scopes
 use Rattle.well_typed.specs.Places.{InScope, LoopAround, Context, with_entries, within, entry_with, loop_with, ty_of, form_of}
 use Rattle.well_typed.specs.Types as types
+use Rattle.lower_rules.specs.Build as build
 use Rattle.lower_rules.specs.Build.{LoweringFrame, Lowers, change, from_changed, then_lower, taken}
 use Rattle.lower_rules.specs.Lower as lower
 use Rattle.lower_rules.specs.Lower.{Evaluates, Reaches, NodeLower}
@@ -34,6 +35,7 @@ use Rattle.lower_laws.proofs.Names as names
 use Rattle.lower_laws.proofs.Rules as rules
 use Rattle.lower_ready.proofs.Once as once
 use Rattle.lower_ready.proofs.Once.{About}
+use Rattle.lower_ready.proofs.OnceUses.{AllWhole}
 use Rattle.lower_ready.proofs.OnceActs as on
 
 module _ (g : Ground) (L K : ℕ) (about : About g L K) (Q : Type 0) where
@@ -188,23 +190,23 @@ module _ (g : Ground) (L K : ℕ) (about : About g L K) (Q : Type 0) where
 
   -- an effect whose answer goes to a destination
   abbrev pub Answers : Type 0 → (EffectSite → Action) → Type 0
-  Answers H action = (id key : ℕ) → (key ≡ K → ⊥) → on.StoresWell g L K about Q (action (site_in id key)) × (H → Q → on.NamesNone g L K about Q (action (site_in id key)))
+  Answers H action = (id key : ℕ) → (key ≡ K → ⊥) → on.StoresWell g L K about Q (action (site_in id key)) × ((Q → on.UsesWell g L K about Q (action (site_in id key))) × (H → Q → on.NamesNone g L K about Q (action (site_in id key))))
 
   zero_zero : 0 + 0 ≤ 0
   zero_zero = let r : 0 + 0 ≤ 0 = omega arith in r
 
   pub delivered : (H : Type 0) (loops : List LoopAround) (n : ℕ) (h : NodeHead) (action : EffectSite → Action) (to : Destination) → Clear to → Answers H action → Once H loops (lower.deliver_at F n h action to) 0
-  delivered H loops n h action (Into key) d ok = on.acts g L K about Q H loops n (action (site_in h.id key)) (ok h.id key d).0 (ok h.id key d).1
+  delivered H loops n h action (Into key) d ok = on.acts g L K about Q H loops n (action (site_in h.id key)) (ok h.id key d).0 (ok h.id key d).1.0 (ok h.id key d).1.1
   delivered H loops n h action (Coerced key trait_no to) d ok =
       once.more g L K about Q H loops _ (0 + 0) 0 zero_zero
-      (once.and_then g L K about Q H loops _ _ 0 0 (on.acts g L K about Q H loops n (action (site_in h.id key)) (ok h.id key d.0).0 (ok h.id key d.0).1)
-      (λ e. on.acts g L K about Q H loops h.id (effects.Unsize (site_in h.id to) trait_no (moved h.id key)) (λ k e. d.1 k) (λ a q. (d.1, (d.0, tt)))))
+      (once.and_then g L K about Q H loops _ _ 0 0 (on.acts g L K about Q H loops n (action (site_in h.id key)) (ok h.id key d.0).0 (ok h.id key d.0).1.0 (ok h.id key d.0).1.1)
+      (λ e. on.acts g L K about Q H loops h.id (effects.Unsize (site_in h.id to) trait_no (moved h.id key)) (λ k e. d.1 k) (λ q. (d.1, (d.0, tt))) (λ a q. (d.1, (d.0, tt)))))
 
-  pub puts : (H : Type 0) (from : effects.Operand) → (H → Q → on.OperandAway g L K about Q from) → Answers H (λ site. effects.Put site from)
-  puts H from f id key h = (λ k e. h k, λ a q. (h, (f a q, tt)))
+  pub puts : (H : Type 0) (from : effects.Operand) → (Q → on.OperandAway g L K about Q from) → Answers H (λ site. effects.Put site from)
+  puts H from f id key h = (λ k e. h k, (λ q. (h, (f q, tt)), λ a q. (h, (f q, tt))))
 
   pub unit_put : (H : Type 0) (loops : List LoopAround) (h : NodeHead) (to : Destination) → Clear to → Once H loops (lower.put_unit F h to) 0
-  unit_put H loops h to d = delivered H loops h.id h (λ site. effects.Put site effects.UnitValue) to d (puts H effects.UnitValue (λ a q. tt))
+  unit_put H loops h to d = delivered H loops h.id h (λ site. effects.Put site effects.UnitValue) to d (puts H effects.UnitValue (λ q. tt))
 
   pub owned : (loops : List LoopAround) (h : NodeHead) (own : Bool) (P : Lowers) (m : ℕ) → Once Free loops P m → Once Free loops (lower.in_own_scope F h own P) m
   owned loops h true P m p = once.scoped g L K about Q Free loops h.id true P m p
@@ -344,27 +346,38 @@ module _ (g : Ground) (L K : ℕ) (about : About g L K) (Q : Type 0) where
   AnyKey [] = ⊥
   AnyKey (m ∷ ms) = OneKey m ⊎ AnyKey ms
 
-  abbrev pub OperandIs : Context → NodeLower → ℕ → Type 0
-  OperandIs x m o = (a : LoopsAndGuards) → Around x a → (t : Once Free x.loops (lower.operand F a m) o) × Keeps (lower.operand F a m) (OneKey m) t.count
+  -- where code has an end, none of its operands is made under the key of the local
+  abbrev pub Out : Lowers → Type 0 → Type 0
+  Out P M = P.has_end ≡ true → M → ⊥
 
-  abbrev pub OperandsAre : Context → List NodeLower → ℕ → Type 0
-  OperandsAre x ms o = (a : LoopsAndGuards) → Around x a → (t : Once Free x.loops (lower.operands F a ms) o) × Keeps (lower.operands F a ms) (AnyKey ms) t.count
+  -- an operand; one that is no argument of a call is made elsewhere
+  abbrev pub OperandIs : Type 0 → Context → NodeLower → ℕ → Type 0
+  OperandIs T x m o =
+      (a : LoopsAndGuards) → Around x a → (t : Once Free x.loops (lower.operand F a m) o) × Keeps (lower.operand F a m) (OneKey m) t.count × (T → Out (lower.operand F a m) (OneKey m))
 
-  pub operand_is : (x : Context) (n : Node) (m : NodeLower) → Child x n m → Cells (cells g.items true n) → Valued n → OperandIs x m (occ (cells g.items true n))
-  operand_is x n m c cs v a ar = (
+  abbrev pub OperandsAre : Type 0 → Context → List NodeLower → ℕ → Type 0
+  OperandsAre T x ms o =
+      (a : LoopsAndGuards) → Around x a → (t : Once Free x.loops (lower.operands F a ms) o) × Keeps (lower.operands F a ms) (AnyKey ms) t.count × (T → Out (lower.operands F a ms) (AnyKey ms))
+
+  pub operand_is : (T : Type 0) (x : Context) (n : Node) (m : NodeLower) → Child x n m → Cells (cells g.items true n) → Valued n → OperandIs T x m (occ (cells g.items true n))
+  operand_is T x n m c cs v a ar = (
     pended x.loops m.shape.in_destination innermost m.head _ (occ (cells g.items true n)) inner (entry_ok x n m c cs) (c.known.evaluates true cs v a ar false (Into m.head.id) (dest_own x n m c cs)),
-    λ e k z. out x n m c cs v a ar false (Into m.head.id) (and_first (m.evaluates a false (Into m.head.id)).has_end true e) k,
+    λ e k z. other e k,
+    λ t e k. other e k,
   )
+    where
+      other : (lower.operand F a m).has_end ≡ true → OneKey m → ⊥
+      other e k = out x n m c cs v a ar false (Into m.head.id) (and_first (m.evaluates a false (Into m.head.id)).has_end true e) k
 
-  pub no_operand : (x : Context) → OperandsAre x [] 0
-  no_operand x a ar = (once.nothing_done g L K about Q Free x.loops, λ e m z. m)
+  pub no_operand : (T : Type 0) (x : Context) → OperandsAre T x [] 0
+  no_operand T x a ar = (once.nothing_done g L K about Q Free x.loops, λ e m z. m, λ t e m. m)
 
-  pub an_operand : (x : Context) (m : NodeLower) (ms : List NodeLower) (o r : ℕ) → OperandIs x m o → OperandsAre x ms r → OperandsAre x (m ∷ ms) (o + r)
-  an_operand x m ms o r one rest a ar =
+  pub an_operand : (T : Type 0) (x : Context) (m : NodeLower) (ms : List NodeLower) (o r : ℕ) → OperandIs T x m o → OperandsAre T x ms r → OperandsAre T x (m ∷ ms) (o + r)
+  an_operand T x m ms o r one rest a ar =
       let p = one a ar in
       let q = rest a ar in
-      once.then_kept g L K about Q Free (OneKey m) (AnyKey ms) (AnyKey (m ∷ ms)) (λ k. k) x.loops (lower.operand F a m) (lower.operands F a ms) o r p.0 p.1
-      (λ e. (once_given q.0 (p.0.count ≡ 0), kept_given q.0 (p.0.count ≡ 0) q.1))
+      let k = once.then_kept g L K about Q Free (OneKey m) (AnyKey ms) (AnyKey (m ∷ ms)) (λ k. k) x.loops (lower.operand F a m) (lower.operands F a ms) o r p.0 p.1
+      (λ e. (once_given q.0 (p.0.count ≡ 0), kept_given q.0 (p.0.count ≡ 0) q.1)) in (k.0, k.1, λ t e any. neither (p.2 t (and_first _ _ e)) (q.2 t (and_second (lower.operand F a m).has_end _ e)) any)
     where
       once_given : {P : Lowers} {z : ℕ} → Once Free x.loops P z → (H : Type 0) → Once (Free × H) x.loops P z
       once_given {P} {z} q H = record { count = q.count; adds = q.adds; bound = q.bound; plain = q.plain; quiet = λ h k e. q.quiet tt k e; stays = q.stays }
@@ -372,31 +385,41 @@ module _ (g : Ground) (L K : ℕ) (about : About g L K) (Q : Type 0) where
       kept_given : {P : Lowers} {z : ℕ} (q : Once Free x.loops P z) (H : Type 0) → Keeps P (AnyKey ms) q.count → Keeps P (AnyKey ms) q.count
       kept_given q H k = k
 
-  pub more_operands : (x : Context) (ms : List NodeLower) (o r : ℕ) → o ≤ r → OperandsAre x ms o → OperandsAre x ms r
-  more_operands x ms o r le os a ar =
+      neither : (OneKey m → ⊥) → (AnyKey ms → ⊥) → AnyKey (m ∷ ms) → ⊥
+      neither f h (inl k) = f k
+      neither f h (inr k) = h k
+
+  pub more_operands : (T : Type 0) (x : Context) (ms : List NodeLower) (o r : ℕ) → o ≤ r → OperandsAre T x ms o → OperandsAre T x ms r
+  more_operands T x ms o r le os a ar =
       let p = os a ar in (
         record { count = p.0.count; adds = p.0.adds; bound = (let b = p.0.bound in let z : p.0.count ≤ r = omega (b, le, arith) in z); plain = p.0.plain; quiet = p.0.quiet; stays = p.0.stays },
         p.1,
+        p.2,
       )
 
   pub all_away : (n : ℕ) (ms : List NodeLower) → (AnyKey ms → ⊥) → on.AllAway g L K about Q (lower.all_moved n ms)
   all_away n [] h = tt
   all_away n (m ∷ ms) h = (λ k. h (inl k), all_away n ms (λ k. h (inr k)))
 
-  pub acting : (x : Context) (h : NodeHead) (a : LoopsAndGuards) (own : Bool) (ms : List NodeLower) (o : ℕ) → OperandsAre x ms o → Around x a → (P : Lowers) → ((H : Type 0) → (H → AnyKey ms → ⊥) → Once H x.loops P 0) → Once Free x.loops (lower.acting F h a own ms P) o
-  acting x h a own ms o os ar P p =
+  -- operands are whole locals
+  pub all_whole : (n : ℕ) (ms : List NodeLower) → AllWhole (map (build.operand_of F) (lower.all_moved n ms))
+  all_whole n [] = tt
+  all_whole n (m ∷ ms) = (refl, all_whole n ms)
+
+  pub acting : (T : Type 0) (x : Context) (h : NodeHead) (a : LoopsAndGuards) (own : Bool) (ms : List NodeLower) (o : ℕ) → OperandsAre T x ms o → Around x a → (P : Lowers) → ((H : Type 0) → (H → AnyKey ms → ⊥) → (T → AnyKey ms → ⊥) → Once H x.loops P 0) → Once Free x.loops (lower.acting F h a own ms P) o
+  acting T x h a own ms o os ar P p =
       let t = os a ar in
       once.scoped g L K about Q Free x.loops h.id own _ o
       (once.more g L K about Q Free x.loops _ (o + 0) o (no_more o)
       (once.then_given g L K about Q Free x.loops (lower.operands F a ms) (from_changed (taken F (lower.keys_of ms)) P) o 0 t.0
-      (λ e. once.changed g L K about Q (Free × (t.0.count ≡ 0)) x.loops (taken F (lower.keys_of ms)) P 0 (λ b S k. lines.taken_ok F (W b) (lower.keys_of ms) S k) (p (Free × (t.0.count ≡ 0)) (λ h any. t.1 e any h.1)))))
+      (λ e. once.changed g L K about Q (Free × (t.0.count ≡ 0)) x.loops (taken F (lower.keys_of ms)) P 0 (λ b S k. lines.taken_ok F (W b) (lower.keys_of ms) S k) (p (Free × (t.0.count ≡ 0)) (λ h any. t.1 e any h.1) (λ z any. t.2 z e any)))))
 
   -- ---- names that are bound
   pub binds : (loops : List LoopAround) (in_that : (Scope → Scope) → Scopes → Scopes) → InAll in_that → (bounds : List BoundName) → BoundsWell bounds → Once Free loops (lower.bind F in_that bounds) 0
   binds loops in_that keeps [] h = once.nothing_done g L K about Q Free loops
   binds loops in_that keeps (b ∷ bounds) h =
       once.more g L K about Q Free loops _ (0 + 0) 0 zero_zero
-      (once.and_then g L K about Q Free loops _ _ 0 0 (on.acts g L K about Q Free loops b.key (effects.Put (site_of_key b.key) (operand_of_bound b)) (λ k e. h.0.0 k) (λ a q. (h.0.0, (takes b.takes (h.0.1.0 q), tt))))
+      (once.and_then g L K about Q Free loops _ _ 0 0 (on.acts g L K about Q Free loops b.key (effects.Put (site_of_key b.key) (operand_of_bound b)) (λ k e. h.0.0 k) (λ q. (h.0.0, (takes b.takes (h.0.1.0 q), tt))) (λ a q. (h.0.0, (takes b.takes (h.0.1.0 q), tt))))
       (λ e. once.changed g L K about Q Free loops (in_that (with_entry (bound_entry b))) _ 0 (λ z S o. keeps z (with_entry (bound_entry b)) (lines.entry_keeps F (W z) (bound_entry b) (λ d. h.0.0)) S o) (binds loops in_that keeps bounds h.1)))
     where
       takes : (t : Bool) → on.Away g L K about Q b.site.place → on.OperandAway g L K about Q (copied_or_moved t b.site)

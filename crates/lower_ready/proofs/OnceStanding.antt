@@ -86,11 +86,11 @@ module _ (g : Ground) (L K : ℕ) (about : About g L K) (Q : Type 0) where
   abbrev occ : List Entry → ℕ
   occ es = by_rule.occ g L K about Q es
 
-  abbrev OperandIs : Context → NodeLower → ℕ → Type 0
-  OperandIs x m o = by_rule.OperandIs g L K about Q x m o
+  abbrev OperandIs : Type 0 → Context → NodeLower → ℕ → Type 0
+  OperandIs T x m o = by_rule.OperandIs g L K about Q T x m o
 
-  abbrev OperandsAre : Context → List NodeLower → ℕ → Type 0
-  OperandsAre x ms o = by_rule.OperandsAre g L K about Q x ms o
+  abbrev OperandsAre : Type 0 → Context → List NodeLower → ℕ → Type 0
+  OperandsAre T x ms o = by_rule.OperandsAre g L K about Q T x ms o
 
   abbrev more : (loops : List LoopAround) (P : Lowers) (m n : ℕ) → m ≤ n → Once Free loops P m → Once Free loops P n
   more loops P m n le p = once.more g L K about Q Free loops P m n le p

@@ -22,9 +22,9 @@ use Rattle.move_errors.proofs.Pathways.{in-map, in-flat}
 use Rattle.move_errors.proofs.Sorted.{none-in}
 use Rattle.lower_rules.proofs.Simulation.{Walks}
 use Rattle.lower_rules.specs.Spots.{CodeTarget}
-use Rattle.lower_ready.proofs.Noting.{Note, before, tested, may_panic, Watched, left_of, choice, looked, acts_by, needs_at, watching}
+use Rattle.lower_ready.proofs.Noting.{Note, Sees, is_call, before, tested, may_panic, Watched, left_of, choice, looked, acts_by, needs_at, watching}
 use Rattle.lower_ready.proofs.PathWatch as watch
-use Rattle.lower_ready.proofs.PathWatch.{as_notes, both_are, stmt_notes, is_statement, stores_never, never_stored, lines_seen, block_seen, between, way_seen, path_seen}
+use Rattle.lower_ready.proofs.PathWatch.{as_notes, both_are, stmt_notes, is_statement, stores_never, never_stored, lines_seen, calls, block_seen, between, way_seen, path_seen}
 use Rattle.lower_ready.proofs.PathWays.{goto_way, goto_seen, makes_never, term_way}
 
 -- ---- what goes on on paths goes on in runs
@@ -53,8 +53,9 @@ shorter : {X : Type 0} (xs ys : List X) (m : ℕ) → length (xs ++ ys) ≤ m �
 shorter [] ys m h = h
 shorter (x ∷ xs) ys m h = shorter xs ys m (omega (h, arith))
 
-module _ {M : Type 0} (t : CodeTarget) (see : List Note → M → M) (Bad : M → Type 0)
-    (stays : (notes : List Note) (m : M) → Bad m → Bad (see notes m)) (none_seen : (m : M) → see [] m ≡ m)
+module _ {M : Type 0} (t : CodeTarget) (see : Sees M) (Bad : M → Type 0)
+    (stays : (call : Bool) (notes : List Note) (m : M) → Bad m → Bad (see call notes m))
+    (none_seen : (m : M) → see false [] m ≡ m)
     (name : Halt → Halt) (bound : ℕ) (Walk : Next (Watched M))
     (walks : Walks t (naming name (watching t.items (slice_get t.body.locals) see)) left_of bound Walk)
     (walk_stays : (n : ℕ) → watch.Keeps t.items (slice_get t.body.locals) see Bad stays (Walk n))
@@ -79,31 +80,33 @@ module _ {M : Type 0} (t : CodeTarget) (see : List Note → M → M) (Bad : M �
 
   -- ---- the last terminator of a path
 
-  so_used : (uses notes : List Note) (m : M) → uses ≡ notes → Bad (see notes m) → Bad (see uses m)
-  so_used uses notes m e b = subst (λ (z : List Note). Bad (see z m)) (sym e) b
+  so_used : (call : Bool) (uses notes : List Note) (m : M) → uses ≡ notes → Bad (see call notes m) →
+      Bad (see call uses m)
+  so_used call uses notes m e b = subst (λ (z : List Note). Bad (see call z m)) (sym e) b
 
   used : (a : effects.Action) (to : ℕ) (u : Unwind) (w : Watched M) (notes : List Note) → before a ≡ notes →
-      Bad (see notes w.seen) →
+      Bad (see (is_call a) notes w.seen) →
       EndsBad (acts
       (renamed name (halting_if (stores_where (never_at items ty) a) Unreachable
       (acts_by items ty see true a w))) Walk to u)
   used a to u w notes e b =
       watch.acts_on items ty see Bad stays name Walk walk_stays _ to u
       (watch.halting_bad items ty see Bad stays (stores_where (never_at items ty) a)
-      (acts_by items ty see true a w) (watch.used_bad items ty see Bad stays a w (so_used (before a) notes w.seen e b)))
+      (acts_by items ty see true a w) (watch.used_bad items ty see Bad stays a w (so_used (is_call a)
+      (before a) notes w.seen e b)))
 
-  term_last : (n : ℕ) (term : Term) (w : Watched M) → Bad (see (as_notes (term_uses term)) w.seen) →
+  term_last : (n : ℕ) (term : Term) (w : Watched M) → Bad (see (calls term) (as_notes (term_uses term)) w.seen) →
       EndsBad (term_does q n term Walk w)
   term_last n (Term.Goto m) w b = walk_stays m w (subst Bad (none_seen w.seen) b)
   term_last n (Term.If on y z) w b =
       watch.branch_bad items ty see Bad stays (q.choose (effects.IsTrue (operand_of n on)) w) (Walk y) (Walk z)
       (watch.renamed_choice_bad items ty see Bad stays name (p.choose (effects.IsTrue (operand_of n on)) w)
-      (watch.chosen_bad items ty see Bad stays w.choices (see (tested (effects.IsTrue (operand_of n on))) w.seen)
-      (so_used _ _ w.seen (both_are n (on ∷ []) []) b))) (walk_stays y) (walk_stays z)
+      (watch.chosen_bad items ty see Bad stays w.choices (see false (tested (effects.IsTrue (operand_of n on))) w.seen)
+      (so_used false _ _ w.seen (both_are n (on ∷ []) []) b))) (walk_stays y) (walk_stays z)
   term_last n (Term.Case on variant y z) w b =
       watch.branch_bad items ty see Bad stays (q.choose (effects.HasVariant (site_of n on) variant) w) (Walk y) (Walk z)
       (watch.renamed_choice_bad items ty see Bad stays name (p.choose (effects.HasVariant (site_of n on) variant) w)
-      (watch.chosen_bad items ty see Bad stays w.choices (see (tested (effects.HasVariant (site_of n on) variant))
+      (watch.chosen_bad items ty see Bad stays w.choices (see false (tested (effects.HasVariant (site_of n on) variant))
       w.seen) b))
       (walk_stays y) (walk_stays z)
   term_last n (Term.Math to op l r next u) w b =
@@ -236,12 +239,13 @@ module _ {M : Type 0} (t : CodeTarget) (see : List Note → M → M) (Bad : M �
   pub follow : (path : List ℕ) → Follows path
   follow [] n block there given left has w e l b =
       stmts_follow (t.node n) 0 block.stmts block.term (goes.lasts n block there)
-      (term_does q (t.node n (length block.stmts)) block.term Walk) (λ m. see (as_notes (term_uses block.term)) m)
-      (λ is m. subst (λ (x : Term). see (as_notes (term_uses x)) m ≡ m) (sym is) (none_seen m)) w b_here
+      (term_does q (t.node n (length block.stmts)) block.term Walk) (λ m. see (calls block.term) (as_notes
+      (term_uses block.term)) m)
+      (λ is m. subst (λ (x : Term). see (calls x) (as_notes (term_uses x)) m ≡ m) (sym is) (none_seen m)) w b_here
       (λ v seen left_so. term_last (t.node n (length block.stmts)) block.term v
-      (subst (λ (m : M). Bad (see (as_notes (term_uses block.term)) m)) (sym seen) b_here))
+      (subst (λ (m : M). Bad (see (calls block.term) (as_notes (term_uses block.term)) m)) (sym seen) b_here))
     where
-      b_here : Bad (see (as_notes (term_uses block.term)) (lines_seen see block.stmts w.seen))
+      b_here : Bad (see (calls block.term) (as_notes (term_uses block.term)) (lines_seen see block.stmts w.seen))
       b_here = subst (λ (o : Option Block). Bad (block_seen see o w.seen)) there b
   follow (k ∷ path) n block there given left has w e l b =
       stmts_follow (t.node n) 0 block.stmts block.term (goes.lasts n block there)
@@ -254,7 +258,8 @@ module _ {M : Type 0} (t : CodeTarget) (see : List Note → M → M) (Bad : M �
       (shorter one.0 (entry_choices items body k ++ (two.0 ++ left)) bound
       (subst (λ (z : List Bool). length z ≤ bound) list l)))
       (subst (λ (m : M). Bad (path_seen see body k path m))
-      (ap (λ (m : M). between see block.term k (see (as_notes (term_uses block.term)) m)) (sym seen) ∙ sym saw)
+      (ap (λ (m : M). between see block.term k (see (calls block.term) (as_notes (term_uses block.term)) m))
+      (sym seen) ∙ sym saw)
       b_here)))
     where
       one : (c : List Bool) × Contains (choices_between items body n k) c
@@ -277,7 +282,8 @@ module _ {M : Type 0} (t : CodeTarget) (see : List Note → M → M) (Bad : M �
           ∙ append_assoc one.0 (entry_choices items body k) (two.0 ++ left)
 
       after : M → M
-      after m = path_seen see body k path (between see block.term k (see (as_notes (term_uses block.term)) m))
+      after m = path_seen see body k path (between see block.term k (see (calls block.term) (as_notes
+          (term_uses block.term)) m))
 
       b_here : Bad (after (lines_seen see block.stmts w.seen))
       b_here =
@@ -289,7 +295,7 @@ module _ {M : Type 0} (t : CodeTarget) (see : List Note → M → M) (Bad : M �
           let here = subst (λ (x : Term). Contains (flat_map (choices_to items body k) (ways items body x)) one.0) is
           way in
           let to = goto_way items body see Bad none_seen name Walk 1 k one.0 here in
-          ap (λ (x : Term). path_seen see body k path (between see x k (see (as_notes (term_uses x)) m))) is
+          ap (λ (x : Term). path_seen see body k path (between see x k (see (calls x) (as_notes (term_uses x)) m))) is
           ∙ ap (path_seen see body k path) (goto_seen items body see Bad none_seen name Walk 1 k m)
           ∙ subst (λ (z : ℕ). Along z path two.0 → path_seen see body z path m ≡ m) to (returned path two.0 m) two.1
 

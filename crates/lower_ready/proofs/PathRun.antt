@@ -1,6 +1,6 @@
 -- What a watch sees of a path of a lowered body it sees of the run of the source that is given the choices of the path,
 -- over effects that only look.
-use Rattle.std.proofs.Common.{◌≡◌, ℕ, zero, suc, Bool, true, List, [], ◌∷◌, ◌++◌, length, Option, slice_get, Contains, refl, sym, ap, subst, ◌∙◌, arith}
+use Rattle.std.proofs.Common.{◌≡◌, ℕ, zero, suc, Bool, true, false, List, [], ◌∷◌, ◌++◌, length, Option, slice_get, Contains, refl, sym, ap, subst, ◌∙◌, arith}
 use Rattle.std.proofs.lemmas.List.{append-nil}
 use Rattle.cfg_graph.specs.declared.graph.Body.{Body}
 use Rattle.cfg_graph.specs.declared.statement.Stmt.{Stmt}
@@ -23,15 +23,16 @@ use Rattle.lower_rules.proofs.FreeWalks.{renamed_no_unwind, renamed_not_on, halt
 use Rattle.lower_rules.proofs.Simulation.{NoUnwind, Settled, Walks, body_runs}
 use Rattle.lower_rules.proofs.WalksOfBodies.{Walk, walks}
 use Rattle.lower_rules.specs.CodeLaws.{without_place, target_of, HoldsBody}
-use Rattle.lower_ready.proofs.Noting.{Note, may_panic, Watched, left_of, acts_by, watching, watching_laws}
+use Rattle.lower_ready.proofs.Noting.{Note, Sees, may_panic, Watched, left_of, acts_by, watching, watching_laws}
 use Rattle.lower_ready.proofs.PathFollow as following
 use Rattle.lower_ready.proofs.PathFollow.{GoesOn}
 use Rattle.lower_ready.proofs.PathWatch as watch
 use Rattle.lower_ready.proofs.PathWatch.{is_statement, path_seen}
 
 module _ {M : Type 0} (items : ItemTable) (tree : BodyTree) (body : Body) (node : ℕ → ℕ → ℕ)
-    (holds : HoldsBody items tree body node) (goes : GoesOn items body) (see : List Note → M → M) (Bad : M → Type 0)
-    (stays : (notes : List Note) (m : M) → Bad m → Bad (see notes m)) (none_seen : (m : M) → see [] m ≡ m) where
+    (holds : HoldsBody items tree body node) (goes : GoesOn items body) (see : Sees M) (Bad : M → Type 0)
+    (stays : (call : Bool) (notes : List Note) (m : M) → Bad m → Bad (see call notes m))
+    (none_seen : (m : M) → see false [] m ≡ m) where
   abbrev ty : ℕ → Option TyId
   ty = slice_get body.locals
 

@@ -22,7 +22,7 @@ use Rattle.cfg_graph.specs.Places.{named, ty_of_place}
 use Rattle.cfg_graph.specs.Uses.{PlaceUse, Stores, Drops, operand_uses, other_uses, stmt_uses, term_uses, stored_by_stmt, stored_by_term}
 use Rattle.cfg_meaning.specs.Actions.{site_of, operand_of, operands_of, action_of, mode_of}
 use Rattle.cfg_meaning.specs.Walk.{Next, stuck_in, ◌>>=◌, fork, branch, renamed, renamed_choice, naming, unwinding, stmts_do, acts, term_does, block_does, by_kind, if_there, does_block, does_turn, blocks, turns, walk, from_rank, rank_at}
-use Rattle.lower_ready.proofs.Noting.{Note, operand_notes, before, stored, tested, may_panic, Watched, choice, chosen, unwound, looked, acts_by, drops_by, needs_at, watching}
+use Rattle.lower_ready.proofs.Noting.{Note, Sees, is_call, operand_notes, before, stored, tested, may_panic, Watched, choice, chosen, unwound, looked, acts_by, drops_by, needs_at, watching}
 
 -- ---- the uses of a line as notes
 
@@ -121,22 +121,28 @@ module _ (items : ItemTable) (locals : List TyId) where
   never_stored n (Stmt.Forget operand) = refl
   never_stored n (Stmt.Free place) = refl
 
+-- a terminator that is a call
+abbrev pub calls : Term → Bool
+calls (Term.Call to body args next unwind) = true
+calls (Term.Virtual to trait_no method args next unwind) = true
+calls term = false
+
 -- ---- what a watch sees of a path
 
-module _ {M : Type 0} (see : List Note → M → M) where
+module _ {M : Type 0} (see : Sees M) where
   abbrev pub lines_seen : List Stmt → M → M
   lines_seen [] m = m
-  lines_seen (stmt ∷ stmts) m = lines_seen stmts (see (as_notes (stmt_uses stmt)) m)
+  lines_seen (stmt ∷ stmts) m = lines_seen stmts (see false (as_notes (stmt_uses stmt)) m)
 
   -- a block, up to a way out of it; and what is stored on the way to the next one
   abbrev pub block_seen : Option Block → M → M
   block_seen None m = m
-  block_seen (Some block) m = see (as_notes (term_uses block.term)) (lines_seen block.stmts m)
+  block_seen (Some block) m = see (calls block.term) (as_notes (term_uses block.term)) (lines_seen block.stmts m)
 
   abbrev pub between : Term → ℕ → M → M
   between term next m =
       if list_any (nat_eq next) (onward term)
-      then see (as_notes (map (λ place. (Stores, place)) (stored_by_term term))) m
+      then see false (as_notes (map (λ place. (Stores, place)) (stored_by_term term))) m
       else m
 
   abbrev pub way_seen : Option Block → ℕ → M → M
@@ -150,8 +156,8 @@ module _ {M : Type 0} (see : List Note → M → M) where
 
 -- ---- what has been seen stays seen
 
-module _ {M : Type 0} (items : ItemTable) (ty : ℕ → Option TyId) (see : List Note → M → M) (Bad : M → Type 0)
-    (stays : (notes : List Note) (m : M) → Bad m → Bad (see notes m)) where
+module _ {M : Type 0} (items : ItemTable) (ty : ℕ → Option TyId) (see : Sees M) (Bad : M → Type 0)
+    (stays : (call : Bool) (notes : List Note) (m : M) → Bad m → Bad (see call notes m)) where
   abbrev pub EndsBad : Out (Watched M) → Type 0
   EndsBad (Go w) = Bad w.seen
   EndsBad (Unwinds w) = Bad w.seen
@@ -188,15 +194,16 @@ module _ {M : Type 0} (items : ItemTable) (ty : ℕ → Option TyId) (see : List
   halting_bad false (Halts halt w) b = b
 
   -- a terminator, from what it uses on
-  pub used_bad : (action : Action) (w : Watched M) → Bad (see (before action) w.seen) →
+  pub used_bad : (action : Action) (w : Watched M) → Bad (see (is_call action) (before action) w.seen) →
       EndsBad (acts_by items ty see true action w)
   used_bad action w b =
-      choice_bad w.choices (see (before action) w.seen) (λ v. Go (looked items ty see (stored action) v)) Unwinds b
-      (λ v c. stays (stored action) v.seen c) (λ v c. c)
+      choice_bad w.choices (see (is_call action) (before action) w.seen) (λ v. Go (looked items ty see
+      (stored action) v)) Unwinds b
+      (λ v c. stays false (stored action) v.seen c) (λ v c. c)
 
   acts_bad : (x : Bool) (action : Action) (w : Watched M) → Bad w.seen → EndsBad (acts_by items ty see x action w)
-  acts_bad false action w b = stays (before action ++ stored action) w.seen b
-  acts_bad true action w b = used_bad action w (stays (before action) w.seen b)
+  acts_bad false action w b = stays false (before action ++ stored action) w.seen b
+  acts_bad true action w b = used_bad action w (stays (is_call action) (before action) w.seen b)
 
   act_bad : (action : Action) → Keeps (p.act action)
   act_bad action w b =
@@ -214,7 +221,7 @@ module _ {M : Type 0} (items : ItemTable) (ty : ℕ → Option TyId) (see : List
   drop_bad : (mode : Mode) (site : EffectSite) → Keeps (p.drop mode site)
   drop_bad mode site w b =
       drops_bad (needs_at items ty see site) mode (looked items ty see ((Drops, site.place) ∷ []) w)
-      (stays ((Drops, site.place) ∷ []) w.seen b)
+      (stays false ((Drops, site.place) ∷ []) w.seen b)
 
   -- ---- along a walk
 
@@ -264,11 +271,12 @@ module _ {M : Type 0} (items : ItemTable) (ty : ℕ → Option TyId) (see : List
     term_bad node (Term.If on y n) w b =
         branch_bad (q.choose (effects.IsTrue (operand_of node on)) w) (next y) (next n)
         (renamed_choice_bad name (p.choose (effects.IsTrue (operand_of node on)) w)
-        (chosen_bad w.choices _ (stays (tested (effects.IsTrue (operand_of node on))) w.seen b))) (k y) (k n)
+        (chosen_bad w.choices _ (stays false (tested (effects.IsTrue (operand_of node on))) w.seen b))) (k y) (k n)
     term_bad node (Term.Case on variant y n) w b =
         branch_bad (q.choose (effects.HasVariant (site_of node on) variant) w) (next y) (next n)
         (renamed_choice_bad name (p.choose (effects.HasVariant (site_of node on) variant) w)
-        (chosen_bad w.choices _ (stays (tested (effects.HasVariant (site_of node on) variant)) w.seen b))) (k y) (k n)
+        (chosen_bad w.choices _ (stays false (tested (effects.HasVariant (site_of node on) variant)) w.seen b))) (k y)
+        (k n)
     term_bad node (Term.Math to op l r onward u) w b =
         let a = effects.Compute (site_of node to) op (operand_of node l) (operand_of node r) in
         acts_on (p.act a w) onward u (act_bad a w b)

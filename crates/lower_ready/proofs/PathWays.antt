@@ -20,8 +20,8 @@ use Rattle.cfg_graph.specs.Uses.{term_uses}
 use Rattle.cfg_meaning.specs.Actions.{site_of, operand_of, operands_of, mode_of}
 use Rattle.cfg_meaning.specs.Walk.{Next, branch, renamed, renamed_choice, naming, unwinding, acts, term_does}
 use Rattle.move_errors.proofs.Sorted.{none-in, first-or}
-use Rattle.lower_ready.proofs.Noting.{Note, before, stored, Watched, choice, chosen, unwound, looked, drops_by, watching}
-use Rattle.lower_ready.proofs.PathWatch.{as_notes, both_are, between}
+use Rattle.lower_ready.proofs.Noting.{Note, Sees, is_call, before, stored, Watched, choice, chosen, unwound, looked, drops_by, watching}
+use Rattle.lower_ready.proofs.PathWatch.{as_notes, both_are, calls, between}
 
 -- ---- members of short lists
 
@@ -44,8 +44,8 @@ makes_never items body (Term.Negate to of next unwind) = is_never (ty_of_place i
 makes_never items body (Term.Ask to next unwind) = is_never (ty_of_place items body.locals to)
 makes_never items body term = false
 
-module _ {M : Type 0} (items : ItemTable) (body : Body) (see : List Note → M → M) (Bad : M → Type 0)
-    (none_seen : (m : M) → see [] m ≡ m) (name : Halt → Halt) (Walk : Next (Watched M)) where
+module _ {M : Type 0} (items : ItemTable) (body : Body) (see : Sees M) (Bad : M → Type 0)
+    (none_seen : (m : M) → see false [] m ≡ m) (name : Halt → Halt) (Walk : Next (Watched M)) where
   abbrev p : Effects (Watched M)
   p = watching items (slice_get body.locals) see
 
@@ -98,7 +98,7 @@ module _ {M : Type 0} (items : ItemTable) (body : Body) (see : List Note → M �
   same_choices : (list given taken rest : List Bool) → list ≡ given ++ rest → taken ≡ given → list ≡ taken ++ rest
   same_choices list given taken rest e d = e ∙ ap (λ (z : List Bool). z ++ rest) (sym d)
 
-  no_store : (c : Bool) (m : M) → (if c then see [] m else m) ≡ m
+  no_store : (c : Bool) (m : M) → (if c then see false [] m else m) ≡ m
   no_store true m = none_seen m
   no_store false m = refl
 
@@ -106,7 +106,7 @@ module _ {M : Type 0} (items : ItemTable) (body : Body) (see : List Note → M �
 
   forward : (s : M) (stores : List Note) (list rest : List Bool) → list ≡ false ∷ rest → (never : Bool) →
       never ≡ false →
-      (k : ℕ) (u : Unwind) → Ahead k rest (see stores s) →
+      (k : ℕ) (u : Unwind) → Ahead k rest (see false stores s) →
       EndsBad (acts (renamed name (halting_if never Unreachable
       (choice list s (λ v. Go (looked items (slice_get body.locals) see stores v)) Unwinds))) Walk k u)
   forward s stores list rest e never f k u ahead =
@@ -115,7 +115,7 @@ module _ {M : Type 0} (items : ItemTable) (body : Body) (see : List Note → M �
       (subst (λ (x : Bool). EndsBad (acts (renamed name (halting_if x Unreachable
       (choice (false ∷ rest) s (λ v. Go (looked items (slice_get body.locals) see stores v)) Unwinds))) Walk k u))
       (sym f)
-      (ahead (record { seen = see stores s; choices = rest }) refl refl))
+      (ahead (record { seen = see false stores s; choices = rest }) refl refl))
 
   backward : (s : M) (goes : Watched M → Out (Watched M)) (list rest : List Bool) → list ≡ true ∷ rest →
       (never : Bool) →
@@ -137,29 +137,34 @@ module _ {M : Type 0} (items : ItemTable) (body : Body) (see : List Note → M �
   acts_way : (a : Action) (never : Bool) (to : ℕ) (u : Unwind) (uses : List Note) (k : ℕ) (given rest : List Bool)
       (w : Watched M) → before a ≡ uses → Forward never to k given ⊎ Backward u k given → Apart to u k →
       w.choices ≡ given ++ rest →
-      Ahead k rest (if (nat_eq k to || false) then see (stored a) (see uses w.seen) else see uses w.seen) →
-      EndsBad (acts (renamed name (halting_if never Unreachable (choice w.choices (see (before a) w.seen)
+      Ahead k rest (if (nat_eq k to || false) then see false (stored a) (see (is_call a) uses w.seen) else see
+      (is_call a) uses w.seen) →
+      EndsBad (acts (renamed name (halting_if never Unreachable (choice w.choices (see (is_call a) (before a) w.seen)
       (λ v. Go (looked items (slice_get body.locals) see (stored a) v)) Unwinds))) Walk to u)
   acts_way a never to u uses k given rest w is (inl f) apart e ahead =
       let t = to_there (false ∷ []) to k given f.0 in
       subst (λ (z : ℕ). EndsBad (acts (renamed name (halting_if never Unreachable
-      (choice w.choices (see (before a) w.seen)
+      (choice w.choices (see (is_call a) (before a) w.seen)
       (λ v. Go (looked items (slice_get body.locals) see (stored a) v)) Unwinds))) Walk z u)) (sym t.0)
-      (forward (see (before a) w.seen) (stored a) w.choices rest
+      (forward (see (is_call a) (before a) w.seen) (stored a) w.choices rest
       (same_choices w.choices given (false ∷ []) rest e t.1) never f.1 k u
       (λ v seen left. ahead v
-      (seen ∙ ap (λ (z : List Note). see (stored a) (see z w.seen)) is
-      ∙ sym (ap (λ (c : Bool). if c then see (stored a) (see uses w.seen) else see uses w.seen) (self_eq k to t.0)))
+      (seen ∙ ap (λ (z : List Note). see false (stored a) (see (is_call a) z w.seen)) is
+      ∙ sym (ap (λ (c : Bool). if c then see false (stored a) (see (is_call a) uses w.seen) else see
+      (is_call a) uses w.seen) (self_eq k to t.0)))
       left))
   acts_way a never to u uses k given rest w is (inr b) apart e ahead =
       let t = to_unwind (true ∷ []) u k given b in
-      backward (see (before a) w.seen) (λ v. Go (looked items (slice_get body.locals) see (stored a) v)) w.choices rest
+      backward (see (is_call a) (before a) w.seen) (λ v. Go (looked items (slice_get body.locals) see
+      (stored a) v)) w.choices rest
       (same_choices w.choices given (true ∷ []) rest e t.1) never to k u t.0
-      (λ v seen left. ahead v (seen ∙ ap (λ (z : List Note). see z w.seen) is ∙ sym (other (nat_eq k to) refl t.0))
+      (λ v seen left. ahead v (seen ∙ ap (λ (z : List Note). see (is_call a) z w.seen) is ∙ sym (other
+      (nat_eq k to) refl t.0))
       left)
     where
       other : (c : Bool) → nat_eq k to ≡ c → u ≡ Unwind.Block k →
-          (if (c || false) then see (stored a) (see uses w.seen) else see uses w.seen) ≡ see uses w.seen
+          (if (c || false) then see false (stored a) (see (is_call a) uses w.seen) else see
+          (is_call a) uses w.seen) ≡ see (is_call a) uses w.seen
       other true f d = absurd (apart (sym (eqb-true k to f)) d)
       other false f d = refl
 
@@ -252,29 +257,33 @@ module _ {M : Type 0} (items : ItemTable) (body : Body) (see : List Note → M �
   goto_way b k given has =
       (to_there [] b k given (of_one (choices_to items body k (record { choices = []; exit = ToBlock b })) given has)).0
 
-  pub goto_seen : (b k : ℕ) (m : M) → between see (Term.Goto b) k (see (as_notes (term_uses (Term.Goto b))) m) ≡ m
-  goto_seen b k m = no_store (nat_eq k b || false) (see [] m) ∙ none_seen m
+  pub goto_seen : (b k : ℕ) (m : M) → between see (Term.Goto b) k (see (calls (Term.Goto b)) (as_notes (term_uses
+      (Term.Goto b))) m) ≡ m
+  goto_seen b k m = no_store (nat_eq k b || false) (see false [] m) ∙ none_seen m
 
   -- ---- terminators
 
   pub term_way : (n : ℕ) (term : Term) (k : ℕ) (given rest : List Bool) →
       Contains (flat_map (choices_to items body k) (ways items body term)) given → makes_never items body term ≡ false →
       (Contains (onward term) k → Contains (unwind_targets term) k → ⊥) → (w : Watched M) → w.choices ≡ given ++ rest →
-      Ahead k rest (between see term k (see (as_notes (term_uses term)) w.seen)) → EndsBad (term_does q n term Walk w)
+      Ahead k rest (between see term k (see (calls term) (as_notes (term_uses term)) w.seen)) → EndsBad
+      (term_does q n term Walk w)
   term_way n (Term.Goto b) k given rest has never apart w e ahead =
       let t = to_there [] b k given (of_one (choices_to items body k (record { choices = []; exit = ToBlock b }))
       given has) in
       subst (λ (z : ℕ). EndsBad (Walk z w)) (sym t.0)
-      (ahead w (sym (no_store (nat_eq k b || false) (see [] w.seen) ∙ none_seen w.seen))
+      (ahead w (sym (no_store (nat_eq k b || false) (see false [] w.seen) ∙ none_seen w.seen))
       (same_choices w.choices given [] rest e t.1))
   term_way n (Term.If on y z) k given rest has never apart w e ahead =
       chosen_way _ y z k given w.choices rest has e
-      (λ v seen left. ahead v (seen ∙ ap (λ (ns : List Note). see ns w.seen) (both_are n (on ∷ []) [])
-      ∙ sym (no_store (nat_eq k z || (nat_eq k y || false)) (see (as_notes (term_uses (Term.If on y z))) w.seen))) left)
+      (λ v seen left. ahead v (seen ∙ ap (λ (ns : List Note). see false ns w.seen) (both_are n (on ∷ []) [])
+      ∙ sym (no_store (nat_eq k z || (nat_eq k y || false)) (see (calls (Term.If on y z)) (as_notes (term_uses
+      (Term.If on y z))) w.seen))) left)
   term_way n (Term.Case on variant y z) k given rest has never apart w e ahead =
       chosen_way _ y z k given w.choices rest has e
       (λ v seen left. ahead v (seen
-      ∙ sym (no_store (nat_eq k z || (nat_eq k y || false)) (see (as_notes (term_uses (Term.Case on variant y z)))
+      ∙ sym (no_store (nat_eq k z || (nat_eq k y || false)) (see (calls (Term.Case on variant y z)) (as_notes
+      (term_uses (Term.Case on variant y z)))
       w.seen))) left)
   term_way n (Term.Math to op l r next u) k given rest has never apart w e ahead =
       acts_way (effects.Compute (site_of n to) op (operand_of n l) (operand_of n r))
@@ -304,10 +313,11 @@ module _ {M : Type 0} (items : ItemTable) (body : Body) (see : List Note → M �
       (plain_ways _ never next u k given has) (not_both next k u apart) e ahead
   term_way n (Term.DropAt place next u) k given rest has never apart w e ahead =
       drop_way (needs_dropping items (place_id items body.locals place))
-      (see (as_notes (term_uses (Term.DropAt place next u))) w.seen)
+      (see (calls (Term.DropAt place next u)) (as_notes (term_uses (Term.DropAt place next u))) w.seen)
       next u k given w.choices rest has e
       (λ v seen left. ahead v (seen
-      ∙ sym (no_store (nat_eq k next || false) (see (as_notes (term_uses (Term.DropAt place next u))) w.seen))) left)
+      ∙ sym (no_store (nat_eq k next || false) (see (calls (Term.DropAt place next u)) (as_notes (term_uses
+      (Term.DropAt place next u))) w.seen))) left)
   term_way n (Term.Panic why u) k given rest has never apart w e ahead =
       let t = to_unwind [] u k given (of_one (choices_to items body k
       (record { choices = []; exit = unwind_exit u })) given has) in

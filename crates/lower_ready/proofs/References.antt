@@ -49,6 +49,7 @@ use Rattle.lower_ready.proofs.OnceForms as forms
 use Rattle.lower_ready.proofs.OncePatterns as pattern_rules
 use Rattle.lower_ready.proofs.OnceStanding as standing
 use Rattle.lower_ready.proofs.OnceRules as by_rule
+use Rattle.lower_ready.proofs.OnceUses.{EachUsesWell}
 use Rattle.lower_ready.proofs.Alone.{same_reference}
 use Rattle.lower_ready.proofs.AloneParts.{both_so, not_true, either_first, either_second, truth_not, fields_not, tuples_not, arrays_not, results_not, methods_not}
 use Rattle.lower_ready.proofs.CellKeys.{key_at, own_slot, one_key, rising}
@@ -474,6 +475,18 @@ module _ (p : ProgramTree) (w : WellTyped p) (n : ℕ) (body : BodyTree) (at_n :
           | inl none ↦ either_second _ _ (unnamed q none)
           | inr one ↦ either_first _ _ (both_so _ _ (names.equal_too (times_stored p.items raw L) 1 (stored_is ∙ one)) (names.equal_too (times_made p.items raw L) 1 (made_is ∙ one)))
         ])
+
+    -- where a reference is made, it is made once, and each line uses it well
+    made_uses : (times_made p.items raw L ≡ 0 → ⊥) → (times_made p.items raw L ≡ 1) × EachUsesWell L raw
+    made_uses some_made = by (is_param p.items raw L) refl (zero_or_one function_once.count most_one)
+      where
+        by : (b : Bool) → is_param p.items raw L ≡ b → (function_once.count ≡ 0) ⊎ (function_once.count ≡ 1) → (times_made p.items raw L ≡ 1) × EachUsesWell L raw
+        by b q (inl none) = absurd (some_made (made_is ∙ none))
+        by true q (inr one) = absurd (some_made (made_is ∙ param_none q))
+        by false q (inr one) = (made_is ∙ one, counts.blocks_used g L K about Q (lower.built F body).blocks (built_ok false function_once.plain).blocks q)
+
+  pub made_once : (L : ℕ) (e : Entry) → slice_get (locals p.items body) L ≡ Some e → types.is_reference p.items e.ty ≡ true → (times_made p.items (body_of p.items body) L ≡ 0 → ⊥) → (times_made p.items (body_of p.items body) L ≡ 1) × EachUsesWell L (body_of p.items body)
+  made_once L e is ref some_made = made_uses L e is ref some_made
 
   -- ---- all locals
   of_local : (L : ℕ) → L < length (local_tys p.items body) → local_well p.items (body_of p.items body) L ≡ true

@@ -1,15 +1,18 @@
 -- What the law of prepared graphs says, fact by fact (`IsPrepared` of `cfg_graph`): of the raw graph of a program that is
--- well typed and lowerable.
-use Rattle.std.specs.Prelude.{◌≡◌, ℕ, true, Some, slice_get, Contains}
+-- well typed and lowerable; the last fact also asks that it breaks no rule of borrows.
+use Rattle.std.specs.Prelude.{◌≡◌, ℕ, Bool, true, List, Some, None, slice_get, Contains}
 use Rattle.cfg_graph.specs.declared.graph.Body.{Body}
-use Rattle.cfg_graph.specs.Ready.{begins_once, frees_nothing, moves_well, references_in_locals, references_stand_alone, refills_dropped}
+use Rattle.cfg_graph.specs.Moves.Actions.{actions_on}
+use Rattle.cfg_graph.specs.Moves.Paths.{IsPath}
+use Rattle.cfg_graph.specs.NamedPlaces.{keeps_named}
+use Rattle.cfg_graph.specs.Ready.{IsPrepared, begins_once, frees_nothing, moves_well, references_in_locals, references_stand_alone, refills_dropped}
 use Rattle.mir_ty.specs.declared.ty.Ty.{Ty}
 use Rattle.mir_ty.specs.ItemTable.{ItemTable}
 use Rattle.typed_tree.specs.Tree.{BodyTree, ProgramTree}
+use Rattle.typing_rules.specs.Borrows.{broken_borrow}
 use Rattle.well_typed.specs.Program.{WellTyped}
 use Rattle.lower_laws.specs.Lowerable.{IsLowerable}
 use Rattle.lower_rules.specs.Lower.{body_of, graph_of}
-use Rattle.lower_ready.specs.Prepared.{IsPreparedButForNamedStays}
 
 -- something holds of each raw body of such a program, among its items
 abbrev pub OfEachBody : (ItemTable → Body → Type 0) → Type 0
@@ -46,7 +49,15 @@ DropsAreRefilled = OfEachBody (λ items body. refills_dropped items body ≡ tru
 abbrev pub ReferencesAreWell : Type 0
 ReferencesAreWell = OfEachBody (λ items body. references_in_locals items body ≡ true)
 
--- so the graph of such a program is prepared, but for what references name
-abbrev pub GraphsArePreparedButForNamedStays : Type 0
-GraphsArePreparedButForNamedStays =
-    (p : ProgramTree) → WellTyped p → IsLowerable p → IsPreparedButForNamedStays (graph_of p)
+-- on no path is what a reference in a local names taken between its making and a use of it
+abbrev pub NamedStays : Type 0
+NamedStays =
+    (p : ProgramTree) → WellTyped p → IsLowerable p → broken_borrow p ≡ None → (n : ℕ) (tree : BodyTree) →
+    slice_get p.bodies n ≡ Some tree → (path : List ℕ) (given : List Bool) (local : ℕ) →
+    IsPath p.items (body_of p.items tree) path given →
+    keeps_named (body_of p.items tree) (actions_on (body_of p.items tree) path) local ≡ true
+
+-- so the graph of such a program is prepared
+abbrev pub GraphsArePrepared : Type 0
+GraphsArePrepared =
+    (p : ProgramTree) → WellTyped p → IsLowerable p → broken_borrow p ≡ None → IsPrepared (graph_of p)

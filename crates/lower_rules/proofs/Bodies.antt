@@ -154,6 +154,9 @@ module _ (items : ItemTable) (tree : BodyTree) (named : NamesItsLoops tree) wher
   first_at : (slice_get (body_of items tree).blocks 0 ≡ Some (made Kind.Plain (length r.1.blocks) r.0).block) × laid.Stands t r.0 (0, 0)
   first_at = branch_rules.filled_stands t Kind.Plain 0 r.0 r.1 first_free later
 
+  begins_plain : (block : Block) × (slice_get (body_of items tree).blocks 0 ≡ Some block) × (block.kind ≡ Kind.Plain)
+  begins_plain = ((made Kind.Plain (length r.1.blocks) r.0).block, first_at.0, refl)
+
   code_joins : Joins t (FunctionAt t tree 1) S (0, 0) S (1, 0)
   code_joins = by_end P.has_end ((lowered.holds (body_ways 1) S last begun used later_code no_chain).1 (0, 0) first_at.1)
     where
@@ -243,20 +246,20 @@ module _ (items : ItemTable) (tree : BodyTree) (named : NamesItsLoops tree) wher
   abbrev ended : Kind → Term → Block
   ended kind term = record { kind = kind; rank = 0; stmts = []; term = term }
 
-  keeps_plain : (term : Term) → laid.LeadsWell t term → keeps_to_cleanup t.body (ended Kind.Plain term) ≡ true
-  keeps_plain (Term.Goto n) h = both _ _ (none_clean (onward (Term.Goto n)) h.0) (all_clean (unwind_targets (Term.Goto n)) h.1)
-  keeps_plain (Term.If on y n) h = both _ _ (none_clean (onward (Term.If on y n)) h.0) (all_clean (unwind_targets (Term.If on y n)) h.1)
-  keeps_plain (Term.Case on variant y n) h = both _ _ (none_clean (onward (Term.Case on variant y n)) h.0) (all_clean (unwind_targets (Term.Case on variant y n)) h.1)
-  keeps_plain (Term.Math to op left right n u) h = both _ _ (none_clean (onward (Term.Math to op left right n u)) h.0) (all_clean (unwind_targets (Term.Math to op left right n u)) h.1)
-  keeps_plain (Term.Negate to of n u) h = both _ _ (none_clean (onward (Term.Negate to of n u)) h.0) (all_clean (unwind_targets (Term.Negate to of n u)) h.1)
-  keeps_plain (Term.Bounds index count n u) h = both _ _ (none_clean (onward (Term.Bounds index count n u)) h.0) (all_clean (unwind_targets (Term.Bounds index count n u)) h.1)
-  keeps_plain (Term.Call to body args n u) h = both _ _ (none_clean (onward (Term.Call to body args n u)) h.0) (all_clean (unwind_targets (Term.Call to body args n u)) h.1)
-  keeps_plain (Term.Virtual to trait_no method args n u) h = both _ _ (none_clean (onward (Term.Virtual to trait_no method args n u)) h.0) (all_clean (unwind_targets (Term.Virtual to trait_no method args n u)) h.1)
-  keeps_plain (Term.Ask to n u) h = both _ _ (none_clean (onward (Term.Ask to n u)) h.0) (all_clean (unwind_targets (Term.Ask to n u)) h.1)
-  keeps_plain (Term.DropAt place n u) h = both _ _ (none_clean (onward (Term.DropAt place n u)) h.0) (all_clean (unwind_targets (Term.DropAt place n u)) h.1)
-  keeps_plain (Term.Panic why u) h = both _ _ (none_clean (onward (Term.Panic why u)) h.0) (all_clean (unwind_targets (Term.Panic why u)) h.1)
-  keeps_plain Term.Return h = refl
-  keeps_plain Term.Resume h = absurd (let never : true ≡ false = h.2 in cc)
+  keeps_plain : (node : ℕ) (term : Term) → laid.LeadsWell t term node → keeps_to_cleanup t.body (ended Kind.Plain term) ≡ true
+  keeps_plain node (Term.Goto n) h = both _ _ (none_clean (onward (Term.Goto n)) h.0) (all_clean (unwind_targets (Term.Goto n)) h.1)
+  keeps_plain node (Term.If on y n) h = both _ _ (none_clean (onward (Term.If on y n)) h.0) (all_clean (unwind_targets (Term.If on y n)) h.1)
+  keeps_plain node (Term.Case on variant y n) h = both _ _ (none_clean (onward (Term.Case on variant y n)) h.0) (all_clean (unwind_targets (Term.Case on variant y n)) h.1)
+  keeps_plain node (Term.Math to op left right n u) h = both _ _ (none_clean (onward (Term.Math to op left right n u)) h.0) (all_clean (unwind_targets (Term.Math to op left right n u)) h.1)
+  keeps_plain node (Term.Negate to of n u) h = both _ _ (none_clean (onward (Term.Negate to of n u)) h.0) (all_clean (unwind_targets (Term.Negate to of n u)) h.1)
+  keeps_plain node (Term.Bounds index count n u) h = both _ _ (none_clean (onward (Term.Bounds index count n u)) h.0) (all_clean (unwind_targets (Term.Bounds index count n u)) h.1)
+  keeps_plain node (Term.Call to body args n u) h = both _ _ (none_clean (onward (Term.Call to body args n u)) h.0) (all_clean (unwind_targets (Term.Call to body args n u)) h.1)
+  keeps_plain node (Term.Virtual to trait_no method args n u) h = both _ _ (none_clean (onward (Term.Virtual to trait_no method args n u)) h.0) (all_clean (unwind_targets (Term.Virtual to trait_no method args n u)) h.1)
+  keeps_plain node (Term.Ask to n u) h = both _ _ (none_clean (onward (Term.Ask to n u)) h.0) (all_clean (unwind_targets (Term.Ask to n u)) h.1)
+  keeps_plain node (Term.DropAt place n u) h = both _ _ (none_clean (onward (Term.DropAt place n u)) h.0) (all_clean (unwind_targets (Term.DropAt place n u)) h.1)
+  keeps_plain node (Term.Panic why u) h = both _ _ (none_clean (onward (Term.Panic why u)) h.0) (all_clean (unwind_targets (Term.Panic why u)) h.1)
+  keeps_plain node Term.Return h = refl
+  keeps_plain node Term.Resume h = absurd (let never : true ≡ false = h.2 in cc)
 
   keeps_clean : (term : Term) → laid.CleansUp t term → (keeps_to_cleanup t.body (ended Kind.Cleanup term) ≡ true) × AllStand (targets term)
   keeps_clean (Term.Goto n) h = (all_clean (n ∷ []) (h, tt), (slice_get_within t.body.blocks n h.0 h.1, tt))
@@ -275,12 +278,12 @@ module _ (items : ItemTable) (tree : BodyTree) (named : NamesItsLoops tree) wher
   keeps_clean Term.Return h = absurd h
   keeps_clean Term.Resume h = (refl, tt)
 
-  keeps : (block : Block) → laid.EndsWell t (is_cleanup block) block.term → (keeps_to_cleanup t.body block ≡ true) × AllStand (targets block.term)
-  keeps block h = by_kind block.kind h
+  keeps : (node : ℕ) (block : Block) → laid.EndsWell t (is_cleanup block) block.term node → (keeps_to_cleanup t.body block ≡ true) × AllStand (targets block.term)
+  keeps node block h = by_kind block.kind h
     where
-      by_kind : (kind : Kind) → laid.EndsWell t (is_cleanup_kind kind) block.term → (keeps_to_cleanup t.body (ended kind block.term) ≡ true) × AllStand (targets block.term)
-      by_kind Kind.Plain h = (keeps_plain block.term h, stand_append (onward block.term) (unwind_targets block.term) (all_stand false (onward block.term) h.0) (all_stand true (unwind_targets block.term) h.1))
-      by_kind Kind.Turn h = (keeps_plain block.term h, stand_append (onward block.term) (unwind_targets block.term) (all_stand false (onward block.term) h.0) (all_stand true (unwind_targets block.term) h.1))
+      by_kind : (kind : Kind) → laid.EndsWell t (is_cleanup_kind kind) block.term node → (keeps_to_cleanup t.body (ended kind block.term) ≡ true) × AllStand (targets block.term)
+      by_kind Kind.Plain h = (keeps_plain node block.term h, stand_append (onward block.term) (unwind_targets block.term) (all_stand false (onward block.term) h.0) (all_stand true (unwind_targets block.term) h.1))
+      by_kind Kind.Turn h = (keeps_plain node block.term h, stand_append (onward block.term) (unwind_targets block.term) (all_stand false (onward block.term) h.0) (all_stand true (unwind_targets block.term) h.1))
       by_kind Kind.Cleanup h = keeps_clean block.term h
 
   start_tidy : laid.Tidy t begun
@@ -293,12 +296,24 @@ module _ (items : ItemTable) (tree : BodyTree) (named : NamesItsLoops tree) wher
   code_tidy : laid.TidyAfter t r
   code_tidy = lowered.tidies (body_ways 1) S last begun (return_plain, subst (λ jumps. laid.AllWays (laid.PlainWay t) (body_ways 1) jumps) (sym (no_jumps F tree named)) tt) later_code start_tidy (((return_plain, tt), tt, refl, tt), tt)
 
-  block_tidy : (n : ℕ) (block : Block) → slice_get (body_of items tree).blocks n ≡ Some block → laid.BlockWell t block
+  -- the node of a block's terminator
+  abbrev end_node : ℕ → Block → ℕ
+  end_node n block = node_of items tree n (length block.stmts)
+
+  abbrev IsTidy : ℕ → Block → Type 0
+  IsTidy n block = laid.EndsWell t (is_cleanup block) block.term (end_node n block) × laid.FreesNone t block.stmts
+
+  made_tidy : (n : ℕ) (m : MadeBlock) → slice_get z.blocks n ≡ Some (Some m) → laid.BlockWell t m → IsTidy n m.block
+  made_tidy n m e h =
+      let at = (nodes_at n m.nodes h.0 (h.1 ∷ []) (mapped _ z.blocks n (Some m) e) h.2).0 in
+      (subst (laid.EndsWell t (is_cleanup m.block) m.block.term) (sym at ∙ ap (node_of items tree n) h.3) h.4, h.5)
+
+  block_tidy : (n : ℕ) (block : Block) → slice_get (body_of items tree).blocks n ≡ Some block → IsTidy n block
   block_tidy n block e = let h = from_mapped _ z.blocks n block e in by_made h.0 h.1 h.2
     where
-      by_made : (o : Option MadeBlock) → slice_get z.blocks n ≡ Some o → (unwrap_or o lower.unmade).block ≡ block → laid.BlockWell t block
-      by_made None e h = subst (laid.BlockWell t) h ((tt, tt, refl, tt), tt)
-      by_made (Some m) e h = subst (laid.BlockWell t) h ((branch_rules.filled_tidy t Kind.Plain 0 r.0 r.1 code_tidy.0 code_tidy.1).blocks n m e)
+      by_made : (o : Option MadeBlock) → slice_get z.blocks n ≡ Some o → (unwrap_or o lower.unmade).block ≡ block → IsTidy n block
+      by_made None e h = subst (IsTidy n) h ((tt, tt, refl, tt), tt)
+      by_made (Some m) e h = subst (IsTidy n) h (made_tidy n m e ((branch_rules.filled_tidy t Kind.Plain 0 r.0 r.1 code_tidy.0 code_tidy.1).blocks n m e))
 
   -- ---- what elaboration asks of all bodies
   abbrev with_blocks : List Block → Body
@@ -339,24 +354,24 @@ module _ (items : ItemTable) (tree : BodyTree) (named : NamesItsLoops tree) wher
   blocks_begin_once (block ∷ blocks) h = both _ _ (ap not (not_first block.rank (targets block.term) (h 0 block refl))) (blocks_begin_once blocks (λ n block e. h (suc n) block e))
 
   -- a place that is dropped may be left gone, or is stored into at once
-  clean_drops : (term : Term) → laid.CleansUp t term → laid.DropsWell t term
-  clean_drops (Term.Goto n) h = tt
-  clean_drops (Term.If on y n) h = absurd h
-  clean_drops (Term.Case on variant y n) h = absurd h
-  clean_drops (Term.Math to op left right n u) h = absurd h
-  clean_drops (Term.Negate to of n u) h = absurd h
-  clean_drops (Term.Bounds index count n u) h = absurd h
-  clean_drops (Term.Call to body args n u) h = absurd h
-  clean_drops (Term.Virtual to trait_no method args n u) h = absurd h
-  clean_drops (Term.Ask to n u) h = absurd h
-  clean_drops (Term.Panic why u) h = absurd h
-  clean_drops Term.Return h = absurd h
-  clean_drops Term.Resume h = tt
-  clean_drops (Term.DropAt place n u) h = subst (λ u. laid.DropsWell t (Term.DropAt place n u)) (sym h.1) h.2
+  clean_drops : (node : ℕ) (term : Term) → laid.CleansUp t term → laid.DropsWell t term node
+  clean_drops node (Term.Goto n) h = tt
+  clean_drops node (Term.If on y n) h = absurd h
+  clean_drops node (Term.Case on variant y n) h = absurd h
+  clean_drops node (Term.Math to op left right n u) h = absurd h
+  clean_drops node (Term.Negate to of n u) h = absurd h
+  clean_drops node (Term.Bounds index count n u) h = absurd h
+  clean_drops node (Term.Call to body args n u) h = absurd h
+  clean_drops node (Term.Virtual to trait_no method args n u) h = absurd h
+  clean_drops node (Term.Ask to n u) h = absurd h
+  clean_drops node (Term.Panic why u) h = absurd h
+  clean_drops node Term.Return h = absurd h
+  clean_drops node Term.Resume h = tt
+  clean_drops node (Term.DropAt place n u) h = subst (λ u. laid.DropsWell t (Term.DropAt place n u) node) (sym h.1) h.2
 
-  ends_drop : (x : Bool) (term : Term) → laid.EndsWell t x term → laid.DropsWell t term
-  ends_drop true term h = clean_drops term h
-  ends_drop false term h = h.3
+  ends_drop : (x : Bool) (node : ℕ) (term : Term) → laid.EndsWell t x term node → laid.DropsWell t term node
+  ends_drop true node term h = clean_drops node term h
+  ends_drop false node term h = h.3
 
   all_blocks : (q : Block → Bool) (blocks : List Block) → ((n : ℕ) (block : Block) → slice_get blocks n ≡ Some block → q block ≡ true) → list_all q blocks ≡ true
   all_blocks q [] h = refl
@@ -376,27 +391,27 @@ module _ (items : ItemTable) (tree : BodyTree) (named : NamesItsLoops tree) wher
       ((b : Block) → q (record b { term = Term.Return }) ≡ true) →
       ((b : Block) → q (record b { term = Term.Resume }) ≡ true) →
       ((b : Block) (place : Place) (n : ℕ) (u : Unwind) → place.steps ≡ [] → q (record b { term = Term.DropAt place n u }) ≡ true) →
-      ((b : Block) (place : Place) (n m : ℕ) → laid.StoresFirst t place n → laid.StoresFirst t place m → q (record b { term = Term.DropAt place n (Unwind.Block m) }) ≡ true) →
-      (blocks : List Block) → ((n : ℕ) (block : Block) → slice_get blocks n ≡ Some block → laid.DropsWell t block.term) → list_all q blocks ≡ true
-  all_drops q goto_ if_ case_ math_ negate_ bounds_ call_ virtual_ ask_ panic_ return_ resume_ whole refilled blocks h = all_blocks q blocks (λ n block e. by_term block block.term (h n block e))
+      ((b : Block) (place : Place) (node n m : ℕ) → laid.StoresFirst t place node n → laid.StoresFirst t place node m → q (record b { term = Term.DropAt place n (Unwind.Block m) }) ≡ true) →
+      (blocks : List Block) → ((n : ℕ) (block : Block) → slice_get blocks n ≡ Some block → laid.DropsWell t block.term (end_node n block)) → list_all q blocks ≡ true
+  all_drops q goto_ if_ case_ math_ negate_ bounds_ call_ virtual_ ask_ panic_ return_ resume_ whole refilled blocks h = all_blocks q blocks (λ n block e. by_term block block.term (end_node n block) (h n block e))
     where
-      by_term : (b : Block) (term : Term) → laid.DropsWell t term → q (record b { term = term }) ≡ true
-      by_term b (Term.Goto n) h = goto_ b n
-      by_term b (Term.If on y n) h = if_ b on y n
-      by_term b (Term.Case on variant y n) h = case_ b on variant y n
-      by_term b (Term.Math to op left right n u) h = math_ b to op left right n u
-      by_term b (Term.Negate to of n u) h = negate_ b to of n u
-      by_term b (Term.Bounds index count n u) h = bounds_ b index count n u
-      by_term b (Term.Call to body args n u) h = call_ b to body args n u
-      by_term b (Term.Virtual to trait_no method args n u) h = virtual_ b to trait_no method args n u
-      by_term b (Term.Ask to n u) h = ask_ b to n u
-      by_term b (Term.Panic why u) h = panic_ b why u
-      by_term b Term.Return h = return_ b
-      by_term b Term.Resume h = resume_ b
-      by_term b (Term.DropAt place n (Unwind.Block m)) (inl h) = whole b place n (Unwind.Block m) h
-      by_term b (Term.DropAt place n (Unwind.Block m)) (inr h) = refilled b place n m h.0 h.1
-      by_term b (Term.DropAt place n Unwind.Resume) h = whole b place n Unwind.Resume h
-      by_term b (Term.DropAt place n Unwind.Abort) h = whole b place n Unwind.Abort h
+      by_term : (b : Block) (term : Term) (node : ℕ) → laid.DropsWell t term node → q (record b { term = term }) ≡ true
+      by_term b (Term.Goto n) node h = goto_ b n
+      by_term b (Term.If on y n) node h = if_ b on y n
+      by_term b (Term.Case on variant y n) node h = case_ b on variant y n
+      by_term b (Term.Math to op left right n u) node h = math_ b to op left right n u
+      by_term b (Term.Negate to of n u) node h = negate_ b to of n u
+      by_term b (Term.Bounds index count n u) node h = bounds_ b index count n u
+      by_term b (Term.Call to body args n u) node h = call_ b to body args n u
+      by_term b (Term.Virtual to trait_no method args n u) node h = virtual_ b to trait_no method args n u
+      by_term b (Term.Ask to n u) node h = ask_ b to n u
+      by_term b (Term.Panic why u) node h = panic_ b why u
+      by_term b Term.Return node h = return_ b
+      by_term b Term.Resume node h = resume_ b
+      by_term b (Term.DropAt place n (Unwind.Block m)) node (inl h) = whole b place n (Unwind.Block m) h
+      by_term b (Term.DropAt place n (Unwind.Block m)) node (inr h) = refilled b place node n m h.0 h.1
+      by_term b (Term.DropAt place n Unwind.Resume) node h = whole b place n Unwind.Resume h
+      by_term b (Term.DropAt place n Unwind.Abort) node h = whole b place n Unwind.Abort h
 
   or_first : (a b : Bool) → a ≡ true → a || b ≡ true
   or_first true b e = refl
@@ -423,8 +438,8 @@ module _ (items : ItemTable) (tree : BodyTree) (named : NamesItsLoops tree) wher
   refills =
       all_drops _ (λ b n. refl) (λ b on y n. refl) (λ b on variant y n. refl) (λ b to op left right n u. refl) (λ b to of n u. refl) (λ b index count n u. refl) (λ b to body args n u. refl) (λ b to trait_no method args n u. refl) (λ b to n u. refl) (λ b why u. refl) (λ b. refl) (λ b. refl)
       (λ b place n u h. or_first _ _ (whole_gone place h))
-      (λ b place n m h k. or_second _ _ (both _ _ (found _ _ _ h.5 (or_first _ _ (at_itself (places.named place)))) (found _ _ _ k.5 (or_first _ _ (at_itself (places.named place))))))
-      (body_of items tree).blocks (λ n block e. ends_drop (is_cleanup block) block.term (block_tidy n block e).0)
+      (λ b place node n m h k. or_second _ _ (both _ _ (found _ _ _ h.5 (or_first _ _ (at_itself (places.named place)))) (found _ _ _ k.5 (or_first _ _ (at_itself (places.named place))))))
+      (body_of items tree).blocks (λ n block e. ends_drop (is_cleanup block) (end_node n block) block.term (block_tidy n block e).0)
 
   frees : frees_nothing (body_of items tree) ≡ true
   frees = blocks_free_none (body_of items tree).blocks (λ n block e. (block_tidy n block e).1)
@@ -432,29 +447,32 @@ module _ (items : ItemTable) (tree : BodyTree) (named : NamesItsLoops tree) wher
   begins : begins_once (body_of items tree) ≡ true
   begins = blocks_begin_once (body_of items tree).blocks (λ n block e. (block_well n block e).0)
 
-  refilled_by : (place : Place) (next : ℕ) (unwind : Unwind) → laid.DropsWell t (Term.DropAt place next unwind) →
-      (place.steps ≡ []) ⊎ IsRefilledIn (body_of items tree) place next
-  refilled_by place next (Unwind.Block m) (inl h) = inl h
-  refilled_by place next (Unwind.Block m) (inr h) =
+  refilled_by : (place : Place) (next node : ℕ) (unwind : Unwind) → laid.DropsWell t (Term.DropAt place next unwind) node →
+      (place.steps ≡ []) ⊎ (IsRefilledIn (body_of items tree) place next × (node_of items tree next 0 ≡ node))
+  refilled_by place next node (Unwind.Block m) (inl h) = inl h
+  refilled_by place next node (Unwind.Block m) (inr h) =
       let at = h.0 in
       inr (
-        record { kind = at.0; rank = at.1; stmts = Stmt.Put place at.2 ∷ at.3; term = at.4 },
-        at.2,
-        at.3,
-        at.5,
-        refl,
+        (
+          record { kind = at.0; rank = at.1; stmts = Stmt.Put place at.2 ∷ at.3; term = at.4 },
+          at.2,
+          at.3,
+          at.5,
+          refl,
+        ),
+        at.6,
       )
-  refilled_by place next Unwind.Resume h = inl h
-  refilled_by place next Unwind.Abort h = inl h
+  refilled_by place next node Unwind.Resume h = inl h
+  refilled_by place next node Unwind.Abort h = inl h
 
-  refilled_at : (n next : ℕ) (block : Block) (place : Place) (unwind : Unwind) → slice_get (body_of items tree).blocks n ≡
-      Some block → block.term ≡ Term.DropAt place next unwind → (place.steps ≡ []) ⊎ IsRefilledIn (body_of items tree)
-      place next
+  refilled_at : (n next : ℕ) (block : Block) (place : Place) (unwind : Unwind) →
+      slice_get (body_of items tree).blocks n ≡ Some block → block.term ≡ Term.DropAt place next unwind →
+      (place.steps ≡ []) ⊎ (IsRefilledIn (body_of items tree) place next × (node_of items tree next 0 ≡ end_node n block))
   refilled_at n next block place unwind e is =
-      refilled_by place next unwind (subst (laid.DropsWell t) is (ends_drop (is_cleanup block) block.term (block_tidy n
-      block e).0))
+      refilled_by place next (end_node n block) unwind (subst (λ term. laid.DropsWell t term (end_node n block)) is
+      (ends_drop (is_cleanup block) (end_node n block) block.term (block_tidy n block e).0))
 
-  holds : HoldsBody items tree (body_of items tree) (node_of items tree)
+  pub holds : HoldsBody items tree (body_of items tree) (node_of items tree)
   holds = record { ranked = is_ranked; params = refl; locals = refl; holds_code = holds_code }
 
 -- ---- programs
@@ -488,12 +506,17 @@ lowered_walks_as_it_runs_freely items tree named list = walks_as_it_runs_freely 
 pub lowered_returns : (items : ItemTable) (tree : BodyTree) → NamesItsLoops tree → slice_get (body_of items tree).blocks 1 ≡ Some (record { kind = Kind.Plain; rank = 1; stmts = []; term = Term.Return })
 lowered_returns items tree named = (return_at items tree named).0
 
+-- block 0 is no turn block
+pub lowered_begins_plain : (items : ItemTable) (tree : BodyTree) → NamesItsLoops tree →
+    (block : Block) × (slice_get (body_of items tree).blocks 0 ≡ Some block) × (block.kind ≡ Kind.Plain)
+lowered_begins_plain items tree named = begins_plain items tree named
+
 pub lowered_is_ranked : LoweredIsRanked
 lowered_is_ranked items tree named = is_ranked items tree named
 
 pub lowered_keeps_to_cleanup : LoweredKeepsToCleanup
 lowered_keeps_to_cleanup items tree named n block e =
-    let h = keeps items tree named block (block_tidy items tree named n block e).0 in
+    let h = keeps items tree named (end_node items tree named n block) block (block_tidy items tree named n block e).0 in
     (h.0, λ m c. stands_in items tree named (targets block.term) h.1 c.0 m (slice_get-Contains (targets block.term) m c))
 
 pub lowered_is_prepared : LoweredIsPrepared

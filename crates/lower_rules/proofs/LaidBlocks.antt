@@ -11,8 +11,8 @@ use Rattle.cfg_graph.specs.declared.terminator.Term.{Term}
 use Rattle.cfg_graph.specs.declared.terminator.Unwind.{Unwind}
 use Rattle.cfg_graph.specs.Edges.{is_cleanup, is_cleanup_kind, is_turn_kind, onward, targets, unwind_targets}
 use Rattle.src_meaning.specs.Scopes.{Entry, Scopes, Exit}
-use Rattle.lower_rules.specs.Spots.{CodeTarget, CodePos, JumpWay, Ways, CodeSpot, HasNoEnd, StepAt, TermAt, stays, CleanAt}
-use Rattle.lower_rules.specs.Build.{LoweringFrame, NodeLine, BlockRest, MadeBlock, Building, ending, made, closed, chain_among, way_of, Lowers, nothing, exits, stores}
+use Rattle.lower_rules.specs.Spots.{CodeTarget, CodePos, JumpWay, Ways, CodeSpot, HasNoEnd, StepAt, TermAt, CleanAt}
+use Rattle.lower_rules.specs.Build.{LoweringFrame, NodeLine, BlockRest, MadeBlock, Building, ending, made, closed, chain_among, way_of, Lowers, exits}
 
 -- ---- what was made stays
 pub record Grows (s s' : Building) : Type 0 where
@@ -204,20 +204,22 @@ module _ (t : CodeTarget) where
   resumes Term.Resume = true
   resumes _ = false
 
-  -- a block whose first statement stores into a place
-  abbrev pub StoresFirst : graph_place.Place → ℕ → Type 0
-  StoresFirst place n = (kind : Kind) × (rank : ℕ) × (from : graph_operand.Operand) × (rest : List Stmt) × (term : Term)
+  -- a block whose first statement stores into a place, for a node
+  abbrev pub StoresFirst : graph_place.Place → (node : ℕ) → ℕ → Type 0
+  StoresFirst place node n = (kind : Kind) × (rank : ℕ) × (from : graph_operand.Operand) × (rest : List Stmt) × (term : Term)
       × (slice_get t.body.blocks n ≡ Some (record { kind = kind; rank = rank; stmts = Stmt.Put place from ∷ rest; term = term }))
+      × (t.node n 0 ≡ node)
 
-  -- what is dropped is a whole local, or is stored into at once
-  abbrev pub DropsWell : Term → Type 0
-  DropsWell (Term.DropAt place n (Unwind.Block m)) = (place.steps ≡ []) ⊎ (StoresFirst place n × StoresFirst place m)
-  DropsWell (Term.DropAt place n unwind) = place.steps ≡ []
-  DropsWell _ = Unit {0}
+  -- what is dropped for a node is a whole local, or is stored into at once for the same node
+  abbrev pub DropsWell : Term → (node : ℕ) → Type 0
+  DropsWell (Term.DropAt place n (Unwind.Block m)) node = (place.steps ≡ []) ⊎ (StoresFirst place node n × StoresFirst place node m)
+  DropsWell (Term.DropAt place n unwind) node = place.steps ≡ []
+  DropsWell _ node = Unit {0}
 
   -- what ends a block that is no cleanup block: exactly a panic out of it leads to a cleanup block
-  abbrev pub LeadsWell : Term → Type 0
-  LeadsWell term = AllKind false (onward term) × AllKind true (unwind_targets term) × (resumes term ≡ false) × DropsWell term
+  abbrev pub LeadsWell : Term → (node : ℕ) → Type 0
+  LeadsWell term node =
+      AllKind false (onward term) × AllKind true (unwind_targets term) × (resumes term ≡ false) × DropsWell term node
 
   -- what ends a cleanup block
   abbrev pub CleansUp : Term → Type 0
@@ -230,26 +232,35 @@ module _ (t : CodeTarget) where
   NoFree (Stmt.Free place) = ⊥
   NoFree _ = Unit {0}
 
-  abbrev pub EndsWell : Bool → Term → Type 0
-  EndsWell true term = CleansUp term
-  EndsWell false term = LeadsWell term
+  abbrev pub EndsWell : Bool → Term → (node : ℕ) → Type 0
+  EndsWell true term node = CleansUp term
+  EndsWell false term node = LeadsWell term node
 
   -- nothing is freed by a statement of its own
   abbrev pub FreesNone : List Stmt → Type 0
   FreesNone [] = Unit {0}
   FreesNone (stmt ∷ stmts) = NoFree stmt × FreesNone stmts
 
-  abbrev pub BlockWell : Block → Type 0
-  BlockWell block = EndsWell (is_cleanup block) block.term × FreesNone block.stmts
+  -- each line has a node, and the last of them is that of the terminator
+  abbrev pub BlockWell : MadeBlock → Type 0
+  BlockWell m = (nodes : List ℕ) × (node : ℕ) × (m.nodes ≡ nodes ++ node ∷ []) × (length nodes ≡ length m.block.stmts)
+      × EndsWell (is_cleanup m.block) m.block.term node × FreesNone m.block.stmts
 
   abbrev pub RestEnds : Bool → BlockRest → Type 0
-  RestEnds x k = EndsWell x k.term × FreesNone (map (λ l. l.stmt) k.lines)
+  RestEnds x k = EndsWell x k.term k.node × FreesNone (map (λ l. l.stmt) k.lines)
+
+  a_node_each : (lines : List NodeLine) → length (map (λ l. l.node) lines) ≡ length (map (λ l. l.stmt) lines)
+  a_node_each [] = refl
+  a_node_each (line ∷ lines) = ap suc (a_node_each lines)
+
+  pub made_well : (kind : Kind) (rank : ℕ) (k : BlockRest) → RestEnds (is_cleanup_kind kind) k → BlockWell (made kind rank k)
+  made_well kind rank k h = (map (λ l. l.node) k.lines, k.node, refl, a_node_each k.lines, h.0, h.1)
 
   abbrev pub RestWell : BlockRest → Type 0
   RestWell k = RestEnds false k
 
   pub record Tidy (s : Building) : Type 0 where
-    pub blocks : (n : ℕ) (m : MadeBlock) → slice_get s.blocks n ≡ Some (Some m) → BlockWell m.block
+    pub blocks : (n : ℕ) (m : MadeBlock) → slice_get s.blocks n ≡ Some (Some m) → BlockWell m
     pub chains : (es : List Entry) (n : ℕ) → chain_among es s.chains ≡ Some n → KindAt true n
 
   -- all that is made is tidy, and so is what comes next
@@ -266,9 +277,9 @@ module _ (t : CodeTarget) where
     chains = h.chains;
   }
     where
-      by_place : (n : ℕ) (m : MadeBlock) → (slice_get s.blocks n ≡ Some (Some m)) ⊎ ((n ≡ length s.blocks) × (Some (made kind (length s.blocks) k) ≡ Some m)) → BlockWell m.block
+      by_place : (n : ℕ) (m : MadeBlock) → (slice_get s.blocks n ≡ Some (Some m)) ⊎ ((n ≡ length s.blocks) × (Some (made kind (length s.blocks) k) ≡ Some m)) → BlockWell m
       by_place n m (inl e) = h.blocks n m e
-      by_place n m (inr e) = subst (λ m. BlockWell m.block) (same_Some (made kind (length s.blocks) k) m e.1) l
+      by_place n m (inr e) = subst BlockWell (same_Some (made kind (length s.blocks) k) m e.1) (made_well kind (length s.blocks) k l)
 
   -- ---- what is built
   abbrev pub CodeEnds : Bool → Lowers → (Ways → CodeSpot) → Ways → Scopes → BlockRest → CodePos → Type 0

@@ -1,10 +1,10 @@
 -- What the lowering builds of branches, loops and assignments holds the code: one lemma a rule of `Build`.
-use Rattle.std.proofs.Common.{◌≡◌, ◌≢◌, ◌⊎◌, inl, inr, ℕ, zero, suc, ◌<◌, ◌≤◌, ◌==◌, ◌||◌, not, Bool, true, false, List, [], ◌∷◌, length, map, Some, None, slice_get, slice_set, if◌then◌else◌, refl, sym, ap, ◌∙◌, subst, arith, length-append, add-one}
+use Rattle.std.proofs.Common.{◌≡◌, ◌≢◌, ◌⊎◌, inl, inr, ℕ, zero, suc, ◌<◌, ◌≤◌, ◌==◌, ◌||◌, Bool, true, false, List, [], ◌∷◌, length, map, Some, None, slice_get, slice_set, if◌then◌else◌, refl, sym, ap, ◌∙◌, subst, arith, length-append, add-one}
 use Rattle.std.proofs.lemmas.Option.{none-some, slice_get_within, same_Some}
 use Rattle.mir_ty.proofs.ListLemmas.{slice_get-last, slice_get-below}
 use Rattle.cfg_graph.specs.declared.graph.Kind.{Kind}
 use Rattle.cfg_graph.specs.declared.terminator.Term.{Term}
-use Rattle.cfg_graph.specs.Edges.{is_cleanup_kind, onward, targets}
+use Rattle.cfg_graph.specs.Edges.{is_cleanup_kind, targets}
 use Rattle.cfg_meaning.specs.Actions as actions
 use Rattle.store_model.specs.Effects as effects
 use Rattle.store_model.specs.Effects.{EffectSite, Action}
@@ -15,7 +15,7 @@ use Rattle.lower_rules.specs.Rules.{taken, StoresAt, ReplacesAt, BranchesAt, Loo
 use Rattle.lower_rules.specs.Spots.{CodeTarget, CodePos, JumpWay, Ways, loop_ways, ways_of, ways_in_loop, CodeSpot, panic_drops, EntersAt, TermAt, Leads, stays, goes, Joins, by_statement}
 use Rattle.lower_rules.specs.Build as build
 use Rattle.lower_rules.specs.Build.{BlockRest, MadeBlock, Building, ending, with_line, made, closed, reserved, filled, is_left_by, outside, Lowers, joined, after_either, branches, with_exit, looped, place_of, chain, act, put_into, stores, replaces}
-use Rattle.lower_rules.proofs.LaidBlocks.{AllWays, BlockGiven, BlockWell, ChainsStand, CodeEnds, Given, Grows, IsUsed, JumpWays, KindAt, Later, LeadsOn, Lowered, MadeWell, PlainWay, Ranked, RestEnds, RestWell, Stands, StoresFirst, Tidy, TidyAfter, closed_at, closed_grows, closed_length, closed_ranked, closed_stands, closed_tidy, ends_with, f, given_more, grows_not, grows_on, kind_stands, later_before, made_stands, plain_stands, push_cases, step_stands, ways_first, ways_more, ways_second}
+use Rattle.lower_rules.proofs.LaidBlocks.{AllWays, BlockGiven, BlockWell, ChainsStand, CodeEnds, Given, Grows, IsUsed, JumpWays, KindAt, Later, LeadsOn, Lowered, MadeWell, PlainWay, Ranked, RestEnds, RestWell, Stands, StoresFirst, Tidy, TidyAfter, closed_at, closed_grows, closed_length, closed_ranked, closed_stands, closed_tidy, ends_with, f, given_more, grows_not, grows_on, kind_stands, later_before, made_stands, plain_stands, push_cases, step_stands, ways_first, ways_more, ways_second, made_well}
 use Rattle.lower_rules.proofs.LaidEffects.{act_lowered, chain_grows, chain_made, chain_ranked, chain_tidy, changed_lowered, operand_same, site_same}
 use Rattle.lower_rules.proofs.LaidScopes.{TestMade, given_on}
 
@@ -207,7 +207,7 @@ module _ (t : CodeTarget) where
   pub reserved_tidy : (s : Building) → Tidy t s → Tidy t (reserved s)
   reserved_tidy s h = record { blocks = λ n m e. by_place n m (push_cases s.blocks None n (Some m) e); chains = h.chains }
     where
-      by_place : (n : ℕ) (m : MadeBlock) → (slice_get s.blocks n ≡ Some (Some m)) ⊎ ((n ≡ length s.blocks) × (None ≡ Some m)) → BlockWell t m.block
+      by_place : (n : ℕ) (m : MadeBlock) → (slice_get s.blocks n ≡ Some (Some m)) ⊎ ((n ≡ length s.blocks) × (None ≡ Some m)) → BlockWell t m
       by_place n m (inl e) = h.blocks n m e
       by_place n m (inr e) = absurd (none-some m e.1)
 
@@ -247,9 +247,9 @@ module _ (t : CodeTarget) where
   pub filled_tidy : (kind : Kind) (n : ℕ) (k : BlockRest) (s : Building) → Tidy t s → RestEnds t (is_cleanup_kind kind) k → Tidy t (filled kind n k s)
   filled_tidy kind n k s h l = record { blocks = λ i m e. by_place i m (set_cases s.blocks n i (Some (made kind (length s.blocks) k)) (Some m) e); chains = h.chains }
     where
-      by_place : (i : ℕ) (m : MadeBlock) → (slice_get s.blocks i ≡ Some (Some m)) ⊎ ((i ≡ n) × (Some (made kind (length s.blocks) k) ≡ Some m)) → BlockWell t m.block
+      by_place : (i : ℕ) (m : MadeBlock) → (slice_get s.blocks i ≡ Some (Some m)) ⊎ ((i ≡ n) × (Some (made kind (length s.blocks) k) ≡ Some m)) → BlockWell t m
       by_place i m (inl e) = h.blocks i m e
-      by_place i m (inr e) = subst (λ m. BlockWell t m.block) (same_Some (made kind (length s.blocks) k) m e.1) l
+      by_place i m (inr e) = subst (BlockWell t) (same_Some (made kind (length s.blocks) k) m e.1) (made_well t kind (length s.blocks) k l)
 
   -- the ways of the jumps in a loop, from those around it
   module _ (P : JumpWay → Type 0) (id base exit begin : ℕ) (is_left : Bool) (c : Ways) where
@@ -424,7 +424,7 @@ module _ (t : CodeTarget) where
     abbrev unwound : Scopes → BlockRest → Building → BlockRest
     unwound S k s = stored (ending (Term.Goto (down S k s).0) site.node)
 
-    stores_first : (kind : Kind) (k : BlockRest) (s : Building) → Later t (closed kind (stored k) s) → StoresFirst t (place_of (f t) site) (length s.blocks)
+    stores_first : (kind : Kind) (k : BlockRest) (s : Building) → Later t (closed kind (stored k) s) → StoresFirst t (place_of (f t) site) site.node (length s.blocks)
     stores_first kind k s later = (
       kind,
       length s.blocks,
@@ -432,6 +432,7 @@ module _ (t : CodeTarget) where
       map (λ l. l.stmt) k.lines,
       k.term,
       (later (length s.blocks) (made kind (length s.blocks) (stored k)) (closed_at t kind (stored k) s)).0,
+      (later (length s.blocks) (made kind (length s.blocks) (stored k)) (closed_at t kind (stored k) s)).1.0,
     )
 
     replaced_lowered : (Lowered t) (replaces (f t) true site key) (λ c. ReplacesAt t true site key)

@@ -1,5 +1,5 @@
 -- What the lowering builds of effects, chains of drops and terminators holds the code: one lemma a rule of `Build`.
-use Rattle.std.proofs.Common.{◌≡◌, inl, inr, ℕ, suc, ◌+◌, ◌==◌, ◌&&◌, not, Bool, true, false, List, [], ◌∷◌, ◌++◌, length, map, Option, Some, None, if◌then◌else◌, refl, sym, ap, ◌∙◌, subst, arith}
+use Rattle.std.proofs.Common.{◌≡◌, inl, inr, ℕ, suc, ◌==◌, ◌&&◌, Bool, true, false, List, [], ◌∷◌, ◌++◌, length, map, Option, Some, None, if◌then◌else◌, refl, sym, ap, ◌∙◌, subst, arith}
 use Rattle.std.proofs.lemmas.Bool.{eqb-true}
 use Rattle.std.proofs.lemmas.Option.{same_Some}
 use Rattle.cfg_graph.specs.declared.graph.Kind.{Kind}
@@ -14,7 +14,7 @@ use Rattle.store_model.specs.Effects.{EffectSite, Action}
 use Rattle.store_model.specs.Places.Place.{Step, ToPart, ToField, ToContent, ToElement, whole_local}
 use Rattle.src_meaning.specs.Locals.Effects.{step_at, site_at, operand_at, action_at}
 use Rattle.src_meaning.specs.Scopes.{Entry, Scopes, entry_site}
-use Rattle.lower_rules.specs.Spots.{CodeTarget, CodePos, Ways, CodeSpot, Then, Changes, After, Nothing, BackIn, action_of_term, panic_drops, goes, CleanAt, Cleans, IsLast, ActionTermAt, Acts, by_statement, by_terminator, by_last_statement, by_last_terminator}
+use Rattle.lower_rules.specs.Spots.{CodeTarget, CodePos, Ways, CodeSpot, Then, Changes, After, Nothing, BackIn, action_of_term, panic_drops, CleanAt, Cleans, IsLast, ActionTermAt, Acts, by_statement, by_terminator, by_last_statement, by_last_terminator}
 use Rattle.lower_rules.specs.Build as build
 use Rattle.lower_rules.specs.Build.{BlockRest, Building, ending, made, closed, same_entries, chain_among, kept_chain, chain_or, jumps_if, Lowers, ByStmt, ByTerm, change, nothing, from_changed, back_in, then_build, then_lower, step_of, place_of, chain, unwind_to, unwinding, is_last, act_by, act}
 use Rattle.lower_rules.proofs.LaidBlocks.{AllGiven, AllKind, BlockGiven, ChainAt, ChainsStand, CodeEnds, CodeStands, Given, Grows, IsUsed, JumpWays, KindAt, Later, LeadsOn, LeadsWell, Lowered, NoFree, PlainWay, Ranked, RestEnds, RestWell, Stands, Tidy, TidyAfter, closed_grows, closed_length, closed_ranked, closed_stands, closed_tidy, ends_with, f, grows_not, grows_on, kind_stands, later_before, plain_stands, step_stands, ways_first, ways_more, ways_second}
@@ -342,13 +342,13 @@ module _ (t : CodeTarget) where
       )
 
   abbrev pub TwoWays : (ℕ → Unwind → Term) → Type 0
-  TwoWays term = (n : ℕ) (u : Unwind) → KindAt t false n → AllKind t true (unwind_block u ++ []) → LeadsWell t (term n u)
+  TwoWays term = (node n : ℕ) (u : Unwind) → KindAt t false n → AllKind t true (unwind_block u ++ []) → LeadsWell t (term n u) node
 
   pub two_tidy : (term : ℕ → Unwind → Term) (node : ℕ) (es : List Entry) (k : BlockRest) (s : Building) → TwoWays term → Later t (two_ways term node es k s).1 → Tidy t s → RestWell t k →
       TidyAfter t (two_ways term node es k s)
   two_tidy term node es k s e later h l =
       let u = unwind_tidy es (closed Kind.Plain k s) (closed_tidy t Kind.Plain k s h l) later in
-      (u.0, (e (length s.blocks) (unwind_to (f t) es (closed Kind.Plain k s)).0 (kind_stands t Kind.Plain k s (two_later term node es k s later)) u.1, tt))
+      (u.0, (e node (length s.blocks) (unwind_to (f t) es (closed Kind.Plain k s)).0 (kind_stands t Kind.Plain k s (two_later term node es k s later)) u.1, tt))
 
   stmt_lowered : (n : ℕ) (action : Action) (stmt : Stmt) → NoFree t stmt → actions.action_of n stmt ≡ action_at t.local_of action → Lowered t (act_by (f t) false n (ByStmt stmt)) (λ c. Acts t action)
   stmt_lowered n action stmt free e = record {
@@ -449,17 +449,17 @@ module _ (t : CodeTarget) where
   act_lowered n (effects.Free box) one = absurd one
   act_lowered n (effects.Compute to operator left right) one =
       by_term n (effects.Compute to operator left right) (Term.Math (place_of (f t) to) operator (build.operand_of (f t) left) (build.operand_of (f t) right))
-      ((λ m u. λ i. Some (effects.Compute (site_same n to one.0 i) operator (operand_same n left one.1 i) (operand_same n right one.2 i), m, u)), (λ m u. refl), λ m u p g. ((p, tt), g, refl, tt))
+      ((λ m u. λ i. Some (effects.Compute (site_same n to one.0 i) operator (operand_same n left one.1 i) (operand_same n right one.2 i), m, u)), (λ m u. refl), λ node m u p g. ((p, tt), g, refl, tt))
   act_lowered n (effects.Negate to operand) one =
       by_term n (effects.Negate to operand) (Term.Negate (place_of (f t) to) (build.operand_of (f t) operand))
-      ((λ m u. λ i. Some (effects.Negate (site_same n to one.0 i) (operand_same n operand one.1 i), m, u)), (λ m u. refl), λ m u p g. ((p, tt), g, refl, tt))
+      ((λ m u. λ i. Some (effects.Negate (site_same n to one.0 i) (operand_same n operand one.1 i), m, u)), (λ m u. refl), λ node m u p g. ((p, tt), g, refl, tt))
   act_lowered n (effects.Bounds index count) one =
-      by_term n (effects.Bounds index count) (Term.Bounds (build.operand_of (f t) index) count) ((λ m u. λ i. Some (effects.Bounds (operand_same n index one i) count, m, u)), (λ m u. refl), λ m u p g. ((p, tt), g, refl, tt))
+      by_term n (effects.Bounds index count) (Term.Bounds (build.operand_of (f t) index) count) ((λ m u. λ i. Some (effects.Bounds (operand_same n index one i) count, m, u)), (λ m u. refl), λ node m u p g. ((p, tt), g, refl, tt))
   act_lowered n (effects.Call to g args) one =
       by_term n (effects.Call to g args) (Term.Call (place_of (f t) to) g (build.operands_of (f t) args))
-      ((λ m u. λ i. Some (effects.Call (site_same n to one.0 i) g (operands_same n args one.1 i), m, u)), (λ m u. refl), λ m u p g. ((p, tt), g, refl, tt))
+      ((λ m u. λ i. Some (effects.Call (site_same n to one.0 i) g (operands_same n args one.1 i), m, u)), (λ m u. refl), λ node m u p g. ((p, tt), g, refl, tt))
   act_lowered n (effects.CallVirtual to trait_no method args) one =
       by_term n (effects.CallVirtual to trait_no method args) (Term.Virtual (place_of (f t) to) trait_no method (build.operands_of (f t) args))
-      ((λ m u. λ i. Some (effects.CallVirtual (site_same n to one.0 i) trait_no method (operands_same n args one.1 i), m, u)), (λ m u. refl), λ m u p g. ((p, tt), g, refl, tt))
+      ((λ m u. λ i. Some (effects.CallVirtual (site_same n to one.0 i) trait_no method (operands_same n args one.1 i), m, u)), (λ m u. refl), λ node m u p g. ((p, tt), g, refl, tt))
   act_lowered n (effects.Ask to) one =
-      by_term n (effects.Ask to) (Term.Ask (place_of (f t) to)) ((λ m u. λ i. Some (effects.Ask (site_same n to one i), m, u)), (λ m u. refl), λ m u p g. ((p, tt), g, refl, tt))
+      by_term n (effects.Ask to) (Term.Ask (place_of (f t) to)) ((λ m u. λ i. Some (effects.Ask (site_same n to one i), m, u)), (λ m u. refl), λ node m u p g. ((p, tt), g, refl, tt))

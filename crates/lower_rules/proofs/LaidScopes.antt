@@ -1,6 +1,5 @@
 -- What the lowering builds where scopes are left, for jumps, panics and tests, holds the code: one lemma a rule of `Build`.
-use Rattle.std.proofs.Common.{◌≡◌, inl, ℕ, suc, ◌+◌, ◌≤◌, nat_lt, not, Bool, true, false, List, [], ◌∷◌, ◌++◌, length, refl, sym, ap, ◌∙◌, arith}
-use Rattle.cfg_graph.specs.declared.graph.Block.{Block}
+use Rattle.std.proofs.Common.{◌≡◌, inl, ℕ, suc, ◌≤◌, nat_lt, not, Bool, true, false, List, [], ◌∷◌, ◌++◌, length, refl, sym, ap, ◌∙◌, arith}
 use Rattle.cfg_graph.specs.declared.graph.Kind.{Kind}
 use Rattle.cfg_graph.specs.declared.terminator.Term.{Term}
 use Rattle.cfg_graph.specs.declared.terminator.Unwind.{Unwind}
@@ -54,9 +53,9 @@ module _ (t : CodeTarget) where
       two_ranked t (drop_term (entry_site x)) x.key (es ++ panic_drops t S) r.0 r.1 (λ n u. refl) rest.0 rest.1
 
   pub whole_drops : (local : ℕ) → TwoWays t (Term.DropAt (record { local = local; steps = [] }))
-  whole_drops local n (Unwind.Block m) p g = ((p, tt), g, refl, inl refl)
-  whole_drops local n Unwind.Resume p g = ((p, tt), g, refl, refl)
-  whole_drops local n Unwind.Abort p g = ((p, tt), g, refl, refl)
+  whole_drops local node n (Unwind.Block m) p g = ((p, tt), g, refl, inl refl)
+  whole_drops local node n Unwind.Resume p g = ((p, tt), g, refl, refl)
+  whole_drops local node n Unwind.Abort p g = ((p, tt), g, refl, refl)
 
   drops_tidy : (es : List Entry) (S : Scopes) (k : BlockRest) (s : Building) → Later t (drop_all (f t) es S k s).1 → Tidy t s → RestWell t k → TidyAfter t (drop_all (f t) es S k s)
   drops_tidy [] S k s later h l = (h, l)

@@ -83,13 +83,16 @@ IsRefilledIn body place n =
     (block : Block) × (from : Operand) × (rest : List Stmt) × (slice_get body.blocks n ≡ Some block)
     × (block.stmts ≡ Stmt.Put place from ∷ rest)
 
--- what is dropped is a whole local, or what an assignment puts a value into at once
+-- what is dropped is a whole local, or what an assignment puts a value into at once; the drop and the store are of the
+-- assignment's node
 abbrev pub LoweredRefillsParts : Type 0
 LoweredRefillsParts =
     (items : ItemTable) (tree : BodyTree) → NamesItsLoops tree →
     (n next : ℕ) (block : Block) (place : Place) (unwind : Unwind) →
     slice_get (body_of items tree).blocks n ≡ Some block → block.term ≡ Term.DropAt place next unwind →
-    (place.steps ≡ []) ⊎ IsRefilledIn (body_of items tree) place next
+    (place.steps ≡ [])
+    ⊎ (IsRefilledIn (body_of items tree) place next
+    × (node_of items tree next 0 ≡ node_of items tree n (length block.stmts)))
 
 -- the blocks of a body are no more than 32 times the square of its nodes, and 64 more for each node
 abbrev pub LoweredIsSmall : Type 0

@@ -3,12 +3,14 @@ use Rattle.std.proofs.Common.{◌≡◌, ◌∙◌, ℕ, ℤ, List, refl, sym, a
 use Rattle.mir_base.specs.declared.trace.End.{End}
 use Rattle.mir_base.specs.Trace.{Trace}
 use Rattle.cfg_graph.specs.declared.graph.Graph.{Graph}
+use Rattle.cfg_graph.specs.Ready.{IsReadyGraph}
 use Rattle.cfg_graph.specs.WellFormed.Faults.{IsCounted, IsWellFormed}
 use Rattle.cfg_meaning.specs.Programs.{graph_run, raw_graph_run}
 use Rattle.cfg_build.specs.declared.programs.Lowered.{Lowered}
 use Rattle.drop_bodies.specs.Counts.{totals_of}
 use Rattle.drop_elaborate.specs.Elaborated.{IsElaboration}
 use Rattle.drop_elaborate.specs.Totals.{AreSums}
+use Rattle.drop_laws.proofs.ReadyLines.{elaborable}
 use Rattle.drop_laws.specs.Ready.{IsElaborable, NamedStays}
 use Rattle.drop_graphs.specs.Runs.{RunsAsRaw}
 use Rattle.drop_graphs.specs.declared.exact.Elaborated.{Elaborated}
@@ -19,24 +21,15 @@ use Rattle.typed_tree.specs.Tree.{ProgramTree}
 use Rattle.mir_pipeline.specs.Built.{IsBuiltAs, IsBuiltOf, RunsStrictlyAsItsSource}
 use Rattle.mir_pipeline.specs.Graphs.{IsAcceptedAs, IsAcceptedOf}
 
-pub is_ready : (program : ProgramTree) (lowered : Lowered) → IsAcceptedAs program lowered → IsElaborable lowered.graph
+is_ready : (program : ProgramTree) (lowered : Lowered) → IsAcceptedAs program lowered → IsReadyGraph lowered.graph
 is_ready program lowered is = record {
-  well_formed = is.lowered_is.prepared.well_formed;
-  has_bool = is.lowered_is.prepared.has_bool;
-  alone = is.lowered_is.prepared.alone;
-  prepared = λ n body at. let p = is.lowered_is.prepared.prepared n body at in record {
-    no_free = p.no_free;
-    one_beginning = p.one_beginning;
-    moves = p.moves;
-    drops = p.drops;
-    references = p.references;
-  };
+  prepared = is.lowered_is.prepared;
   uses = λ n body path given at is_path. is.uses n body at path given is_path;
 }
 
 -- of an accepted text
 pub ready_of : (text : List ℕ) (lowered : Lowered) → IsAcceptedOf text lowered → IsElaborable lowered.graph
-ready_of text lowered (program, p, is) = is_ready program lowered is
+ready_of text lowered (program, p, is) = elaborable lowered.graph (is_ready program lowered is)
 
 pub counted_of : (text : List ℕ) (lowered : Lowered) → IsAcceptedOf text lowered → IsCounted lowered.graph
 counted_of text lowered (program, p, is) = is.lowered_is.counted
@@ -83,17 +76,21 @@ is_built text lowered done (program, p, is) elaborated counts well_formed counte
   p,
   record {
     source = is.source;
-    ready = subst IsElaborable same (is_ready program lowered is);
+    ready = subst IsReadyGraph same (is_ready program lowered is);
     elaborated = subst (λ (raw : Graph). IsElaboration raw done.graph) same elaborated;
     counts = subst (λ (raw : Graph). AreSums raw done.graph (totals_of done.counts)) same counts;
     well_formed = well_formed;
     counted = counted;
-    runs = λ stays asked ticks free.
+    runs = λ asked ticks free.
         let raw = outcomes_same (raw_graph_run lowered.graph asked ticks) (source program asked ticks)
         (is.lowered_is.values asked ticks) free in
-        runs (subst NamedStays (sym same) stays) asked ticks (subst (λ (o : Trace × End). NotStuck o.1) (sym raw) free) ∙ raw;
+        runs stays asked ticks (subst (λ (o : Trace × End). NotStuck o.1) (sym raw) free) ∙ raw;
   },
 )
   where
     same : lowered.graph ≡ graph_of program
     same = is.lowered_is.graph
+
+    stays : NamedStays lowered.graph
+    stays n body path given local at is_path =
+        (is.lowered_is.prepared.prepared n body at).named_stays path given local is_path

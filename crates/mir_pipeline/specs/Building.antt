@@ -4,19 +4,19 @@ use Rattle.lower_rules.specs.Laws.{AllNameTheirLoops}
 use Rattle.lower_rules.specs.Lower.{graph_of}
 use Rattle.cfg_graph.specs.declared.graph.Graph.{Graph}
 use Rattle.cfg_graph.specs.Moves.BadUses.{U1, U2}
+use Rattle.cfg_graph.specs.Ready.{IsPrepared}
 use Rattle.cfg_graph.specs.WellFormed.Faults.{IsWellFormed}
 use Rattle.lower_laws.specs.Refused.{AllNumbersRise}
-use Rattle.lower_ready.specs.Prepared.{IsPreparedButForNamedStays}
 use Rattle.move_errors.specs.declared.errors.UseError.{UseError}
 use Rattle.mir_pipeline.specs.Graphs.{IsFirstBad}
 use Rattle.typed_tree.specs.Tree.{ProgramTree}
 
--- the jumps of a program name loops around them, the numbers of its nodes rise, and its graph has no fault and is, but for
--- what references name, prepared for drop elaboration
+-- the jumps of a program name loops around them, the numbers of its nodes rise, and its graph has no fault and is
+-- prepared for drop elaboration
 abbrev pub HasGraph : ProgramTree → Type 0
 HasGraph program =
     AllNameTheirLoops program × AllNumbersRise program × IsWellFormed (graph_of program)
-    × IsPreparedButForNamedStays (graph_of program)
+    × IsPrepared (graph_of program)
 
 abbrev pub HasFirstBad : Graph → UseError → Type 0
 HasFirstBad graph (UseError.U1 bad) = IsFirstBad graph U1 bad

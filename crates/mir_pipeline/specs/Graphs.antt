@@ -9,17 +9,19 @@ use Rattle.cfg_graph.specs.declared.graph.Graph.{Graph}
 use Rattle.cfg_graph.specs.declared.terminator.Term.{Term}
 use Rattle.cfg_graph.specs.Moves.BadUses.{UseRule, U1, U2}
 use Rattle.cfg_graph.specs.Places.{named}
+use Rattle.cfg_graph.specs.Ready.{IsPrepared}
 use Rattle.cfg_graph.specs.WellFormed.Faults.{IsCounted, IsWellFormed}
 use Rattle.cfg_build.specs.Claims.{EachBody, IsSmall, RunsAsItsSource, WalksAsItRunsFreely}
 use Rattle.cfg_build.specs.declared.programs.Lowered.{Lowered}
 use Rattle.lower_laws.specs.Refused.{ruled_by, MeetsExactly}
-use Rattle.lower_ready.specs.Prepared.{IsPreparedButForNamedStays}
 use Rattle.move_errors.specs.Refusal.{IsRefused}
 use Rattle.move_errors.specs.declared.errors.BadUse.{BadUse}
 use Rattle.move_paths.specs.declared.uses.Use.{Use}
 use Rattle.src_meaning.specs.Programs.{IsAccepted, reached_by}
-use Rattle.typed_tree.specs.Tree.{BodyTree, ProgramTree}
+use Rattle.typed_tree.specs.Nodes.{body_nodes, first_with}
+use Rattle.typed_tree.specs.Tree.{Node, BodyTree, ProgramTree}
 use Rattle.lower_rules.specs.Listed.{program_sites}
+use Rattle.lower_rules.specs.Sites.{position_of}
 use Rattle.lower_rules.specs.declared.site.Site.{Site}
 use Rattle.mir_pipeline.specs.Programs.{IsProgramOf, HasNoProgram}
 use Rattle.mir_pipeline.specs.declared.refusal.Refusal.{Refusal}
@@ -69,15 +71,15 @@ abbrev pub AreSited : Lowered → Type 0
 AreSited lowered =
     (rule : UseRule) (bad : BadUse) → IsFirstBad lowered.graph rule bad → is_some (site_of lowered bad) ≡ true
 
--- The raw graph of a program, with the sites of its uses. It is well formed and, but for what references name, prepared
--- for drop elaboration; its lists are short, and a body has few blocks for the nodes of its source. It runs as the program does,
--- up to the place where both are stuck; each body walks as it runs freely, its paths meet exactly the refused uses of
--- its free runs, and each bad use has a site.
+-- The raw graph of a program, with the sites of its uses. It is well formed and prepared for drop elaboration; its lists
+-- are short, and a body has few blocks for the nodes of its source. It runs as the program does, up to the place where
+-- both are stuck; each body walks as it runs freely, its paths meet exactly the refused uses of its free runs, and each
+-- bad use has a site.
 pub record IsGraphOf (program : ProgramTree) (lowered : Lowered) : Type 0 where
   pub graph : lowered.graph ≡ graph_of program
   pub sites : lowered.sites ≡ program_sites program
   pub well_formed : IsWellFormed lowered.graph
-  pub prepared : IsPreparedButForNamedStays lowered.graph
+  pub prepared : IsPrepared lowered.graph
   pub small : EachBody IsSmall program lowered.graph
   pub counted : IsCounted lowered.graph
   pub values : RunsAsItsSource program lowered.graph
@@ -109,9 +111,10 @@ pub record IsBadAt (lowered : Lowered) (rule : UseRule) (bad : BadUse) (site : S
   pub told : site_of lowered bad ≡ Some site
 
 -- The same use in the source: with the choices of the refusal the free run of its body is refused, at the use's place
--- and the node of its line, by the same rule. Of all lists of choices by which a free run of that body is refused this is
--- a shortest one, and the least of the shortest; and no free run of an earlier body is refused.
-pub record IsRefusedInSource (program : ProgramTree) (rule : UseRule) (bad : BadUse) : Type 0 where
+-- and the node of its line, by the same rule; the position that is told is that of this node. Of all lists of choices by
+-- which a free run of that body is refused this is a shortest one, and the least of the shortest; and no free run of an
+-- earlier body is refused.
+pub record IsRefusedInSource (program : ProgramTree) (rule : UseRule) (bad : BadUse) (site : Site) : Type 0 where
   pub tree : BodyTree
   pub there : slice_get program.bodies bad.body ≡ Some tree
   pub given : List Bool
@@ -120,6 +123,9 @@ pub record IsRefusedInSource (program : ProgramTree) (rule : UseRule) (bad : Bad
       reached_by program.items tree given
       ≡ Some (record { node = node_of program.items tree bad.block bad.line; place = named bad.place })
   pub ruled : ruled_by program.items tree given ≡ Some rule
+  pub node : Node
+  pub found : first_with (node_of program.items tree bad.block bad.line) (body_nodes tree) ≡ Some node
+  pub at : site.at ≡ position_of node
   pub least : (other : List Bool) → is_some (reached_by program.items tree other) ≡ true → IsLeast given other
   pub first :
       (n : ℕ) (earlier : BodyTree) (list : List Bool) → n < bad.body → slice_get program.bodies n ≡ Some earlier →
@@ -140,7 +146,7 @@ pub record IsRefusedAs
     : Type 0 where
   pub lowered_is : IsGraphOf program lowered
   pub refused : IsBadAt lowered rule bad site
-  pub source : IsRefusedInSource program rule bad
+  pub source : IsRefusedInSource program rule bad site
   pub not_accepted : ¬ IsAccepted program
 
 abbrev pub HasBadUse : List ℕ → UseRule → BadUse → Site → Type 0

@@ -10,8 +10,7 @@ use mir_base::NoMemory;
 use std::alloc::Global;
 
 /// The graph with exact drops of an accepted text of at most 4,294,967,294 bytes, and how many drops of its raw graph are
-/// of each kind. It is well formed, and by strict steps it runs as the program does, wherever that is not stuck; in the
-/// raw graph what a reference names has to stay while it is used.
+/// of each kind. It is well formed, and by strict steps it runs as the program does, wherever that is not stuck.
 ///
 /// # Errors
 ///

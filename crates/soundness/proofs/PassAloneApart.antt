@@ -2,10 +2,9 @@
 -- own locals, and no index on the way. Of cells and of seen places that is told by their keys.
 use Rattle.std.proofs.Common.{◌≡◌, ℕ, ◌==◌, ◌&&◌, Bool, false, List, [], ◌∷◌, map, Some, None, ap}
 use Rattle.std.specs.Prelude.{slice_get}
-use Rattle.store_model.specs.Places.Place.{Step, Place, ThroughReference, watched}
+use Rattle.store_model.specs.Places.Place.{Step, Place}
 use Rattle.typed_tree.specs.Tree.{BodyTree, ProgramTree}
 use Rattle.src_meaning.specs.Locals.Effects.{place_at, step_at}
-use Rattle.src_meaning.specs.Locals.OfBody.{local_ty}
 use Rattle.typing_rules.specs.Accesses as rules
 use Rattle.typing_rules.specs.Accesses.{AccessPlace, begin_alike}
 use Rattle.soundness.specs.Laws.{IsSound}
@@ -29,27 +28,23 @@ OffAll [] q = Unit {0}
 OffAll (a ∷ as_) q = OffOne a q × OffAll as_ q
 
 module _ (p : ProgramTree) (sound : IsSound p) (n fuel : ℕ) (b : BodyTree) (at : slice_get p.bodies n ≡ Some b) where
-  -- a reference on the way is the local itself; a local without one names nothing in any run
-  abbrev pub Rooted : Arg → Type 0
-  Rooted (local, None) = KeptIf p sound n fuel b at (λ q. Unit {0}) local None
-  Rooted (local, Some m) =
-      (watched p.items (local_ty p.items b m.place.local) m.place.steps).reach ≡ ThroughReference →
-      (watched p.items (local_ty p.items b m.place.local) m.place.steps).steps ≡ []
+  -- a local without a reference names nothing in any run
+  abbrev pub Nameless : Arg → Type 0
+  Nameless (local, None) = KeptIf p sound n fuel b at (λ q. Unit {0}) local None
+  Nameless (local, Some m) = Unit {0}
 
-  abbrev pub AllRooted : List Arg → Type 0
-  AllRooted [] = Unit {0}
-  AllRooted (a ∷ as_) = Rooted a × AllRooted as_
+  abbrev pub AllNameless : List Arg → Type 0
+  AllNameless [] = Unit {0}
+  AllNameless (a ∷ as_) = Nameless a × AllNameless as_
 
-  one_kept : (May : Place → Type 0) (a : Arg) → ((q : Place) → May q → OffOne a q) → Rooted a →
+  one_kept : (May : Place → Type 0) (a : Arg) → ((q : Place) → May q → OffOne a q) → Nameless a →
       KeptIf p sound n fuel b at May a.0 a.1
   one_kept May (local, None) f r = r
-  one_kept May (local, Some m) f r = (
-    (λ q x. (f q x).0),
-    (record { apart = λ q x. (f q x).1.0; way = λ q x. (f q x).1.1 }, r),
-  )
+  one_kept May (local, Some m) f r =
+      (λ q x. (f q x).0, record { apart = λ q x. (f q x).1.0; way = λ q x. (f q x).1.1 })
 
   -- what lies off all of them leaves them
-  pub all_kept : (May : Place → Type 0) (es : List Arg) → ((q : Place) → May q → OffAll es q) → AllRooted es →
+  pub all_kept : (May : Place → Type 0) (es : List Arg) → ((q : Place) → May q → OffAll es q) → AllNameless es →
       AllKept p sound n fuel b at May es
   all_kept May [] f r = tt
   all_kept May (a ∷ es) f r =

@@ -28,6 +28,7 @@ use Rattle.soundness.proofs.AlsoTests.{Also}
 use Rattle.soundness.proofs.Checked.{Checking}
 use Rattle.soundness.proofs.Facts.{Naming, Facts, Each}
 use Rattle.soundness.proofs.PassAloneArgs.{Arg, KnownIf, AllKnown}
+use Rattle.soundness.proofs.PassAloneNever.{never_local, is_use_or_call, no_value}
 use Rattle.soundness.proofs.PassAloneRun.{run, I, MadeAt, marks_stand}
 use Rattle.soundness.proofs.PassBorrowKnown.{borrow_known}
 use Rattle.soundness.proofs.PassCallsAlone.{alone_marks}
@@ -136,7 +137,7 @@ module _ (items : ItemTable) (body : BodyTree) (also : Also) (fuel : ℕ) (rise 
           (let k = borrow_known items body also (M base).head.id (local id) unique
           (Rattle.src_meaning.specs.Locals.Effects.site_at local (site_of (M base) around)) (alone_marks items body
           also)
-          (marks_stand items body also) w u e in (k.named, (k.is_sure, k.is_usable)))
+          (marks_stand items body also) w u e in (k.named, (k.is_sure, (k.is_usable, k.is_typed))))
 
       made : Ends P (forms.borrowing items q (shapes.head id ty by) unique (M base) around false (Into id) S v)
       made = calls.ends_then (λ w. Unit {0}) P ((M base).reach around S v) _ (ends_any ((M base).reach around S v))
@@ -166,6 +167,23 @@ module _ (items : ItemTable) (body : BodyTree) (also : Also) (fuel : ℕ) (rise 
           (made.1.1.1.0 ∙ one_key (local_keys items body) made.0 (number_of n) (made.1.0 ∙ here)) in
           absurd (false≢true (sym b ∙ subst (λ x. is_borrow (form_of x) ≡ true) same made.1.1.1.1.0))
 
+  -- a node of the block; and if its local is of type `!`, it is the use of a place or a call
+  abbrev pub Fit : Node → Type 0
+  Fit m = NodeIn (nodes_of body.block) m
+      × (never_local items body (local (number_of m)) ≡ true → is_use_or_call (form_of m) ≡ true)
+
+  abbrev pub AllFit : Nodes → Type 0
+  AllFit no_node = Unit {0}
+  AllFit (a_node first rest) = Fit first × AllFit rest
+
+  ends_never : (J : V → Type 0) (r : Run V) → Ends (λ w. ⊥) r → Ends J r
+  ends_never J (At Value S v) n = absurd n
+  ends_never J (At (Breaks loop) S v) n = tt
+  ends_never J (At (Continues loop) S v) n = tt
+  ends_never J (At Returns S v) n = tt
+  ends_never J (At Panics S v) n = tt
+  ends_never J (Over halt v) n = tt
+
   -- ---- all arguments
 
   -- an argument leaves what earlier ones name
@@ -179,75 +197,83 @@ module _ (items : ItemTable) (body : BodyTree) (also : Also) (fuel : ℕ) (rise 
       Leaves around es first × AllLeave around (es ++ named_arg around.aliases first ∷ []) rest
 
   -- in a frame in which so much is known of references
-  module _ (over : Halt → V → Type 0) (Does_ : Action → Type 0) (Drops : EffectSite → Type 0) (May : Place → Type 0)
-      (J_ : V → Type 0) (keeping : KeepingSo q over Does_ Drops May J_) (known : (v : V) → J_ v → Known v) where
-    abbrev Evaluated : LoopsAndGuards → Meaning V → Type 0
-    Evaluated = frame.Evaluated items q over Does_ Drops May J_ keeping
+  module _ (over : Halt → V → Type 0) (Does_ : Action → Type 0) (Drops : EffectSite → Type 0)
+      (Store Coerce May : Place → Type 0)
+      (J_ : V → Type 0) (keeping : KeepingSo q over Does_ Drops Store Coerce May J_) (known : (v : V) → J_ v → Known v)
+    where
+      abbrev Evaluated : LoopsAndGuards → Meaning V → Type 0
+      Evaluated = frame.Evaluated items q over Does_ Drops Store Coerce May J_ keeping
 
-    abbrev AllEvaluated : LoopsAndGuards → List (Meaning V) → Type 0
-    AllEvaluated = frame.AllEvaluated items q over Does_ Drops May J_ keeping
+      abbrev AllEvaluated : LoopsAndGuards → List (Meaning V) → Type 0
+      AllEvaluated = frame.AllEvaluated items q over Does_ Drops Store Coerce May J_ keeping
 
-    none_at : (J : V → Type 0) (r : Run V) → frame.KeptAt items q over Does_ Drops May J_ keeping 0 r → ((w : V) →
-        Known w → J w) → Ends J r
-    none_at J (At Value S v) k f = f v (known v k.1)
-    none_at J (At (Breaks loop) S v) k f = tt
-    none_at J (At (Continues loop) S v) k f = tt
-    none_at J (At Returns S v) k f = tt
-    none_at J (At Panics S v) k f = tt
-    none_at J (Over halt v) k f = tt
+      none_at : (J : V → Type 0) (r : Run V) → frame.KeptAt items q over Does_ Drops Store Coerce May J_ keeping 0 r →
+          ((w : V) → Known w → J w) → Ends J r
+      none_at J (At Value S v) k f = f v (known v k.1)
+      none_at J (At (Breaks loop) S v) k f = tt
+      none_at J (At (Continues loop) S v) k f = tt
+      none_at J (At Returns S v) k f = tt
+      none_at J (At Panics S v) k f = tt
+      none_at J (Over halt v) k f = tt
 
-    abbrev Brings : LoopsAndGuards → Node → Type 0
-    Brings around n = (S : Scopes) (v : V) → J_ v →
-        Ends (λ w. KnownIf items body w (named_arg around.aliases n).0 (named_arg around.aliases n).1)
-        ((M n).evaluate around false (Into (M n).head.id) S v)
+      abbrev Brings : LoopsAndGuards → Node → Type 0
+      Brings around n = (S : Scopes) (v : V) → J_ v →
+          Ends (λ w. KnownIf items body w (named_arg around.aliases n).0 (named_arg around.aliases n).1)
+          ((M n).evaluate around false (Into (M n).head.id) S v)
 
-    brings_form : (form : Form) (id : ℕ) (at : Pos) (ty : TyId) (by : Option Use) (around : LoopsAndGuards) →
-        Evaluated around (M (node id at ty by form)) → NodeIn (nodes_of body.block) (node id at ty by form) →
-        Brings around (node id at ty by form)
-    brings_form (tree.Borrow unique base) id at ty by around e i S v k =
-        borrow_brings id ty by unique base around (is_never items ty) S v
-    brings_form form id at ty by around e i S v k = none_at
-        (λ w. KnownIf items body w (named_form around.aliases id form).0 (named_form around.aliases id form).1)
-        ((M (node id at ty by form)).evaluate around false (Into (M (node id at ty by form)).head.id) S v)
-        (e.0.kept 0 S v (calls.none_looked_at items q over Does_ Drops May J_ keeping S) k) (λ w j. names_nothing
-        (node id at ty by form) i refl w j)
+      -- what is no borrow names nothing, and its local is not of type `!`
+      other_brings : (form : Form) (id : ℕ) (at : Pos) (ty : TyId) (by : Option Use) (around : LoopsAndGuards) →
+          is_borrow form ≡ false → Evaluated around (M (node id at ty by form)) → Fit (node id at ty by form) →
+          (S : Scopes) (v : V) → J_ v → Ends (λ w. KnownIf items body w (local id) None)
+          ((M (node id at ty by form)).evaluate around false (Into (M (node id at ty by form)).head.id) S v)
+      other_brings form id at ty by around none e i S v k = of_local (never_local items body (local id)) refl
+        where
+          r : Run V
+          r = (M (node id at ty by form)).evaluate around false (Into (M (node id at ty by form)).head.id) S v
 
-    brings : (n : Node) (around : LoopsAndGuards) → Evaluated around (M n) → NodeIn (nodes_of body.block) n →
-        Brings around n
-    brings (node id at ty by form) around e i = brings_form form id at ty by around e i
+          of_local : (b : Bool) → never_local items body (local id) ≡ b →
+              Ends (λ w. KnownIf items body w (local id) None) r
+          of_local true n = ends_never (λ w. KnownIf items body w (local id) None) r
+              (no_value items body also fuel form id at ty by (i.1 n) n around S v)
+          of_local false n = none_at (λ w. KnownIf items body w (local id) None) r
+              (e.0.kept 0 S v (calls.none_looked_at items q over Does_ Drops Store Coerce May J_ keeping S) k)
+              (λ w j. (names_nothing (node id at ty by form) i.0 none w j, n))
 
-    known_append : (es : List Arg) (a : Arg) (w : V) → AllKnown items body es w → KnownIf items body w a.0 a.1 →
-        AllKnown items body (es ++ a ∷ []) w
-    known_append [] a w k j = (j, tt)
-    known_append (e ∷ es) a w k j = (k.0, known_append es a w k.1 j)
+      brings_form : (form : Form) (id : ℕ) (at : Pos) (ty : TyId) (by : Option Use) (around : LoopsAndGuards) →
+          Evaluated around (M (node id at ty by form)) → Fit (node id at ty by form) →
+          Brings around (node id at ty by form)
+      brings_form (tree.Borrow unique base) id at ty by around e i S v k =
+          borrow_brings id ty by unique base around (is_never items ty) S v
+      brings_form form id at ty by around e i S v k = other_brings form id at ty by around refl e i S v k
 
-    both_end : (J K L : V → Type 0) → ((w : V) → J w → K w → L w) → (r : Run V) → Ends J r → Ends K r → Ends L r
-    both_end J K L f (At Value S v) j k = f v j k
-    both_end J K L f (At (Breaks loop) S v) j k = tt
-    both_end J K L f (At (Continues loop) S v) j k = tt
-    both_end J K L f (At Returns S v) j k = tt
-    both_end J K L f (At Panics S v) j k = tt
-    both_end J K L f (Over halt v) j k = tt
+      brings : (n : Node) (around : LoopsAndGuards) → Evaluated around (M n) → Fit n → Brings around n
+      brings (node id at ty by form) around e i = brings_form form id at ty by around e i
 
-    abbrev pub AllEnd : LoopsAndGuards → List Arg → List (Meaning V) → List Arg → Type 0
-    AllEnd = calls.AllEnd items q over Does_ Drops May J_ keeping Arg (AllKnown items body)
+      known_append : (es : List Arg) (a : Arg) (w : V) → AllKnown items body es w → KnownIf items body w a.0 a.1 →
+          AllKnown items body (es ++ a ∷ []) w
+      known_append [] a w k j = (j, tt)
+      known_append (e ∷ es) a w k j = (k.0, known_append es a w k.1 j)
 
-    pub all_ends : (ns : Nodes) (around : LoopsAndGuards) (es : List Arg) → AllEvaluated around (Ms ns) →
-        ((m : Node) → NodeIn (nodes_among ns) m → NodeIn (nodes_of body.block) m) →
-        AllLeave around es ns → AllEnd around es (Ms ns) (args_of around.aliases ns)
-    all_ends no_node around es e i l = tt
-    all_ends (a_node first rest) around es e i l = (
-      λ S v k j. both_end (AllKnown items body es)
-          (λ w. KnownIf items body w (named_arg around.aliases first).0 (named_arg around.aliases first).1)
-          (AllKnown items body (es ++ named_arg around.aliases first ∷ []))
-          (λ w. known_append es (named_arg around.aliases first) w)
-          ((M first).evaluate around false (Into (M first).head.id) S v) (l.0 S v (known v k) j)
-          (brings first around e.0 (i first (node_left (nodes_of first)
-          (nodes_among rest) first (own_node first))) S v k),
-      all_ends rest around (es ++ named_arg around.aliases first ∷ []) e.1
-          (λ m j. i m (node_right (nodes_of first)
-          (nodes_among rest) m j)) l.1,
-    )
-      where
-        own_node : (m : Node) → NodeIn (nodes_of m) m
-        own_node (node id at ty by form) = inl refl
+      both_end : (J K L : V → Type 0) → ((w : V) → J w → K w → L w) → (r : Run V) → Ends J r → Ends K r → Ends L r
+      both_end J K L f (At Value S v) j k = f v j k
+      both_end J K L f (At (Breaks loop) S v) j k = tt
+      both_end J K L f (At (Continues loop) S v) j k = tt
+      both_end J K L f (At Returns S v) j k = tt
+      both_end J K L f (At Panics S v) j k = tt
+      both_end J K L f (Over halt v) j k = tt
+
+      abbrev pub AllEnd : LoopsAndGuards → List Arg → List (Meaning V) → List Arg → Type 0
+      AllEnd = calls.AllEnd items q over Does_ Drops Store Coerce May J_ keeping Arg (AllKnown items body)
+
+      pub all_ends : (ns : Nodes) (around : LoopsAndGuards) (es : List Arg) → AllEvaluated around (Ms ns) →
+          AllFit ns → AllLeave around es ns → AllEnd around es (Ms ns) (args_of around.aliases ns)
+      all_ends no_node around es e i l = tt
+      all_ends (a_node first rest) around es e i l = (
+        λ S v k j. both_end (AllKnown items body es)
+            (λ w. KnownIf items body w (named_arg around.aliases first).0 (named_arg around.aliases first).1)
+            (AllKnown items body (es ++ named_arg around.aliases first ∷ []))
+            (λ w. known_append es (named_arg around.aliases first) w)
+            ((M first).evaluate around false (Into (M first).head.id) S v) (l.0 S v (known v k) j)
+            (brings first around e.0 i.0 S v k),
+        all_ends rest around (es ++ named_arg around.aliases first ∷ []) e.1 i.1 l.1,
+      )

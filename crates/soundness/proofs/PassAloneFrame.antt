@@ -104,7 +104,7 @@ module _ (items : ItemTable) (body : BodyTree) (also : Also) (May : Place → Ty
     no_call (effects.CallVirtual to trait_no method args) v d = absurd d
     no_call action v d = tt
 
-    pub keeping : KeepingSo q any_halt (Does_ items body also) (Drops items body also) May_ Stay
+    pub keeping : KeepingSo q any_halt (Does_ items body also) (Drops items body also) May_ May_ May_ Stay
     keeping = record {
       acts = λ action v a d i. acts_in action v a (no_call action v d) (makes items body also action d) i;
       chooses = λ test v t i. either_choice ((alone_marks items body also).choosing (test_at local test) v.free v.facts)
@@ -131,7 +131,9 @@ module _ (items : ItemTable) (body : BodyTree) (also : Also) (May : Place → Ty
           ((free_keeping May items (local_ty items body) cells0).ticks v.free i.0.1);
       plain = plain_does items body also;
       whole = λ key. tt;
-      aborts = λ v. tt;
-      lapses = λ v. tt;
-      stuck = λ v. tt;
+      stores = λ place m. m;
+      coerces = λ place m. m;
+      aborts = λ v i. tt;
+      lapses = λ v i. tt;
+      stuck = λ v i. tt;
     }

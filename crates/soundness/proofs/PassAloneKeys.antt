@@ -14,7 +14,7 @@ use Rattle.well_typed.specs.Places.{InScope, Standing}
 use Rattle.soundness.proofs.PassCells.{Above, NodeIn, above_in}
 use Rattle.soundness.proofs.PassFacts.{Standpoint, context}
 use Rattle.soundness.proofs.PassKeys.{Keys, keys_more, place_keys}
-use Rattle.soundness.proofs.PassTold.{Here}
+use Rattle.soundness.proofs.PassTold.{KnownOf, Here}
 use Rattle.soundness.proofs.PassToldForms.{node_above}
 use Rattle.soundness.proofs.PassToldPlaces.{is_alias, above_right}
 
@@ -25,7 +25,7 @@ other_keys ns m place i k = keys_more (λ k. Above k ns) (λ k. k ≡ number_of 
     let less : k < number_of m = above_in k ns m a i in let same : k ≡ number_of m = e in
     let never : ⊥ = omega (less, same, arith) in never) place k
 
-module _ (items : ItemTable) (May : Place → Type 0) (Of : Node → Type 0) where
+module _ (items : ItemTable) (May : Place → Type 0) (Of : KnownOf) where
   -- of a place whose nodes are among the first of some nodes
   pub below_later : (aliases : rules.Aliases) (places : shapes.Aliases) (x : Standpoint) (a later : List Node) →
       Here items May Of aliases places x (a ++ later) → (base : Node) (standing : Standing) →

@@ -3,7 +3,7 @@
 use Rattle.std.proofs.Common.{◌≡◌, ◌<◌, inr, ℕ, false, List, [], ◌∷◌, map, Option, Some, None, ap, sym, ◌∙◌, subst}
 use Rattle.std.specs.Prelude.{slice_get}
 use Rattle.store_model.specs.Effects.{EffectSite, Operand, Action, Effects}
-use Rattle.store_model.specs.Places.Place.{Place, ThroughReference, watched}
+use Rattle.store_model.specs.Places.Place.{Place}
 use Rattle.typed_tree.specs.Nodes.{nodes_of, nodes_among}
 use Rattle.typed_tree.specs.Tree as tree
 use Rattle.typed_tree.specs.Tree.{Node, node, Form, Nodes, no_node, a_node, BodyTree, ProgramTree}
@@ -19,10 +19,12 @@ use Rattle.soundness.proofs.Checked.{Checking}
 use Rattle.soundness.proofs.CheckedBodies.{is_reference_param}
 use Rattle.soundness.proofs.Checks as checks
 use Rattle.soundness.proofs.Facts.{Naming, Facts, Each}
+use Rattle.soundness.proofs.PassWithin.{Outer}
 use Rattle.soundness.proofs.PassAloneArgs.{Arg, KnownIf, AllKnown, locals_of, names_of, all_named, operands_so, makes_none}
 use Rattle.soundness.proofs.PassAloneBrings.{args_of, Leaves, all_ends}
 use Rattle.soundness.proofs.PassAloneFrame.{Stay, May_, any_halt, acts_in, keeping}
 use Rattle.soundness.proofs.PassAloneLeft.{CallLeft, block_rises, same_locals, nodes_so}
+use Rattle.soundness.proofs.PassAloneRoots.{sure_rooted}
 use Rattle.soundness.proofs.PassAloneRun.{run, I, Does_, Drops, Stands, telling}
 use Rattle.soundness.proofs.PassArgsLeft.{named_of, named_left, args_in}
 use Rattle.soundness.proofs.PassCallsAlone as alone
@@ -63,13 +65,14 @@ module _ (p : ProgramTree) (sound : IsSound p) (n fuel : ℕ) (b : BodyTree) (at
   named as_ = named_of p.items (local_ty p.items b) (is_reference_param p.items b) (own_local p.items b) (names_of as_)
 
   -- what is said of nodes with numbers above one
-  abbrev pub Above : ℕ → shapes.Aliases → ℕ → Form → Type 0
-  Above least places id form = Stands p b places id form × (least < id)
+  abbrev pub Above : ℕ → shapes.Aliases → Outer → ℕ → Form → Type 0
+  Above least places loops id form = Stands p b places loops id form × (least < id)
 
   -- the calls with such numbers are in order
   abbrev pub LeftAbove : ℕ → Type 0
   LeftAbove least = (form : Form) (ns : Nodes) (action : EffectSite → List Operand → Action) → Calls form ns action →
-      (id : ℕ) (around : LoopsAndGuards) → Above least around.aliases id form →
+      (id : ℕ) (around : LoopsAndGuards) (loops : Outer) → Above least around.aliases loops id form →
+      within.KeysAround around (within.passing id loops) →
       CallLeft p sound n fuel b (block_rises p sound n b at) form ns around
 
   module _ (least : ℕ) (left : LeftAbove least) (May : Place → Type 0) (facts0 : Facts) (cells0 : Cells) where
@@ -83,7 +86,7 @@ module _ (p : ProgramTree) (sound : IsSound p) (n fuel : ℕ) (b : BodyTree) (at
     MayNamed = MayIfUnique May p.items (local_ty p.items b) (is_reference_param p.items b)
 
     -- what arguments name by `&mut` may be changed
-    each_may : (ns : Nodes) (places : shapes.Aliases) (loops : List ℕ) →
+    each_may : (ns : Nodes) (places : shapes.Aliases) (loops : Outer) →
         within.AllWithin p.items May_at (Above least) places loops ns → Each MayNamed (named (args places ns))
     each_may no_node places loops w = tt
     each_may (a_node (node id at ty by form) rest) places loops w = by_form form w.0 (each_may rest places loops w.1)
@@ -96,7 +99,8 @@ module _ (p : ProgramTree) (sound : IsSound p) (n fuel : ℕ) (b : BodyTree) (at
 
     by_number : (at_node : ℕ) (ns : Nodes) → all_moved at_node (Ms ns) ≡ moved_nodes at_node ns
     by_number at_node ns = frames.all_by_number p.items q (any_halt p.items b also May facts0 cells0)
-        (Does_ p.items b also) (Drops p.items b also) May_at Kept (keeping p.items b also May facts0 cells0)
+        (Does_ p.items b also) (Drops p.items b also) May_at May_at May_at Kept (keeping p.items b also May facts0
+        cells0)
         (Above least) fuel at_node ns
 
     may_action : (form : Form) (ns : Nodes) (action : EffectSite → List Operand → Action) → Calls form ns action →
@@ -124,49 +128,48 @@ module _ (p : ProgramTree) (sound : IsSound p) (n fuel : ℕ) (b : BodyTree) (at
         (locals_of (args around.aliases ns)) (names_of (args around.aliases ns)) k.suit.distinct k.suit.off
         (all_named p.items b v (args around.aliases ns) j)
 
-    inside : (form : Form) (ns : Nodes) (action : EffectSite → List Operand → Action) → Calls form ns action →
-        (places : shapes.Aliases) (id : ℕ) → Stands p b places id form → (m : Node) → NodeIn (nodes_among ns) m →
-        NodeIn (nodes_of b.block) m
-    inside form ns action c places id s m i =
-        s.here.all m (inr (subst (λ l. NodeIn l m) (sym (nodes_so form ns action c)) i))
-
     -- each call inside changes only what its own arguments name
     at_calls : frames.AtCalls p.items q (any_halt p.items b also May facts0 cells0) (Does_ p.items b also)
-        (Drops p.items b also) May_at Kept (keeping p.items b also May facts0 cells0) (Above least) fuel
+        (Drops p.items b also) May_at May_at May_at Kept (keeping p.items b also May facts0 cells0) (Above least) fuel
     at_calls = record {
       called_kept = λ form ns action c id ty by s around loops a w says ev own_cell own to d.
-          let k = left form ns action c id around says in
+          let k = left form ns action c id around loops says a.1 in
           called_by p.items q (any_halt p.items b also May facts0 cells0) (Does_ p.items b also) (Drops p.items b also)
-          May_at Kept (keeping p.items b also May facts0 cells0) (AllKnown p.items b (args around.aliases ns))
+          May_at May_at May_at Kept (keeping p.items b also May facts0 cells0) (AllKnown p.items b (args around.aliases
+          ns))
           (Above least) fuel id ty by s (Ms ns) action around own to ev
           (λ S v i. all_end p.items q (any_halt p.items b also May facts0 cells0) (Does_ p.items b also)
-          (Drops p.items b also) May_at Kept (keeping p.items b also May facts0 cells0) Arg (AllKnown p.items b) around
+          (Drops p.items b also) May_at May_at May_at Kept (keeping p.items b also May facts0 cells0) Arg (AllKnown
+          p.items b) around
           [] (Ms ns) (args around.aliases ns) ev
           (all_ends p.items b also fuel (block_rises p sound n b at) (any_halt p.items b also May facts0 cells0)
-          (Does_ p.items b also) (Drops p.items b also) May_at Kept (keeping p.items b also May facts0 cells0)
-          (λ v i. i.1) ns around [] ev (inside form ns action c around.aliases id says.0) k.leave) S v i tt)
+          (Does_ p.items b also) (Drops p.items b also) May_at May_at May_at Kept (keeping p.items b also May facts0
+          cells0)
+          (λ v i. i.1) ns around [] ev k.fit k.leave) S v i tt)
           (λ key x v i j. acts_in p.items b also May facts0 cells0 (action (site_in id key) (all_moved id (Ms ns))) v
           (frames.called_allowed p.items q (any_halt p.items b also May facts0 cells0) (Does_ p.items b also)
-          (Drops p.items b also) May_at Kept (keeping p.items b also May facts0 cells0) (Above least) fuel form ns
+          (Drops p.items b also) May_at May_at May_at Kept (keeping p.items b also May facts0 cells0) (Above least) fuel
+          form ns
           action c id key (all_moved id (Ms ns)) x
           (frames.all_taken p.items q (any_halt p.items b also May facts0 cells0) (Does_ p.items b also)
-          (Drops p.items b also) May_at Kept (keeping p.items b also May facts0 cells0) (Above least) fuel id around
+          (Drops p.items b also) May_at May_at May_at Kept (keeping p.items b also May facts0 cells0) (Above least) fuel
+          id around
           (Ms ns) ev))
           (subst (λ l. MayCall May p.items (local_ty p.items b) (is_reference_param p.items b) v.facts
           (action_at (local_of p.items b) (action (site_in id key) l))) (sym (by_number id ns))
           (may_action form ns action c (site_in id key) (moved_nodes id ns) v.facts
-          (subst (Each MayNamed) (sym (names_so form ns around k id v j)) (each_may ns around.aliases loops w))))
+          (subst (Each MayNamed) (sym (names_so form ns around k id v j)) (each_may ns around.aliases (within.passing id loops) w))))
           (makes_none p.items b also form ns action c (site_in id key) (all_moved id (Ms ns))) i) own_cell d;
     }
 
-    saying : frames.Saying p.items (Does_ p.items b also) (Drops p.items b also) (Above least)
+    saying : frames.Telling p.items (Does_ p.items b also) (Drops p.items b also) (Above least)
     saying = record {
-      borrows = λ places id unique base s. (telling p b also).borrows places id unique base s.0;
-      assigns = λ places id place value s. tt;
+      borrows = λ places loops id unique base s. (telling p b also).borrows places loops id unique base s.0;
+      assigns = λ places loops id place value s. tt;
     }
 
     to_ends : (r : Run V) → frame.KeptAt p.items q (any_halt p.items b also May facts0 cells0) (Does_ p.items b also)
-        (Drops p.items b also) May_at Kept (keeping p.items b also May facts0 cells0) 0 r → Ends Kept r
+        (Drops p.items b also) May_at May_at May_at Kept (keeping p.items b also May facts0 cells0) 0 r → Ends Kept r
     to_ends (At Value S v) k = k.1
     to_ends (At (Breaks loop) S v) k = tt
     to_ends (At (Continues loop) S v) k = tt
@@ -175,27 +178,27 @@ module _ (p : ProgramTree) (sound : IsSound p) (n fuel : ℕ) (b : BodyTree) (at
     to_ends (Over halt v) k = tt
 
     -- a node that changes only such places leaves what is known of others
-    stays_so : (m : Node) (around : LoopsAndGuards) (loops : List ℕ) → within.Around May_at around loops →
+    stays_so : (m : Node) (around : LoopsAndGuards) (loops : Outer) → within.Around May_at around loops →
         within.Within p.items May_at (Above least) around.aliases loops m → (S : Scopes) (v : V) → Kept v →
         Ends Kept ((M m).evaluate around false (Into (M m).head.id) S v)
     stays_so m around loops a w S v k = to_ends ((M m).evaluate around false (Into (M m).head.id) S v)
         ((frames.operand_from p.items q (any_halt p.items b also May facts0 cells0) (Does_ p.items b also)
-        (Drops p.items b also) May_at Kept (keeping p.items b also May facts0 cells0) (Above least) fuel m around
+        (Drops p.items b also) May_at May_at May_at Kept (keeping p.items b also May facts0 cells0) (Above least) fuel m
+        around
         loops w
         (λ own to d. frames.evaluated p.items q (any_halt p.items b also May facts0 cells0) (Does_ p.items b also)
-        (Drops p.items b also) May_at Kept (keeping p.items b also May facts0 cells0) (Above least) fuel saying at_calls
+        (Drops p.items b also) May_at May_at May_at Kept (keeping p.items b also May facts0 cells0) (Above least) fuel
+        saying at_calls
         m around loops a w own to d)).0.kept 0 S v
         (calls.none_looked_at p.items q (any_halt p.items b also May facts0 cells0) (Does_ p.items b also)
-        (Drops p.items b also) May_at Kept (keeping p.items b also May facts0 cells0) S) k)
+        (Drops p.items b also) May_at May_at May_at Kept (keeping p.items b also May facts0 cells0) S) k)
 
   -- ---- what stays known
 
   -- what an argument names lies apart from what may be changed; a local that names nothing never does
   abbrev pub KeptIf : (Place → Type 0) → ℕ → Option Naming → Type 0
   KeptIf May local None = (w : V) → I p.items b also w → named_by local w.facts ≡ None
-  KeptIf May local (Some m) = Fixed May local × (Clear May m.place
-      × ((watched p.items (local_ty p.items b m.place.local) m.place.steps).reach ≡ ThroughReference →
-      (watched p.items (local_ty p.items b m.place.local) m.place.steps).steps ≡ []))
+  KeptIf May local (Some m) = Fixed May local × Clear May m.place
 
   abbrev pub AllKept : (Place → Type 0) → List Arg → Type 0
   AllKept May [] = Unit {0}
@@ -203,14 +206,17 @@ module _ (p : ProgramTree) (sound : IsSound p) (n fuel : ℕ) (b : BodyTree) (at
 
   one_stays : (May : Place → Type 0) (v w : V) (local : ℕ) (o : Option Naming) → KeptIf May local o →
       KnownIf p.items b v local o → Stay p.items b also May v.facts v.free.cells w → KnownIf p.items b w local o
-  one_stays May v w local None c k s = c w s.1
+  one_stays May v w local None c k s = (c w s.1, k.1)
   one_stays May v w local (Some m) c k s = (
-    s.0.0.naming local m c.0 c.1.0.way k.0,
+    s.0.0.naming local m c.0 c.1.way k.0,
     (
-      stay_sure May p.items (local_ty p.items b) (is_reference_param p.items b) v.facts w.facts s.0.0 m.place c.1.0
+      stay_sure May p.items (local_ty p.items b) (is_reference_param p.items b) v.facts w.facts s.0.0 m.place c.1
           k.1.0,
-      still_usable May p.items (local_ty p.items b m.place.local) v.free.cells w.free.cells s.0.1 m.place c.1.0 c.1.1
-          ∙ k.1.1,
+      (
+        still_usable May p.items (local_ty p.items b m.place.local) v.free.cells w.free.cells s.0.1 m.place c.1
+            (sure_rooted p.items (local_ty p.items b) (is_reference_param p.items b) v.facts m.place k.1.0) ∙ k.1.1.0,
+        k.1.1.1,
+      ),
     ),
   )
 
@@ -229,7 +235,7 @@ module _ (p : ProgramTree) (sound : IsSound p) (n fuel : ℕ) (b : BodyTree) (at
 
   -- so an argument leaves what earlier ones name
   pub leaves_so : (least : ℕ) → LeftAbove least → (May : Place → Type 0) (es : List Arg) → AllKept May es → (m : Node)
-      (around : LoopsAndGuards) (loops : List ℕ) →
+      (around : LoopsAndGuards) (loops : Outer) →
       within.Around (MayAt (local_of p.items b) May) around loops →
       within.Within p.items (MayAt (local_of p.items b) May) (Above least) around.aliases loops m →
       Leaves p.items b also fuel (block_rises p sound n b at) around es m

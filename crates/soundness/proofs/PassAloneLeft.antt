@@ -12,8 +12,9 @@ use Rattle.src_meaning.specs.Locals.OfBody.{local_of}
 use Rattle.src_meaning.specs.Shape as shapes
 use Rattle.soundness.specs.Laws.{IsSound}
 use Rattle.soundness.proofs.AlsoTests.{Also}
+use Rattle.soundness.proofs.PassWithin.{Outer, passing, KeysAround}
 use Rattle.soundness.proofs.PassAloneArgs.{ParamsOf, ArgsSuit, locals_of, locals_in, AllArgs, calls_by_args}
-use Rattle.soundness.proofs.PassAloneBrings.{named_form, args_of, AllLeave, all_ends}
+use Rattle.soundness.proofs.PassAloneBrings.{named_form, args_of, AllFit, AllLeave, all_ends}
 use Rattle.soundness.proofs.PassAloneRun.{I, Does_, Drops, keeps, Stands, alone_by_calls}
 use Rattle.soundness.proofs.PassCallsAlone as alone
 use Rattle.soundness.proofs.PassCallsAlone.{AloneHolds}
@@ -57,17 +58,19 @@ module _ (p : ProgramTree) (sound : IsSound p) where
     pub ids : List TyId
     pub params : ParamsOf p.items b form ids
     pub suit : ArgsSuit p.items b ids (args_of p.items b (alone.also p sound n) fuel rise around.aliases ns)
+    pub fit : AllFit p.items b (alone.also p sound n) fuel rise ns
     pub leave : AllLeave p.items b (alone.also p sound n) fuel rise around [] ns
 
   abbrev pub CallsLeft : Type 0
   CallsLeft = (n fuel : ℕ) (b : BodyTree) (e : slice_get p.bodies n ≡ Some b) (form : Form) (ns : Nodes)
-      (action : EffectSite → List Operand → Action) → Calls form ns action → (id : ℕ) (around : LoopsAndGuards) →
-      Stands p b around.aliases id form →
+      (action : EffectSite → List Operand → Action) → Calls form ns action → (id : ℕ) (around : LoopsAndGuards)
+      (loops : Outer) →
+      Stands p b around.aliases loops id form → KeysAround around (passing id loops) →
       CallLeft n fuel b (block_rises n b e) form ns around
 
   args_by_left : CallsLeft → AllArgs p sound
   args_by_left left n fuel b e form ns action c id around loops a w says ev =
-      let k = left n fuel b e form ns action c id around says in
+      let k = left n fuel b e form ns action c id around loops says a.1 in
       let rise = block_rises n b e in
       let also = alone.also p sound n in
       record {
@@ -77,11 +80,9 @@ module _ (p : ProgramTree) (sound : IsSound p) where
         locals = same_locals b also fuel rise around.aliases ns;
         suit = k.suit;
         ends = all_ends p.items b also fuel rise (not_mark 8) (Does_ p.items b also) (Drops p.items b also) any_place
-            (I p.items b also) (keeps p.items b also) (λ v i. i) ns around [] ev (inside says) k.leave;
+            any_place any_place
+            (I p.items b also) (keeps p.items b also) (λ v i. i) ns around [] ev k.fit k.leave;
       }
-    where
-      inside : Stands p b around.aliases id form → (m : Node) → NodeIn (nodes_among ns) m → NodeIn (nodes_of b.block) m
-      inside s m i = s.here.all m (inr (subst (λ l. NodeIn l m) (sym (nodes_so form ns action c)) i))
 
   -- that is all that is left of the half on calls
   pub alone_by_left : CallsLeft → AloneHolds p sound

@@ -90,7 +90,7 @@ module _ (p : ProgramTree) (b : BodyTree) (also : Also) (fuel : ℕ) (rise : Ris
   IfAny = OffIfAny p.items (local_ty p.items b) (is_reference_param p.items b) (own_local p.items b)
 
   -- each argument stands somehow
-  one_typed : (x : Standpoint) (ids : List TyId) (ns : Nodes) → Holds (typing.arguments (context p.items x) ids ns) →
+  pub one_typed : (x : Standpoint) (ids : List TyId) (ns : Nodes) → Holds (typing.arguments (context p.items x) ids ns) →
       (a : Node) → ArgIn ns a → (standing : Standing) × Holds (typing.typed (context p.items x) standing a)
   one_typed x ids no_node h a i = absurd i
   one_typed x [] (a_node first rest) h a i = absurd (false≢true h)

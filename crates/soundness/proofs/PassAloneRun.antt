@@ -29,10 +29,12 @@ use Rattle.soundness.proofs.CheckedBodies.{checks_of, is_reference_param}
 use Rattle.soundness.proofs.Facts.{Naming, Facts}
 use Rattle.soundness.proofs.Leaving.{ShownOut}
 use Rattle.soundness.proofs.Owing.{starting_of}
-use Rattle.soundness.proofs.PassBlockTold.{block_within}
+use Rattle.soundness.proofs.PassWithin.{Outer}
+use Rattle.soundness.proofs.PassBlockTold.{in_block, block_within}
 use Rattle.soundness.proofs.PassCallsAlone as alone
-use Rattle.soundness.proofs.PassCallsAlone.{alone_mark, alone_marks, alone_run, alone_act, act_alone, eight, AloneHolds}
+use Rattle.soundness.proofs.PassCallsAlone.{alone_mark, alone_marks, alone_run, alone_act, act_alone_if, eight, AloneHolds}
 use Rattle.soundness.proofs.PassCellEffects.{Quiet, acted_quiet, ChosenSo, test_quiet, drop_quiet}
+use Rattle.soundness.proofs.PassCellTests.{cells_act}
 use Rattle.soundness.proofs.PassCells.{NodeIn}
 use Rattle.soundness.proofs.PassFacts.{Standpoint, context}
 use Rattle.soundness.proofs.PassFrameActs.{is_plain, AnsweredSo, KeepingSo}
@@ -42,7 +44,7 @@ use Rattle.soundness.proofs.PassMarks.{StandFor, marked, chosen_marked}
 use Rattle.soundness.proofs.PassNamingKept as kept
 use Rattle.soundness.proofs.PassRefilled.{not_mark, unmarked}
 use Rattle.soundness.proofs.PassRestSplit.{test_calls, drop_calls, give_calls}
-use Rattle.soundness.proofs.PassTold.{Here, Told}
+use Rattle.soundness.proofs.PassTold.{KnownOf, Here, Told, ids}
 use Rattle.soundness.proofs.PassToldForms.{Saying}
 
 pub none_own : (more own others places apart : Bool) → alone_mark more own others places apart ≡ None → (more && own)
@@ -159,12 +161,13 @@ module _ (items : ItemTable) (body : BodyTree) (also : Also) where
     gives = λ site v facts e. none_own true ((checks_of items body).give_ok site v facts) _ _ true e;
   }
 
-  -- an action of which what is asked holds
+  -- an action of which what is asked holds, if it is of the types of the cells
   pub acts_so : (action : Action) (v : V) →
-      alone_act items body also v.facts v.free.cells (action_at local action) ≡ true →
+      (cells_act items (local_ty items body) (is_reference_param items body) (action_at local action) ≡ true →
+      alone_act items body also v.facts v.free.cells (action_at local action) ≡ true) →
       Makes (action_at local action) → I v → ShownOut (not_mark 8) I I (run.act action v)
   acts_so action v h m i = either ((alone_marks items body also).acting (action_at local action) v.free v.facts) v _
-      (λ e. act_alone items body also (action_at local action) v.free v.facts h e)
+      (λ e. act_alone_if items body also (action_at local action) v.free v.facts h e)
       (λ e. known_so _ _ _ (halting_quiet (stores_where (never_at items (local_ty items body)) (action_at local action))
       (acted_on items (local_ty items body) (action_at local action) v.free)
       (acted_quiet items (local_ty items body) (action_at local action) v.free))
@@ -173,9 +176,9 @@ module _ (items : ItemTable) (body : BodyTree) (also : Also) where
       (kept.unwound_named items (local_ty items body) (is_reference_param items body) MadeAt
       (action_at local action) v.facts m i))
 
-  pub keeps : KeepingSo run (not_mark 8) Does_ Drops any_place I
+  pub keeps : KeepingSo run (not_mark 8) Does_ Drops any_place any_place any_place I
   keeps = record {
-    acts = λ action v a d i. acts_so action v (other_holds v.facts v.free action d) (makes action d) i;
+    acts = λ action v a d i. acts_so action v (λ c. other_holds v.facts v.free action d) (makes action d) i;
     chooses = λ test v t i. either_choice
         ((alone_marks items body also).choosing (test_at local test) v.free v.facts) v _
         (λ e. test_calls items body nothing_else (test_at local test) v.free v.facts
@@ -199,9 +202,11 @@ module _ (items : ItemTable) (body : BodyTree) (also : Also) where
     ticks = λ v i. ticked v.facts v.free v.free.choices i;
     plain = plain_does;
     whole = λ key. tt;
-    aborts = λ v. tt;
-    lapses = λ v. tt;
-    stuck = λ v. tt;
+    stores = λ place m. tt;
+    coerces = λ place m. tt;
+    aborts = λ v i. tt;
+    lapses = λ v i. tt;
+    stuck = λ v i. tt;
   }
 
   pub gives : (site : EffectSite) (v : V) → I v → ShownOut (not_mark 8) I I (run.give site v)
@@ -213,15 +218,19 @@ module _ (items : ItemTable) (body : BodyTree) (also : Also) where
 -- ---- what is said of a node that calls: where it stands, its typing there, and that nothing conflicts in it
 
 module _ (p : ProgramTree) (b : BodyTree) where
-  abbrev pub Of : Node → Type 0
-  Of m = NodeIn (nodes_of b.block) m
+  abbrev pub InBlock : Node → Type 0
+  InBlock m = NodeIn (nodes_of b.block) m
 
-  pub record Stands (places : shapes.Aliases) (id : ℕ) (form : Form) : Type 0 where
+  abbrev pub Of : KnownOf
+  Of = in_block p.items b InBlock
+
+  pub record Stands (places : shapes.Aliases) (loops : Outer) (id : ℕ) (form : Form) : Type 0 where
     pub at : Pos
     pub ty : TyId
     pub by : Option Use
     pub aliases : rules.Aliases
     pub x : Standpoint
+    pub around : loops ≡ ids x
     pub here : Here p.items any_place Of aliases places x (nodes_of (node id at ty by form))
     pub typed : Holds (typing.row (context p.items x) id ty form)
     pub told : Told p.items any_place Of aliases (told_form aliases at form)
@@ -233,18 +242,19 @@ module _ (p : ProgramTree) (b : BodyTree) where
     by = by;
     aliases = aliases;
     x = x;
+    around = refl;
     here = o;
     typed = h;
     told = t;
   }
 
-  pub telling : (also : Also) → frames.Saying p.items (Does_ p.items b also) (Drops p.items b also) Stands
+  pub telling : (also : Also) → frames.Telling p.items (Does_ p.items b also) (Drops p.items b also) Stands
   telling also = record {
-    borrows = λ places id unique base s. (
+    borrows = λ places loops id unique base s. (
       node id s.at s.ty s.by (tree.Borrow unique base),
       (refl, (refl, s.here.all (node id s.at s.ty s.by (tree.Borrow unique base)) (inl refl))),
     );
-    assigns = λ places id place value s. tt;
+    assigns = λ places loops id place value s. tt;
   }
 
 module _ (p : ProgramTree) (sound : IsSound p) where
@@ -252,7 +262,7 @@ module _ (p : ProgramTree) (sound : IsSound p) where
   abbrev pub CallsAsked : Type 0
   CallsAsked = (n fuel : ℕ) (b : BodyTree) → slice_get p.bodies n ≡ Some b →
       frames.AtCalls p.items (run p.items b (alone.also p sound n)) (not_mark 8)
-      (Does_ p.items b (alone.also p sound n)) (Drops p.items b (alone.also p sound n)) any_place
+      (Does_ p.items b (alone.also p sound n)) (Drops p.items b (alone.also p sound n)) any_place any_place any_place
       (I p.items b (alone.also p sound n)) (keeps p.items b (alone.also p sound n)) (Stands p b) fuel
 
   not_eight : (went panicked : Checking Facts → Type 0) (o : Out (Checking Facts)) (block : ℕ) (w : Checking Facts) →
@@ -265,8 +275,8 @@ module _ (p : ProgramTree) (sound : IsSound p) where
   alone_by_calls asked n fuel b e list block w h = not_eight (I p.items b (alone.also p sound n))
       (I p.items b (alone.also p sound n)) _ block w h
       (body_kept_by p.items (run p.items b (alone.also p sound n)) (not_mark 8)
-      (Does_ p.items b (alone.also p sound n)) (Drops p.items b (alone.also p sound n))
+      (Does_ p.items b (alone.also p sound n)) (Drops p.items b (alone.also p sound n)) any_place
       (I p.items b (alone.also p sound n)) (keeps p.items b (alone.also p sound n)) (Stands p b) fuel
       (telling p b (alone.also p sound n)) (asked n fuel b e) (gives p.items b (alone.also p sound n)) b
-      (block_within p sound n b e (Of p b) (λ m i. i) (Stands p b) (says p b))
+      (block_within p sound.typed sound.borrows n b e (InBlock p b) (λ m i. i) (Stands p b) (says p b))
       (Rattle.soundness.proofs.Relating.feeds list (starting_of p b)) tt)

@@ -128,6 +128,7 @@ module _ {V : Type 0} (items : ItemTable) (needs : ℕ → Bool) (q : Effects V)
       closure = closure;
       loops = [];
       answer = body.answer;
+      outside = [];
     }
 
     pub param_named : (params : List ParamTree) (key : ℕ) (x : InScope) →

@@ -40,14 +40,15 @@ use Rattle.soundness.proofs.Checked.{Checking, Checks, with_facts, chosen_with}
 use Rattle.soundness.proofs.CheckedBodies.{checks_of, is_reference_param}
 use Rattle.soundness.proofs.Facts.{Facts, takes_index}
 use Rattle.soundness.proofs.Leaving.{ShownOut}
-use Rattle.soundness.proofs.PassBlockTold.{block_within}
+use Rattle.soundness.proofs.PassWithin.{Outer}
+use Rattle.soundness.proofs.PassBlockTold.{in_block, block_within}
 use Rattle.soundness.proofs.PassCellEffects.{Quiet, acted_quiet, ChosenSo, test_quiet, drop_quiet}
 use Rattle.soundness.proofs.PassCells.{Above, NodeIn, node_left, node_right, above_in, rising}
 use Rattle.soundness.proofs.PassFacts.{Standpoint, context}
 use Rattle.soundness.proofs.PassFirst.{body_at}
 use Rattle.soundness.proofs.PassFrameActs.{is_plain, AnsweredSo, KeepingSo}
 use Rattle.soundness.proofs.PassFrameBodies.{any_place, body_kept}
-use Rattle.soundness.proofs.PassFrameForms.{Telling, moved_nodes}
+use Rattle.soundness.proofs.PassFrameForms.{Telling, TellingCalls, moved_nodes}
 use Rattle.soundness.proofs.PassKeys.{Keys, KeysIn, keys_more, place_keys}
 use Rattle.soundness.proofs.PassLocals.{one_key}
 use Rattle.soundness.proofs.PassMarks.{Marks, marked, chosen_marked, marked_effects}
@@ -55,7 +56,7 @@ use Rattle.soundness.proofs.PassNumbers.{Numbered, Rises}
 use Rattle.soundness.proofs.PassPastParams.{no_param}
 use Rattle.soundness.proofs.PassProtectEnds.{numbered_in}
 use Rattle.soundness.proofs.PassRefilled.{not_mark, NotMark, unmarked}
-use Rattle.soundness.proofs.PassTold.{Here, Told}
+use Rattle.soundness.proofs.PassTold.{KnownOf, Here, Told}
 use Rattle.soundness.proofs.PassToldForms.{Saying}
 use Rattle.soundness.proofs.PassToldPlaces.{is_alias}
 
@@ -171,7 +172,7 @@ module _ (items : ItemTable) (body : BodyTree) (also : Also) where
   either_choice true v o h = h
   either_choice false v o h = other
 
-  keeps : KeepingSo apart_run (not_mark 7) Does_ Drops any_place I
+  keeps : KeepingSo apart_run (not_mark 7) Does_ Drops any_place any_place any_place I
   keeps = record {
     acts = λ action v a d i. either (also.act v.facts (action_at local action)
         && (checks_of items body).act_ok (action_at local action) v.free v.facts)
@@ -188,9 +189,11 @@ module _ (items : ItemTable) (body : BodyTree) (also : Also) where
     ticks = λ v i. ticked v.facts v.free v.free.choices;
     plain = plain_does;
     whole = λ key. tt;
-    aborts = λ v. tt;
-    lapses = λ v. tt;
-    stuck = λ v. tt;
+    stores = λ place m. tt;
+    coerces = λ place m. tt;
+    aborts = λ v i. tt;
+    lapses = λ v i. tt;
+    stuck = λ v i. tt;
   }
 
   gives : (site : EffectSite) (v : V) → I v → ShownOut (not_mark 7) I I (apart_run.give site v)
@@ -238,23 +241,26 @@ module _ (p : ProgramTree) (sound : IsSound p) (n : ℕ) (b : BodyTree) (at : sl
     all_rise : Rises (param_nodes b.params ++ nodes_of b.block)
     all_rise = found.1.1.1.1.1.0
 
-    abbrev Of : Node → Type 0
-    Of m = NodeIn (nodes_of b.block) m
+    abbrev InBlock : Node → Type 0
+    InBlock m = NodeIn (nodes_of b.block) m
+
+    abbrev Of : KnownOf
+    Of = in_block p.items b InBlock
 
     -- the nodes inside are those of the block
     abbrev Inside : Form → Type 0
     Inside form = (m : Node) → NodeIn (nodes_in form) m → NodeIn (nodes_of b.block) m
 
     -- a borrow is of a place with other keys than its own
-    abbrev Says : shapes.Aliases → ℕ → Form → Type 0
-    Says places id (tree.Borrow unique base) =
+    abbrev Says : shapes.Aliases → Outer → ℕ → Form → Type 0
+    Says places loops id (tree.Borrow unique base) =
         Numbered (nodes_of b.block) id × Keys (λ k. k ≡ id → ⊥) ((shape p.items base).place places)
-    Says places id (tree.Call body args) = Inside (tree.Call body args)
-    Says places id (tree.MethodCall body receiver args) = Inside (tree.MethodCall body receiver args)
-    Says places id (tree.VirtualCall trait_no method receiver args) =
+    Says places loops id (tree.Call body args) = Inside (tree.Call body args)
+    Says places loops id (tree.MethodCall body receiver args) = Inside (tree.MethodCall body receiver args)
+    Says places loops id (tree.VirtualCall trait_no method receiver args) =
         Inside (tree.VirtualCall trait_no method receiver args)
-    Says places id (tree.ClosureCall body callee args) = Inside (tree.ClosureCall body callee args)
-    Says places id form = Unit {0}
+    Says places loops id (tree.ClosureCall body callee args) = Inside (tree.ClosureCall body callee args)
+    Says places loops id form = Unit {0}
 
     below_apart : (k id : ℕ) → k < id → k ≡ id → ⊥
     below_apart k id l e = let less : k < id = l in let same : k ≡ id = e in omega (less, same, arith)
@@ -298,20 +304,25 @@ module _ (p : ProgramTree) (sound : IsSound p) (n : ℕ) (b : BodyTree) (at : sl
 
     telling : Telling p.items (Does_ p.items b also) (Drops p.items b also) Says
     telling = record {
-      borrows = λ places id unique base s. both_true
+      borrows = λ places loops id unique base s. both_true
           (ap not (no_param p.items b all_rise id s.0))
           (both_true (is_other _ _ (λ e. s.1.0 (one_key (local_keys p.items b) _ id e)))
           (ap not (no_index (local_keys p.items b) id ((shape p.items base).place places).steps s.1.1)));
-      assigns = λ places id place value s. tt;
-      calls = λ places id key callee args s. no_targets id args s;
-      methods = λ places id key callee receiver args s. no_targets id (a_node receiver args) s;
-      virtuals = λ places id key trait_no method receiver args s. no_targets id (a_node receiver args) s;
-      closures = λ places id key callee value args s. no_targets id (a_node value args) s;
+      assigns = λ places loops id place value s. tt;
+    }
+
+    known : TellingCalls (Does_ p.items b also) Says
+    known = record {
+      calls = λ places loops id key callee args s. no_targets id args s;
+      methods = λ places loops id key callee receiver args s. no_targets id (a_node receiver args) s;
+      virtuals = λ places loops id key trait_no method receiver args s. no_targets id (a_node receiver args) s;
+      closures = λ places loops id key callee value args s. no_targets id (a_node value args) s;
     }
 
     -- no run of the body fails this test
     pub apart_ends : (fuel : ℕ) (v : Checking Facts) →
         ShownOut (not_mark 7) (λ w. Unit {0}) (λ w. Unit {0}) (activation p.items (apart_run p.items b also) fuel b v)
     apart_ends fuel v = body_kept p.items (apart_run p.items b also) (not_mark 7) (Does_ p.items b also)
-        (Drops p.items b also) (I p.items b also) (keeps p.items b also) Says telling fuel (gives p.items b also) b
-        (block_within p sound n b at Of (λ m i. i) Says says) v tt
+        (Drops p.items b also) any_place (I p.items b also) (keeps p.items b also) Says fuel
+        telling known (gives p.items b also) b
+        (block_within p sound.typed sound.borrows n b at InBlock (λ m i. i) Says says) v tt

@@ -3,6 +3,7 @@
 -- used. So an argument that is a reference begins to name what is asked of it.
 use Rattle.std.proofs.Common.{◌≡◌, ◌⊎◌, inl, inr, ℕ, ◌==◌, ◌&&◌, not, Bool, true, false, List, [], ◌∷◌, Option, Some, None, if◌then◌else◌, refl, ap, sym, ◌∙◌, subst}
 use Rattle.std.specs.Cmp.{first_so, second_so}
+use Rattle.std.specs.Option.{option_map_or}
 use Rattle.std.proofs.lemmas.Bool.{false≢true}
 use Rattle.std.proofs.lemmas.Bool.Decides.{Decides-eqb}
 use Rattle.mir_ty.specs.ItemTable.{ItemTable}
@@ -11,6 +12,7 @@ use Rattle.store_model.specs.Abstract.Effects.{AbstractState, abstract_effects, 
 use Rattle.store_model.specs.Effects as effects
 use Rattle.store_model.specs.Effects.{EffectSite, Halt, BadUse, Unreachable, Out, Go, Unwind, Halts, halting_if}
 use Rattle.store_model.specs.Places.Place.{Place}
+use Rattle.store_model.specs.Places.TypeForms.{same_id, referent}
 use Rattle.src_meaning.specs.Locals.OfBody.{local_ty}
 use Rattle.typed_tree.specs.Tree.{BodyTree}
 use Rattle.typing_rules.specs.Accesses.{begin_alike}
@@ -48,7 +50,7 @@ went_on true (Halts halt w) u e = e
 kept_there : (I : AbstractState → Type 0) (o : Out AbstractState) (u : AbstractState) → o ≡ Go u → KeptOut I o → I u
 kept_there I o u e k = subst (KeptOut I) e k
 
-facts_went : (went unwound : Facts) (o : Out AbstractState) (u : Checking Facts) →
+pub facts_went : (went unwound : Facts) (o : Out AbstractState) (u : Checking Facts) →
     with_facts went unwound o ≡ Go u → (o ≡ Go u.free) × (u.facts ≡ went)
 facts_went went unwound (Go w) u e = (
   ap (λ (x : Out (Checking Facts)). elim x [ Go y ↦ Go y.free | Unwind y ↦ Go w | Halts halt y ↦ Go w ]) e,
@@ -57,7 +59,7 @@ facts_went went unwound (Go w) u e = (
 facts_went went unwound (Unwind w) u e = absurd (let never : ⊥ = cc in never)
 facts_went went unwound (Halts halt w) u e = absurd (let never : ⊥ = cc in never)
 
-unmarked_so : (mark : Option ℕ) (v u : Checking Facts) (o : Out (Checking Facts)) → marked mark v o ≡ Go u →
+pub unmarked_so : (mark : Option ℕ) (v u : Checking Facts) (o : Out (Checking Facts)) → marked mark v o ≡ Go u →
     (mark ≡ None) × (o ≡ Go u)
 unmarked_so None v u o e = (refl, e)
 unmarked_so (Some mark) v u o e = absurd (let never : ⊥ = cc in never)
@@ -73,6 +75,12 @@ module _ (items : ItemTable) (body : BodyTree) (also : Also) (at_node local : �
     abbrev sure : Facts → Bool
     sure facts = sure_place items (local_ty items body) (is_reference_param items body) facts base.place
 
+    -- the reference is to the type of the place
+    abbrev types_right : Bool
+    types_right = option_map_or (λ id. option_map_or (same_id id)
+        (referent unique (checks.ty_of items (local_ty items body) (is_reference_param items body) to.place)) false)
+        (checks.id_of items (local_ty items body) (is_reference_param items body) base.place) false
+
     -- what is known of the reference in a local
     pub record BorrowKnown (w : Checking Facts) : Type 0 where
       pub named : checks.naming_of items (local_ty items body) (is_reference_param items body) local w.facts
@@ -80,6 +88,7 @@ module _ (items : ItemTable) (body : BodyTree) (also : Also) (at_node local : �
       pub is_sure : sure w.facts ≡ true
       pub is_usable : may_use (watched_at items (local_ty items body) base)
           (presence base.place.local w.free.cells) ≡ true
+      pub is_typed : types_right ≡ true
 
     -- ---- what the test says
 
@@ -91,6 +100,10 @@ module _ (items : ItemTable) (body : BodyTree) (also : Also) (at_node local : �
 
       behind : (sure facts && (not (base.place.local == local) && not (takes_index local base.place.steps))) ≡ true
       behind = second_so _ (sure facts && (not (base.place.local == local) && not (takes_index local base.place.steps)))
+          (second_so (no_steps to.place.steps && not (is_reference_param items body local)) _ well)
+
+      was_typed : types_right ≡ true
+      was_typed = first_so types_right _
           (second_so (no_steps to.place.steps && not (is_reference_param items body local)) _ well)
 
       was_sure : sure facts ≡ true
@@ -164,6 +177,7 @@ module _ (items : ItemTable) (body : BodyTree) (also : Also) (at_node local : �
         is_sure = subst (λ x. sure x ≡ true) (sym f) still;
         is_usable = ap (may_use (watched_at items (local_ty items body) base))
             ((cells_kept u.free e).fixed base.place.local fixed) ∙ was_usable u.free e;
+        is_typed = was_typed;
       }
 
     -- in each run with marks for what is tested

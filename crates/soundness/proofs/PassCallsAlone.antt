@@ -3,6 +3,7 @@
 use Rattle.std.proofs.Common.{◌≡◌, ◌⊎◌, inl, inr, ℕ, ◌==◌, ◌&&◌, not, Bool, true, false, List, Option, Some, None, refl, ap, sym, ◌∙◌, subst}
 use Rattle.std.specs.Prelude.{slice_get}
 use Rattle.std.specs.Option.{option_map_or}
+use Rattle.std.specs.Cmp.{first_so}
 use Rattle.std.proofs.lemmas.Bool.{false≢true}
 use Rattle.std.proofs.lemmas.Bool.Decides.{Decides-eqb}
 use Rattle.std.proofs.lemmas.Option.{same_Some}
@@ -216,6 +217,23 @@ module _ (items : ItemTable) (body : BodyTree) (also : Also) where
       checks.unless_refilled o (calls_act items body facts cells action) (λ hole. true) ≡ true
   now_so facts cells action None h = h
   now_so facts cells action (Some hole) h = refl
+
+  six_others : (own others places : Bool) → split_mark own own others places ≡ Some 6 → others ≡ true
+  six_others true others places e = absurd (let never : ⊥ = cc in never)
+  six_others false false places e = other 2 6 refl (same_Some 2 6 e)
+  six_others false true places e = refl
+
+  -- nor where that holds as soon as all that is done is of the types of the cells
+  pub act_alone_if : (action : Action) (w : AbstractState) (facts : Facts) →
+      (cells_act items (local_ty items body) (is_reference_param items body) action ≡ true →
+      alone_act facts w.cells action ≡ true) → alone_marks.acting action w facts ≡ Some 8 → ⊥
+  act_alone_if action w facts h e =
+      let k = eight (also.act facts action) ((checks_of items body).act_ok action w facts) _ _ (apart_act items body action)
+      e in
+      let others = six_others ((checks_of items body).act_ok action w facts) _ _ k.1 in
+      act_calls items body nothing_else action w facts refl
+      (now_so facts w.cells action facts.refilled (calls_so facts w.cells action k.0
+      (h (first_so (cells_act items (local_ty items body) (is_reference_param items body) action) _ others)))) k.1
 
   -- no action has the mark where that holds
   pub act_alone : (action : Action) (w : AbstractState) (facts : Facts) → alone_act facts w.cells action ≡ true →

@@ -256,6 +256,7 @@ module _ (items : ItemTable) (told : Told items) (number : ℕ) (sig : Sig) (bod
     closure = closure;
     loops = [];
     answer = body.answer;
+    outside = [];
   }
 
   abbrev all : List Entry
@@ -271,7 +272,7 @@ module _ (items : ItemTable) (told : Told items) (number : ℕ) (sig : Sig) (bod
   all_have [] f = tt
   all_have (e ∷ es) f = (cell_at e (f e (inl refl)), all_have es (λ x i. f x (inr i)))
 
-  all_cells_have : Has items body all
+  pub all_cells_have : Has items body all
   all_cells_have = all_have all (λ e i. i)
 
   abbrev P : List Entry
@@ -283,10 +284,10 @@ module _ (items : ItemTable) (told : Told items) (number : ℕ) (sig : Sig) (bod
   abbrev B : List Entry
   B = inside items body.block
 
-  own_cells : Has items body (map (param_entry items) body.params)
+  pub own_cells : Has items body (map (param_entry items) body.params)
   own_cells = cells_of.has_left items body P N (cells_of.has_left items body (P ++ N) B all_cells_have.1)
 
-  all_roots : (params : List ParamTree) → Has items body (map (param_entry items) params) →
+  pub all_roots : (params : List ParamTree) → Has items body (map (param_entry items) params) →
       ((param : ParamTree) → ParamIn params param → ParamIn body.params param) → AllRoots items told body params
   all_roots [] c f = tt
   all_roots (param ∷ params) c f = (
@@ -294,8 +295,11 @@ module _ (items : ItemTable) (told : Told items) (number : ℕ) (sig : Sig) (bod
     all_roots params c.1 (λ p i. f p (inr i)),
   )
 
-  named_cells : Has items body (inside_params items body.params)
+  pub named_cells : Has items body (inside_params items body.params)
   named_cells = cells_of.has_right items body P N (cells_of.has_left items body (P ++ N) B all_cells_have.1)
+
+  pub block_cells : Has items body (inside items body.block)
+  block_cells = cells_of.has_right items body (P ++ N) B all_cells_have.1
 
   runs : (closure : Option InScope) (scoped : List ParamTree) → Scoped items body (at_body closure scoped) →
       Holds (typed (context items (at_body closure scoped)) (Wanted body.answer) body.block) → (v : Checking Facts) →
@@ -303,7 +307,7 @@ module _ (items : ItemTable) (told : Told items) (number : ℕ) (sig : Sig) (bod
   runs closure scoped s k v = run_well items told body fuel (at_body closure scoped) refl refl
       (ends.typed_so items number sig body h (checks_of items body) fuel)
       (plain_params items sig.params body.params h.1.1.0) s own_cells named_cells
-      (cells_of.has_right items body (P ++ N) B all_cells_have.1)
+      block_cells
       (all_cells_have.0, subst (λ t. alone items t ≡ true) (sym (same_type body.answer sig.result h.1.0)) answers)
       h.1.1.1.1.1.0 k v
 
@@ -322,6 +326,30 @@ module _ (items : ItemTable) (told : Told items) (number : ℕ) (sig : Sig) (bod
       (λ z n. subst (λ (z : InScope). Cell items body z.key z.ty × ((m : ℕ) × (type_at items z.ty ≡ Some (Ty.Closure m))))
       (same_Some y z n) (c.0, self_closure items told body number sig def self rest there e a)) rest t.1 r.1 c.1
       (cells_of.has_right items body (inside items self.pattern) (inside_params items rest) l)) k.0 v
+
+  roots : ParamRoots items told body body.params
+  roots = param_roots items told body sig.params body.params h.1.1.0 (told.params number sig there)
+      (all_roots body.params own_cells (λ p i. i))
+
+  -- what stands around the block: names of parameters are of their types
+  pub plain_scoped : Scoped items body (at_body None body.params)
+  plain_scoped = body_scoped items told body None body.answer (λ y n. absurd (none-some y n)) body.params
+      (ends.typed_so items number sig body h (checks_of items body) fuel) roots own_cells named_cells
+
+  pub closure_scoped : (def : ClosureDef) (self : ParamTree) (rest : List ParamTree) →
+      closure_with items number ≡ Some def → body.params ≡ self ∷ rest →
+      Scoped items body (at_body (Some (record { key = number_of self.pattern; ty = self.ty; is_in_guard = false })) rest)
+  closure_scoped def self rest e same =
+      let y : InScope = record { key = number_of self.pattern; ty = self.ty; is_in_guard = false } in
+      let t = subst (TypedParams items) same (ends.typed_so items number sig body h (checks_of items body) fuel) in
+      let r = subst (ParamRoots items told body) same roots in
+      let c = subst (λ ps. Has items body (map (param_entry items) ps)) same own_cells in
+      let l = subst (λ ps. Has items body (inside_params items ps)) same named_cells in
+      let a = subst (λ ps. Holds (are_params items sig.params ps)) same h.1.1.0 in
+      body_scoped items told body (Some y) body.answer
+      (λ z n. subst (λ (z : InScope). Cell items body z.key z.ty × ((m : ℕ) × (type_at items z.ty ≡ Some (Ty.Closure m))))
+      (same_Some y z n) (c.0, self_closure items told body number sig def self rest there e a)) rest t.1 r.1 c.1
+      (cells_of.has_right items body (inside items self.pattern) (inside_params items rest) l)
 
   -- each marked run of the body ends by no first mark, and misses no step
   pub ends_well : (v : Checking Facts) →

@@ -140,7 +140,7 @@ module _ (items : ItemTable) (told : Told items) (body : BodyTree) where
       append_assoc a b c = Rattle.std.proofs.Common.append_assoc a b c
 
   abbrev At : Option InScope → List InScope → TyId → Standpoint
-  At closure entries answer = record { entries = entries; closure = closure; loops = []; answer = answer }
+  At closure entries answer = record { entries = entries; closure = closure; loops = []; answer = answer; outside = [] }
 
   -- of a body whose parameters these are, and of which the value of a closure is the first
   pub body_scoped : (closure : Option InScope) (answer : TyId) →

@@ -55,12 +55,14 @@ use Rattle.soundness.proofs.PassStatements as statements
 use Rattle.soundness.proofs.PassSteps as steps
 use Rattle.soundness.proofs.PlaceTypes.{some_holds, same_type}
 
--- where a node stands, but for the items
+-- where a node stands, but for the items; and the numbers of the nodes around it, with the names to which `let` gives
+-- values around it: the keys of the cells into which values of such nodes go
 pub record Standpoint : Type 0 where
   pub entries : List InScope
   pub closure : Option InScope
   pub loops : List LoopAround
   pub answer : TyId
+  pub outside : List ℕ
 
 abbrev pub context : ItemTable → Standpoint → Context
 context items x =
@@ -71,6 +73,10 @@ with_names new x = record x { entries = new ++ x.entries }
 
 abbrev pub in_a_loop : LoopAround → Standpoint → Standpoint
 in_a_loop a x = record x { loops = a ∷ x.loops }
+
+-- inside a node with this number
+abbrev pub beside : ℕ → Standpoint → Standpoint
+beside id x = record x { outside = id ∷ x.outside }
 
 -- what stands behind some statements
 abbrev pub behind : Standpoint → Nodes → Standpoint

@@ -13,14 +13,20 @@ use Rattle.src_meaning.specs.Forms.{Destination, Into, Coerced, LoopsAndGuards, 
 use Rattle.src_meaning.specs.Scopes.{Entry, Scope, Scopes, with_scope, innermost, around_innermost, nearest_temporary, nearest_from, with_entry, with_pending, without_pending, becomes_entry, without_operands, needing_drop, Exit, Value, Breaks, Continues, Returns, Panics, Run, At, Over, Does, ◌>>◌, on_value, in_scopes, doing, changing, chosen, choosing, back_in, leave, leaving, in_scope, in_scope_with, then_or_leave, drop_normally, drop_unwinding, entry_site}
 use Rattle.src_meaning.specs.Shape.{NodeHead, Shape, site_at, operand_at, operand_of_bound, BoundName, PatternTest, IsVariant, IsNumber, IsTruth, AnyOf, PatternTests, no_test, a_test, Alternatives, no_alternative, an_alternative}
 use Rattle.soundness.proofs.Leaving.{AllOf, ShownOut}
-use Rattle.soundness.proofs.PassFrameActs.{is_plain, TestOwn, TestsOwn, AnyOwn, BoundsMay, AllCells, DestCell, Takes, Allowed, AnsweredSo, KeepingSo}
+use Rattle.soundness.proofs.PassFrameActs.{is_plain, TestOwn, TestsOwn, AnyOwn, BoundsMay, AllCells, DestSo, Takes, AllowedSo, AnsweredSo, KeepingSo}
 use Rattle.soundness.proofs.PassRules.{all_without, all_without_keys}
 
 module _ {V : Type 0} (items : ItemTable) (q : Effects V) (over : Halt → V → Type 0) (Does_ : Action → Type 0)
-    (Drops : EffectSite → Type 0) (May : Place → Type 0) (I : V → Type 0)
-    (keeping : KeepingSo q over Does_ Drops May I) where
+    (Drops : EffectSite → Type 0) (Store Coerce May : Place → Type 0) (I : V → Type 0)
+    (keeping : KeepingSo q over Does_ Drops Store Coerce May I) where
   abbrev pub Cell : ℕ → Type 0
   Cell key = May (whole_local key)
+
+  abbrev pub Own : ℕ → Type 0
+  Own key = Store (whole_local key)
+
+  pub into : (key : ℕ) → Cell key → Own key
+  into key c = keeping.stores (whole_local key) c
 
   -- ---- the scopes that are opened
 
@@ -70,11 +76,12 @@ module _ {V : Type 0} (items : ItemTable) (q : Effects V) (over : Halt → V →
   in_scopes_kept k S (Unwind v) f h = (f, h)
   in_scopes_kept k S (Halts halt v) f h = h
 
-  pub acts_so : (action : Action) → Allowed May action → Does_ action → Keeps (forms.acts items q action)
+  pub acts_so : (action : Action) → AllowedSo Store May action → Does_ action → Keeps (forms.acts items q action)
   acts_so action a d =
       record { kept = λ k S v f i. in_scopes_kept k S (q.act action v) f (keeping.acts action v a d i) }
 
-  pub acts_kept : (action : Action) → Allowed May action → is_plain action ≡ true → Keeps (forms.acts items q action)
+  pub acts_kept : (action : Action) → AllowedSo Store May action → is_plain action ≡ true → Keeps
+      (forms.acts items q action)
   acts_kept action a p = acts_so action a (keeping.plain action p)
 
   pub panics_kept : (why : Why) → Keeps (forms.panics items q why)
@@ -163,7 +170,7 @@ module _ {V : Type 0} (items : ItemTable) (q : Effects V) (over : Halt → V →
           KeptAt k (Rattle.src_meaning.specs.Scopes.dropped_unwinding items q o
           (drop_unwinding items q (needing_drop items es) S))
       dropped (Go w) h later = later w h
-      dropped (Unwind w) h later = keeping.aborts w
+      dropped (Unwind w) h later = keeping.aborts w h
       dropped (Halts halt w) h later = h
 
       by : (b : Bool) → ((w : V) → I w → KeptAt k (drop_unwinding items q (needing_drop items es) S w)) →
@@ -299,12 +306,12 @@ module _ {V : Type 0} (items : ItemTable) (q : Effects V) (over : Halt → V →
       KeepsTest (forms.equals items q site value)
   equals_kept site value t c v i =
       by (q.act (effects.Compare (site_of_key site.node) Cmp.Eq (Copied site) value) v)
-      (keeping.acts (effects.Compare (site_of_key site.node) Cmp.Eq (Copied site) value) v (c, (tt, t))
+      (keeping.acts (effects.Compare (site_of_key site.node) Cmp.Eq (Copied site) value) v (into site.node c, (tt, t))
       (keeping.plain (effects.Compare (site_of_key site.node) Cmp.Eq (Copied site) value) refl) i)
     where
       by : (o : Out V) → ShownOut over I I o → AnsweredSo over I (forms.tested items q o (moved site.node site.node))
       by (Go w) k = keeping.chooses (effects.IsTrue (moved site.node site.node)) w c k
-      by (Unwind w) k = keeping.stuck w
+      by (Unwind w) k = keeping.stuck w k
       by (Halts halt w) k = k
 
   mutual
@@ -331,7 +338,7 @@ module _ {V : Type 0} (items : ItemTable) (q : Effects V) (over : Halt → V →
       BoundsMay May bounds → Keeps (forms.bind items q in_that bounds)
   bind_kept in_that c [] h = at_exit Value
   bind_kept in_that c (b ∷ bounds) h = one_then _ _
-      (acts_kept (effects.Put (site_of_key b.key) (operand_of_bound b)) (h.0.0, h.0.1) refl)
+      (acts_kept (effects.Put (site_of_key b.key) (operand_of_bound b)) (into b.key h.0.0, h.0.1) refl)
       (one_then _ _ (changes_kept (in_that (with_entry (bound_entry b)))
       (c (with_entry (bound_entry b)) (entered (bound_entry b) h.0.0)))
       (bind_kept in_that c bounds h.1))
@@ -341,21 +348,21 @@ module _ {V : Type 0} (items : ItemTable) (q : Effects V) (over : Halt → V →
   -- an action that may be done wherever its answer goes
   abbrev pub Delivers : NodeHead → (EffectSite → Action) → Type 0
   Delivers h action =
-      (key : ℕ) → Cell key → Allowed May (action (site_in h.id key)) × Does_ (action (site_in h.id key))
+      (key : ℕ) → Own key → AllowedSo Store May (action (site_in h.id key)) × Does_ (action (site_in h.id key))
 
   -- of an action that the form alone tells
   pub plainly : (h : NodeHead) (action : EffectSite → Action) → ((site : EffectSite) → is_plain (action site) ≡ true) →
-      ((key : ℕ) → Cell key → Allowed May (action (site_in h.id key))) → Delivers h action
+      ((key : ℕ) → Own key → AllowedSo Store May (action (site_in h.id key))) → Delivers h action
   plainly h action p d = λ key c. (d key c, keeping.plain (action (site_in h.id key)) (p (site_in h.id key)))
 
   pub deliver_kept : (h : NodeHead) (action : EffectSite → Action) (to : Destination) → Delivers h action →
-      DestCell May to → Keeps (forms.deliver items q h action to)
+      DestSo Store May to → Keeps (forms.deliver items q h action to)
   deliver_kept h action (Into key) d c = acts_so (action (site_in h.id key)) (d key c).0 (d key c).1
   deliver_kept h action (Coerced key trait_no to) d c = one_then _ _
-      (acts_so (action (site_in h.id key)) (d key c.0).0 (d key c.0).1)
+      (acts_so (action (site_in h.id key)) (d key (into key c.0)).0 (d key (into key c.0)).1)
       (acts_kept (effects.Unsize (site_in h.id to) trait_no (moved h.id key)) (c.1, c.0) refl)
 
-  pub unit_kept : (h : NodeHead) (to : Destination) → DestCell May to → Keeps (forms.put_unit items q h to)
+  pub unit_kept : (h : NodeHead) (to : Destination) → DestSo Store May to → Keeps (forms.put_unit items q h to)
   unit_kept h to c = deliver_kept h (λ site. effects.Put site effects.UnitValue) to
       (plainly h (λ site. effects.Put site effects.UnitValue) (λ site. refl) (λ key d. (d, tt))) c
 
@@ -397,7 +404,8 @@ module _ {V : Type 0} (items : ItemTable) (q : Effects V) (over : Halt → V →
       (one_then _ _ d (complete_kept nearest_temporary h fine_nearest c))
 
   pub use_kept : (h : NodeHead) (s : Shape) (reach : LoopsAndGuards → Does V) (around : LoopsAndGuards) (own : Bool)
-      (to : Destination) → Keeps (reach around) → Takes May (operand_at h (s.place around.aliases)) → DestCell May to →
+      (to : Destination) → Keeps (reach around) → Takes May (operand_at h
+      (s.place around.aliases)) → DestSo Store May to →
       Keeps (forms.use_of_place items q h s reach around own to)
   use_kept h s reach around own to d t c = own_kept h own _ (one_then _ _ d
       (deliver_kept h (λ site. effects.Put site (operand_at h (s.place around.aliases))) to
@@ -417,12 +425,13 @@ module _ {V : Type 0} (items : ItemTable) (q : Effects V) (over : Halt → V →
       Does_ (effects.Borrow (site_in base.head.id key) unique (site_of base around)) → Cell key →
       Keeps (forms.borrowing items q h unique base around own (Into key))
   borrowing_kept h unique base around own key b m d c = own_kept h own _ (one_then _ _ b
-      (acts_so (effects.Borrow (site_in base.head.id key) unique (site_of base around)) (c, m) d))
+      (acts_so (effects.Borrow (site_in base.head.id key) unique (site_of base around)) (into key c, m) d))
 
   -- or anywhere, if that is known of it
   pub borrowing_anywhere : (h : NodeHead) (unique : Bool) (base : Meaning V) (around : LoopsAndGuards) (own : Bool)
       (to : Destination) → Keeps (base.reach around) → (unique ≡ true → May (place_of base around)) →
-      ((key : ℕ) → Does_ (effects.Borrow (site_in base.head.id key) unique (site_of base around))) → DestCell May to →
+      ((key : ℕ) → Does_ (effects.Borrow (site_in base.head.id key) unique
+      (site_of base around))) → DestSo Store May to →
       Keeps (forms.borrowing items q h unique base around own to)
   borrowing_anywhere h unique base around own to b m d c = own_kept h own _ (one_then _ _ b
       (deliver_kept h (λ site. effects.Borrow (record site { node = base.head.id }) unique (site_of base around)) to
@@ -432,7 +441,7 @@ module _ {V : Type 0} (items : ItemTable) (q : Effects V) (over : Halt → V →
 
   stored_kept : (site : EffectSite) (key : ℕ) → May site.place → Cell key → Keeps (forms.stored items q site key)
   stored_kept site key m c = one_then _ _ (take_kept (key ∷ []))
-      (acts_kept (effects.Put site (moved site.node key)) (m, c) refl)
+      (acts_kept (effects.Put site (moved site.node key)) (keeping.stores site.place m, c) refl)
 
   replacing_kept : (drops : Bool) (site : EffectSite) (key : ℕ) → May site.place → Drops site → Cell key →
       Keeps (forms.replacing items q drops site key)
@@ -449,7 +458,8 @@ module _ {V : Type 0} (items : ItemTable) (q : Effects V) (over : Halt → V →
 
   pub assigning_kept : (h : NodeHead) (place value : Meaning V) (around : LoopsAndGuards) (own : Bool)
       (to : Destination) → Evaluated around value → Keeps (place.reach around) → May (place_of place around) →
-      Drops (site_of place around) → DestCell May to → Keeps (forms.assigning items q h place value around own to)
+      Drops (site_of place around) → DestSo Store May to → Keeps
+      (forms.assigning items q h place value around own to)
   assigning_kept h place value around own to e p m d c = in_scope_kept h.id own _
       (one_then _ _ (operand_kept around value e) (one_then _ _ p (one_then _ _
       (replacing_kept (needs_drop items place.head.ty) (site_of place around) value.head.id m d e.1)
@@ -513,7 +523,7 @@ module _ {V : Type 0} (items : ItemTable) (q : Effects V) (over : Halt → V →
   statements_kept around [] d = at_exit Value
   statements_kept around (m ∷ ms) d = one_then _ _ d.0 (statements_kept around ms d.1)
 
-  pub unit_if_kept : (b : Bool) (h : NodeHead) (to : Destination) → DestCell May to →
+  pub unit_if_kept : (b : Bool) (h : NodeHead) (to : Destination) → DestSo Store May to →
       Keeps (forms.put_unit_if items q b h to)
   unit_if_kept true h to c = at_exit Value
   unit_if_kept false h to c = unit_kept h to c
@@ -580,7 +590,7 @@ module _ {V : Type 0} (items : ItemTable) (q : Effects V) (over : Halt → V →
   turned_kept id k begun (Over halt v) next f h n = h
 
   pub turns_kept : (fuel id : ℕ) (turn : Does V) → Keeps turn → Keeps (forms.turns items q fuel id turn)
-  turns_kept zero id turn d = record { kept = λ k S v f i. keeping.lapses v }
+  turns_kept zero id turn d = record { kept = λ k S v f i. keeping.lapses v i }
   turns_kept (suc n) id turn d = by (turns_kept n id turn d)
     where
       ticked : (k : ℕ) (S : Scopes) → Fine S k → (o : Out V) → ShownOut over I I o →
@@ -588,13 +598,13 @@ module _ {V : Type 0} (items : ItemTable) (q : Effects V) (over : Halt → V →
           KeptAt k (forms.ticked items q o (λ w. forms.turned items q id S (turn S w) (forms.turns items q n id turn)))
       ticked k S f (Go w) h later =
           turned_kept id k S (turn S w) (forms.turns items q n id turn) f (d.kept k S w f h) later
-      ticked k S f (Unwind w) h later = keeping.stuck w
+      ticked k S f (Unwind w) h later = keeping.stuck w h
       ticked k S f (Halts halt w) h later = h
 
       by : Keeps (forms.turns items q n id turn) → Keeps (forms.turns items q (suc n) id turn)
       by later = record { kept = λ k S v f i. ticked k S f (q.tick v) (keeping.ticks v i) later }
 
-  pub ends_kept : (h : NodeHead) (to : Destination) → DestCell May to → Keeps (forms.ends_loop items q h to)
+  pub ends_kept : (h : NodeHead) (to : Destination) → DestSo Store May to → Keeps (forms.ends_loop items q h to)
   ends_kept h to c = one_then _ _ (unit_kept h to c) (at_exit (Breaks h.id))
 
   pub jumping_kept : (exit : Exit) (h : NodeHead) (m : Option (Meaning V)) (around : LoopsAndGuards)

@@ -19,26 +19,6 @@ module _ (May : Place → Type 0) where
   AllTake [] = Unit {0}
   AllTake (operand ∷ operands) = Takes operand × AllTake operands
 
-  -- an action stores into, moves out of and borrows by `&mut` only places that may be changed
-  abbrev pub Allowed : Action → Type 0
-  Allowed (effects.Put to from) = May to.place × Takes from
-  Allowed (effects.Compare to operator left right) = May to.place × (Takes left × Takes right)
-  Allowed (effects.Not to operand) = May to.place × Takes operand
-  Allowed (effects.Build to kind parts) = May to.place × AllTake parts
-  Allowed (effects.NewBox to content) = May to.place × Takes content
-  Allowed (effects.Unsize to trait_no operand) = May to.place × Takes operand
-  Allowed (effects.Borrow to unique base) = May to.place × (unique ≡ true → May base.place)
-  Allowed (effects.Touch base) = Unit {0}
-  Allowed (effects.Print operand) = Takes operand
-  Allowed (effects.Forget operand) = Takes operand
-  Allowed (effects.Free box) = May box.place
-  Allowed (effects.Compute to operator left right) = May to.place × (Takes left × Takes right)
-  Allowed (effects.Negate to operand) = May to.place × Takes operand
-  Allowed (effects.Bounds index length) = Takes index
-  Allowed (effects.Call to body args) = May to.place × AllTake args
-  Allowed (effects.CallVirtual to trait_no method args) = May to.place × AllTake args
-  Allowed (effects.Ask to) = May to.place
-
   abbrev pub AllowedTest : Test → Type 0
   AllowedTest (effects.IsTrue operand) = Takes operand
   AllowedTest (effects.HasVariant site variant) = Unit {0}
@@ -68,14 +48,44 @@ module _ (May : Place → Type 0) where
   BoundsMay [] = Unit {0}
   BoundsMay (b ∷ bounds) = (Cell b.key × Takes (operand_of_bound b)) × BoundsMay bounds
 
-  abbrev pub DestCell : Destination → Type 0
-  DestCell (Into key) = Cell key
-  DestCell (Coerced key trait_no to) = Cell key × Cell to
-
   -- the cells of some names
   abbrev pub AllCells : List BoundName → Type 0
   AllCells [] = Unit {0}
   AllCells (b ∷ bounds) = Cell b.key × AllCells bounds
+
+-- an action stores into places that may be stored into, moves out of others and borrows them by `&mut`
+module _ (Store May : Place → Type 0) where
+  abbrev pub AllowedSo : Action → Type 0
+  AllowedSo (effects.Put to from) = Store to.place × Takes May from
+  AllowedSo (effects.Compare to operator left right) = Store to.place × (Takes May left × Takes May right)
+  AllowedSo (effects.Not to operand) = Store to.place × Takes May operand
+  AllowedSo (effects.Build to kind parts) = Store to.place × AllTake May parts
+  AllowedSo (effects.NewBox to content) = Store to.place × Takes May content
+  AllowedSo (effects.Unsize to trait_no operand) = Store to.place × Takes May operand
+  AllowedSo (effects.Borrow to unique base) = Store to.place × (unique ≡ true → May base.place)
+  AllowedSo (effects.Touch base) = Unit {0}
+  AllowedSo (effects.Print operand) = Takes May operand
+  AllowedSo (effects.Forget operand) = Takes May operand
+  AllowedSo (effects.Free box) = May box.place
+  AllowedSo (effects.Compute to operator left right) = Store to.place × (Takes May left × Takes May right)
+  AllowedSo (effects.Negate to operand) = Store to.place × Takes May operand
+  AllowedSo (effects.Bounds index length) = Takes May index
+  AllowedSo (effects.Call to body args) = Store to.place × AllTake May args
+  AllowedSo (effects.CallVirtual to trait_no method args) = Store to.place × AllTake May args
+  AllowedSo (effects.Ask to) = Store to.place
+
+-- a destination: a cell that may be stored into, or one out of which what is coerced is moved on into it
+module _ (Store Coerce : Place → Type 0) where
+  abbrev pub DestSo : Destination → Type 0
+  DestSo (Into key) = Store (whole_local key)
+  DestSo (Coerced key trait_no to) = Coerce (whole_local key) × Store (whole_local to)
+
+-- where all that is the same
+abbrev pub Allowed : (Place → Type 0) → Action → Type 0
+Allowed May action = AllowedSo May May action
+
+abbrev pub DestCell : (Place → Type 0) → Destination → Type 0
+DestCell May to = DestSo May May to
 
 abbrev pub KeptOut : {V : Type 0} → (V → Type 0) → Out V → Type 0
 KeptOut I (Go v) = I v
@@ -112,8 +122,9 @@ AnsweredSo over I (Neither halt v) = over halt v
 
 -- what is known of the actions that are done, and of the places that are dropped
 pub record KeepingSo {V : Type 0} (q : Effects V) (over : Halt → V → Type 0) (Does : Action → Type 0)
-    (Drops : EffectSite → Type 0) (May : Place → Type 0) (I : V → Type 0) : Type 0 where
-  pub acts : (action : Action) (v : V) → Allowed May action → Does action → I v → ShownOut over I I (q.act action v)
+    (Drops : EffectSite → Type 0) (Store Coerce May : Place → Type 0) (I : V → Type 0) : Type 0 where
+  pub acts : (action : Action) (v : V) → AllowedSo Store May action → Does action → I v → ShownOut over I I
+      (q.act action v)
   pub chooses : (test : Test) (v : V) → AllowedTest May test → I v → AnsweredSo over I (q.choose test v)
   pub drops : (mode : Mode) (site : EffectSite) (v : V) → May site.place → Drops site → I v →
       ShownOut over I I (q.drop mode site v)
@@ -121,9 +132,11 @@ pub record KeepingSo {V : Type 0} (q : Effects V) (over : Halt → V → Type 0)
   pub ticks : (v : V) → I v → ShownOut over I I (q.tick v)
   pub plain : (action : Action) → is_plain action ≡ true → Does action
   pub whole : (key : ℕ) → Drops (site_of_key key)
-  pub aborts : (v : V) → over Aborted v
-  pub lapses : (v : V) → over OutOfTicks v
-  pub stuck : (v : V) → over Stuck v
+  pub stores : (place : Place) → May place → Store place
+  pub coerces : (place : Place) → Coerce place → May place
+  pub aborts : (v : V) → I v → over Aborted v
+  pub lapses : (v : V) → I v → over OutOfTicks v
+  pub stuck : (v : V) → I v → over Stuck v
 
 module _ {V : Type 0} (I : V → Type 0) where
   abbrev any_halt : Halt → V → Type 0
@@ -141,7 +154,7 @@ module _ {V : Type 0} (I : V → Type 0) where
 
   -- however a run halts, and whatever is done
   pub keeping_so : (q : Effects V) (May : Place → Type 0) → Keeping q May I →
-      KeepingSo q (λ halt v. Unit {0}) (λ action. Unit {0}) (λ site. Unit {0}) May I
+      KeepingSo q (λ halt v. Unit {0}) (λ action. Unit {0}) (λ site. Unit {0}) May May May I
   keeping_so q May k = record {
     acts = λ action v a d i. shown_kept (q.act action v) (k.acts action v a i);
     chooses = λ test v t i. answered_kept (q.choose test v) (k.chooses test v t i);
@@ -150,7 +163,9 @@ module _ {V : Type 0} (I : V → Type 0) where
     ticks = λ v i. shown_kept (q.tick v) (k.ticks v i);
     plain = λ action p. tt;
     whole = λ key. tt;
-    aborts = λ v. tt;
-    lapses = λ v. tt;
-    stuck = λ v. tt;
+    stores = λ place m. m;
+    coerces = λ place m. m;
+    aborts = λ v i. tt;
+    lapses = λ v i. tt;
+    stuck = λ v i. tt;
   }

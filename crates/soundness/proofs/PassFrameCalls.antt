@@ -15,8 +15,9 @@ use Rattle.src_meaning.specs.Forms.{Destination, Into, Coerced, LoopsAndGuards, 
 use Rattle.src_meaning.specs.Scopes.{Scopes, innermost, with_pending, without_operands, Value, Breaks, Continues, Returns, Panics, Run, At, Over, Does, ◌>>◌, on_value}
 use Rattle.src_meaning.specs.Shape.{Aliases, NodeHead, Shape, head}
 use Rattle.soundness.proofs.Leaving.{ShownOut}
+use Rattle.soundness.proofs.PassWithin.{Outer}
 use Rattle.soundness.proofs.PassFrame as frame
-use Rattle.soundness.proofs.PassFrameActs.{DestCell, KeepingSo}
+use Rattle.soundness.proofs.PassFrameActs.{DestSo, KeepingSo}
 use Rattle.soundness.proofs.PassFrameForms as of_forms
 
 -- what holds where there is a value
@@ -38,19 +39,22 @@ ends_then J K (At Panics S v) next j f = tt
 ends_then J K (Over halt v) next j f = tt
 
 module _ {V : Type 0} (items : ItemTable) (q : Effects V) (over : Halt → V → Type 0) (Does_ : Action → Type 0)
-    (Drops : EffectSite → Type 0) (May : Place → Type 0) (I : V → Type 0)
-    (keeping : KeepingSo q over Does_ Drops May I) where
+    (Drops : EffectSite → Type 0) (Store Coerce May : Place → Type 0) (I : V → Type 0)
+    (keeping : KeepingSo q over Does_ Drops Store Coerce May I) where
   abbrev Keeps : Does V → Type 0
-  Keeps = frame.Keeps items q over Does_ Drops May I keeping
+  Keeps = frame.Keeps items q over Does_ Drops Store Coerce May I keeping
 
   abbrev KeptAt : ℕ → Run V → Type 0
-  KeptAt = frame.KeptAt items q over Does_ Drops May I keeping
+  KeptAt = frame.KeptAt items q over Does_ Drops Store Coerce May I keeping
 
   abbrev Fine : Scopes → ℕ → Type 0
-  Fine = frame.Fine items q over Does_ Drops May I keeping
+  Fine = frame.Fine items q over Does_ Drops Store Coerce May I keeping
 
   abbrev Cell : ℕ → Type 0
-  Cell = frame.Cell items q over Does_ Drops May I keeping
+  Cell = frame.Cell items q over Does_ Drops Store Coerce May I keeping
+
+  abbrev Own : ℕ → Type 0
+  Own = frame.Own items q over Does_ Drops Store Coerce May I keeping
 
   pub none_looked_at : (S : Scopes) → Fine S 0
   none_looked_at [] = tt
@@ -104,7 +108,7 @@ module _ {V : Type 0} (items : ItemTable) (q : Effects V) (over : Halt → V →
         by false = done S
 
     pub all_end : (around : LoopsAndGuards) (es : List A) (ms : List (Meaning V)) (os : List A) →
-        frame.AllEvaluated items q over Does_ Drops May I keeping around ms → AllEnd around es ms os →
+        frame.AllEvaluated items q over Does_ Drops Store Coerce May I keeping around ms → AllEnd around es ms os →
         (S : Scopes) (v : V) → I v → J es v → Ends (J (es ++ os)) (forms.operands items q around ms S v)
     all_end around es [] [] e a S v i j = subst (λ l. J l v) (sym (append_nil es)) j
       where
@@ -118,43 +122,48 @@ module _ {V : Type 0} (items : ItemTable) (q : Effects V) (over : Halt → V →
         (ends_then (λ w. I w × J (es ++ o ∷ []) w) (J ((es ++ o ∷ []) ++ os)) (forms.operand items q around m S v)
         (forms.operands items q around ms)
         (kept_ends (J (es ++ o ∷ [])) (forms.operand items q around m S v)
-        ((frame.operand_kept items q over Does_ Drops May I keeping around m e.0).kept 0 S v (none_looked_at S) i)
+        ((frame.operand_kept items q over Does_ Drops Store Coerce May I keeping around m e.0).kept 0 S v
+        (none_looked_at S) i)
         (one_ends around m es (es ++ o ∷ []) a.0 S v i j))
         (λ T w k. all_end around (es ++ o ∷ []) ms os e.1 a.1 T w k.0 k.1))
 
   -- ---- the call
 
-  delivered : (J : V → Type 0) (h : NodeHead) (action : EffectSite → Action) (to : Destination) → DestCell May to →
-      ((key : ℕ) → Cell key → (v : V) → I v → J v → ShownOut over I I (q.act (action (site_in h.id key)) v)) → (k : ℕ)
+  delivered : (J : V → Type 0) (h : NodeHead) (action : EffectSite → Action) (to : Destination) → DestSo Store May to
+      →
+      ((key : ℕ) → Own key → (v : V) → I v → J v → ShownOut over I I (q.act (action (site_in h.id key)) v)) → (k : ℕ)
       (S : Scopes)
       (v : V) → Fine S k → I v → J v → KeptAt k (forms.deliver items q h action to S v)
-  delivered J h action (Into key) c acts k S v f i j = frame.in_scopes_kept items q over Does_ Drops May I keeping k S
+  delivered J h action (Into key) c acts k S v f i j = frame.in_scopes_kept items q over Does_ Drops Store Coerce May I
+      keeping k S
       (q.act (action (site_in h.id key)) v) f (acts key c v i j)
   delivered J h action (Coerced key trait_no to) c acts k S v f i j =
-      frame.on_kept items q over Does_ Drops May I keeping k _
+      frame.on_kept items q over Does_ Drops Store Coerce May I keeping k _
       (forms.acts items q (effects.Unsize (site_in h.id to) trait_no (moved h.id key)))
-      (frame.in_scopes_kept items q over Does_ Drops May I keeping k S
-      (q.act (action (site_in h.id key)) v) f (acts key c.0 v i j))
-      (frame.acts_kept items q over Does_ Drops May I keeping
+      (frame.in_scopes_kept items q over Does_ Drops Store Coerce May I keeping k S
+      (q.act (action (site_in h.id key)) v) f (acts key (keeping.stores _ c.0) v i j))
+      (frame.acts_kept items q over Does_ Drops Store Coerce May I keeping
       (effects.Unsize (site_in h.id to) trait_no (moved h.id key)) (c.1, c.0) refl)
 
   -- a form that acts on all its arguments keeps what is kept, where what it does keeps that once they are made
-  pub called_by : (J : V → Type 0) (Says : Aliases → ℕ → Form → Type 0) (fuel id : ℕ) (ty : TyId) (by : Option Use)
+  pub called_by : (J : V → Type 0) (Says : Aliases → Outer → ℕ → Form → Type 0) (fuel id : ℕ) (ty : TyId) (by : Option
+      Use)
       (s : Shape)
       (ms : List (Meaning V)) (action : EffectSite → List Operand → Action) (around : LoopsAndGuards) (own : Bool)
-      (to : Destination) → frame.AllEvaluated items q over Does_ Drops May I keeping around ms →
+      (to : Destination) → frame.AllEvaluated items q over Does_ Drops Store Coerce May I keeping around ms →
       ((S : Scopes) (v : V) → I v → Ends J (forms.operands items q around ms S v)) →
-      ((key : ℕ) → Cell key → (v : V) → I v → J v →
+      ((key : ℕ) → Own key → (v : V) → I v → J v →
       ShownOut over I I (q.act (action (site_in id key) (all_moved id ms)) v)) →
-      Cell id → DestCell May to →
+      Cell id → DestSo Store May to →
       Keeps ((evaluation.on_all items q fuel (head id ty by) s ms action).evaluate around own to)
   called_by J Says fuel id ty by s ms action around own to e ends acts c d =
-      frame.in_scope_kept items q over Does_ Drops May I keeping id own _
+      frame.in_scope_kept items q over Does_ Drops Store Coerce May I keeping id own _
       (after_ends J (forms.operands items q around ms) _
-      (frame.operands_kept items q over Does_ Drops May I keeping around ms e) ends
+      (frame.operands_kept items q over Does_ Drops Store Coerce May I keeping around ms e) ends
       (λ k S v f i j. delivered J (head id ty by) (λ site. action site (all_moved id ms))
       (to_own_key (is_never items ty) id to)
-      (of_forms.own_dest items q over Does_ Drops May I keeping Says fuel (is_never items ty) id to c d) acts k
+      (of_forms.own_dest items q over Does_ Drops Store Coerce May I keeping Says fuel (is_never items ty) id to c d)
+      acts k
       (innermost (without_operands (keys_of ms)) S) v
-      (frame.fine_innermost items q over Does_ Drops May I keeping (without_operands (keys_of ms))
-      (frame.untaken items q over Does_ Drops May I keeping (keys_of ms)) S k f) i j))
+      (frame.fine_innermost items q over Does_ Drops Store Coerce May I keeping (without_operands (keys_of ms))
+      (frame.untaken items q over Does_ Drops Store Coerce May I keeping (keys_of ms)) S k f) i j))

@@ -279,7 +279,8 @@ module _ (May : Place → Type 0) where
         KeptOut Free (free.drop items local_ty mode site w)
     dropped_kept mode site w m k = when_kept
         (may_store (watched_at items local_ty site) (presence_of items local_ty site w)) (BadStore site)
-        (free.dropped items local_ty (option_map_or (needs_drop items) (free.ty_at items local_ty site) false) mode site)
+        (free.dropped items local_ty (option_map_or (needs_drop items)
+        (free.ty_at items local_ty site) false) mode site)
         w (by (option_map_or (needs_drop items) (free.ty_at items local_ty site) false))
       where
         gone : (v : AbstractState) → CellsKept before v.cells → Free (free.after items local_ty true site v)

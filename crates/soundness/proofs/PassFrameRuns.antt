@@ -7,6 +7,7 @@ use Rattle.store_model.specs.Abstract.Effects.{AbstractState, abstract_effects}
 use Rattle.store_model.specs.Effects as effects
 use Rattle.store_model.specs.Effects.{EffectSite, Operand, Action, Test, Mode, Halt, Out, Go, Unwind, Halts, Choice, Yes, No, Neither, Effects}
 use Rattle.store_model.specs.Places.Place.{Place}
+use Rattle.typed_tree.specs.Nodes.{number_of}
 use Rattle.typed_tree.specs.Tree.{Node, Form, BodyTree}
 use Rattle.src_meaning.specs.Evaluation.{meaning}
 use Rattle.src_meaning.specs.Forms.{Destination, LoopsAndGuards}
@@ -24,9 +25,9 @@ use Rattle.soundness.proofs.PassFrameCells.{Cells, CellsKept, free_keeping}
 use Rattle.soundness.proofs.PassFrameFacts as facts_of
 use Rattle.soundness.proofs.PassFrameFacts.{FactsKept}
 use Rattle.soundness.proofs.PassFrameForms as forms_of
-use Rattle.soundness.proofs.PassFrameForms.{Telling}
+use Rattle.soundness.proofs.PassFrameForms.{Telling, TellingCalls}
 use Rattle.soundness.proofs.PassMarks.{Marks, marked, chosen_marked, marked_effects}
-use Rattle.soundness.proofs.PassWithin.{Around, Within, Reaching}
+use Rattle.soundness.proofs.PassWithin.{Around, Within, Reaching, Outer, DestIn}
 
 -- ---- effects at locals
 
@@ -208,20 +209,24 @@ module _ (items : ItemTable) (body : BodyTree) (May : Place → Type 0) (facts :
     abbrev any_site : EffectSite → Type 0
     any_site site = Unit {0}
 
-    abbrev pub nothing_said : Aliases → ℕ → Form → Type 0
-    nothing_said aliases id form = Unit {0}
+    abbrev pub nothing_said : Aliases → Outer → ℕ → Form → Type 0
+    nothing_said aliases loops id form = Unit {0}
 
-    run_keeping : KeepingSo run any_halt any_action any_site May_ Known
+    run_keeping : KeepingSo run any_halt any_action any_site May_ May_ May_ Known
     run_keeping = keeping_so Known run May_ (keeping_at (local_of items body) May q Known keeping)
 
     nothing_told : Telling items any_action any_site nothing_said
     nothing_told = record {
-      borrows = λ aliases id unique base s. tt;
-      assigns = λ aliases id place value s. tt;
-      calls = λ aliases id key callee args s. tt;
-      methods = λ aliases id key callee receiver args s. tt;
-      virtuals = λ aliases id key trait_no method receiver args s. tt;
-      closures = λ aliases id key callee value args s. tt;
+      borrows = λ aliases loops id unique base s. tt;
+      assigns = λ aliases loops id place value s. tt;
+    }
+
+    no_calls_told : TellingCalls any_action nothing_said
+    no_calls_told = record {
+      calls = λ aliases loops id key callee args s. tt;
+      methods = λ aliases loops id key callee receiver args s. tt;
+      virtuals = λ aliases loops id key trait_no method receiver args s. tt;
+      closures = λ aliases loops id key callee value args s. tt;
     }
 
     -- what holds where a run is at an exit
@@ -229,32 +234,34 @@ module _ (items : ItemTable) (body : BodyTree) (May : Place → Type 0) (facts :
     Found (At exit S v) = Known v
     Found (Over halt v) = Unit {0}
 
-    none_looked_at : (S : Scopes) → frame.Fine items run any_halt any_action any_site May_ Known run_keeping S 0
+    none_looked_at : (S : Scopes) → frame.Fine items run any_halt any_action any_site May_ May_ May_ Known run_keeping
+        S 0
     none_looked_at [] = tt
     none_looked_at (s ∷ S) = tt
 
-    found : (r : Run (Checking Facts)) → frame.KeptAt items run any_halt any_action any_site May_ Known run_keeping 0
+    found : (r : Run (Checking Facts)) → frame.KeptAt items run any_halt any_action any_site May_ May_ May_ Known
+        run_keeping 0
         r → Found r
     found (At exit S v) k = k.1
     found (Over halt v) k = tt
 
     -- a node that is evaluated, and one that is reached
-    pub node_keeps : (fuel : ℕ) (n : Node) (around : LoopsAndGuards) (loops : List ℕ) → Around May_ around loops →
+    pub node_keeps : (fuel : ℕ) (n : Node) (around : LoopsAndGuards) (loops : Outer) → Around May_ around loops →
         Within items May_ nothing_said around.aliases loops n → (own : Bool) (to : Destination) → DestCell May_ to →
-        (S : Scopes)
+        DestIn (number_of n ∷ loops.keys) to → (S : Scopes)
         (v : Checking Facts) → Known v → Found ((meaning items run fuel n).evaluate around own to S v)
-    node_keeps fuel n around loops a w own to d S v i = found ((meaning items run fuel n).evaluate around own to S v)
-        ((forms_of.anywhere items run any_halt any_action any_site May_ Known run_keeping
-        nothing_said fuel (forms_of.saying_of items any_action any_site nothing_said nothing_told)
-        (forms_of.by_telling items run any_halt any_action any_site May_ Known run_keeping nothing_said fuel nothing_told)
-        (λ aliases id key unique base s. tt) n around loops a w own to d).kept 0 S v
+    node_keeps fuel n around loops a w own to d e S v i = found ((meaning items run fuel n).evaluate around own to S v)
+        ((forms_of.anywhere items run any_halt any_action any_site May_ May_ May_ Known run_keeping
+        nothing_said fuel nothing_told (forms_of.by_telling items run any_halt any_action any_site May_ May_ May_
+        Known run_keeping nothing_said fuel no_calls_told)
+        (λ aliases loops id key unique base s. tt) n around loops a w own to (d, e)).kept 0 S v
         (none_looked_at S) i)
 
-    pub reach_keeps : (fuel : ℕ) (n : Node) (around : LoopsAndGuards) (loops : List ℕ) → Around May_ around loops →
+    pub reach_keeps : (fuel : ℕ) (n : Node) (around : LoopsAndGuards) (loops : Outer) → Around May_ around loops →
         Reaching items May_ nothing_said around.aliases loops n → (S : Scopes) (v : Checking Facts) → Known v →
         Found ((meaning items run fuel n).reach around S v)
     reach_keeps fuel n around loops a w S v i = found ((meaning items run fuel n).reach around S v)
-        ((forms_of.reached items run any_halt any_action any_site May_ Known run_keeping nothing_said
-        fuel (forms_of.saying_of items any_action any_site nothing_said nothing_told)
-        (forms_of.by_telling items run any_halt any_action any_site May_ Known run_keeping nothing_said fuel nothing_told)
+        ((forms_of.reached items run any_halt any_action any_site May_ May_ May_ Known run_keeping nothing_said
+        fuel nothing_told (forms_of.by_telling items run any_halt any_action any_site May_ May_ May_ Known
+        run_keeping nothing_said fuel no_calls_told)
         n around loops a w).kept 0 S v (none_looked_at S) i)

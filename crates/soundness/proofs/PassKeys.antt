@@ -34,7 +34,7 @@ module _ (P : ℕ → Type 0) where
   abbrev pub Keys : Place → Type 0
   Keys place = P place.local × KeysIn place.steps
 
-  keys_at_end : (steps : List Step) (step : Step) → KeysIn steps → KeysIn (step ∷ []) → KeysIn (steps ++ step ∷ [])
+  pub keys_at_end : (steps : List Step) (step : Step) → KeysIn steps → KeysIn (step ∷ []) → KeysIn (steps ++ step ∷ [])
   keys_at_end [] step h k = k
   keys_at_end (ToElement i ∷ steps) step h k = (h.0, keys_at_end steps step h.1 k)
   keys_at_end (ToPart n ∷ steps) step h k = keys_at_end steps step h k
@@ -131,12 +131,12 @@ module _ (P : ℕ → Type 0) where
           keys_extended ToContent ((shape items base).place places) (place_keys base Base h.0 f) tt
       place_form form id ty by h own f = (own, tt)
 
+pub keys_in_more : (P Q : ℕ → Type 0) → ((k : ℕ) → P k → Q k) → (steps : List Step) → KeysIn P steps → KeysIn Q steps
+keys_in_more P Q f [] k = tt
+keys_in_more P Q f (ToElement i ∷ steps) k = (f i k.0, keys_in_more P Q f steps k.1)
+keys_in_more P Q f (ToPart n ∷ steps) k = keys_in_more P Q f steps k
+keys_in_more P Q f (ToField v n ∷ steps) k = keys_in_more P Q f steps k
+keys_in_more P Q f (ToContent ∷ steps) k = keys_in_more P Q f steps k
+
 pub keys_more : (P Q : ℕ → Type 0) → ((k : ℕ) → P k → Q k) → (place : Place) → Keys P place → Keys Q place
-keys_more P Q f place h = (f place.local h.0, all place.steps h.1)
-  where
-    all : (steps : List Step) → KeysIn P steps → KeysIn Q steps
-    all [] k = tt
-    all (ToElement i ∷ steps) k = (f i k.0, all steps k.1)
-    all (ToPart n ∷ steps) k = all steps k
-    all (ToField v n ∷ steps) k = all steps k
-    all (ToContent ∷ steps) k = all steps k
+keys_more P Q f place h = (f place.local h.0, keys_in_more P Q f place.steps h.1)

@@ -1,6 +1,7 @@
 -- A pattern that is matched with a place of which enough is known: its tests fail for want of nothing, and where they hold,
 -- its names may be bound, each from a part that is known, may be moved if it is, and is spared by those before it.
 use Rattle.std.proofs.Common.{◌≡◌, ◌⊎◌, inl, inr, ℕ, suc, ◌==◌, not, Bool, true, false, List, [], ◌∷◌, ◌++◌, map, Option, None, refl, ap, sym, ◌∙◌, subst}
+use Rattle.std.proofs.lemmas.Bool.{false≢true}
 use Rattle.mir_base.specs.declared.place_in_text.Pos.{Pos}
 use Rattle.mir_ty.specs.declared.ty.TyId.{TyId}
 use Rattle.mir_ty.specs.ItemTable.{ItemTable, type_at}
@@ -107,6 +108,17 @@ module _ (items : ItemTable) (Q : Place → Type 0)
         (λ key i. numbered_right (nodes_of one) (nodes_among rest) key i)
         ((shapes.in_parts items rest (suc n)).bindings place) (parts_each rest (suc n) place k))
 
+  -- each name of a pattern that is no name itself is one of the nodes inside
+  pub inner_each : (form : Form) (id : ℕ) (ty : TyId) (by : Option Use) → (shape_of items form (head id ty by)).is_binding
+      ≡ false → (place : Place) → Q place → Each (nodes_in form) ((shape_of items form (head id ty by)).bindings place)
+  inner_each (tree.Binding name) id ty by b place k = absurd (false≢true (sym b))
+  inner_each (tree.StructPattern fields) id ty by b place k = fields_each fields ToPart (λ j. refl) place k
+  inner_each (tree.VariantPattern variant is_test fields) id ty by b place k =
+      fields_each fields (ToField variant) (λ j. refl) place k
+  inner_each (tree.TuplePattern parts) id ty by b place k = parts_each parts 0 place k
+  inner_each (tree.ArrayPattern elements) id ty by b place k = parts_each elements 0 place k
+  inner_each form id ty by b place k = tt
+
 module _ (items : ItemTable) (body : BodyTree) (also : Also) (told : Told items) (Own : ℕ → Type 0) where
   abbrev V : Type 0
   V = Checking Facts
@@ -169,7 +181,38 @@ module _ (items : ItemTable) (body : BodyTree) (also : Also) (told : Told items)
       (all_spare b e.0.1 m.0 bounds s.0 e.1, all_fit bounds t.1 k.1 m.1 s.1 e.1),
     )
 
-  -- a pattern is matched
+  -- a pattern is matched; what else is known stays so
+  pub matched_both : (p : Node) (m : Matched) (want : TyId) → Holds (patterns.pattern items m want p) →
+      (typing.is_one_name p ≡ true → types.is_reference items want ≡ false) → Has items body (cells items true p) →
+      ((key : ℕ) → Numbered (nodes_of p) key → Own (L key)) → (place : Place) → PlaceOk items body want place →
+      (m.may_move ≡ true → Movable items body place) → Lies place → (v : V) → v.facts.refilled ≡ None →
+      Known items body v.facts place →
+      Answers (λ w. ((w.facts.refilled ≡ None)
+      × rules.AllFit items body also w.facts ((shape items p).bindings place)) × Keeps Own v.facts w.facts)
+      (λ w. (w.facts.refilled ≡ None) × Keeps Own v.facts w.facts)
+      (forms.all_hold items (split_run items body also) ((shape items p).tests place) v)
+  matched_both p m want h r cells_in own place ok moved lies v calm k =
+      tests.answers_more items body also Own
+      (forms.all_hold items (split_run items body also) ((shape items p).tests place) v)
+      (λ w. Keeps Own v.facts w.facts × Stands items body w.facts p place)
+      (λ w. ((w.facts.refilled ≡ None) × rules.AllFit items body also w.facts ((shape items p).bindings place))
+      × Keeps Own v.facts w.facts)
+      (λ w. Keeps Own v.facts w.facts) (λ w. (w.facts.refilled ≡ None) × Keeps Own v.facts w.facts)
+      (λ w x. (
+        (
+          x.0.waiting ∙ calm,
+          all_fit w.facts (nodes_of p) own ((shape items p).bindings place)
+              (names_taken items body told p m want h r cells_in place ok)
+              (names_known items body w.facts told p m want h place
+              (tests.known_still items body also Own v.facts w.facts place x.0 lies.clear k) x.1 ok)
+              (names_movable items body told p m want h place ok moved) (names_spread items p m want h place)
+              (names_each items Lies lies_further p place lies),
+        ),
+        x.0,
+      ))
+      (λ w x. (x.waiting ∙ calm, x))
+      (answers.tests_answer items body also told Own p m want h own place ok lies.clear v k)
+
   pub matched_answer : (p : Node) (m : Matched) (want : TyId) → Holds (patterns.pattern items m want p) →
       (typing.is_one_name p ≡ true → types.is_reference items want ≡ false) → Has items body (cells items true p) →
       ((key : ℕ) → Numbered (nodes_of p) key → Own (L key)) → (place : Place) → PlaceOk items body want place →
@@ -182,17 +225,41 @@ module _ (items : ItemTable) (body : BodyTree) (also : Also) (told : Told items)
   matched_answer p m want h r cells_in own place ok moved lies v calm k =
       tests.answers_more items body also Own
       (forms.all_hold items (split_run items body also) ((shape items p).tests place) v)
-      (λ w. Keeps Own v.facts w.facts × Stands items body w.facts p place)
+      (λ w. ((w.facts.refilled ≡ None) × rules.AllFit items body also w.facts ((shape items p).bindings place))
+      × Keeps Own v.facts w.facts)
       (λ w. (w.facts.refilled ≡ None) × rules.AllFit items body also w.facts ((shape items p).bindings place))
-      (λ w. Keeps Own v.facts w.facts) (λ w. (w.facts.refilled ≡ None) × Keeps Own v.facts w.facts)
-      (λ w x. (
-        x.0.waiting ∙ calm,
-        all_fit w.facts (nodes_of p) own ((shape items p).bindings place)
-            (names_taken items body told p m want h r cells_in place ok)
-            (names_known items body w.facts told p m want h place
-            (tests.known_still items body also Own v.facts w.facts place x.0 lies.clear k) x.1 ok)
-            (names_movable items body told p m want h place ok moved) (names_spread items p m want h place)
-            (names_each items Lies lies_further p place lies),
-      ))
-      (λ w x. (x.waiting ∙ calm, x))
-      (answers.tests_answer items body also told Own p m want h own place ok lies.clear v k)
+      (λ w. (w.facts.refilled ≡ None) × Keeps Own v.facts w.facts)
+      (λ w. (w.facts.refilled ≡ None) × Keeps Own v.facts w.facts) (λ w x. x.0) (λ w x. x)
+      (matched_both p m want h r cells_in own place ok moved lies v calm k)
+
+  -- where the variants stand that a pattern names, its names may be bound
+  pub names_fit : (p : Node) (m : Matched) (want : TyId) → Holds (patterns.pattern items m want p) →
+      (typing.is_one_name p ≡ true → types.is_reference items want ≡ false) → Has items body (cells items true p) →
+      ((key : ℕ) → Numbered (nodes_of p) key → Own (L key)) → (place : Place) → PlaceOk items body want place →
+      (m.may_move ≡ true → Movable items body place) → Lies place → (facts : Facts) →
+      Stands items body facts p place → Known items body facts place →
+      rules.AllFit items body also facts ((shape items p).bindings place)
+  names_fit p m want h r cells_in own place ok moved lies facts s k =
+      all_fit facts (nodes_of p) own ((shape items p).bindings place)
+      (names_taken items body told p m want h r cells_in place ok)
+      (names_known items body facts told p m want h place k s ok)
+      (names_movable items body told p m want h place ok moved) (names_spread items p m want h place)
+      (names_each items Lies lies_further p place lies)
+
+  -- the same where the nodes inside are told apart from the pattern itself, as in a parameter
+  pub inner_fit : (form : Form) (id : ℕ) (at : Pos) (ty : TyId) (by : Option Use) (m : Matched) (want : TyId) →
+      Holds (patterns.pattern items m want (node id at ty by form)) →
+      (shape_of items form (head id ty by)).is_binding ≡ false →
+      (typing.is_one_name (node id at ty by form) ≡ true → types.is_reference items want ≡ false) →
+      Has items body (cells items true (node id at ty by form)) →
+      ((key : ℕ) → Numbered (nodes_in form) key → Own (L key)) → (place : Place) → PlaceOk items body want place →
+      (m.may_move ≡ true → Movable items body place) → Lies place → (facts : Facts) →
+      Stands items body facts (node id at ty by form) place → Known items body facts place →
+      rules.AllFit items body also facts ((shape_of items form (head id ty by)).bindings place)
+  inner_fit form id at ty by m want h b r cells_in own place ok moved lies facts s k =
+      all_fit facts (nodes_in form) own ((shape_of items form (head id ty by)).bindings place)
+      (names_taken items body told (node id at ty by form) m want h r cells_in place ok)
+      (names_known items body facts told (node id at ty by form) m want h place k s ok)
+      (names_movable items body told (node id at ty by form) m want h place ok moved)
+      (names_spread items (node id at ty by form) m want h place)
+      (inner_each items Lies lies_further form id ty by b place lies)

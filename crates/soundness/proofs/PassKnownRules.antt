@@ -91,7 +91,7 @@ module _ (items : ItemTable) (body : BodyTree) (also : Also) where
 
   -- ---- elements
 
-  array_at : (facts : Facts) (place : Place) (i : ℕ) → Known items body facts place →
+  pub array_at : (facts : Facts) (place : Place) (i : ℕ) → Known items body facts place →
       Known items body facts (forms.array_around items q (extended (ToElement i) place))
   array_at facts place i h = subst (λ s. Known items body facts (record { local = place.local; steps = s }))
       (sym (before_more place.steps i))

@@ -219,14 +219,14 @@ module _ (items : ItemTable) where
   inside_key : (n : Node) (key : ℕ) → Among (inside items n) key → Numbered (nodes_in (form_of n)) key
   inside_key n key h = cells_numbered (nodes_in (form_of n)) (inside items n) (in_are (form_of n)) key h
 
-  tops_key : (params : List ParamTree) (key : ℕ) → Among (tops params) key → Numbered (param_nodes params) key
+  pub tops_key : (params : List ParamTree) (key : ℕ) → Among (tops params) key → Numbered (param_nodes params) key
   tops_key [] key h = absurd h
   tops_key (param ∷ params) key (inl e) = numbered_left (nodes_of param.pattern) (param_nodes params) key
       (subst (Numbered (nodes_of param.pattern)) e (own_number param.pattern))
   tops_key (param ∷ params) key (inr h) =
       numbered_right (nodes_of param.pattern) (param_nodes params) key (tops_key params key h)
 
-  insides_key : (params : List ParamTree) (key : ℕ) → Among (inside_params items params) key →
+  pub insides_key : (params : List ParamTree) (key : ℕ) → Among (inside_params items params) key →
       Numbered (param_nodes params) key
   insides_key [] key h = absurd h
   insides_key (param ∷ params) key h = by (among_split (inside items param.pattern) (inside_params items params) key h)

@@ -2,11 +2,11 @@
 -- is: where it was sure to lead on and could be used, it is and can at each exit of the node. So an argument leaves
 -- what
 -- earlier arguments name, and a guard its scrutinee.
-use Rattle.std.proofs.Common.{◌≡◌, ℕ, Bool, true, [], Some}
+use Rattle.std.proofs.Common.{◌≡◌, ℕ, Bool, true, [], Some, ◌∷◌}
 use Rattle.mir_ty.specs.ItemTable.{ItemTable}
 use Rattle.store_model.specs.Abstract.Effects.{presence, may_use}
 use Rattle.store_model.specs.Places.Place.{Place, ThroughReference, watched}
-use Rattle.typed_tree.specs.Nodes.{nodes_of}
+use Rattle.typed_tree.specs.Nodes.{number_of, nodes_of}
 use Rattle.typed_tree.specs.Tree.{Node, BodyTree}
 use Rattle.typing_rules.specs.Accesses as rules
 use Rattle.typing_rules.specs.Accesses.{told}
@@ -29,9 +29,9 @@ use Rattle.soundness.proofs.PassFrameFacts.{Fixed, FixedWay, AllowedNaming, name
 use Rattle.soundness.proofs.PassFrameRuns as runs
 use Rattle.soundness.proofs.PassFrameRuns.{MayAt, StillKnown}
 use Rattle.soundness.proofs.PassStillKnown.{Clear, still_sure, still_usable}
-use Rattle.soundness.proofs.PassTold.{ids, IsValue, Here, Told}
+use Rattle.soundness.proofs.PassTold.{ids, IsValue, KnownOf, Here, Told}
 use Rattle.soundness.proofs.PassToldForms.{node_within}
-use Rattle.soundness.proofs.PassWithin.{Around}
+use Rattle.soundness.proofs.PassWithin.{Around, DestIn}
 use Rattle.soundness.proofs.Running.{sure_place}
 
 module _ (items : ItemTable) (body : BodyTree) (May : Place → Type 0) (v : Checking Facts)
@@ -91,15 +91,16 @@ module _ (items : ItemTable) (body : BodyTree) (May : Place → Type 0) (v : Che
   abbrev May_ : Place → Type 0
   May_ = MayAt (local_of items body) May
 
-  pub place_kept : (q : Effects (Checking Facts)) → Keeping q May (StillKnown May v.facts v.free.cells) → (fuel : ℕ)
-      (n : Node) (standing : Standing) (aliases : rules.Aliases) (x : Standpoint) (around : LoopsAndGuards) →
-      IsValue standing → Here items May_ (λ m. Unit {0}) aliases around.aliases x (nodes_of n) →
-      Holds (typing.typed (context items x) standing n) → Told items May_ (λ m. Unit {0}) aliases (told aliases n) →
-      Around May_ around (ids x) → (own : Bool) (to : Destination) → DestCell May_ to → (S : Scopes) →
+  pub place_kept : (Of : KnownOf) (q : Effects (Checking Facts)) → Keeping q May (StillKnown May v.facts v.free.cells) →
+      (fuel : ℕ) (n : Node) (standing : Standing) (aliases : rules.Aliases) (x : Standpoint) (around : LoopsAndGuards) →
+      IsValue standing → Here items May_ Of aliases around.aliases x (nodes_of n) →
+      Holds (typing.typed (context items x) standing n) → Told items May_ Of aliases (told aliases n) →
+      Around May_ around (ids x) → (own : Bool) (to : Destination) → DestCell May_ to →
+      DestIn (number_of n ∷ (ids x).keys) to → (S : Scopes) →
       StayedAt ((meaning items (at_locals (local_of items body) q) fuel n).evaluate around own to S v)
-  place_kept q keeping fuel n standing aliases x around value here typed t a own to d S =
+  place_kept Of q keeping fuel n standing aliases x around value here typed t a own to d e S =
       stayed_at q keeping ((meaning items (at_locals (local_of items body) q) fuel n).evaluate around own to S v)
       (runs.node_keeps items body May v.facts v.free.cells q keeping fuel n around (ids x) a
-      (node_within items May_ (λ m. Unit {0}) (λ places id form. Unit {0})
+      (node_within items May_ Of (λ places loops id form. Unit {0})
       (λ form id at ty by seen places y o h r k. tt) n standing aliases around.aliases x value here typed t) own to d
-      S v at_first)
+      e S v at_first)

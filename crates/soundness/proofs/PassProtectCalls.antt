@@ -32,6 +32,7 @@ use Rattle.soundness.proofs.Checks.{head_of}
 use Rattle.soundness.proofs.ClaimParts.{numbered_got, there_is, all_got}
 use Rattle.soundness.proofs.MethodHeads.{methods_of}
 use Rattle.soundness.proofs.OnceByPass.{is_reference_at, protected}
+use Rattle.soundness.proofs.PassClosurePlain.{some_at, closure_plain}
 use Rattle.soundness.proofs.PassCells.{NodeIn}
 use Rattle.soundness.proofs.PassCellTypes as facts
 use Rattle.soundness.proofs.PassNumbers.{Rises}
@@ -47,18 +48,6 @@ all_members {A = A} test (x ∷ l) f = both_true (f x (zero, (let h : 0 < length
   where
     tail : (y : A) → Contains l y → Contains (x ∷ l) y
     tail y (k, m, e) = (suc k, (let h : suc k < length (x ∷ l) = omega (arith, m) in h), e)
-
--- a member of a list has a number in it
-some_at : {A : Type 0} (test : A → Bool) (l : List A) → list_any test l ≡ true →
-    (k : ℕ) × ((x : A) × ((slice_get l k ≡ Some x) × (test x ≡ true)))
-some_at test [] h = absurd (false≢true h)
-some_at {A = A} test (x ∷ l) h = by (test x) refl h (λ e. some_at test l e)
-  where
-    by : (b : Bool) → test x ≡ b → (b || list_any test l) ≡ true →
-        (list_any test l ≡ true → (k : ℕ) × ((y : A) × ((slice_get l k ≡ Some y) × (test y ≡ true)))) →
-        (k : ℕ) × ((y : A) × ((slice_get (x ∷ l) k ≡ Some y) × (test y ≡ true)))
-    by true t e later = (0, (x, (refl, t)))
-    by false t e later = let r = later e in (suc r.0, (r.1.0, r.1.1))
 
 -- one that is kept comes from one of the list
 from_some : {A B : Type 0} (f : A → Option B) (l : List A) (y : B) → Contains (filter_map f l) y →
@@ -177,33 +166,10 @@ module _ (p : ProgramTree) (typed : WellTyped p) (n : ℕ) (b : BodyTree) (at : 
           refers body.sig body.self body.of body.params_are body.self_is
           (subst (λ x. slice_get p.items.bodies x ≡ Some body.sig) same body.sig_is)
 
-  -- ---- the inside of a closure
-
-  no_ref : (id : TyId) → stands_alone p.items id ≡ true → is_reference (type_at p.items id) ≡ false
-  no_ref id h = sym (facts.reference_by (type_at p.items id)) ∙ facts.is_false (types.is_reference p.items id)
-      (facts.right_of _ (not (types.is_reference p.items id)) (facts.right_of _ _ h))
-
-  closure_no_ref : (id : TyId) (m : ℕ) → types.closure_of p.items id ≡ Some m →
-      is_reference (type_at p.items id) ≡ false
-  closure_no_ref id m e = by (type_at p.items id) e
-    where
-      by : (o : Option Ty) → option_and_then types.closure_in o ≡ Some m → is_reference o ≡ false
-      by None e = refl
-      by (Some (Ty.Shared to)) e = absurd (none-some m e)
-      by (Some (Ty.Unique to)) e = absurd (none-some m e)
-      by (Some ty) e = refl
-
   pub closure_ok : (callee : ℕ) (its : Sig) → slice_get p.items.bodies callee ≡ Some its →
       is_closure_body p.items callee ≡ true → (args : Nodes) → AllOk (callee ∷ []) 0 its.params args
-  closure_ok callee its e c args = of_params its.params refl
+  closure_ok callee its e c args = none_ok 0 its.params args (closure_plain p typed callee its e c)
     where
-      found : (k : ℕ) × ((def : ClosureDef) × ((slice_get p.items.closures k ≡ Some def) ×
-          ((def.body == callee) ≡ true)))
-      found = some_at (λ (def : ClosureDef). def.body == callee) p.items.closures c
-
-      is_inside : slice_get p.items.bodies found.1.0.body ≡ Some its
-      is_inside = ap (slice_get p.items.bodies) ((Decides-eqb found.1.0.body callee).0 found.1.1.1) ∙ e
-
       none_ok : (k : ℕ) (ids : List TyId) (rest : Nodes) → ((id : TyId) (j : ℕ) → slice_get ids j ≡ Some id →
           is_reference (type_at p.items id) ≡ false) → AllOk (callee ∷ []) k ids rest
       none_ok k [] rest f = tt
@@ -212,33 +178,3 @@ module _ (p : ProgramTree) (typed : WellTyped p) (n : ℕ) (b : BodyTree) (at : 
         λ key pass protects r. absurd (false≢true (sym (f id 0 refl) ∙ r)),
         none_ok (suc k) ids rest (λ t j s. f t (suc j) s),
       )
-
-      of_params : (tys : List TyId) → its.params ≡ tys → AllOk (callee ∷ []) 0 tys args
-      of_params [] same = tt
-      of_params (ty ∷ rest) same =
-          let claim = numbered_got _ p.items.closures found.0 found.1.0 typed.0.1.1.1.1.1.0 found.1.1.0 in
-          let s = there_is (slice_get p.items.bodies found.1.0.body) _ claim.1 in
-          let one : s.0 ≡ its = same_Some s.0 its (sym s.1.0 ∙ is_inside) in
-          let begins = subst (λ (x : Sig). Begins found.0 x.params ≡ true) one s.1.1 in
-          let parts = subst (λ l. Begins found.0 l ≡ true) same begins in
-          none_ok 0 (ty ∷ rest) args (λ id j g. by id j g (first_so (is_it found.0 ty)
-          (list_all (stands_alone p.items) rest) parts)
-          (second_so (is_it found.0 ty) (list_all (stands_alone p.items) rest) parts))
-        where
-          is_it : ℕ → TyId → Bool
-          is_it n ty = option_map_or (λ m. m == n) (types.closure_of p.items ty) false
-
-          Begins : ℕ → List TyId → Bool
-          Begins n [] = false
-          Begins n (ty ∷ tys) = is_it n ty && list_all (stands_alone p.items) tys
-
-          is_one : (o : Option ℕ) → types.closure_of p.items ty ≡ o → option_map_or (λ m. m == found.0) o false ≡ true →
-              is_reference (type_at p.items ty) ≡ false
-          is_one None s h = absurd (false≢true h)
-          is_one (Some m) s h = closure_no_ref ty m s
-
-          by : (id : TyId) (j : ℕ) → slice_get (ty ∷ rest) j ≡ Some id → is_it found.0 ty ≡ true →
-              list_all (stands_alone p.items) rest ≡ true → is_reference (type_at p.items id) ≡ false
-          by id zero g h k = subst (λ t. is_reference (type_at p.items t) ≡ false) (same_Some ty id g)
-              (is_one (types.closure_of p.items ty) refl h)
-          by id (suc j) g h k = no_ref id (all_got (stands_alone p.items) rest j id k g)

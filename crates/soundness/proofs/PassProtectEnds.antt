@@ -39,13 +39,14 @@ use Rattle.soundness.proofs.DropsCount.{is_content}
 use Rattle.soundness.proofs.Facts.{Facts}
 use Rattle.soundness.proofs.Leaving.{ShownOut}
 use Rattle.soundness.proofs.OnceByPass.{protected}
-use Rattle.soundness.proofs.PassBlockTold.{block_within}
+use Rattle.soundness.proofs.PassWithin.{Outer}
+use Rattle.soundness.proofs.PassBlockTold.{in_block, block_within}
 use Rattle.soundness.proofs.PassCells.{NodeIn, node_left, node_right}
 use Rattle.soundness.proofs.PassContents.{Plain, Names, names_content, content_at}
 use Rattle.soundness.proofs.PassFacts.{Standpoint, context}
 use Rattle.soundness.proofs.PassFirst.{body_at}
 use Rattle.soundness.proofs.PassFrameBodies.{any_place, body_kept}
-use Rattle.soundness.proofs.PassFrameForms.{Telling, moved_nodes, node_site}
+use Rattle.soundness.proofs.PassFrameForms.{Telling, TellingCalls, moved_nodes, node_site}
 use Rattle.soundness.proofs.PassNumbers.{Numbered, Rises, rises_right, rises_apart}
 use Rattle.soundness.proofs.PassProtectArgs as named
 use Rattle.soundness.proofs.PassProtectArgs.{MadeBy, args_hold}
@@ -55,7 +56,7 @@ use Rattle.soundness.proofs.PassProtectRun as runs
 use Rattle.soundness.proofs.PassProtectRun.{unless_none, some_sig, some_head}
 use Rattle.soundness.proofs.PassRefilled.{not_mark}
 use Rattle.soundness.proofs.PassTold as here
-use Rattle.soundness.proofs.PassTold.{Here, Told}
+use Rattle.soundness.proofs.PassTold.{KnownOf, Here, IfRoot, Told}
 use Rattle.soundness.proofs.PassToldForms.{Saying}
 use Rattle.soundness.proofs.PassToldPlaces.{is_alias, AllPermit, Permits}
 
@@ -95,24 +96,27 @@ module _ (p : ProgramTree) (sound : IsSound p) (n : ℕ) (b : BodyTree) (at : sl
       ((from : Pos) × ((ty : TyId) × ((by : Option Use) × NodeIn (nodes_of b.block) (node id from ty by form))))
       × ((m : Node) → NodeIn (nodes_in form) m → NodeIn (nodes_of b.block) m)
 
-  abbrev Says : shapes.Aliases → ℕ → Form → Type 0
-  Says places id (tree.Borrow unique base) =
+  abbrev Says : shapes.Aliases → Outer → ℕ → Form → Type 0
+  Says places loops id (tree.Borrow unique base) =
       (unique ≡ true → Plain places base) × Inside id (tree.Borrow unique base)
-  Says places id (tree.Assign place value) = Plain places place × Inside id (tree.Assign place value)
-  Says places id (tree.Call body args) = Inside id (tree.Call body args)
-  Says places id (tree.MethodCall body receiver args) = Inside id (tree.MethodCall body receiver args)
-  Says places id (tree.VirtualCall trait_no method receiver args) =
+  Says places loops id (tree.Assign place value) = Plain places place × Inside id (tree.Assign place value)
+  Says places loops id (tree.Call body args) = Inside id (tree.Call body args)
+  Says places loops id (tree.MethodCall body receiver args) = Inside id (tree.MethodCall body receiver args)
+  Says places loops id (tree.VirtualCall trait_no method receiver args) =
       Inside id (tree.VirtualCall trait_no method receiver args)
-  Says places id (tree.ClosureCall body callee args) =
+  Says places loops id (tree.ClosureCall body callee args) =
       (is_closure_body p.items body ≡ true) × Inside id (tree.ClosureCall body callee args)
-  Says places id form = Unit {0}
+  Says places loops id form = Unit {0}
 
-  abbrev Of : Node → Type 0
-  Of m = NodeIn (nodes_of b.block) m
+  abbrev InBlock : Node → Type 0
+  InBlock m = NodeIn (nodes_of b.block) m
+
+  abbrev Of : KnownOf
+  Of = in_block p.items b InBlock
 
   -- a place that is replaced has no binding of a guard at its root
   plain_root : (aliases : rules.Aliases) (places : shapes.Aliases) (x : Standpoint) (ns : List Node) (place : Node)
-      (a : rules.Accessed) → Here p.items any_place Of aliases places x ns → Permits p.items any_place aliases a →
+      (a : rules.Accessed) → Here p.items any_place Of aliases places x ns → Permits p.items (IfRoot p.items any_place Of) aliases a →
       replaces a.access ≡ true → a.root ≡ root_of place → Plain places place
   plain_root aliases places x ns place a g h r e key k =
       g.sees.plain key (by (is_alias aliases key) refl)
@@ -173,10 +177,10 @@ module _ (p : ProgramTree) (sound : IsSound p) (n : ℕ) (b : BodyTree) (at : sl
       by (inr (m, (j, same))) =
           absurd (no_temporary m (i m j) (subst (λ k. protected p n (local k) ≡ true) same h))
 
-  borrow_known : (places : shapes.Aliases) (id : ℕ) (unique : Bool) (base : Node) →
-      Says places id (tree.Borrow unique base) → runs.Does_ p.items b (protected p) n rise
+  borrow_known : (places : shapes.Aliases) (loops : Outer) (id : ℕ) (unique : Bool) (base : Node) →
+      Says places loops id (tree.Borrow unique base) → runs.Does_ p.items b (protected p) n rise
       (effects.Borrow (site_in (number_of base) id) unique (node_site p.items places base))
-  borrow_known places id true base s danger =
+  borrow_known places loops id true base s danger =
       let c = first_so (is_content (place_at local ((shape p.items base).place places)).steps) _ danger in
       let h = second_so (is_content (place_at local ((shape p.items base).place places)).steps) _ danger in
       let k = named_key places base (s.0 refl) s.1.1 c h in
@@ -188,11 +192,13 @@ module _ (p : ProgramTree) (sound : IsSound p) (n : ℕ) (b : BodyTree) (at : sl
         passes = k.1.0;
         names = k.1.1;
       }
-  borrow_known places id false base s danger = absurd (false≢true danger)
+  borrow_known places loops id false base s danger = absurd (false≢true danger)
 
-  assign_known : (places : shapes.Aliases) (id : ℕ) (place value : Node) → Says places id (tree.Assign place value) →
+  assign_known : (places : shapes.Aliases) (loops : Outer) (id : ℕ) (place value : Node) →
+      Says places loops id (tree.Assign place value) →
       runs.Drops p.items b (protected p) n rise (node_site p.items places place)
-  assign_known places id place value s = by (is_content (place_at local ((shape p.items place).place places)).steps)
+  assign_known places loops id place value s = by (is_content (place_at local
+      ((shape p.items place).place places)).steps)
       (protected p n (local ((shape p.items place).place places).local)) refl refl
     where
       stored : (k : ℕ) → content_of place ≡ Some k →
@@ -243,18 +249,23 @@ module _ (p : ProgramTree) (sound : IsSound p) (n : ℕ) (b : BodyTree) (at : sl
   last facts args = checks.after_operands p.items (local_ty p.items b) (is_reference_param p.items b)
       (map (operand_at local) args) facts
 
-  telling : Telling p.items (runs.Does_ p.items b (protected p) n rise) (runs.Drops p.items b (protected p) n rise) Says
+  telling : Telling p.items (runs.Does_ p.items b (protected p) n rise) (runs.Drops p.items b
+      (protected p) n rise) Says
   telling = record {
     borrows = borrow_known;
     assigns = assign_known;
-    calls = λ places id key callee args s w facts k o.
+  }
+
+  known : TellingCalls (runs.Does_ p.items b (protected p) n rise) Says
+  known = record {
+    calls = λ places loops id key callee args s w facts k o.
         let t = body_passes w facts (site_in id key) callee (moved_nodes id args) o in
         args_hold p.items b (protected p) n rise (callee ∷ []) 0 t.0.params args id
         (last facts (moved_nodes id args)) facts w.cells s.1
         (calls.call_ok p sound.typed n b at own found.0 found.1.0 params rise (OfBody callee) t.0.params
         (calls.body_refs p sound.typed n b at own found.0 found.1.0 params rise callee t.0 t.1.0)
         (node id s.0.0 s.0.1.0 s.0.1.1.0 (tree.Call callee args)) s.0.0 s.0.1.1.1 args (λ key. refl)) k t.1.1;
-    methods = λ places id key callee receiver args s w facts k o.
+    methods = λ places loops id key callee receiver args s w facts k o.
         let t = body_passes w facts (site_in id key) callee (moved_nodes id (a_node receiver args)) o in
         args_hold p.items b (protected p) n rise (callee ∷ []) 0 t.0.params (a_node receiver args) id
         (last facts (moved_nodes id (a_node receiver args))) facts w.cells s.1
@@ -262,7 +273,7 @@ module _ (p : ProgramTree) (sound : IsSound p) (n : ℕ) (b : BodyTree) (at : sl
         (calls.body_refs p sound.typed n b at own found.0 found.1.0 params rise callee t.0 t.1.0)
         (node id s.0.0 s.0.1.0 s.0.1.1.0 (tree.MethodCall callee receiver args)) s.0.0 s.0.1.1.1 (a_node receiver args)
         (λ key. refl)) k t.1.1;
-    virtuals = λ places id key trait_no method receiver args s w facts k o.
+    virtuals = λ places loops id key trait_no method receiver args s w facts k o.
         let t = trait_passes w facts (site_in id key) trait_no method (moved_nodes id (a_node receiver args)) o in
         args_hold p.items b (protected p) n rise (Rattle.typing_rules.specs.Replaced.bodies_of p.items
         (OfTrait trait_no method)) 0 t.0.0 (a_node receiver args) id
@@ -271,7 +282,7 @@ module _ (p : ProgramTree) (sound : IsSound p) (n : ℕ) (b : BodyTree) (at : sl
         (calls.trait_refs p sound.typed n b at own found.0 found.1.0 params rise trait_no method t.0 t.1.0)
         (node id s.0.0 s.0.1.0 s.0.1.1.0 (tree.VirtualCall trait_no method receiver args)) s.0.0 s.0.1.1.1
         (a_node receiver args) (λ key. refl)) k t.1.1;
-    closures = λ places id key callee value args s w facts k o.
+    closures = λ places loops id key callee value args s w facts k o.
         let t = body_passes w facts (site_in id key) callee (moved_nodes id (a_node value args)) o in
         args_hold p.items b (protected p) n rise (callee ∷ []) 0 t.0.params (a_node value args) id
         (last facts (moved_nodes id (a_node value args))) facts w.cells s.1.1
@@ -285,7 +296,7 @@ module _ (p : ProgramTree) (sound : IsSound p) (n : ℕ) (b : BodyTree) (at : sl
       ShownOut (not_mark 6) (runs.I p.items b (protected p) n rise) (runs.I p.items b (protected p) n rise)
       (activation p.items (runs.run p.items b (protected p) n rise) fuel b v)
   protect_ends fuel v i = body_kept p.items (runs.run p.items b (protected p) n rise) (not_mark 6)
-      (runs.Does_ p.items b (protected p) n rise) (runs.Drops p.items b (protected p) n rise)
-      (runs.I p.items b (protected p) n rise) (runs.keeps p.items b (protected p) n rise) Says telling fuel
-      (runs.gives p.items b (protected p) n rise) b
-      (block_within p sound n b at Of (λ m i. i) Says says) v i
+      (runs.Does_ p.items b (protected p) n rise) (runs.Drops p.items b (protected p) n rise) any_place
+      (runs.I p.items b (protected p) n rise) (runs.keeps p.items b (protected p) n rise) Says fuel
+      telling known (runs.gives p.items b (protected p) n rise) b
+      (block_within p sound.typed sound.borrows n b at InBlock (λ m i. i) Says says) v i

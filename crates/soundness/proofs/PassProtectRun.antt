@@ -233,7 +233,7 @@ module _ (items : ItemTable) (body : BodyTree) (protects : ℕ → ℕ → Bool)
     plain_does (effects.CallVirtual to trait_no method args) e = absurd (false≢true e)
     plain_does action e = tt
 
-    pub keeps : KeepingSo run (not_mark 6) Does_ Drops any_place I
+    pub keeps : KeepingSo run (not_mark 6) Does_ Drops any_place any_place any_place I
     keeps = record {
       acts = λ action v a d i. either (also.act v.facts (action_at local action))
           (own (action_at local action) v.free v.facts) v _
@@ -269,9 +269,11 @@ module _ (items : ItemTable) (body : BodyTree) (protects : ℕ → ℕ → Bool)
       ticks = λ v i. ticked v.facts v.free v.free.choices i;
       plain = plain_does;
       whole = λ key. refl;
-      aborts = λ v. tt;
-      lapses = λ v. tt;
-      stuck = λ v. tt;
+      stores = λ place m. tt;
+      coerces = λ place m. tt;
+      aborts = λ v i. tt;
+      lapses = λ v i. tt;
+      stuck = λ v i. tt;
     }
 
     pub gives : (site : EffectSite) (v : V) → I v → ShownOut (not_mark 6) I I (run.give site v)

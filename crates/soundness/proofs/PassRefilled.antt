@@ -79,7 +79,7 @@ module _ (items : ItemTable) (body : BodyTree) where
   abbrev after_action : Action → Facts → Facts
   after_action = checks.after_action items (local_ty items body) (is_reference_param items body)
 
-  action_calm : (action : Action) (facts : Facts) → facts.refilled ≡ None →
+  pub action_calm : (action : Action) (facts : Facts) → facts.refilled ≡ None →
       (after_action action facts).refilled ≡ None
   action_calm (effects.Put to from) facts e = refl
   action_calm (effects.Compare to operator left right) facts e = two_refilled left right facts ∙ e
@@ -107,7 +107,7 @@ module _ (items : ItemTable) (body : BodyTree) where
       (after_operands args facts) ∙ operands_refilled args facts ∙ e
   action_calm (effects.Ask to) facts e = e
 
-  unwound_calm : (action : Action) (facts : Facts) → facts.refilled ≡ None →
+  pub unwound_calm : (action : Action) (facts : Facts) → facts.refilled ≡ None →
       (checks.after_unwound items (local_ty items body) (is_reference_param items body) action facts).refilled ≡ None
   unwound_calm (effects.Bounds index length) facts e = e
   unwound_calm (effects.Put to from) facts e = action_calm (effects.Put to from) facts e
@@ -130,12 +130,12 @@ module _ (items : ItemTable) (body : BodyTree) where
       action_calm (effects.CallVirtual to trait_no method args) facts e
   unwound_calm (effects.Ask to) facts e = e
 
-  taken_calm : (test : Test) (facts : Facts) → facts.refilled ≡ None →
+  pub taken_calm : (test : Test) (facts : Facts) → facts.refilled ≡ None →
       (checks.after_taken items (local_ty items body) (is_reference_param items body) test facts).refilled ≡ None
   taken_calm (effects.IsTrue operand) facts e = operand_refilled operand facts ∙ e
   taken_calm (effects.HasVariant site variant) facts e = e
 
-  declined_calm : (test : Test) (facts : Facts) → facts.refilled ≡ None →
+  pub declined_calm : (test : Test) (facts : Facts) → facts.refilled ≡ None →
       (checks.after_declined items (local_ty items body) (is_reference_param items body) test facts).refilled ≡ None
   declined_calm (effects.IsTrue operand) facts e = operand_refilled operand facts ∙ e
   declined_calm (effects.HasVariant site variant) facts e = e

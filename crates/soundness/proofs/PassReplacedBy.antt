@@ -73,7 +73,7 @@ module _ (items : ItemTable) (body : BodyTree) (also : Also) where
       by true h = let k = index_of L (L key) place.steps h in
           absurd (n (subst (λ z. takes_index z place.steps ≡ true) (one k.0 key k.1.0) k.1.1))
 
-  other_local : (a b : ℕ) → (a ≡ b → ⊥) → (L a == L b) ≡ false
+  pub other_local : (a b : ℕ) → (a ≡ b → ⊥) → (L a == L b) ≡ false
   other_local a b n = by (L a == L b) refl
     where
       by : (c : Bool) → (L a == L b) ≡ c → c ≡ false

@@ -1,11 +1,13 @@
 -- What a node changes lies within what may be changed, if the accesses that are told of it allow that: one line a form.
-use Rattle.std.proofs.Common.{◌≡◌, inl, inr, ℕ, ◌==◌, ◌&&◌, not, Bool, true, false, List, [], ◌∷◌, ◌++◌, length, slice_get, Option, Some, if◌then◌else◌, refl, ap, sym, subst}
-use Rattle.std.specs.Prelude.{option_map}
+use Rattle.std.proofs.Common.{◌≡◌, inl, inr, ℕ, ◌<◌, ◌==◌, ◌&&◌, not, Bool, true, false, List, [], ◌∷◌, ◌++◌, length, slice_get, Option, Some, None, if◌then◌else◌, refl, ap, sym, subst, arith}
+use Rattle.std.specs.Prelude.{option_map, option_and_then}
+use Rattle.std.specs.Option.{option_map_or}
 use Rattle.std.specs.List.{filter_map}
 use Rattle.std.proofs.lemmas.Bool.{false≢true}
 use Rattle.mir_base.specs.declared.place_in_text.Pos.{Pos}
+use Rattle.mir_ty.specs.declared.ty.Ty.{Ty}
 use Rattle.mir_ty.specs.declared.ty.TyId.{TyId}
-use Rattle.mir_ty.specs.ItemTable.{ItemTable}
+use Rattle.mir_ty.specs.ItemTable.{ItemTable, type_at}
 use Rattle.store_model.specs.Places.Place.{Place, whole_local}
 use Rattle.typed_tree.specs.declared.node.Use.{Use}
 use Rattle.typed_tree.specs.Nodes.{number_of, nodes_of, nodes_in, nodes_among, nodes_of_fields, nodes_if_any}
@@ -21,32 +23,33 @@ use Rattle.well_typed.specs.Claim.{Holds, fact, both, some}
 use Rattle.well_typed.specs.Nodes as typing
 use Rattle.well_typed.specs.Patterns as patterns
 use Rattle.well_typed.specs.Patterns.{Matched, entries_of}
-use Rattle.well_typed.specs.Places.{InScope, LoopAround, Context, loop_with, in_guard, Standing, Taken, Wanted, Passed, Base, Used, Stored, stands, ty_of, borrow_by}
+use Rattle.well_typed.specs.Places.{InScope, LoopAround, Context, loop_with, in_guard, Standing, Taken, Wanted, Passed, Base, Used, Stored, stands, form_of, ty_of, borrow_by}
 use Rattle.well_typed.specs.Types as types
 use Rattle.soundness.proofs.NoOverlap.{node_seen}
-use Rattle.soundness.proofs.PassFacts.{Standpoint, context, with_names, in_a_loop, right}
+use Rattle.soundness.proofs.PassFacts.{Standpoint, context, with_names, in_a_loop, beside, right}
 use Rattle.soundness.proofs.PassFrameActs.{Takes}
-use Rattle.soundness.proofs.PassCells.{Above, NodeIn, rising}
+use Rattle.soundness.proofs.PassCells.{Above, NodeIn, above_in, rising}
 use Rattle.soundness.proofs.PassKeys.{Keys, keys_more, place_keys}
 use Rattle.soundness.proofs.PassTold as here
-use Rattle.soundness.proofs.PassTold.{ids, IsValue, Here, Told, named_loop, root_unnamed, no_append}
+use Rattle.soundness.proofs.PassTold.{ids, IsValue, KnownOf, StandsFor, Here, Told, named_loop, root_unnamed, no_append}
 use Rattle.soundness.proofs.PassToldPatterns as told_patterns
 use Rattle.soundness.proofs.PassToldPatterns.{name_left, accessed, bound_named, bound_name, bounds_alike, seen_with, unnamed_with}
 use Rattle.soundness.proofs.PassToldPlaces as told_places
 use Rattle.soundness.proofs.PassToldPlaces.{Rises, name_above, no_name, name_entry, found_in, marked, still_there, Unnamed, Permits, AllPermit, Sees, Past}
 use Rattle.soundness.proofs.PassWithin as within
-use Rattle.soundness.proofs.PassWithin.{is_among, if_place}
+use Rattle.soundness.proofs.PassWithin.{is_among, if_place, Outer}
 use Rattle.soundness.proofs.PlaceTypes.{some_holds}
 use Rattle.soundness.proofs.PassToldParts as told_parts
 use Rattle.soundness.proofs.PassToldParts.{receiver_told, argument_told}
 
 -- what is said of a call, a borrow or an assignment is known where such a node stands
-abbrev pub Saying : (items : ItemTable) (May : Place → Type 0) (Of : Node → Type 0)
-    (Says : shapes.Aliases → ℕ → Form → Type 0) → Type 0
+abbrev pub Saying : (items : ItemTable) (May : Place → Type 0) (Of : KnownOf)
+    (Says : shapes.Aliases → Outer → ℕ → Form → Type 0) → Type 0
 Saying items May Of Says = (form : Form) (id : ℕ) (at : Pos) (ty : TyId) (by : Option Use) (aliases : rules.Aliases)
     (places : shapes.Aliases) (x : Standpoint) → Here items May Of aliases places x (nodes_of (node id at ty by form)) →
     Here items May Of aliases places x (nodes_in form) → Holds (typing.row (context items x) id ty form) →
-    Told items May Of aliases (told_form aliases at form) → Says places id form
+    Told items May Of aliases (told_form aliases at form) →
+    Says places (ids x) id form
 
 -- a node has a number below those behind
 pub node_above : (a b : List Node) (m : Node) → Rises (a ++ b) → NodeIn a m → Above (number_of m) b
@@ -55,12 +58,13 @@ node_above (n ∷ a) b m r (inl e) =
     subst (λ k. Above k b) (ap number_of e) (told_places.above_right (number_of n) a b (rising n (a ++ b) r).0)
 node_above (n ∷ a) b m r (inr i) = node_above a b m (rising n (a ++ b) r).1 i
 
-module _ (items : ItemTable) (May : Place → Type 0) (Of : Node → Type 0) (Says : shapes.Aliases → ℕ → Form → Type 0)
+module _ (items : ItemTable) (May : Place → Type 0) (Of : KnownOf)
+    (Says : shapes.Aliases → Outer → ℕ → Form → Type 0)
     (says : Saying items May Of Says) where
   abbrev K : Standpoint → Context
   K = context items
 
-  abbrev W : shapes.Aliases → List ℕ → Node → Type 0
+  abbrev W : shapes.Aliases → Outer → Node → Type 0
   W = within.Within items May Says
 
   -- a node whose value is used for no parameter is no borrow
@@ -72,6 +76,44 @@ module _ (items : ItemTable) (May : Place → Type 0) (Of : Node → Type 0) (Sa
 
   loose : (n : Node) (x : Standpoint) → Holds (typing.typed (K x) Taken n) → within.Loose n
   loose (node id at ty by form) x h = taken_loose form id at ty by x h.0
+
+  -- what is coerced is a box, and made by a node that hands its destination to no other
+  no_bool : (o : Option Ty) (trait_no : ℕ) → option_map_or types.is_bool_ty o false ≡ true →
+      option_map_or (λ adt. types.implements items adt trait_no)
+      (option_and_then (types.adt_of items) (option_and_then types.boxed_in o)) false ≡ true → ⊥
+  no_bool None trait_no b h = false≢true b
+  no_bool (Some Ty.Bool) trait_no b h = false≢true h
+  no_bool (Some ty) trait_no b h = false≢true b
+
+  no_unit : (o : Option Ty) (trait_no : ℕ) → option_map_or types.is_unit_ty o false ≡ true →
+      option_map_or (λ adt. types.implements items adt trait_no)
+      (option_and_then (types.adt_of items) (option_and_then types.boxed_in o)) false ≡ true → ⊥
+  no_unit None trait_no b h = false≢true b
+  no_unit (Some Ty.Unit) trait_no b h = false≢true h
+  no_unit (Some ty) trait_no b h = false≢true b
+
+  plain_form : (form : Form) (id : ℕ) (ty to : TyId) (trait_no : ℕ) (x : Standpoint) →
+      Holds (typing.row (K x) id ty form) → typing.is_leaf form ≡ true →
+      typing.box_implements items to ty trait_no ≡ true → within.carries form ≡ false
+  plain_form (tree.And a b) id ty to trait_no x h l k =
+      absurd (no_bool (type_at items ty) trait_no h.1.1.1.1 (right _ _ k))
+  plain_form (tree.Or a b) id ty to trait_no x h l k =
+      absurd (no_bool (type_at items ty) trait_no h.1.1.1.1 (right _ _ k))
+  plain_form (tree.While test body) id ty to trait_no x h l k =
+      absurd (no_unit (type_at items ty) trait_no h.1.1.1.1 (right _ _ k))
+  plain_form (tree.WhileLet p s body) id ty to trait_no x h l k =
+      absurd (no_unit (type_at items ty) trait_no h.1.1.1.1 (right _ _ k))
+  plain_form (tree.Block stmts tail) id ty to trait_no x h l k = absurd (false≢true l)
+  plain_form (tree.If test body otherwise) id ty to trait_no x h l k = absurd (false≢true l)
+  plain_form (tree.IfLet p s body otherwise) id ty to trait_no x h l k = absurd (false≢true l)
+  plain_form (tree.Match s ns) id ty to trait_no x h l k = absurd (false≢true l)
+  plain_form (tree.Loop body) id ty to trait_no x h l k = absurd (false≢true l)
+  plain_form form id ty to trait_no x h l k = refl
+
+  plain_operand : (n : Node) (to : TyId) (trait_no : ℕ) (x : Standpoint) → Holds (typing.typed (K x) Taken n) →
+      typing.is_leaf (form_of n) ≡ true → typing.box_implements items to (ty_of n) trait_no ≡ true →
+      within.carries (form_of n) ≡ false
+  plain_operand (node id at ty by form) to trait_no x h l k = plain_form form id ty to trait_no x h.1 l k
 
   loose_wanted : (n : Node) (want : TyId) (x : Standpoint) → Holds (typing.typed (K x) (Wanted want) n) → within.Loose n
   loose_wanted (node id at ty by form) want x h = taken_loose form id at ty by x h.0.0
@@ -91,6 +133,33 @@ module _ (items : ItemTable) (May : Place → Type 0) (Of : Node → Type 0) (Sa
       closure_below y e false a = subst (Keys (λ k. Above k ns)) (sym (g.sees.plain y.key a))
           ((here.here_right items May Of aliases places x (nodes_of s) ns g).outer y e, tt)
 
+  -- it has none of the keys of cells around
+  scrutinee_off : (s : Node) (ns : List Node) (aliases : rules.Aliases) (places : shapes.Aliases) (x : Standpoint)
+      (standing : Standing) → Here items May Of aliases places x (nodes_of s ++ ns) →
+      Holds (typing.typed (K x) standing s) → (d : ℕ) → is_among d x.outside ≡ true →
+      Keys (λ k. k ≡ d → ⊥) ((shape items s).place places)
+  scrutinee_off s ns aliases places x standing g h d i = place_keys (λ k. k ≡ d → ⊥) items places x (g.away d i).names
+      (λ y e. of_closure y e (told_places.is_alias aliases y.key) refl) s standing h
+      (λ m j e.
+      let less : d < number_of m = above_in d (nodes_of s) m
+      ((here.here_left items May Of aliases places x (nodes_of s) ns g).under d i) j in
+      let same : number_of m ≡ d = e in
+      let never : ⊥ = omega (less, same, arith) in never)
+    where
+      of_closure : (y : InScope) → x.closure ≡ Some y → (b : Bool) → told_places.is_alias aliases y.key ≡ b →
+          Keys (λ k. k ≡ d → ⊥) (shapes.place_of_key y.key places)
+      of_closure y e true a = absurd (g.sees.closure y e a)
+      of_closure y e false a = subst (Keys (λ k. k ≡ d → ⊥)) (sym (g.sees.plain y.key a)) ((g.away d i).self y e, tt)
+
+  -- what is said of a form, where it stands
+  said : (form : Form) (id : ℕ) (at : Pos) (ty : TyId) (by : Option Use) (aliases : rules.Aliases)
+      (places : shapes.Aliases) (x : Standpoint) → Here items May Of aliases places x (nodes_of (node id at ty by form))
+      →
+      Holds (typing.row (K x) id ty form) → Told items May Of aliases (told_form aliases at form) →
+      Says places (ids x) id form
+  said form id at ty by aliases places x o h t = says form id at ty by aliases places x o
+      (here.here_in items May Of aliases places x (node id at ty by form) (nodes_in form) o) h t
+
   -- ---- the forms
 
   mutual
@@ -104,7 +173,7 @@ module _ (items : ItemTable) (May : Place → Type 0) (Of : Node → Type 0) (Sa
             (here.told_right items May Of aliases (told_form aliases at form)
             (own_access (access_by by) (place_of aliases (node id at ty by form)) (rules.root_of_form form) at) t).0,
         form_within form id at ty by aliases places x g
-            (here.here_right items May Of aliases places x (node id at ty by form ∷ []) (nodes_in form) g) h.1
+            (here.here_beside items May Of aliases places x (node id at ty by form) (nodes_in form) g) h.1
             (here.told_left items May Of aliases (told_form aliases at form)
             (own_access (access_by by) (place_of aliases (node id at ty by form)) (rules.root_of_form form) at) t),
       ),
@@ -117,7 +186,7 @@ module _ (items : ItemTable) (May : Place → Type 0) (Of : Node → Type 0) (Sa
     node_reached (node id at ty by form) standing aliases places x g h t = (
       g.owned.0 [],
       form_within form id at ty by aliases places x g
-          (here.here_right items May Of aliases places x (node id at ty by form ∷ []) (nodes_in form) g) h.1 t,
+          (here.here_beside items May Of aliases places x (node id at ty by form) (nodes_in form) g) h.1 t,
     )
 
     -- one that is used too, as a scrutinee
@@ -127,7 +196,7 @@ module _ (items : ItemTable) (May : Place → Type 0) (Of : Node → Type 0) (Sa
     used_reached (node id at ty by form) standing aliases places x g h t = (
       g.owned.0 [],
       form_within form id at ty by aliases places x g
-          (here.here_right items May Of aliases places x (node id at ty by form ∷ []) (nodes_in form) g) h.1
+          (here.here_beside items May Of aliases places x (node id at ty by form) (nodes_in form) g) h.1
           (here.told_left items May Of aliases (told_form aliases at form)
           (own_access (access_by by) (place_of aliases (node id at ty by form)) (rules.root_of_form form) at) t),
     )
@@ -135,95 +204,97 @@ module _ (items : ItemTable) (May : Place → Type 0) (Of : Node → Type 0) (Sa
     form_within : (form : Form) (id : ℕ) (at : Pos) (ty : TyId) (by : Option Use) (aliases : rules.Aliases)
         (places : shapes.Aliases) (x : Standpoint) →
         Here items May Of aliases places x (nodes_of (node id at ty by form)) →
-        Here items May Of aliases places x (nodes_in form) → Holds (typing.row (K x) id ty form) →
+        Here items May Of aliases places (beside id x) (nodes_in form) → Holds (typing.row (K x) id ty form) →
         Told items May Of aliases (told_form aliases at form) → within.WithinIn items May Says places (ids x) id form
     form_within (tree.Field base part) id at ty by aliases places x o g h t =
-        node_reached base Base aliases places x g h.0 t
+        node_reached base Base aliases places (beside id x) g h.0 t
     form_within (tree.Index base index count) id at ty by aliases places x o g h t =
         let rest = told aliases index
         ⊕ one rules.Borrows (option_map rules.with_end (place_of aliases base)) (root_of base) at in (
-          node_reached base Base aliases places x
-              (here.here_left items May Of aliases places x (nodes_of base) (nodes_of index) g) h.0
+          node_reached base Base aliases places (beside id x)
+              (here.here_left items May Of aliases places (beside id x) (nodes_of base) (nodes_of index) g) h.0
               (here.told_left items May Of aliases (inside aliases base) rest t),
-          node_within index Taken aliases places x tt
-              (here.here_right items May Of aliases places x (nodes_of base) (nodes_of index) g) h.1.0
+          node_within index Taken aliases places (beside id x) tt
+              (here.here_right items May Of aliases places (beside id x) (nodes_of base) (nodes_of index) g) h.1.0
               (here.told_left items May Of aliases (told aliases index)
               (one rules.Borrows (option_map rules.with_end (place_of aliases base)) (root_of base) at)
               (here.told_right items May Of aliases (inside aliases base) rest t)),
         )
-    form_within (tree.Deref base) id at ty by aliases places x o g h t = node_reached base Base aliases places x g h.0 t
+    form_within (tree.Deref base) id at ty by aliases places x o g h t = node_reached base Base aliases places (beside
+        id x) g h.0 t
     form_within (tree.Not operand) id at ty by aliases places x o g h t =
-        node_within operand Taken aliases places x tt g h.0 t
+        node_within operand Taken aliases places (beside id x) tt g h.0 t
     form_within (tree.Negate operand) id at ty by aliases places x o g h t =
-        node_within operand Taken aliases places x tt g h.0 t
+        node_within operand Taken aliases places (beside id x) tt g h.0 t
     form_within (tree.Arithmetic operator left right) id at ty by aliases places x o g h t = (
-      node_within left (Wanted ty) aliases places x tt
-          (here.here_left items May Of aliases places x (nodes_of left) (nodes_of right) g) h.0
+      node_within left (Wanted ty) aliases places (beside id x) tt
+          (here.here_left items May Of aliases places (beside id x) (nodes_of left) (nodes_of right) g) h.0
           (here.told_left items May Of aliases (told aliases left) (told aliases right) t),
-      node_within right (Wanted ty) aliases places x tt
-          (here.here_right items May Of aliases places x (nodes_of left) (nodes_of right) g) h.1.0
+      node_within right (Wanted ty) aliases places (beside id x) tt
+          (here.here_right items May Of aliases places (beside id x) (nodes_of left) (nodes_of right) g) h.1.0
           (here.told_right items May Of aliases (told aliases left) (told aliases right) t),
     )
     form_within (tree.Comparison operator left right) id at ty by aliases places x o g h t = (
-      node_within left Taken aliases places x tt
-          (here.here_left items May Of aliases places x (nodes_of left) (nodes_of right) g) h.0
+      node_within left Taken aliases places (beside id x) tt
+          (here.here_left items May Of aliases places (beside id x) (nodes_of left) (nodes_of right) g) h.0
           (here.told_left items May Of aliases (told aliases left) (told aliases right) t),
-      node_within right Taken aliases places x tt
-          (here.here_right items May Of aliases places x (nodes_of left) (nodes_of right) g) h.1.0
+      node_within right Taken aliases places (beside id x) tt
+          (here.here_right items May Of aliases places (beside id x) (nodes_of left) (nodes_of right) g) h.1.0
           (here.told_right items May Of aliases (told aliases left) (told aliases right) t),
     )
     form_within (tree.And left right) id at ty by aliases places x o g h t = (
-      node_within left Taken aliases places x tt
-          (here.here_left items May Of aliases places x (nodes_of left) (nodes_of right) g) h.0
+      node_within left Taken aliases places (beside id x) tt
+          (here.here_left items May Of aliases places (beside id x) (nodes_of left) (nodes_of right) g) h.0
           (here.told_left items May Of aliases (told aliases left) (told aliases right) t),
       (
-        loose right x h.1.0,
-        node_within right Taken aliases places x tt
-            (here.here_right items May Of aliases places x (nodes_of left) (nodes_of right) g) h.1.0
+        loose right (beside id x) h.1.0,
+        node_within right Taken aliases places (beside id x) tt
+            (here.here_right items May Of aliases places (beside id x) (nodes_of left) (nodes_of right) g) h.1.0
             (here.told_right items May Of aliases (told aliases left) (told aliases right) t),
       ),
     )
     form_within (tree.Or left right) id at ty by aliases places x o g h t = (
-      node_within left Taken aliases places x tt
-          (here.here_left items May Of aliases places x (nodes_of left) (nodes_of right) g) h.0
+      node_within left Taken aliases places (beside id x) tt
+          (here.here_left items May Of aliases places (beside id x) (nodes_of left) (nodes_of right) g) h.0
           (here.told_left items May Of aliases (told aliases left) (told aliases right) t),
       (
-        loose right x h.1.0,
-        node_within right Taken aliases places x tt
-            (here.here_right items May Of aliases places x (nodes_of left) (nodes_of right) g) h.1.0
+        loose right (beside id x) h.1.0,
+        node_within right Taken aliases places (beside id x) tt
+            (here.here_right items May Of aliases places (beside id x) (nodes_of left) (nodes_of right) g) h.1.0
             (here.told_right items May Of aliases (told aliases left) (told aliases right) t),
       ),
     )
     form_within (tree.Assign place value) id at ty by aliases places x o g h t =
         let store = one rules.Stores (place_of aliases place) (root_of place) at in
-        let g_place = here.here_left items May Of aliases places x (nodes_of place) (nodes_of value) g in
+        let g_place = here.here_left items May Of aliases places (beside id x) (nodes_of place) (nodes_of value) g in
         let rest = here.told_right items May Of aliases (told aliases value) (inside aliases place ⊕ store) t in (
           ((
-            node_within value (Wanted (ty_of place)) aliases places x tt
-                (here.here_right items May Of aliases places x (nodes_of place) (nodes_of value) g) h.1.1.0
+            node_within value (Wanted (ty_of place)) aliases places (beside id x) tt
+                (here.here_right items May Of aliases places (beside id x) (nodes_of place) (nodes_of value) g) h.1.1.0
                 (here.told_left items May Of aliases (told aliases value) (inside aliases place ⊕ store) t),
             (
-              node_reached place Stored aliases places x g_place h.0
+              node_reached place Stored aliases places (beside id x) g_place h.0
                   (here.told_left items May Of aliases (inside aliases place) store rest),
-              told_parts.replaced_may items May Of Says aliases places x place
+              told_parts.replaced_may items May Of Says aliases places (beside id x) place Stored
                   (record { access = rules.Stores; place = place_of aliases place; root = root_of place; at = at })
-                  g_place
+                  g_place h.0
                   (here.told_right items May Of aliases (inside aliases place) store rest).0.0 refl refl refl refl,
             ),
           )),
-          says (tree.Assign place value) id at ty by aliases places x o g h t,
+          said (tree.Assign place value) id at ty by aliases places x o h t,
         )
     form_within (tree.Call body args) id at ty by aliases places x o g h t =
         let s = some_holds (slice_get items.bodies body)
-        (λ sig. both (fact (types.is_same ty sig.result)) (typing.arguments (K x) sig.params args)) h.0 in (
-          (args_within args s.0.params aliases places x g s.1.1.1
+        (λ sig. both (fact (types.is_same ty sig.result)) (typing.arguments (K (beside id x)) sig.params args)) h.0 in (
+          (args_within args s.0.params aliases places (beside id x) g s.1.1.1
               (here.told_left items May Of aliases (all_told (arguments aliases args))
               (conflicting (conflicts_among (arguments aliases args))) t)),
-          says (tree.Call body args) id at ty by aliases places x o g h t,
+          said (tree.Call body args) id at ty by aliases places x o h t,
         )
     form_within (tree.MethodCall body receiver args) id at ty by aliases places x o g h t =
         let s = some_holds (slice_get items.bodies body) (λ sig. both (fact (types.is_same ty sig.result))
-        (typing.first_and_rest (λ t. typing.typed (K x) (Passed t) receiver) (λ ts. typing.arguments (K x) ts args)
+        (typing.first_and_rest (λ t. typing.typed (K (beside id x)) (Passed t) receiver) (λ ts. typing.arguments (K
+        (beside id x)) ts args)
         sig.params)) h.0 in
         let c = (receiver_of aliases receiver (told aliases receiver)).told in
         let u = here.told_left items May Of aliases
@@ -231,20 +302,22 @@ module _ (items : ItemTable) (May : Place → Type 0) (Of : Node → Type 0) (Sa
         (conflicting (conflicts_among (receiver_of aliases receiver
         (told aliases receiver) ∷ arguments aliases args))) t
         in (
-          (told_parts.passed_within items May Of Says receiver args s.0.params aliases places x g s.1.1.1
-              (λ t2 g2 h2. node_within receiver (Passed t2) aliases places x tt g2 h2
+          (told_parts.passed_within items May Of Says receiver args s.0.params aliases places (beside id x) g s.1.1.1
+              (λ t2 g2 h2. node_within receiver (Passed t2) aliases places (beside id x) tt g2 h2
               (told_parts.receiver_left items May Of Says receiver aliases (all_told (arguments aliases args)) u))
-              (λ ts g2 h2. args_within args ts aliases places x g2 h2
+              (λ ts g2 h2. args_within args ts aliases places (beside id x) g2 h2
               (here.told_right items May Of aliases c (all_told (arguments aliases args)) u))),
-          says (tree.MethodCall body receiver args) id at ty by aliases places x o g h t,
+          said (tree.MethodCall body receiver args) id at ty by aliases places x o h t,
         )
     form_within (tree.VirtualCall trait_no method receiver args) id at ty by aliases places x o g h t =
         let d = some_holds (slice_get items.traits trait_no) (λ def. some (slice_get def.methods method)
         (λ sig. both (fact (types.is_same ty sig.result))
-        (typing.first_and_rest (λ t. typing.typed (K x) (Passed t) receiver) (λ ts. typing.arguments (K x) ts args)
+        (typing.first_and_rest (λ t. typing.typed (K (beside id x)) (Passed t) receiver) (λ ts. typing.arguments (K
+        (beside id x)) ts args)
         sig.params))) h in
         let s = some_holds (slice_get d.0.methods method) (λ sig. both (fact (types.is_same ty sig.result))
-        (typing.first_and_rest (λ t. typing.typed (K x) (Passed t) receiver) (λ ts. typing.arguments (K x) ts args)
+        (typing.first_and_rest (λ t. typing.typed (K (beside id x)) (Passed t) receiver) (λ ts. typing.arguments (K
+        (beside id x)) ts args)
         sig.params)) d.1.1 in
         let c = (receiver_of aliases receiver (told aliases receiver)).told in
         let u = here.told_left items May Of aliases
@@ -252,57 +325,60 @@ module _ (items : ItemTable) (May : Place → Type 0) (Of : Node → Type 0) (Sa
         (conflicting (conflicts_among (receiver_of aliases receiver
         (told aliases receiver) ∷ arguments aliases args))) t
         in (
-          (told_parts.passed_within items May Of Says receiver args s.0.params aliases places x g s.1.1.1
-              (λ t2 g2 h2. node_within receiver (Passed t2) aliases places x tt g2 h2
+          (told_parts.passed_within items May Of Says receiver args s.0.params aliases places (beside id x) g s.1.1.1
+              (λ t2 g2 h2. node_within receiver (Passed t2) aliases places (beside id x) tt g2 h2
               (told_parts.receiver_left items May Of Says receiver aliases (all_told (arguments aliases args)) u))
-              (λ ts g2 h2. args_within args ts aliases places x g2 h2
+              (λ ts g2 h2. args_within args ts aliases places (beside id x) g2 h2
               (here.told_right items May Of aliases c (all_told (arguments aliases args)) u))),
-          says (tree.VirtualCall trait_no method receiver args) id at ty by aliases places x o g h t,
+          said (tree.VirtualCall trait_no method receiver args) id at ty by aliases places x o h t,
         )
     form_within (tree.ClosureCall body callee args) id at ty by aliases places x o g h t =
         let s = some_holds (slice_get items.bodies body) (λ sig. both (fact (types.is_same ty sig.result))
-        (typing.first_and_rest (λ t. typing.typed (K x) (Passed t) callee) (λ ts. typing.arguments (K x) ts args)
+        (typing.first_and_rest (λ t. typing.typed (K (beside id x)) (Passed t) callee) (λ ts. typing.arguments (K
+        (beside id x)) ts args)
         sig.params)) h.0 in
         let passed = all_told (arguments aliases args) ⊕ conflicting (conflicts_among (arguments aliases args)) in (
-          (told_parts.passed_within items May Of Says callee args s.0.params aliases places x g s.1.1.1
-              (λ t2 g2 h2. node_within callee (Passed t2) aliases places x tt g2 h2
+          (told_parts.passed_within items May Of Says callee args s.0.params aliases places (beside id x) g s.1.1.1
+              (λ t2 g2 h2. node_within callee (Passed t2) aliases places (beside id x) tt g2 h2
               (here.told_left items May Of aliases (told aliases callee) passed t))
-              (λ ts g2 h2. args_within args ts aliases places x g2 h2
+              (λ ts g2 h2. args_within args ts aliases places (beside id x) g2 h2
               (here.told_left items May Of aliases (all_told (arguments aliases args))
               (conflicting (conflicts_among (arguments aliases args)))
               (here.told_right items May Of aliases (told aliases callee) passed t)))),
-          says (tree.ClosureCall body callee args) id at ty by aliases places x o g h t,
+          said (tree.ClosureCall body callee args) id at ty by aliases places x o h t,
         )
     form_within (tree.Make adt variant fields) id at ty by aliases places x o g h t =
         let s = some_holds (types.variant_at items adt variant) (λ v. both
         (fact (Rattle.well_typed.specs.Names.are_distinct_numbers (patterns.field_numbers fields)
-        && length (patterns.field_numbers fields) == length v.fields)) (typing.made_fields (K x) v.fields fields)) h.1
+        && length (patterns.field_numbers fields) == length v.fields)) (typing.made_fields (K (beside id x)) v.fields
+        fields)) h.1
         in
-        fields_within fields s.0.fields aliases places x g s.1.1.1 t
+        fields_within fields s.0.fields aliases places (beside id x) g s.1.1.1 t
     form_within (tree.Tuple parts) id at ty by aliases places x o g h t =
-        let s = some_holds (types.tuple_of items ty) (λ tys. typing.made_parts (K x) tys parts) h in
-        parts_within parts s.0 aliases places x g s.1.1 t
+        let s = some_holds (types.tuple_of items ty) (λ tys. typing.made_parts (K (beside id x)) tys parts) h in
+        parts_within parts s.0 aliases places (beside id x) g s.1.1 t
     form_within (tree.Array elements) id at ty by aliases places x o g h t =
         let s = some_holds (types.array_of items ty) (λ a. both (fact (patterns.count_of elements == a.1))
-        (typing.elements_of (K x) a.0 elements)) h in
-        elements_within elements s.0.0 aliases places x g s.1.1.1 t
+        (typing.elements_of (K (beside id x)) a.0 elements)) h in
+        elements_within elements s.0.0 aliases places (beside id x) g s.1.1.1 t
     form_within (tree.Closure closure captures) id at ty by aliases places x o g h t =
         let s = some_holds (slice_get items.closures closure)
-        (λ def. typing.captured (K x) def.captures captures) h.1 in
-        captures_within captures s.0.captures aliases places x g s.1.1 t
+        (λ def. typing.captured (K (beside id x)) def.captures captures) h.1 in
+        captures_within captures s.0.captures aliases places (beside id x) g s.1.1 t
     form_within (tree.NewBox content) id at ty by aliases places x o g h t =
-        let s = some_holds (types.boxed_of items ty) (λ within_. both (typing.typed (K x) (Wanted within_) content)
+        let s = some_holds (types.boxed_of items ty) (λ within_. both (typing.typed (K (beside id x)) (Wanted within_)
+        content)
         (fact (not (types.is_dyn items within_)))) h in
-        node_within content (Wanted s.0) aliases places x tt g s.1.1.0 t
+        node_within content (Wanted s.0) aliases places (beside id x) tt g s.1.1.0 t
     form_within (tree.Print operand) id at ty by aliases places x o g h t =
-        node_within operand Taken aliases places x tt g h.0 t
+        node_within operand Taken aliases places (beside id x) tt g h.0 t
     form_within (tree.DropValue operand) id at ty by aliases places x o g h t =
-        node_within operand Taken aliases places x tt g h.0 t
+        node_within operand Taken aliases places (beside id x) tt g h.0 t
     form_within (tree.Forget operand) id at ty by aliases places x o g h t =
-        node_within operand Taken aliases places x tt g h.0 t
+        node_within operand Taken aliases places (beside id x) tt g h.0 t
     form_within (tree.Borrow unique base) id at ty by aliases places x o g h t = (
       (
-        node_reached base (Used (borrow_by unique)) aliases places x g h.0
+        node_reached base (Used (borrow_by unique)) aliases places (beside id x) g h.0
             (here.told_left items May Of aliases (inside aliases base)
             (one (if unique then rules.BorrowsUniquely else rules.Borrows) (place_of aliases base) (root_of base) at)
             t),
@@ -312,23 +388,25 @@ module _ (items : ItemTable) (May : Place → Type 0) (Of : Node → Type 0) (Sa
             in
             let e : (if unique then rules.BorrowsUniquely else rules.Borrows) ≡ rules.BorrowsUniquely =
             ap (λ b. if b then rules.BorrowsUniquely else rules.Borrows) u in
-            told_parts.replaced_may items May Of Says aliases places x base
+            told_parts.replaced_may items May Of Says aliases places (beside id x) base (Used (borrow_by unique))
             (record {
               access = if unique then rules.BorrowsUniquely else rules.Borrows;
               place = place_of aliases base;
               root = root_of base;
               at = at;
-            }) g p (ap changes e) (ap replaces e) refl refl),
+            }) g h.0 p (ap changes e) (ap replaces e) refl refl),
       ),
-      says (tree.Borrow unique base) id at ty by aliases places x o g h t,
+      said (tree.Borrow unique base) id at ty by aliases places x o h t,
     )
-    form_within (tree.Unsize trait_no operand) id at ty by aliases places x o g h t =
-        (loose operand x h.0, node_within operand Taken aliases places x tt g h.0 t)
+    form_within (tree.Unsize trait_no operand) id at ty by aliases places x o g h t = (
+      (loose operand (beside id x) h.0, node_within operand Taken aliases places (beside id x) tt g h.0 t),
+      plain_operand operand ty trait_no (beside id x) h.0 h.1.0 h.1.1,
+    )
     form_within (tree.Block stmts absent) id at ty by aliases places x o g h t =
-        block_within stmts absent aliases places x g h.0 (λ y g2 h2. tt)
+        block_within stmts absent aliases places (beside id x) g h.0 (λ y g2 h2. tt)
         (here.told_left items May Of aliases (told_all aliases stmts) rules.quiet t)
     form_within (tree.Block stmts (present tail)) id at ty by aliases places x o g h t =
-        block_within stmts (present tail) aliases places x g h.0
+        block_within stmts (present tail) aliases places (beside id x) g h.0
         (λ y g2 h2. (
           loose tail y h2,
           node_within tail Taken aliases places y tt g2 h2
@@ -338,135 +416,151 @@ module _ (items : ItemTable) (May : Place → Type 0) (Of : Node → Type 0) (Sa
     form_within (tree.Let pattern value) id at ty by aliases places x o g h t = absurd (false≢true h)
     form_within (tree.Evaluate expression) id at ty by aliases places x o g h t = absurd (false≢true h)
     form_within (tree.If c body absent) id at ty by aliases places x o g h t =
-        let g2 = here.here_left items May Of aliases places x (nodes_of c ++ nodes_of body) [] g in
+        let g2 = here.here_left items May Of aliases places (beside id x) (nodes_of c ++ nodes_of body) [] g in
         let t2 = here.told_right items May Of aliases (told aliases c) (told aliases body ⊕ rules.quiet) t in (
-          node_within c Taken aliases places x tt
-              (here.here_left items May Of aliases places x (nodes_of c) (nodes_of body) g2) h.0
+          node_within c Taken aliases places (beside id x) tt
+              (here.here_left items May Of aliases places (beside id x) (nodes_of c) (nodes_of body) g2) h.0
               (here.told_left items May Of aliases (told aliases c) (told aliases body ⊕ rules.quiet) t),
           (
             (
-              loose body x h.1.1.0,
-              node_within body Taken aliases places x tt
-                  (here.here_right items May Of aliases places x (nodes_of c) (nodes_of body) g2) h.1.1.0
+              loose body (beside id x) h.1.1.0,
+              node_within body Taken aliases places (beside id x) tt
+                  (here.here_right items May Of aliases places (beside id x) (nodes_of c) (nodes_of body) g2) h.1.1.0
                   (here.told_left items May Of aliases (told aliases body) rules.quiet t2),
             ),
             tt,
           ),
         )
     form_within (tree.If c body (present otherwise)) id at ty by aliases places x o g h t =
-        let g2 = here.here_left items May Of aliases places x (nodes_of c ++ nodes_of body) (nodes_of otherwise) g in
+        let g2 = here.here_left items May Of aliases places (beside id x) (nodes_of c ++ nodes_of body) (nodes_of
+        otherwise) g in
         let t2 = here.told_right items May Of aliases (told aliases c)
         (told aliases body ⊕ told aliases otherwise) t in (
-          node_within c Taken aliases places x tt
-              (here.here_left items May Of aliases places x (nodes_of c) (nodes_of body) g2) h.0
+          node_within c Taken aliases places (beside id x) tt
+              (here.here_left items May Of aliases places (beside id x) (nodes_of c) (nodes_of body) g2) h.0
               (here.told_left items May Of aliases (told aliases c) (told aliases body ⊕ told aliases otherwise) t),
           (
             (
-              loose body x h.1.1.0,
-              node_within body Taken aliases places x tt
-                  (here.here_right items May Of aliases places x (nodes_of c) (nodes_of body) g2) h.1.1.0
+              loose body (beside id x) h.1.1.0,
+              node_within body Taken aliases places (beside id x) tt
+                  (here.here_right items May Of aliases places (beside id x) (nodes_of c) (nodes_of body) g2) h.1.1.0
                   (here.told_left items May Of aliases (told aliases body) (told aliases otherwise) t2),
             ),
             (
-              loose otherwise x h.1.1.1.0,
-              node_within otherwise Taken aliases places x tt
-                  (here.here_right items May Of aliases places x (nodes_of c ++ nodes_of body) (nodes_of otherwise) g)
+              loose otherwise (beside id x) h.1.1.1.0,
+              node_within otherwise Taken aliases places (beside id x) tt
+                  (here.here_right items May Of aliases places (beside id x) (nodes_of c ++ nodes_of body) (nodes_of
+                  otherwise) g)
                   h.1.1.1.0
                   (here.told_right items May Of aliases (told aliases body) (told aliases otherwise) t2),
             ),
           ),
         )
     form_within (tree.IfLet p s body absent) id at ty by aliases places x o g h t =
-        let g3 = here.here_left items May Of aliases places x (nodes_of p ++ nodes_of s ++ nodes_of body) [] g in
+        let g3 = here.here_left items May Of aliases places (beside id x) (nodes_of p ++ nodes_of s ++ nodes_of body) []
+        g in
         let rest = rules.of_scrutinee aliases p s ⊕ (told aliases body ⊕ rules.quiet) in
         let t1 = here.told_right items May Of aliases (told aliases s) rest t in
-        let m = told_parts.taken_within items May Of Says p s body aliases places x g3 h.0 h.1.0
+        let m = told_parts.taken_within items May Of Says p s body aliases places (beside id x) g3 h.0 h.1.0
         (here.told_left items May Of aliases (rules.of_scrutinee aliases p s) (told aliases body ⊕ rules.quiet) t1)
-        (λ g2. used_reached s (Used Use.Borrow) aliases places x g2 h.0
+        (λ g2. used_reached s (Used Use.Borrow) aliases places (beside id x) g2 h.0
         (here.told_left items May Of aliases (told aliases s) rest t))
-        (λ g2. node_within body Taken aliases places (with_names (entries_of p) x) tt g2 h.1.1.0
+        (λ g2. node_within body Taken aliases places (with_names (entries_of p) (beside id x)) tt g2 h.1.1.0
         (here.told_left items May Of aliases (told aliases body) rules.quiet
         (here.told_right items May Of aliases (rules.of_scrutinee aliases p s) (told aliases body ⊕ rules.quiet) t1)))
         in
-        (m.0, ((loose body (with_names (entries_of p) x) h.1.1.0, m.1), tt))
+        (m.0, ((loose body (with_names (entries_of p) (beside id x)) h.1.1.0, m.1), tt))
     form_within (tree.IfLet p s body (present otherwise)) id at ty by aliases places x o g h t =
-        let g3 = here.here_left items May Of aliases places x (nodes_of p ++ nodes_of s ++ nodes_of body)
+        let g3 = here.here_left items May Of aliases places (beside id x) (nodes_of p ++ nodes_of s ++ nodes_of body)
         (nodes_of otherwise) g in
         let last = told aliases body ⊕ told aliases otherwise in
         let rest = rules.of_scrutinee aliases p s ⊕ last in
         let t1 = here.told_right items May Of aliases (told aliases s) rest t in
         let t2 = here.told_right items May Of aliases (rules.of_scrutinee aliases p s) last t1 in
-        let m = told_parts.taken_within items May Of Says p s body aliases places x g3 h.0 h.1.0
+        let m = told_parts.taken_within items May Of Says p s body aliases places (beside id x) g3 h.0 h.1.0
         (here.told_left items May Of aliases (rules.of_scrutinee aliases p s) last t1)
-        (λ g2. used_reached s (Used Use.Borrow) aliases places x g2 h.0
+        (λ g2. used_reached s (Used Use.Borrow) aliases places (beside id x) g2 h.0
         (here.told_left items May Of aliases (told aliases s) rest t))
-        (λ g2. node_within body Taken aliases places (with_names (entries_of p) x) tt g2 h.1.1.0
+        (λ g2. node_within body Taken aliases places (with_names (entries_of p) (beside id x)) tt g2 h.1.1.0
         (here.told_left items May Of aliases (told aliases body) (told aliases otherwise) t2)) in (
           m.0,
           (
-            (loose body (with_names (entries_of p) x) h.1.1.0, m.1),
+            (loose body (with_names (entries_of p) (beside id x)) h.1.1.0, m.1),
             (
-              loose otherwise x h.1.1.1.0,
-              node_within otherwise Taken aliases places x tt
-                  (here.here_right items May Of aliases places x (nodes_of p ++ nodes_of s ++ nodes_of body)
+              loose otherwise (beside id x) h.1.1.1.0,
+              node_within otherwise Taken aliases places (beside id x) tt
+                  (here.here_right items May Of aliases places (beside id x) (nodes_of p ++ nodes_of s ++ nodes_of body)
                   (nodes_of otherwise) g)
                   h.1.1.1.0 (here.told_right items May Of aliases (told aliases body) (told aliases otherwise) t2),
             ),
           ),
         )
     form_within (tree.Match s arms) id at ty by aliases places x o g h t =
-        let g_s = here.here_left items May Of aliases places x (nodes_of s) (nodes_among arms) g in (
-          used_reached s (Used Use.Borrow) aliases places x g_s h.0
+        let g_s = here.here_left items May Of aliases places (beside id x) (nodes_of s) (nodes_among arms) g in (
+          used_reached s (Used Use.Borrow) aliases places (beside id x) g_s h.0
               (here.told_left items May Of aliases (told aliases s) (told_arms aliases (place_of aliases s) arms) t),
-          arms_within arms s aliases places x (scrutinee_below s (nodes_among arms) aliases places x
+          arms_within arms s aliases places (beside id x) (scrutinee_below s (nodes_among arms) aliases places (beside
+              id x)
               (Used Use.Borrow) g h.0)
-              (here.here_right items May Of aliases places x (nodes_of s) (nodes_among arms) g) g_s.owned h.0 h.1.0
+              (here.place_stands items May Of s (Used Use.Borrow) aliases places (beside id x) g_s h.0)
+              (scrutinee_off s (nodes_among arms) aliases places (beside id x) (Used Use.Borrow) g h.0)
+              (here.here_right items May Of aliases places (beside id x) (nodes_of s) (nodes_among arms) g) g_s.owned
+              h.0 h.1.0
               (here.told_right items May Of aliases (told aliases s) (told_arms aliases (place_of aliases s) arms) t),
         )
     form_within (tree.Loop body) id at ty by aliases places x o g h t =
-        node_within body Taken aliases places (in_a_loop (record { loop = id; ty = ty; has_value = true }) x) tt
-        (here.here_loop items May Of aliases places x (record { loop = id; ty = ty; has_value = true })
+        node_within body Taken aliases places (in_a_loop (record { loop = id; ty = ty; has_value = true }) (beside id
+        x)) tt
+        (here.here_loop items May Of aliases places (beside id x) (record { loop = id; ty = ty; has_value = true })
         (nodes_of body) g) h.0 t
     form_within (tree.While c body) id at ty by aliases places x o g h t =
         let a : LoopAround = record { loop = id; ty = ty; has_value = false } in
-        let g2 = here.here_loop items May Of aliases places x a (nodes_of c ++ nodes_of body) g in (
-          node_within c Taken aliases places (in_a_loop a x) tt
-              (here.here_left items May Of aliases places (in_a_loop a x) (nodes_of c) (nodes_of body) g2) h.0
+        let g2 = here.here_loop items May Of aliases places (beside id x) a (nodes_of c ++ nodes_of body) g in (
+          node_within c Taken aliases places (in_a_loop a (beside id x)) tt
+              (here.here_left items May Of aliases places (in_a_loop a (beside id x)) (nodes_of c) (nodes_of body) g2)
+              h.0
               (here.told_left items May Of aliases (told aliases c) (told aliases body) t),
-          node_within body Taken aliases places (in_a_loop a x) tt
-              (here.here_right items May Of aliases places (in_a_loop a x) (nodes_of c) (nodes_of body) g2) h.1.1.0
+          node_within body Taken aliases places (in_a_loop a (beside id x)) tt
+              (here.here_right items May Of aliases places (in_a_loop a (beside id x)) (nodes_of c) (nodes_of body) g2)
+              h.1.1.0
               (here.told_right items May Of aliases (told aliases c) (told aliases body) t),
         )
     form_within (tree.WhileLet p s body) id at ty by aliases places x o g h t =
         let a : LoopAround = record { loop = id; ty = ty; has_value = false } in
         let t1 = here.told_right items May Of aliases (told aliases s)
         (rules.of_scrutinee aliases p s ⊕ told aliases body) t in
-        told_parts.taken_within items May Of Says p s body aliases places (in_a_loop a x)
-        (here.here_loop items May Of aliases places x a (nodes_of p ++ nodes_of s ++ nodes_of body) g) h.0 h.1.0
+        told_parts.taken_within items May Of Says p s body aliases places (in_a_loop a (beside id x))
+        (here.here_loop items May Of aliases places (beside id x) a (nodes_of p ++ nodes_of s ++ nodes_of body) g) h.0
+        h.1.0
         (here.told_left items May Of aliases (rules.of_scrutinee aliases p s) (told aliases body) t1)
-        (λ g2. used_reached s (Used Use.Borrow) aliases places (in_a_loop a x) g2 h.0
+        (λ g2. used_reached s (Used Use.Borrow) aliases places (in_a_loop a (beside id x)) g2 h.0
         (here.told_left items May Of aliases (told aliases s) (rules.of_scrutinee aliases p s ⊕ told aliases body) t))
-        (λ g2. node_within body Taken aliases places (with_names (entries_of p) (in_a_loop a x)) tt g2 h.1.1.0
+        (λ g2. node_within body Taken aliases places (with_names (entries_of p) (in_a_loop a (beside id x))) tt g2
+        h.1.1.0
         (here.told_right items May Of aliases (rules.of_scrutinee aliases p s) (told aliases body) t1))
     form_within (tree.Break loop absent) id at ty by aliases places x o g h t =
-        let s = some_holds (loop_with loop x.loops) (λ a. typing.carries (K x) a absent) h.0 in
-        (named_loop loop x.loops s.0 s.1.0, tt)
+        let s = some_holds (loop_with loop (beside id x).loops) (λ a. typing.carries (K (beside id x)) a absent) h.0 in
+        (named_loop loop (beside id x).loops s.0 s.1.0, tt)
     form_within (tree.Break loop (present value)) id at ty by aliases places x o g h t =
-        let s = some_holds (loop_with loop x.loops) (λ a. typing.carries (K x) a (present value)) h.0 in (
-          named_loop loop x.loops s.0 s.1.0,
+        let s = some_holds (loop_with loop (beside id x).loops) (λ a. typing.carries (K (beside id x)) a (present
+        value)) h.0 in (
+          named_loop loop (beside id x).loops s.0 s.1.0,
           (
-            loose_wanted value s.0.ty x s.1.1.1,
-            node_within value (Wanted s.0.ty) aliases places x tt g s.1.1.1 t,
+            loose_wanted value s.0.ty (beside id x) s.1.1.1,
+            node_within value (Wanted s.0.ty) aliases places (beside id x) tt g s.1.1.1 t,
           ),
         )
     form_within (tree.Return absent) id at ty by aliases places x o g h t = tt
-    form_within (tree.Return (present value)) id at ty by aliases places x o g h t =
-        (loose_wanted value x.answer x h.0, node_within value (Wanted x.answer) aliases places x tt g h.0 t)
+    form_within (tree.Return (present value)) id at ty by aliases places x o g h t = (
+      loose_wanted value (beside id x).answer (beside id x) h.0,
+      node_within value (Wanted (beside id x).answer)
+          aliases places (beside id x) tt g h.0 t,
+    )
     form_within form id at ty by aliases places x o g h t = tt
 
     -- ---- lists
 
-    args_within : (args : Nodes) (tys : List TyId) (aliases : rules.Aliases) (places : shapes.Aliases)
+    pub args_within : (args : Nodes) (tys : List TyId) (aliases : rules.Aliases) (places : shapes.Aliases)
         (x : Standpoint) → Here items May Of aliases places x (nodes_among args) →
         Holds (typing.arguments (K x) tys args) → Told items May Of aliases (all_told (arguments aliases args)) →
         within.AllWithin items May Says places (ids x) args
@@ -547,19 +641,21 @@ module _ (items : ItemTable) (May : Place → Type 0) (Of : Node → Type 0) (Sa
 
     arms_within : (arms : Nodes) (s : Node) (aliases : rules.Aliases) (places : shapes.Aliases) (x : Standpoint) →
         Keys (λ k. Above k (nodes_among arms)) ((shape items s).place places) →
+        StandsFor Of.root (place_of aliases s) ((shape items s).place places) →
+        ((d : ℕ) → is_among d x.outside ≡ true → Keys (λ k. k ≡ d → ⊥) ((shape items s).place places)) →
         Here items May Of aliases places x (nodes_among arms) → told_places.AllOwned items May (nodes_of s) →
         Holds (typing.typed (K x) (Used Use.Borrow) s) →
         Holds (typing.arms_of (K x) (typing.matched_in false (K x) s) (ty_of s) arms) →
         Told items May Of aliases (told_arms aliases (place_of aliases s) arms) →
         within.ArmsWithin items May Says places (ids x) ((shape items s).place places) arms
-    arms_within no_node s aliases places x below g o h k t = tt
-    arms_within (a_node (node id at ty by form) rest) s aliases places x below g o h k t = (
+    arms_within no_node s aliases places x below r off g o h k t = tt
+    arms_within (a_node (node id at ty by form) rest) s aliases places x below r off g o h k t = (
       arm_within form id at ty by s aliases places x
           (keys_more (λ k. Above k (nodes_of (node id at ty by form) ++ nodes_among rest))
           (λ k. Above k (nodes_in form))
           (λ k a. told_places.above_right k (node id at ty by form ∷ []) (nodes_in form)
           (told_places.above_left k (nodes_of (node id at ty by form)) (nodes_among rest) a))
-          ((shape items s).place places) below)
+          ((shape items s).place places) below) r off
           (here.here_in items May Of aliases places x (node id at ty by form) (nodes_in form)
           (here.here_left items May Of aliases places x (nodes_of (node id at ty by form)) (nodes_among rest) g)) o h
           k.0
@@ -569,7 +665,7 @@ module _ (items : ItemTable) (May : Place → Type 0) (Of : Node → Type 0) (Sa
           (keys_more (λ k. Above k (nodes_of (node id at ty by form) ++ nodes_among rest))
           (λ k. Above k (nodes_among rest))
           (λ k a. told_places.above_right k (nodes_of (node id at ty by form)) (nodes_among rest) a)
-          ((shape items s).place places) below)
+          ((shape items s).place places) below) r off
           (here.here_right items May Of aliases places x (nodes_of (node id at ty by form)) (nodes_among rest) g) o h
           k.1
           (here.told_right items May Of aliases (rules.told_arm aliases (place_of aliases s) (node id at ty by form))
@@ -578,13 +674,14 @@ module _ (items : ItemTable) (May : Place → Type 0) (Of : Node → Type 0) (Sa
 
     arm_within : (form : Form) (id : ℕ) (at : Pos) (ty : TyId) (by : Option Use) (s : Node) (aliases : rules.Aliases)
         (places : shapes.Aliases) (x : Standpoint) → Keys (λ k. Above k (nodes_in form))
-        ((shape items s).place places) →
+        ((shape items s).place places) → StandsFor Of.root (place_of aliases s) ((shape items s).place places) →
+        ((d : ℕ) → is_among d x.outside ≡ true → Keys (λ k. k ≡ d → ⊥) ((shape items s).place places)) →
         Here items May Of aliases places x (nodes_in form) → told_places.AllOwned items May (nodes_of s) →
         Holds (typing.typed (K x) (Used Use.Borrow) s) →
         Holds (typing.arm (K x) (typing.matched_in false (K x) s) (ty_of s) (node id at ty by form)) →
         Told items May Of aliases (rules.told_arm aliases (place_of aliases s) (node id at ty by form)) →
         within.ArmWithin items May Says places (ids x) ((shape items s).place places) (node id at ty by form)
-    arm_within (tree.Arm p guard body) id at ty by s aliases places x below g o h k t =
+    arm_within (tree.Arm p guard body) id at ty by s aliases places x below r off g o h k t =
         let scrutinee = place_of aliases s in
         let guarded = told_guard aliases scrutinee (bound scrutinee p) guard in
         let rest = accesses_of (bound scrutinee p) ⊕ told aliases body in
@@ -592,38 +689,41 @@ module _ (items : ItemTable) (May : Place → Type 0) (Of : Node → Type 0) (Sa
         let g2 = here.here_left items May Of aliases places x (nodes_of p ++ nodes_if_any guard) (nodes_of body) g in
         let g_p = here.here_left items May Of aliases places x (nodes_of p) (nodes_if_any guard) g2 in (
           told_parts.matches items May Of Says aliases places x p s false (Used Use.Borrow)
-              (ty_of s) g.sees.seen g.sees g_p.owned o h k.1.1.0
+              (ty_of s) g.sees.seen g.sees g_p.owned o h k.1.1.0 r
               (here.told_left items May Of aliases (accesses_of (bound scrutinee p)) (told aliases body) t1).0,
           (
             guard_within guard p s aliases places x
                 (keys_more (λ k. Above k ((nodes_of p ++ nodes_if_any guard) ++ nodes_of body))
                 (λ k. Above k (nodes_if_any guard)) (λ k a. told_places.above_right k (nodes_of p) (nodes_if_any guard)
                 (told_places.above_left k (nodes_of p ++ nodes_if_any guard) (nodes_of body) a))
-                ((shape items s).place places) below) g2 k.1.1.1.0 (here.told_left items May Of aliases guarded rest t),
+                ((shape items s).place places) below) r off g2 k.1.1.1.0 (here.told_left items May Of aliases guarded
+                rest t),
             (
               loose body (with_names (entries_of p) x) k.1.1.1.1.0,
               node_within body Taken aliases places (with_names (entries_of p) x) tt
                   (here.here_names items May Of aliases places x p (nodes_of body) g_p.past
                   (λ key i. name_above (nodes_of p ++ nodes_if_any guard) (nodes_of body) key g.rises
-                  (name_left (nodes_of p) (nodes_if_any guard) key i))
+                  (name_left (nodes_of p) (nodes_if_any guard) key i)) g_p.names g_p.under g_p.name_types
                   (here.here_right items May Of aliases places x (nodes_of p ++ nodes_if_any guard) (nodes_of body) g))
                   k.1.1.1.1.0
                   (here.told_right items May Of aliases (accesses_of (bound scrutinee p)) (told aliases body) t1),
             ),
           ),
         )
-    arm_within form id at ty by s aliases places x below g o h k t = tt
+    arm_within form id at ty by s aliases places x below r off g o h k t = tt
 
     guard_within : (guard : MaybeNode) (p s : Node) (aliases : rules.Aliases) (places : shapes.Aliases)
         (x : Standpoint) → Keys (λ k. Above k (nodes_if_any guard)) ((shape items s).place places) →
+        StandsFor Of.root (place_of aliases s) ((shape items s).place places) →
+        ((d : ℕ) → is_among d x.outside ≡ true → Keys (λ k. k ≡ d → ⊥) ((shape items s).place places)) →
         Here items May Of aliases places x (nodes_of p ++ nodes_if_any guard) →
         Holds (typing.guarded (K (with_names (in_guard (entries_of p)) x)) guard) →
         Told items May Of aliases (told_guard aliases (place_of aliases s) (bound (place_of aliases s) p) guard) →
         within.WithinIfAny items May Says (forms.aliases_with
         ((shape items p).bindings ((shape items s).place places)) places)
         (ids x) guard
-    guard_within absent p s aliases places x below g k t = tt
-    guard_within (present guard) p s aliases places x below g k t =
+    guard_within absent p s aliases places x below r off g k t = tt
+    guard_within (present guard) p s aliases places x below r off g k t =
         let scrutinee = place_of aliases s in
         let bounds = bound scrutinee p in
         let inner = told (rules.aliases_with bounds aliases) guard in
@@ -635,7 +735,7 @@ module _ (items : ItemTable) (May : Place → Type 0) (Of : Node → Type 0) (Sa
         node_within guard Taken (rules.aliases_with bounds aliases)
         (forms.aliases_with ((shape items p).bindings q) places) (with_names (in_guard (entries_of p)) x) tt
         (told_parts.here_guard items May Of Says aliases places x p scrutinee q (nodes_of guard)
-        (node_seen items aliases places g.sees.seen s) below g) k.0 (
+        (node_seen items aliases places g.sees.seen s) r below off g) k.0 (
           told_parts.guard_permits items May Of Says scrutinee bounds aliases inner.accesses
               (told_parts.none_against items May Of Says scrutinee bounds inner.accesses against.1) own.0,
           own.1,
@@ -667,7 +767,10 @@ module _ (items : ItemTable) (May : Place → Type 0) (Of : Node → Type 0) (Sa
           (
             (
               gs.owned.0 [],
-              statement_within form id at ty by aliases places x g_form h.1.0
+              statement_within form id at ty by aliases places x
+                  (here.here_beside items May Of aliases places x first (nodes_in form)
+                  (here.here_left items May Of aliases places x (nodes_of first) (nodes_among rest ++ nodes_if_any tail)
+                  gs)) h.1.0
                   (here.told_left items May Of aliases (told_form aliases at form)
                   (own_access (access_by by) (place_of aliases first) (rules.root_of_form form) at)
                   (here.told_left items May Of aliases (told aliases first) (told_all aliases rest) t)),
@@ -678,7 +781,7 @@ module _ (items : ItemTable) (May : Place → Type 0) (Of : Node → Type 0) (Sa
         )
 
     statement_within : (form : Form) (id : ℕ) (at : Pos) (ty : TyId) (by : Option Use) (aliases : rules.Aliases)
-        (places : shapes.Aliases) (x : Standpoint) → Here items May Of aliases places x (nodes_in form) →
+        (places : shapes.Aliases) (x : Standpoint) → Here items May Of aliases places (beside id x) (nodes_in form) →
         Holds (typing.statement (K x) form) → Told items May Of aliases (told_form aliases at form) →
         if_place (is_place_form form)
         (Takes May (operand_at (head id ty by) ((shape_of items form (head id ty by)).place places)))
@@ -686,7 +789,7 @@ module _ (items : ItemTable) (May : Place → Type 0) (Of : Node → Type 0) (Sa
     statement_within (tree.Let pattern absent) id at ty by aliases places x g h t = (
       tt,
       told_patterns.cells_own items May pattern (whole_local 0)
-          (here.here_left items May Of aliases places x (nodes_of pattern) [] g).owned,
+          (here.here_left items May Of aliases places (beside id x) (nodes_of pattern) [] g).owned,
     )
     statement_within (tree.Let (node pid pat pty pby (tree.Binding name)) (present value)) id at ty by aliases places
         x g
@@ -696,9 +799,9 @@ module _ (items : ItemTable) (May : Place → Type 0) (Of : Node → Type 0) (Sa
             g.owned.0 [],
             (
               loose_wanted value pty x h.0,
-              node_within value (Wanted pty) aliases places x tt
-                  (here.here_right items May Of aliases places x (nodes_of (node pid pat pty pby (tree.Binding name)))
-                  (nodes_of value) g) h.0
+              node_within value (Wanted pty) aliases places (beside pid (beside id x)) tt
+                  (here.here_beside items May Of aliases places (beside id x)
+                  (node pid pat pty pby (tree.Binding name)) (nodes_of value) g) h.0
                   (here.told_left items May Of aliases (told aliases value)
                   (rules.of_let aliases (node pid pat pty pby (tree.Binding name)) value) t),
             ),
@@ -707,8 +810,8 @@ module _ (items : ItemTable) (May : Place → Type 0) (Of : Node → Type 0) (Sa
     statement_within (tree.Let (node pid pat pty pby pform) (present value)) id at ty by aliases places x g h t = (
       tt,
       told_parts.let_within items May Of Says pform pid pat pty pby value id aliases places x (λ n. n) g h
-          (λ standing g2 h2 t2. used_reached value standing aliases places x g2 h2 t2) t,
+          (λ standing g2 h2 t2. used_reached value standing aliases places (beside id x) g2 h2 t2) t,
     )
     statement_within (tree.Evaluate expression) id at ty by aliases places x g h t =
-        (tt, node_within expression Taken aliases places x tt g h t)
+        (tt, node_within expression Taken aliases places (beside id x) tt g h t)
     statement_within form id at ty by aliases places x g h t = absurd (false≢true h)

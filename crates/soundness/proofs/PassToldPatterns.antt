@@ -128,14 +128,14 @@ both_alike (x ∷ a) b [] n f g = absurd f
 both_alike (x ∷ a) b (y ∷ m) n f g = (f.0, both_alike a b m n f.1 g)
 
 module _ (items : ItemTable) where
-  part_seen : (step : Step) (number : ℕ) → rules.ToPart number ∷ [] ≡ rules.ToPart number ∷ [] →
+  pub part_seen : (step : Step) (number : ℕ) → rules.ToPart number ∷ [] ≡ rules.ToPart number ∷ [] →
       (place : Option AccessPlace) (q : Place) → SeenIf place q →
       SeenIf (option_map (with_step (rules.ToPart number)) place) (extended (ToPart number) q)
   part_seen step number e place q s =
       mapped (with_step (rules.ToPart number)) (ToPart number)
       (plain_step (ToPart number) (rules.ToPart number) refl refl) place q s
 
-  field_seen : (variant number : ℕ) (place : Option AccessPlace) (q : Place) → SeenIf place q →
+  pub field_seen : (variant number : ℕ) (place : Option AccessPlace) (q : Place) → SeenIf place q →
       SeenIf (option_map (with_step (rules.ToPart number)) place) (extended (ToField variant number) q)
   field_seen variant number place q s =
       mapped (with_step (rules.ToPart number)) (ToField variant number)

@@ -1,5 +1,5 @@
 use Rattle.lower_ready.proofs.Alone.{types_have_bool, references_are_alone}
-use Rattle.lower_ready.proofs.Prepared.{they_free_nothing, they_begin_once, they_move_well, drops_are_refilled, they_hold_references_well, graphs_are_prepared}
+use Rattle.lower_ready.proofs.Prepared.{they_free_nothing, they_begin_once, they_move_well, drops_are_refilled, they_hold_references_well, what_they_name_stays, graphs_are_prepared}
 use Rattle.lower_ready.proofs.laws.law_of_prepared_graphs.Goals as goal
 
 pub returns : goal.returns
@@ -11,5 +11,6 @@ returns c = record {
   moves = they_move_well;
   drops = drops_are_refilled;
   references = they_hold_references_well;
+  named_stays = what_they_name_stays;
   graphs = graphs_are_prepared;
 }
