@@ -1,0 +1,4 @@
+pub mod Once
+pub mod Unrefused
+pub mod Programs
+pub mod Soak
