@@ -10,9 +10,9 @@ use Rattle.typed_tree.specs.Tree.{BodyTree}
 use Rattle.src_meaning.specs.Locals.Effects.{step_at, place_at}
 use Rattle.src_meaning.specs.Locals.OfBody.{local_of, local_keys}
 use Rattle.typing_rules.specs.Accesses.{AccessPlace, begin_alike, overlap}
-use Rattle.soundness.proofs.NoOverlap.{Seen, seen}
-use Rattle.soundness.proofs.PassPlacesApart.{begin_apart}
-use Rattle.soundness.proofs.PassToldPatterns.{same_order}
+use Rattle.soundness_values.proofs.NoOverlap.{Seen, seen}
+use Rattle.soundness_frame.proofs.PassPlacesApart.{begin_apart}
+use Rattle.soundness_frame.proofs.PassToldPatterns.{same_order}
 use Rattle.lower_ready.proofs.NamedPassing.{ApartFrom}
 
 abbrev meets : List Step → List Step → Bool

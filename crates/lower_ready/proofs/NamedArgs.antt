@@ -20,19 +20,19 @@ use Rattle.typing_rules.specs.Accesses.{AccessPlace, Argument, Referring, place_
 use Rattle.well_typed.specs.Claim.{Holds}
 use Rattle.well_typed.specs.Nodes as typing
 use Rattle.well_typed.specs.Places.{Passed, Used, borrow_by, form_of, is_borrow}
-use Rattle.soundness.proofs.NoOverlap.{SeenIf, Seen, not_seen, is_seen, node_seen}
-use Rattle.soundness.proofs.PassBorrowRoots.{keys_of_place}
-use Rattle.soundness.proofs.PassCells.{Above, NodeIn, node_left, node_right, above_in}
-use Rattle.soundness.proofs.PassConflicts.{rest_apart}
-use Rattle.soundness.proofs.PassFacts.{Standpoint, context}
-use Rattle.soundness.proofs.PassFrameBodies.{any_place}
-use Rattle.soundness.proofs.PassLaterArgs.{later_within, later_rooted}
-use Rattle.soundness.proofs.PassPlacesApart.{locals_differ}
-use Rattle.soundness.proofs.PassTold as told_here
-use Rattle.soundness.proofs.PassTold.{ids, KnownOf, RootIf, Here, Told}
-use Rattle.soundness.proofs.PassToldForms.{node_above}
-use Rattle.soundness.proofs.PassToldPlaces.{AllOwned}
-use Rattle.soundness.proofs.PassWithin as within
+use Rattle.soundness_values.proofs.NoOverlap.{SeenIf, Seen, not_seen, is_seen, node_seen}
+use Rattle.soundness_frame.proofs.PassBorrowRoots.{keys_of_place}
+use Rattle.soundness_cells.proofs.PassCells.{Above, NodeIn, node_left, node_right, above_in}
+use Rattle.soundness_frame.proofs.PassConflicts.{rest_apart}
+use Rattle.soundness_cells.proofs.PassFacts.{Standpoint, context}
+use Rattle.soundness_frame.proofs.PassFrameBodies.{any_place}
+use Rattle.soundness_frame.proofs.PassLaterArgs.{later_within, later_rooted}
+use Rattle.soundness_frame.proofs.PassPlacesApart.{locals_differ}
+use Rattle.soundness_frame.proofs.PassTold as told_here
+use Rattle.soundness_frame.proofs.PassTold.{ids, KnownOf, RootIf, Here, Told}
+use Rattle.soundness_frame.proofs.PassToldForms.{node_above}
+use Rattle.soundness_frame.proofs.PassToldPlaces.{AllOwned}
+use Rattle.soundness_frame.proofs.PassWithin as within
 use Rattle.lower_ready.proofs.NamedApart.{or_true, apart_seen}
 use Rattle.lower_ready.proofs.NamedPassing as passing
 

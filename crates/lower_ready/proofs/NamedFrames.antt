@@ -14,11 +14,11 @@ use Rattle.typed_tree.specs.Tree.{Form, BodyTree}
 use Rattle.src_meaning.specs.Locals.Effects.{at_locals, place_at, operand_at, action_at, test_at, site_at}
 use Rattle.src_meaning.specs.Locals.OfBody.{local_of, local_ty}
 use Rattle.src_meaning.specs.Shape.{Aliases}
-use Rattle.soundness.proofs.Leaving.{ShownOut}
-use Rattle.soundness.proofs.PassWithin.{Outer}
-use Rattle.soundness.proofs.PassFrameActs.{Takes, AllTake, AllowedSo, AllowedTest, is_plain, KeepingSo}
-use Rattle.soundness.proofs.PassFrameBodies.{any_place}
-use Rattle.soundness.proofs.PassFrameForms.{Telling, TellingCalls}
+use Rattle.soundness_values.proofs.Leaving.{ShownOut}
+use Rattle.soundness_frame.proofs.PassWithin.{Outer}
+use Rattle.soundness_frame.proofs.PassFrameActs.{Takes, AllTake, AllowedSo, AllowedTest, is_plain, KeepingSo}
+use Rattle.soundness_frame.proofs.PassFrameBodies.{any_place}
+use Rattle.soundness_frame.proofs.PassFrameForms.{Telling, TellingCalls}
 use Rattle.lower_ready.proofs.NamedKept as kept
 use Rattle.lower_ready.proofs.NamedKept.{look_clean, unused_clean, KeptSo, AllApart, apart_both, stored_apart, look_kept, passed_kept, LostSo, look_lost, passed_lost}
 use Rattle.lower_ready.proofs.NamedLines.{apart, unused}

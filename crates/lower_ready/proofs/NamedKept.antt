@@ -14,8 +14,8 @@ use Rattle.store_model.specs.Places.Place.{Place, whole_local}
 use Rattle.cfg_graph.specs.declared.graph.Body.{Body}
 use Rattle.cfg_graph.specs.NamedPlaces.{stores}
 use Rattle.cfg_graph.specs.Uses.{PlaceUse, Copies, Moves, Borrows, Touches, Tests, Stores, Drops, Frees}
-use Rattle.soundness.proofs.Leaving.{ShownOut}
-use Rattle.soundness.proofs.PassFrameActs.{AnsweredSo}
+use Rattle.soundness_values.proofs.Leaving.{ShownOut}
+use Rattle.soundness_frame.proofs.PassFrameActs.{AnsweredSo}
 use Rattle.lower_ready.proofs.NamedLines.{look, quiet, quiet_step, call_fold, call_step, made_since, borrows_it, crosses, is_plain, unused}
 use Rattle.lower_ready.proofs.NamedWatch as watch
 use Rattle.lower_ready.proofs.NamedWatch.{Since, Unmade, Kept, Taken, Lost, NamedState, used_by}

@@ -21,15 +21,15 @@ use Rattle.src_meaning.specs.Forms.{Destination, Into, Coerced, LoopsAndGuards, 
 use Rattle.src_meaning.specs.Locals.Effects.{place_at, operand_at, action_at, site_at}
 use Rattle.src_meaning.specs.Scopes.{Entry, Scopes, innermost, with_pending, Value, Breaks, Continues, Returns, Panics, Run, At, Over, Does, on_value, ◌>>◌, in_scopes}
 use Rattle.src_meaning.specs.Shape.{Aliases, NodeHead, head, Shape, shape}
-use Rattle.soundness.proofs.Leaving.{AllOf, ShownOut}
-use Rattle.soundness.proofs.PassFrame as frame
-use Rattle.soundness.proofs.PassFrameActs.{AllTake}
-use Rattle.soundness.proofs.PassFrameBodies.{any_place}
-use Rattle.soundness.proofs.PassFrameForms as by_form
-use Rattle.soundness.proofs.PassFrameForms.{Calls, a_call, a_method, a_virtual, a_closure}
-use Rattle.soundness.proofs.PassHeads as heads
-use Rattle.soundness.proofs.PassWithin as within
-use Rattle.soundness.proofs.PassWithin.{AroundSo, passing}
+use Rattle.soundness_values.proofs.Leaving.{AllOf, ShownOut}
+use Rattle.soundness_frame.proofs.PassFrame as frame
+use Rattle.soundness_frame.proofs.PassFrameActs.{AllTake}
+use Rattle.soundness_frame.proofs.PassFrameBodies.{any_place}
+use Rattle.soundness_frame.proofs.PassFrameForms as by_form
+use Rattle.soundness_frame.proofs.PassFrameForms.{Calls, a_call, a_method, a_virtual, a_closure}
+use Rattle.soundness_values.proofs.PassHeads as heads
+use Rattle.soundness_frame.proofs.PassWithin as within
+use Rattle.soundness_frame.proofs.PassWithin.{AroundSo, passing}
 use Rattle.lower_ready.proofs.NamedFrames as frames
 use Rattle.lower_ready.proofs.NamedKept.{KeptSo, LostSo, AllApart, made_safe}
 use Rattle.lower_ready.proofs.NamedLines.{look, quiet, quiet_step, made_since, names_it, is_plain, place_same, place_sound, apart, unused}

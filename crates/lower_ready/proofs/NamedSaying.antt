@@ -22,14 +22,14 @@ use Rattle.well_typed.specs.Claim.{Holds, fact, both, some}
 use Rattle.well_typed.specs.Nodes as typing
 use Rattle.well_typed.specs.Places.{Passed, form_of, is_borrow}
 use Rattle.well_typed.specs.Types as types
-use Rattle.soundness.proofs.PassCells.{NodeIn, node_left, node_right}
-use Rattle.soundness.proofs.PassConflicts.{rest_apart}
-use Rattle.soundness.proofs.PassFacts.{Standpoint, context, beside}
-use Rattle.soundness.proofs.PassFrameBodies.{any_place}
-use Rattle.soundness.proofs.PassTold as told_here
-use Rattle.soundness.proofs.PassTold.{ids, KnownOf, Here, Told}
-use Rattle.soundness.proofs.PassToldForms.{Saying}
-use Rattle.soundness.proofs.PlaceTypes.{some_holds}
+use Rattle.soundness_cells.proofs.PassCells.{NodeIn, node_left, node_right}
+use Rattle.soundness_frame.proofs.PassConflicts.{rest_apart}
+use Rattle.soundness_cells.proofs.PassFacts.{Standpoint, context, beside}
+use Rattle.soundness_frame.proofs.PassFrameBodies.{any_place}
+use Rattle.soundness_frame.proofs.PassTold as told_here
+use Rattle.soundness_frame.proofs.PassTold.{ids, KnownOf, Here, Told}
+use Rattle.soundness_frame.proofs.PassToldForms.{Saying}
+use Rattle.soundness_values.proofs.PlaceTypes.{some_holds}
 use Rattle.lower_ready.proofs.NamedArgs as args_of
 use Rattle.lower_ready.proofs.NamedArgs.{own_node}
 use Rattle.lower_ready.proofs.NamedPassing as passing

@@ -9,10 +9,10 @@ use Rattle.store_model.specs.Effects.{EffectSite, Out, Go, Unwind, Halts}
 use Rattle.store_model.specs.Places.Place.{Place}
 use Rattle.typed_tree.specs.Tree.{BodyTree, ProgramTree}
 use Rattle.well_typed.specs.Program.{WellTyped}
-use Rattle.soundness.proofs.Leaving.{ShownOut}
-use Rattle.soundness.proofs.PassFrameBodies as bodies
-use Rattle.soundness.proofs.PassFrameBodies.{any_place}
-use Rattle.soundness.proofs.PassWithin.{Within, outermost}
+use Rattle.soundness_values.proofs.Leaving.{ShownOut}
+use Rattle.soundness_frame.proofs.PassFrameBodies as bodies
+use Rattle.soundness_frame.proofs.PassFrameBodies.{any_place}
+use Rattle.soundness_frame.proofs.PassWithin.{Within, outermost}
 use Rattle.lower_rules.specs.Lower.{body_of}
 use Rattle.lower_laws.specs.Lowerable.{IsLowerable}
 use Rattle.lower_ready.proofs.NamedByRuns.{NothingBad, at_first}

@@ -31,9 +31,9 @@ use Rattle.src_meaning.specs.Scopes.{Entry}
 use Rattle.typing_rules.specs.Borrows.{broken_borrow}
 use Rattle.well_typed.specs.Program.{WellTyped}
 use Rattle.well_typed.specs.Types as types
-use Rattle.soundness.proofs.PassBlockTold.{in_block, block_within}
-use Rattle.soundness.proofs.PassCells.{NodeIn}
-use Rattle.soundness.proofs.PassTold.{KnownOf}
+use Rattle.soundness_frame.proofs.PassBlockTold.{in_block, block_within}
+use Rattle.soundness_cells.proofs.PassCells.{NodeIn}
+use Rattle.soundness_frame.proofs.PassTold.{KnownOf}
 use Rattle.lower_rules.specs.Lower.{body_of}
 use Rattle.lower_laws.specs.Lowerable.{IsLowerable}
 use Rattle.lower_laws.proofs.Whole.{no_line_has_a_fault, no_local_has_a_fault}

@@ -26,14 +26,14 @@ use Rattle.well_typed.specs.Nodes.{is_closure_body}
 use Rattle.well_typed.specs.Places.{Passed, form_of, ty_of, is_borrow, is_taken, stands}
 use Rattle.well_typed.specs.Program.{WellTyped, is_body}
 use Rattle.well_typed.specs.Types as types
-use Rattle.soundness.proofs.ClaimParts.{numbered_got, there_is}
-use Rattle.soundness.proofs.PassCells.{NodeIn, node_right, made_in, made_ty, locals_are}
-use Rattle.soundness.proofs.PassFacts.{Standpoint, context}
-use Rattle.soundness.proofs.PassFirst.{body_at}
-use Rattle.soundness.proofs.PassGood.{TypedParams, typed_params, found_ty, answer_local, node_local}
-use Rattle.soundness.proofs.PassLocals.{tys, keys}
-use Rattle.soundness.proofs.PassNumbers.{opened}
-use Rattle.soundness.proofs.PlaceTypes.{some_holds}
+use Rattle.soundness_values.proofs.ClaimParts.{numbered_got, there_is}
+use Rattle.soundness_cells.proofs.PassCells.{NodeIn, node_right, made_in, made_ty, locals_are}
+use Rattle.soundness_cells.proofs.PassFacts.{Standpoint, context}
+use Rattle.soundness_cells.proofs.PassFirst.{body_at}
+use Rattle.soundness_cells.proofs.PassGood.{TypedParams, typed_params, found_ty, answer_local, node_local}
+use Rattle.soundness_cells.proofs.PassLocals.{tys, keys}
+use Rattle.soundness_cells.proofs.PassNumbers.{opened}
+use Rattle.soundness_values.proofs.PlaceTypes.{some_holds}
 use Rattle.lower_ready.proofs.AloneParts.{results_not, truth_not}
 
 and_left : (a b : Bool) → (a && b) ≡ true → a ≡ true

@@ -7,14 +7,14 @@ use Rattle.typed_tree.specs.Tree.{BodyTree, ProgramTree}
 use Rattle.src_meaning.specs.Locals.Effects.{place_at, step_at}
 use Rattle.typing_rules.specs.Accesses as rules
 use Rattle.typing_rules.specs.Accesses.{AccessPlace, begin_alike}
-use Rattle.soundness.specs.Laws.{IsSound}
-use Rattle.soundness.proofs.Facts.{takes_index}
-use Rattle.soundness.proofs.NoOverlap.{Seen, seen}
+use Rattle.soundness_values.specs.Laws.{IsSound}
+use Rattle.soundness_values.proofs.Facts.{takes_index}
+use Rattle.soundness_values.proofs.NoOverlap.{Seen, seen}
 use Rattle.soundness.proofs.PassAloneArgs.{Arg}
 use Rattle.soundness.proofs.PassAloneLeaves.{KeptIf, AllKept}
 use Rattle.soundness.proofs.PassBorrowApart.{no_index}
-use Rattle.soundness.proofs.PassKeys.{Keys, KeysIn}
-use Rattle.soundness.proofs.PassPlacesApart.{locals_differ, begin_apart}
+use Rattle.soundness_frame.proofs.PassKeys.{Keys, KeysIn}
+use Rattle.soundness_frame.proofs.PassPlacesApart.{locals_differ, begin_apart}
 
 -- a place off what an argument names
 abbrev pub OffOne : Arg → Place → Type 0

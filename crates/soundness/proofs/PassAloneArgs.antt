@@ -22,33 +22,33 @@ use Rattle.src_meaning.specs.Evaluation.{meanings}
 use Rattle.src_meaning.specs.Forms.{LoopsAndGuards, all_moved, site_in}
 use Rattle.src_meaning.specs.Locals.Effects.{action_at, operand_at, site_at}
 use Rattle.src_meaning.specs.Locals.OfBody.{local_ty, local_of}
-use Rattle.soundness.specs.Laws.{IsSound}
-use Rattle.soundness.proofs.AlsoTests.{Also}
-use Rattle.soundness.proofs.Checked.{Checking}
-use Rattle.soundness.proofs.CheckedBodies.{is_reference_param}
-use Rattle.soundness.proofs.Checks as checks
-use Rattle.soundness.proofs.Checks.{if_so}
-use Rattle.soundness.proofs.Facts.{Naming, Facts}
-use Rattle.soundness.proofs.PassWithin.{Outer}
+use Rattle.soundness_values.specs.Laws.{IsSound}
+use Rattle.soundness_values.proofs.AlsoTests.{Also}
+use Rattle.soundness_values.proofs.Checked.{Checking}
+use Rattle.soundness_values.proofs.CheckedBodies.{is_reference_param}
+use Rattle.soundness_values.proofs.Checks as checks
+use Rattle.soundness_values.proofs.Checks.{if_so}
+use Rattle.soundness_values.proofs.Facts.{Naming, Facts}
+use Rattle.soundness_frame.proofs.PassWithin.{Outer}
 use Rattle.soundness.proofs.PassAloneRun as runs
 use Rattle.soundness.proofs.PassAloneRun.{run, I, acts_so, Does_, Drops, keeps, Stands, CallsAsked}
 use Rattle.soundness.proofs.PassAloneNever.{never_local}
-use Rattle.soundness.proofs.PassCellTests as tests
-use Rattle.soundness.proofs.PassToldPatterns.{same_order}
-use Rattle.soundness.proofs.PassArgsLeft.{arg, args_in, named_of, AllNames, AskedAs, AllAsked, AllOff, Distinct, call_left}
+use Rattle.soundness_cells.proofs.PassCellTests as tests
+use Rattle.soundness_frame.proofs.PassToldPatterns.{same_order}
+use Rattle.soundness_frame.proofs.PassArgsLeft.{arg, args_in, named_of, AllNames, AskedAs, AllAsked, AllOff, Distinct, call_left}
 use Rattle.soundness.proofs.PassCallsAlone as alone
 use Rattle.soundness.proofs.PassCallsAlone.{alone_act}
-use Rattle.soundness.proofs.PassFrame as frame
-use Rattle.soundness.proofs.PassFrameBodies.{any_place}
-use Rattle.soundness.proofs.PassFrameCalls as calls
-use Rattle.soundness.proofs.PassFrameFacts.{named_by}
-use Rattle.soundness.proofs.PassFrameForms as frames
-use Rattle.soundness.proofs.PassFrameForms.{Calls, a_call, a_method, a_virtual, a_closure, moved_nodes}
-use Rattle.soundness.proofs.PassRefilled.{not_mark}
-use Rattle.soundness.proofs.PassRest.{own_local}
-use Rattle.soundness.proofs.PassRestCalls.{left_call}
-use Rattle.soundness.proofs.PassWithin as within
-use Rattle.soundness.proofs.Running.{sure_place}
+use Rattle.soundness_frame.proofs.PassFrame as frame
+use Rattle.soundness_frame.proofs.PassFrameBodies.{any_place}
+use Rattle.soundness_frame.proofs.PassFrameCalls as calls
+use Rattle.soundness_frame.proofs.PassFrameFacts.{named_by}
+use Rattle.soundness_frame.proofs.PassFrameForms as frames
+use Rattle.soundness_frame.proofs.PassFrameForms.{Calls, a_call, a_method, a_virtual, a_closure, moved_nodes}
+use Rattle.soundness_cells.proofs.PassRefilled.{not_mark}
+use Rattle.soundness_cells.proofs.PassRest.{own_local}
+use Rattle.soundness_cells.proofs.PassRestCalls.{left_call}
+use Rattle.soundness_frame.proofs.PassWithin as within
+use Rattle.soundness_values.proofs.Running.{sure_place}
 
 -- the local of an argument, and what it names if it is a reference
 abbrev pub Arg : Type 0
@@ -281,16 +281,20 @@ module _ (items : ItemTable) (body : BodyTree) where
         tests.passed items (local_ty items body) target ids
         (map (operand_at (local_of items body)) (moved_nodes id ns)) ≡ true
     call_passed _ _ _ (a_call callee args) id key ids p h =
-        passed_sig (site_at (local_of items body) (site_in id key)) ids (map (operand_at (local_of items body)) (moved_nodes id args)) (slice_get items.bodies callee)
+        passed_sig (site_at (local_of items body) (site_in id key)) ids (map (operand_at (local_of items body))
+        (moved_nodes id args)) (slice_get items.bodies callee)
         p.0 p.1.0 p.1.1 h
     call_passed _ _ _ (a_method callee receiver args) id key ids p h =
-        passed_sig (site_at (local_of items body) (site_in id key)) ids (map (operand_at (local_of items body)) (moved_nodes id (a_node receiver args)))
+        passed_sig (site_at (local_of items body) (site_in id key)) ids (map (operand_at (local_of items body))
+        (moved_nodes id (a_node receiver args)))
         (slice_get items.bodies callee) p.0 p.1.0 p.1.1 h
     call_passed _ _ _ (a_closure callee value args) id key ids p h =
-        passed_sig (site_at (local_of items body) (site_in id key)) ids (map (operand_at (local_of items body)) (moved_nodes id (a_node value args)))
+        passed_sig (site_at (local_of items body) (site_in id key)) ids (map (operand_at (local_of items body))
+        (moved_nodes id (a_node value args)))
         (slice_get items.bodies callee) p.0 p.1.0 p.1.1 h
     call_passed _ _ _ (a_virtual trait_no method receiver args) id key ids p h =
-        passed_head (site_at (local_of items body) (site_in id key)) ids (map (operand_at (local_of items body)) (moved_nodes id (a_node receiver args)))
+        passed_head (site_at (local_of items body) (site_in id key)) ids (map (operand_at (local_of items body))
+        (moved_nodes id (a_node receiver args)))
         (checks.head_of items (local_ty items body) target trait_no method) p.0 p.1.0 p.1.1 h
 
     call_asked : (form : Form) (ns : Nodes) (action : EffectSite → List Operand → Action) → Calls form ns action →
@@ -338,7 +342,8 @@ module _ (p : ProgramTree) (sound : IsSound p) where
   AllArgs = (n fuel : ℕ) (b : BodyTree) → slice_get p.bodies n ≡ Some b → (form : Form) (ns : Nodes)
       (action : EffectSite → List Operand → Action) → Calls form ns action → (id : ℕ) (around : LoopsAndGuards)
       (loops : Outer) → within.Around any_place around (within.passing id loops) →
-      within.AllWithin p.items any_place (Stands p b) around.aliases (within.passing id loops) ns → Stands p b around.aliases loops id form
+      within.AllWithin p.items any_place (Stands p b) around.aliases (within.passing id loops) ns → Stands p b
+      around.aliases loops id form
       →
       frame.AllEvaluated p.items (run p.items b (alone.also p sound n)) (not_mark 8)
       (Does_ p.items b (alone.also p sound n)) (Drops p.items b (alone.also p sound n)) any_place any_place any_place
@@ -383,7 +388,8 @@ module _ (p : ProgramTree) (sound : IsSound p) where
         (subst (λ l. tests.passed p.items (local_ty p.items b) (is_reference_param p.items b) k.ids
         (args_in p.items (local_ty p.items b) (is_reference_param p.items b) (own_local p.items b) id l) ≡ true)
         (sym k.locals) (subst (λ l. tests.passed p.items (local_ty p.items b) (is_reference_param p.items b) k.ids l
-        ≡ true) (operands_so p.items b id ns) (call_passed p.items b (also n fuel b) form ns action c id key k.ids k.params
+        ≡ true) (operands_so p.items b id ns) (call_passed p.items b (also n fuel b) form ns action c id key k.ids
+        k.params
         (subst (λ l. tests.cells_act p.items (local_ty p.items b) (is_reference_param p.items b)
         (action_at (local_of p.items b) (action (site_in id key) l)) ≡ true) (by_number n fuel b id ns) t)))))))))
         (makes_none p.items b (also n fuel b) form ns action c (site_in id key)

@@ -19,11 +19,11 @@ use Rattle.typing_rules.specs.Accesses as rules
 use Rattle.typing_rules.specs.Accesses.{AccessPlace, Accessed, Argument, begin_alike, changes, is_against, told, place_of, conflicts_among}
 use Rattle.well_typed.specs.Claim.{Holds}
 use Rattle.well_typed.specs.Nodes as typing
-use Rattle.well_typed.specs.Places.{Passed, Used, borrow_by, is_borrow, form_of}
-use Rattle.soundness.specs.Laws.{IsSound}
-use Rattle.soundness.proofs.AlsoTests.{Also}
-use Rattle.soundness.proofs.NoOverlap.{Seen, SeenIf, is_seen, seen}
-use Rattle.soundness.proofs.PassWithin.{Outer}
+use Rattle.well_typed.specs.Places.{Standing, Passed, Used, borrow_by, is_borrow, form_of}
+use Rattle.soundness_values.specs.Laws.{IsSound}
+use Rattle.soundness_values.proofs.AlsoTests.{Also}
+use Rattle.soundness_values.proofs.NoOverlap.{Seen, SeenIf, is_seen, seen}
+use Rattle.soundness_frame.proofs.PassWithin.{Outer}
 use Rattle.soundness.proofs.PassAloneApart.{OffOne, OffAll, Nameless, AllNameless, all_kept, cell_off, place_off}
 use Rattle.soundness.proofs.PassAloneArgs.{Arg}
 use Rattle.soundness.proofs.PassAloneBrings.{named_form, named_arg, AllLeave, Leaves, names_nothing}
@@ -36,19 +36,19 @@ use Rattle.soundness.proofs.PassAloneRun.{InBlock, Of, Stands}
 use Rattle.soundness.proofs.PassAloneTogether.{arg_placed, none_behind}
 use Rattle.soundness.proofs.PassBorrowApart.{no_index}
 use Rattle.soundness.proofs.PassCallsAlone as alone
-use Rattle.soundness.proofs.PassCells.{Above, NodeIn, node_left, node_right, above_in}
-use Rattle.soundness.proofs.PassConflicts.{EachAccess, EachArgument, Apart, change_apart, first_apart, rest_apart}
-use Rattle.soundness.proofs.PassFacts.{Standpoint, context}
-use Rattle.soundness.proofs.PassFrameActs.{DestSo}
-use Rattle.soundness.proofs.PassFrameBodies.{any_place}
-use Rattle.soundness.proofs.PassFrameRuns.{MayAt}
-use Rattle.soundness.proofs.PassKeys.{KeysIn, keys_in_more}
-use Rattle.soundness.proofs.PassPlacesApart.{locals_differ}
-use Rattle.soundness.proofs.PassTold as here
-use Rattle.soundness.proofs.PassTold.{ids, KnownOf, RootIf, Here, IfRoot, Told}
-use Rattle.soundness.proofs.PassToldForms.{Saying, node_within, node_above}
-use Rattle.soundness.proofs.PassToldPlaces.{AllOwned, MaySeen, AllPermit}
-use Rattle.soundness.proofs.PassWithin as within
+use Rattle.soundness_cells.proofs.PassCells.{Above, NodeIn, node_left, node_right, above_in}
+use Rattle.soundness_frame.proofs.PassConflicts.{EachAccess, EachArgument, Apart, change_apart, first_apart, rest_apart}
+use Rattle.soundness_cells.proofs.PassFacts.{Standpoint, context}
+use Rattle.soundness_frame.proofs.PassFrameActs.{DestSo}
+use Rattle.soundness_frame.proofs.PassFrameBodies.{any_place}
+use Rattle.soundness_frame.proofs.PassFrameRuns.{MayAt}
+use Rattle.soundness_frame.proofs.PassKeys.{KeysIn, keys_in_more}
+use Rattle.soundness_frame.proofs.PassPlacesApart.{locals_differ}
+use Rattle.soundness_frame.proofs.PassTold as here
+use Rattle.soundness_frame.proofs.PassTold.{ids, IsValue, KnownOf, RootIf, Here, IfRoot, Told}
+use Rattle.soundness_frame.proofs.PassToldForms.{Saying, node_within, node_above}
+use Rattle.soundness_frame.proofs.PassToldPlaces.{AllOwned, MaySeen, AllPermit}
+use Rattle.soundness_frame.proofs.PassWithin as within
 
 -- ---- two things that may be changed, both of which are asked
 
@@ -75,7 +75,7 @@ module _ (p : ProgramTree) (sound : IsSound p) (n fuel : ℕ) (b : BodyTree) (at
   abbrev OffAllAt : List Arg → Place → Type 0
   OffAllAt es = MayAt local (OffAll es)
 
-  abbrev SeenOff : (Place → Type 0) → Accessed → Type 0
+  abbrev pub SeenOff : (Place → Type 0) → Accessed → Type 0
   SeenOff May a = changes a.access ≡ true → MaySeen p.items (IfRoot p.items May (Of p b)) a.place
 
   -- ---- what is known of an earlier argument and some later ones
@@ -96,7 +96,7 @@ module _ (p : ProgramTree) (sound : IsSound p) (n fuel : ℕ) (b : BodyTree) (at
     all_rest [] m rest a as_ k = tt
     all_rest (e ∷ es) m rest a as_ k = (
       record {
-        cells = Rattle.soundness.proofs.PassToldPlaces.owned_right p.items (OffAt e) (nodes_of m) (nodes_among rest)
+        cells = Rattle.soundness_frame.proofs.PassToldPlaces.owned_right p.items (OffAt e) (nodes_of m) (nodes_among rest)
             k.0.cells;
         told = k.0.told.1;
         nameless = k.0.nameless;
@@ -175,17 +175,17 @@ module _ (p : ProgramTree) (sound : IsSound p) (n fuel : ℕ) (b : BodyTree) (at
 
   module _ (least : ℕ) (May : Place → Type 0) where
     -- nodes of the block with higher numbers
-    abbrev Inner : KnownOf
+    abbrev pub Inner : KnownOf
     Inner = record { node = λ m. InBlock p b m × (least < number_of m); root = (Of p b).root; typed = (Of p b).typed }
 
-    permit_so : (aliases : rules.Aliases) (l : List Accessed) → EachAccess (SeenOff May) l →
+    pub permit_so : (aliases : rules.Aliases) (l : List Accessed) → EachAccess (SeenOff May) l →
         AllPermit p.items (IfRoot p.items any_place (Of p b)) aliases l →
         AllPermit p.items (IfRoot p.items May Inner) aliases l
     permit_so aliases [] e k = tt
     permit_so aliases (x ∷ l) e k =
         (record { changed = λ c. e.0 c; replaced = k.0.replaced }, permit_so aliases l e.1 k.1)
 
-    here_so : (aliases : rules.Aliases) (places : shapes.Aliases) (x : Standpoint) (ns : List Node) →
+    pub here_so : (aliases : rules.Aliases) (places : shapes.Aliases) (x : Standpoint) (ns : List Node) →
         Here p.items any_place (Of p b) aliases places x ns → AllOwned p.items May ns → Above least ns →
         Here p.items May Inner aliases places x ns
     here_so aliases places x ns h owned above = record {
@@ -228,7 +228,7 @@ module _ (p : ProgramTree) (sound : IsSound p) (n fuel : ℕ) (b : BodyTree) (at
     all_any [] = tt
     all_any (m ∷ ns) = (λ steps. tt, all_any ns)
 
-    says_so : Saying p.items May Inner (leaves.Above p sound n fuel b at least)
+    pub says_so : Saying p.items May Inner (leaves.Above p sound n fuel b at least)
     says_so form id from ty by aliases places x o g h t = (
       record {
         at = from;
@@ -266,13 +266,14 @@ module _ (p : ProgramTree) (sound : IsSound p) (n fuel : ℕ) (b : BodyTree) (at
       (o.all (node id from ty by form) (inl refl)).1,
     )
 
-    within_so : (m : Node) (want : TyId) (aliases : rules.Aliases) (places : shapes.Aliases) (x : Standpoint) →
+    pub within_so : (m : Node) (standing : Standing) (aliases : rules.Aliases) (places : shapes.Aliases)
+        (x : Standpoint) → IsValue standing →
         Here p.items any_place (Of p b) aliases places x (nodes_of m) → AllOwned p.items May (nodes_of m) →
-        Above least (nodes_of m) → Holds (typing.typed (context p.items x) (Passed want) m) →
+        Above least (nodes_of m) → Holds (typing.typed (context p.items x) standing m) →
         EachAccess (SeenOff May) (told aliases m).accesses → Told p.items any_place (Of p b) aliases (told aliases m) →
         within.Within p.items May (leaves.Above p sound n fuel b at least) places (ids x) m
-    within_so m want aliases places x o owned above h e t =
-        node_within p.items May Inner (leaves.Above p sound n fuel b at least) says_so m (Passed want) aliases places x tt
+    within_so m standing aliases places x value o owned above h e t =
+        node_within p.items May Inner (leaves.Above p sound n fuel b at least) says_so m standing aliases places x value
         (here_so aliases places x (nodes_of m) o owned above) h
         (permit_so aliases (told aliases m).accesses e t.0, t.1)
 
@@ -299,9 +300,9 @@ module _ (p : ProgramTree) (sound : IsSound p) (n fuel : ℕ) (b : BodyTree) (at
         (all_kept p sound n fuel b at (OffAll es) es (λ q f. f)
         (all_nameless around (ids x) es (a_node m rest) (a ∷ as_) k)) m around (ids x)
         (outer_all around (ids x) es (a_node m rest) (a ∷ as_) k, keys)
-        (within_so least (OffAllAt es) m want aliases places x o
+        (within_so least (OffAllAt es) m (Passed want) aliases places x tt o
         (owned_all around (ids x) es m rest (a ∷ as_) k (nodes_of m)
-        (λ f c. Rattle.soundness.proofs.PassToldPlaces.owned_left p.items (OffAt f) (nodes_of m) (nodes_among rest) c))
+        (λ f c. Rattle.soundness_frame.proofs.PassToldPlaces.owned_left p.items (OffAt f) (nodes_of m) (nodes_among rest) c))
         above h
         (subst (λ c. EachAccess (SeenOff (OffAllAt es)) c.accesses) e
         (seen_all around (ids x) es (a_node m rest) a as_ k))
@@ -330,7 +331,8 @@ module _ (p : ProgramTree) (sound : IsSound p) (n fuel : ℕ) (b : BodyTree) (at
               (λ k none e. none (subst (Of p b).root (sym e) r)) place.steps q.stands.1
 
           off : (d : AccessPlace) → y.place ≡ Some d → (u : Place) → Seen d u → (Of p b).root u.local →
-              (o : Option AccessPlace) → place_of aliases base ≡ o → SeenIf o place → RootIf (Of p b).root o place.local →
+              (o : Option AccessPlace) → place_of aliases base ≡ o → SeenIf o place → RootIf (Of p b).root o
+              place.local →
               OffAt (named first) u
           off d e u s r None f k none = (
             locals_differ (local_keys p.items b) id u.local (λ same. absurd (not_id u r same)),
@@ -368,7 +370,8 @@ module _ (p : ProgramTree) (sound : IsSound p) (n fuel : ℕ) (b : BodyTree) (at
           Stand (nodes_of first ++ nodes_among rest) → Holds (typing.typed (context p.items x) (Passed want) first) →
           Told p.items any_place (Of p b) aliases (told aliases first) →
           a.refers ≡ Some (record { place = place_of aliases base; unique = unique }) →
-          conflicts_among (a ∷ as_) ≡ [] → within.DestsAround (OffAt (named first)) (OffAt (named first)) around (ids x) →
+          conflicts_among (a ∷ as_) ≡ [] → within.DestsAround (OffAt (named first)) (OffAt (named first)) around (ids
+          x) →
           Before around (ids x) (named first) rest as_
       borrow_before rest a as_ want o h t e free outer =
           let q = arg_placed p.items any_place (Of p b) aliases places x id from ty by unique base want
@@ -391,7 +394,8 @@ module _ (p : ProgramTree) (sound : IsSound p) (n fuel : ℕ) (b : BodyTree) (at
 
     new_before : (m : Node) (rest : Nodes) (a : Argument) (as_ : List Argument) (want : TyId) →
         Stand (nodes_of m ++ nodes_among rest) → Holds (typing.typed (context p.items x) (Passed want) m) →
-        Told p.items any_place (Of p b) aliases a.told → a.refers ≡ Rattle.soundness.proofs.PassAlonePassed.refers_of aliases m →
+        Told p.items any_place (Of p b) aliases a.told → a.refers ≡ Rattle.soundness.proofs.PassAlonePassed.refers_of
+        aliases m →
         a.told ≡ told aliases m → conflicts_among (a ∷ as_) ≡ [] →
         within.DestsAround (OffAt (named m)) (OffAt (named m)) around (ids x) → Before around (ids x) (named m) rest as_
     new_before (node id from ty by form) rest a as_ want o h t refers e free outer = of_form form o h refers e outer
@@ -412,9 +416,11 @@ module _ (p : ProgramTree) (sound : IsSound p) (n fuel : ℕ) (b : BodyTree) (at
         of_form : (form : Form) → Stand (nodes_of (node id from ty by form) ++ nodes_among rest) →
             Holds (typing.typed (context p.items x) (Passed want) (node id from ty by form)) →
             a.refers ≡ rules.refers_by aliases form → a.told ≡ told aliases (node id from ty by form) →
-            within.DestsAround (OffAt (named (node id from ty by form))) (OffAt (named (node id from ty by form))) around (ids x) →
+            within.DestsAround (OffAt (named (node id from ty by form))) (OffAt (named (node id from ty by form)))
+            around (ids x) →
             Before around (ids x) (named (node id from ty by form)) rest as_
-        of_form (tree.Borrow unique base) o h refers e outer = borrow_before id from ty by unique base rest a as_ want o h
+        of_form (tree.Borrow unique base) o h refers e outer = borrow_before id from ty by unique base rest a as_
+            want o h
             (subst (Told p.items any_place (Of p b) aliases) e t) refers free outer
         of_form form o h refers e outer = record {
           cells = owned_by around (ids x) (OffAt (local id, None)) (nodes_among rest) (λ m i steps. tt);
@@ -438,10 +444,10 @@ module _ (p : ProgramTree) (sound : IsSound p) (n fuel : ℕ) (b : BodyTree) (at
     all_leave (a_node m rest) (want ∷ tys) (a ∷ as_) es k o above h t free outer j = (
       one_leaves es m rest a as_ want j
           (here.here_left p.items any_place (Of p b) aliases places x (nodes_of m) (nodes_among rest) o)
-          (Rattle.soundness.proofs.PassToldPlaces.above_left least (nodes_of m) (nodes_among rest) above) h.0 k.0.1 t.0,
+          (Rattle.soundness_frame.proofs.PassToldPlaces.above_left least (nodes_of m) (nodes_among rest) above) h.0 k.0.1 t.0,
       all_leave rest tys as_ (es ++ named m ∷ []) k.1
           (here.here_right p.items any_place (Of p b) aliases places x (nodes_of m) (nodes_among rest) o)
-          (Rattle.soundness.proofs.PassToldPlaces.above_right least (nodes_of m) (nodes_among rest) above) h.1 t.1
+          (Rattle.soundness_frame.proofs.PassToldPlaces.above_right least (nodes_of m) (nodes_among rest) above) h.1 t.1
           (rest_apart a as_ free) (λ q i. outer q (inr i))
           (and_one around (ids x) es (named m) rest as_ (all_rest around (ids x) es m rest a as_ j)
           (new_before m rest a as_ want o h.0 t.0 k.0.0 k.0.1 free (outer m (inl refl)))),

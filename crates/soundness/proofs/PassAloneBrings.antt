@@ -24,22 +24,22 @@ use Rattle.src_meaning.specs.Scopes.{Scopes, Value, Breaks, Continues, Returns, 
 use Rattle.src_meaning.specs.Shape as shapes
 use Rattle.src_meaning.specs.Shape.{Shape, shape}
 use Rattle.well_typed.specs.Places.{form_of, is_borrow}
-use Rattle.soundness.proofs.AlsoTests.{Also}
-use Rattle.soundness.proofs.Checked.{Checking}
-use Rattle.soundness.proofs.Facts.{Naming, Facts, Each}
+use Rattle.soundness_values.proofs.AlsoTests.{Also}
+use Rattle.soundness_values.proofs.Checked.{Checking}
+use Rattle.soundness_values.proofs.Facts.{Naming, Facts, Each}
 use Rattle.soundness.proofs.PassAloneArgs.{Arg, KnownIf, AllKnown}
 use Rattle.soundness.proofs.PassAloneNever.{never_local, is_use_or_call, no_value}
 use Rattle.soundness.proofs.PassAloneRun.{run, I, MadeAt, marks_stand}
 use Rattle.soundness.proofs.PassBorrowKnown.{borrow_known}
 use Rattle.soundness.proofs.PassCallsAlone.{alone_marks}
-use Rattle.soundness.proofs.PassCells.{NodeIn, node_left, node_right, one_node}
-use Rattle.soundness.proofs.PassFrame as frame
-use Rattle.soundness.proofs.PassFrameActs.{KeepingSo}
-use Rattle.soundness.proofs.PassFrameCalls as calls
-use Rattle.soundness.proofs.PassFrameFacts.{named_by}
-use Rattle.soundness.proofs.PassHeads as heads
-use Rattle.soundness.proofs.PassLocals.{one_key}
-use Rattle.soundness.proofs.PassToldPlaces.{Rises}
+use Rattle.soundness_cells.proofs.PassCells.{NodeIn, node_left, node_right, one_node}
+use Rattle.soundness_frame.proofs.PassFrame as frame
+use Rattle.soundness_frame.proofs.PassFrameActs.{KeepingSo}
+use Rattle.soundness_frame.proofs.PassFrameCalls as calls
+use Rattle.soundness_frame.proofs.PassFrameFacts.{named_by}
+use Rattle.soundness_values.proofs.PassHeads as heads
+use Rattle.soundness_cells.proofs.PassLocals.{one_key}
+use Rattle.soundness_frame.proofs.PassToldPlaces.{Rises}
 
 -- the first of a list of which a test holds
 found_of : {A : Type 0} (P : A → Type 0) (test : A → Bool) (l : List A) (m : A) → Each P l → find test l ≡ Some m →

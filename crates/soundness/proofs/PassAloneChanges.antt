@@ -26,18 +26,18 @@ use Rattle.well_typed.specs.Claim.{Holds, fact, both}
 use Rattle.well_typed.specs.Nodes as typing
 use Rattle.well_typed.specs.Places.{InScope, entry_with, Standing, Base, Context, form_of, is_place, is_rooted, is_rooted_by, is_behind_shared, names_shared}
 use Rattle.well_typed.specs.Types as types
-use Rattle.soundness.proofs.CheckedBodies.{is_reference_param}
-use Rattle.soundness.proofs.Checks as checks
+use Rattle.soundness_values.proofs.CheckedBodies.{is_reference_param}
+use Rattle.soundness_values.proofs.Checks as checks
 use Rattle.soundness.proofs.PassAlonePairs.{NoAlias}
-use Rattle.soundness.proofs.PassBlockTold.{ParamTyped, in_block}
-use Rattle.soundness.proofs.PassCells.{NodeIn}
-use Rattle.soundness.proofs.PassFacts.{Standpoint, context}
-use Rattle.soundness.proofs.PassPastParams.{no_param}
+use Rattle.soundness_frame.proofs.PassBlockTold.{ParamTyped, in_block}
+use Rattle.soundness_cells.proofs.PassCells.{NodeIn}
+use Rattle.soundness_cells.proofs.PassFacts.{Standpoint, context}
+use Rattle.soundness_frame.proofs.PassPastParams.{no_param}
 use Rattle.soundness.proofs.PassProtectEnds.{numbered_in}
-use Rattle.soundness.proofs.PassTold as here
-use Rattle.soundness.proofs.PassTold.{Here}
-use Rattle.soundness.proofs.PassToldPlaces.{Rises, is_alias}
-use Rattle.soundness.proofs.PlaceTypes.{some_holds, same_type}
+use Rattle.soundness_frame.proofs.PassTold as here
+use Rattle.soundness_frame.proofs.PassTold.{Here}
+use Rattle.soundness_frame.proofs.PassToldPlaces.{Rises, is_alias}
+use Rattle.soundness_values.proofs.PlaceTypes.{some_holds, same_type}
 
 module _ (items : ItemTable) (body : BodyTree) (rise : Rises (param_nodes body.params ++ nodes_of body.block))
     (May : Place → Type 0) (aliases : rules.Aliases) (places : shapes.Aliases) (x : Standpoint) where
@@ -113,7 +113,8 @@ module _ (items : ItemTable) (body : BodyTree) (rise : Rises (param_nodes body.p
         (is_place (form_of n) ≡ true → is_rooted K n ≡ false) → Changes ((shape items n).place places).local
     root_changes (node id at ty by form) standing o h r s = form_changes form id ty by
         (of_node (node id at ty by form) (o.all (node id at ty by form) (inl refl)))
-        (here.here_in items May (in_block items body InBlock) aliases places x (node id at ty by form) (nodes_in form) o)
+        (here.here_in items May (in_block items body InBlock) aliases places x (node id at ty by form) (nodes_in
+        form) o)
         h.1 r s
 
     form_changes : (form : Form) (id : ℕ) (ty : TyId) (by : Option Use) → Changes id → Around (nodes_in form) →
@@ -136,7 +137,8 @@ module _ (items : ItemTable) (body : BodyTree) (rise : Rises (param_nodes body.p
     form_changes (tree.Field base part) id ty by own o h r s =
         root_changes base Base o h.0 r (λ e. s refl)
     form_changes (tree.Index base index count) id ty by own o h r s = root_changes base Base
-        (here.here_left items May (in_block items body InBlock) aliases places x (nodes_of base) (nodes_of index) o) h.0 r
+        (here.here_left items May (in_block items body InBlock) aliases places x (nodes_of base) (nodes_of index) o)
+        h.0 r
         (λ e. s refl)
     form_changes (tree.Deref base) id ty by own o h r s = root_changes base Base o h.0 r (λ e. s refl)
     form_changes form id ty by own o h r s = own

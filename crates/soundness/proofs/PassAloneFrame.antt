@@ -3,28 +3,27 @@
 -- arguments name.
 use Rattle.std.proofs.Common.{ℕ, Bool, Option, Some, None}
 use Rattle.mir_ty.specs.ItemTable.{ItemTable}
-use Rattle.store_model.specs.Abstract.Effects as free
 use Rattle.store_model.specs.Abstract.Effects.{AbstractState}
 use Rattle.store_model.specs.Effects as effects
 use Rattle.store_model.specs.Effects.{Action, Halt, Out, Go, Unwind, Halts, Choice, Yes, No, Neither, Effects}
 use Rattle.store_model.specs.Places.Place.{Place}
-use Rattle.typed_tree.specs.Tree.{node, BodyTree}
+use Rattle.typed_tree.specs.Tree.{BodyTree}
 use Rattle.src_meaning.specs.Locals.Effects.{action_at, test_at, site_at, place_at}
 use Rattle.src_meaning.specs.Locals.OfBody.{local_ty, local_of}
-use Rattle.soundness.proofs.AlsoTests.{Also}
-use Rattle.soundness.proofs.Checked.{Checking, with_facts, chosen_with}
-use Rattle.soundness.proofs.CheckedBodies.{is_reference_param}
-use Rattle.soundness.proofs.Facts.{Facts}
-use Rattle.soundness.proofs.Leaving.{ShownOut}
+use Rattle.soundness_values.proofs.AlsoTests.{Also}
+use Rattle.soundness_values.proofs.Checked.{Checking, with_facts, chosen_with}
+use Rattle.soundness_values.proofs.CheckedBodies.{is_reference_param}
+use Rattle.soundness_values.proofs.Facts.{Facts}
+use Rattle.soundness_values.proofs.Leaving.{ShownOut}
 use Rattle.soundness.proofs.PassAloneRun.{run, I, MadeAt, Does_, Drops, Makes, makes, plain_does}
 use Rattle.soundness.proofs.PassCallsAlone.{alone_marks}
-use Rattle.soundness.proofs.PassFrameActs.{Allowed, AnsweredSo, KeptOut, KeptChoice, KeepingSo}
-use Rattle.soundness.proofs.PassFrameCells.{Cells, CellsKept, free_keeping}
-use Rattle.soundness.proofs.PassFrameRuns.{MayAt, allowed_at, test_allowed}
-use Rattle.soundness.proofs.PassMarks.{marked, chosen_marked}
+use Rattle.soundness_frame.proofs.PassFrameActs.{Allowed, AnsweredSo, KeptOut, KeptChoice, KeepingSo}
+use Rattle.soundness_frame.proofs.PassFrameCells.{Cells, CellsKept, free_keeping}
+use Rattle.soundness_frame.proofs.PassFrameRuns.{MayAt, allowed_at, test_allowed}
+use Rattle.soundness_cells.proofs.PassMarks.{marked, chosen_marked}
 use Rattle.soundness.proofs.PassNamingKept as kept
-use Rattle.soundness.proofs.PassStays as stays
-use Rattle.soundness.proofs.PassStays.{FactsStay, MayCall}
+use Rattle.soundness_frame.proofs.PassStays as stays
+use Rattle.soundness_frame.proofs.PassStays.{FactsStay, MayCall}
 
 module _ (items : ItemTable) (body : BodyTree) (also : Also) (May : Place → Type 0) (facts0 : Facts) (cells0 : Cells)
   where
@@ -98,7 +97,7 @@ module _ (items : ItemTable) (body : BodyTree) (also : Also) (May : Place → Ty
         ((free_keeping May items (local_ty items body) cells0).acts (action_at local action) v.free
         (allowed_at local May action a) i.0.1))
 
-    no_call : (action : Action) (v : V) → Does_ items body also action →
+    pub no_call : (action : Action) (v : V) → Does_ items body also action →
         MayCall May items (local_ty items body) target v.facts (action_at local action)
     no_call (effects.Call to callee args) v d = absurd d
     no_call (effects.CallVirtual to trait_no method args) v d = absurd d

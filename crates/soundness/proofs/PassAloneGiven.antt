@@ -16,17 +16,17 @@ use Rattle.well_typed.specs.Types as types
 use Rattle.store_model.specs.Effects.{EffectSite, Operand, Action}
 use Rattle.typed_tree.specs.Nodes.{nodes_of, nodes_in, nodes_among}
 use Rattle.typed_tree.specs.Tree.{Node, node, Form, Nodes, BodyTree, ProgramTree}
-use Rattle.soundness.proofs.Checks as checks
-use Rattle.soundness.proofs.PassWithin.{Outer}
+use Rattle.soundness_values.proofs.Checks as checks
+use Rattle.soundness_frame.proofs.PassWithin.{Outer}
 use Rattle.soundness.proofs.PassAlonePassed.{Together, passed_together}
 use Rattle.soundness.proofs.PassAloneTogether.{all_apart}
 use Rattle.soundness.proofs.PassClosurePlain.{closure_plain}
-use Rattle.soundness.proofs.PassFacts.{Standpoint, context}
-use Rattle.soundness.proofs.PlaceTypes.{some_holds}
+use Rattle.soundness_cells.proofs.PassFacts.{Standpoint, context}
+use Rattle.soundness_values.proofs.PlaceTypes.{some_holds}
 use Rattle.src_meaning.specs.Locals.OfBody.{local_ty}
 use Rattle.src_meaning.specs.Shape as shapes
-use Rattle.soundness.specs.Laws.{IsSound}
-use Rattle.soundness.proofs.CheckedBodies.{is_reference_param}
+use Rattle.soundness_values.specs.Laws.{IsSound}
+use Rattle.soundness_values.proofs.CheckedBodies.{is_reference_param}
 use Rattle.soundness.proofs.PassAloneArgs.{locals_of, names_of}
 use Rattle.soundness.proofs.PassAloneBrings.{args_of}
 use Rattle.soundness.proofs.PassAloneLeft.{block_rises, same_locals, nodes_so}
@@ -34,13 +34,13 @@ use Rattle.soundness.proofs.PassAloneOff.{all_off}
 use Rattle.soundness.proofs.PassAloneRun.{Of, Stands}
 use Rattle.soundness.proofs.PassAloneSuit.{distinct}
 use Rattle.soundness.proofs.PassAloneTyped.{Typed, typed_call}
-use Rattle.soundness.proofs.PassArgsLeft.{Distinct, AllOff, named_of}
+use Rattle.soundness_frame.proofs.PassArgsLeft.{Distinct, AllOff, named_of}
 use Rattle.soundness.proofs.PassCallsAlone as alone
-use Rattle.soundness.proofs.PassFrameBodies.{any_place}
-use Rattle.soundness.proofs.PassFrameForms.{Calls}
-use Rattle.soundness.proofs.PassRest.{own_local}
-use Rattle.soundness.proofs.PassTold.{Here, here_in}
-use Rattle.soundness.proofs.PassToldPlaces.{Rises}
+use Rattle.soundness_frame.proofs.PassFrameBodies.{any_place}
+use Rattle.soundness_frame.proofs.PassFrameForms.{Calls}
+use Rattle.soundness_cells.proofs.PassRest.{own_local}
+use Rattle.soundness_frame.proofs.PassTold.{Here, here_in}
+use Rattle.soundness_frame.proofs.PassToldPlaces.{Rises}
 
 module _ (p : ProgramTree) (sound : IsSound p) (n fuel : ℕ) (b : BodyTree) (at : slice_get p.bodies n ≡ Some b)
     (form : Form) (ns : Nodes) (action : EffectSite → List Operand → Action) (c : Calls form ns action)
@@ -72,7 +72,8 @@ module _ (p : ProgramTree) (sound : IsSound p) (n fuel : ℕ) (b : BodyTree) (at
       given_params.typed)
 
   -- the callee of a closure is no reference
-  plain_callee : (standing_ty : TyId) (x : Standpoint) (callee : Node) → is_reference (type_at p.items standing_ty) ≡ false →
+  plain_callee : (standing_ty : TyId) (x : Standpoint) (callee : Node) → is_reference (type_at p.items standing_ty) ≡
+      false →
       Holds (typing.typed (context p.items x) (Passed standing_ty) callee) → is_borrow (form_of callee) ≡ false
   plain_callee want x (node key pos ty use_of value) r h = by_type (type_at p.items want) refl r h.0
     where
@@ -115,6 +116,7 @@ module _ (p : ProgramTree) (sound : IsSound p) (n fuel : ℕ) (b : BodyTree) (at
   pub given_apart : checks.all_apart p.items (local_ty p.items b) (is_reference_param p.items b)
       (named_of p.items (local_ty p.items b) (is_reference_param p.items b) (own_local p.items b)
       (names_of (args_of p.items b (alone.also p sound n) fuel rise places ns))) ≡ true
-  given_apart = all_apart p.items any_place (Of p b) stands.aliases places stands.x b (alone.also p sound n) fuel rise ns
+  given_apart = all_apart p.items any_place (Of p b) stands.aliases places stands.x b (alone.also p sound n) fuel
+      rise ns
       given_params.ids given_together.args given_together.argued given_here given_params.typed given_together.told
       given_together.free

@@ -11,12 +11,12 @@ use Rattle.typing_rules.specs.Accesses as rules
 use Rattle.well_typed.specs.Claim.{Holds}
 use Rattle.well_typed.specs.Nodes as typing
 use Rattle.well_typed.specs.Places.{InScope, Standing}
-use Rattle.soundness.proofs.PassCells.{Above, NodeIn, above_in}
-use Rattle.soundness.proofs.PassFacts.{Standpoint, context}
-use Rattle.soundness.proofs.PassKeys.{Keys, keys_more, place_keys}
-use Rattle.soundness.proofs.PassTold.{KnownOf, Here}
-use Rattle.soundness.proofs.PassToldForms.{node_above}
-use Rattle.soundness.proofs.PassToldPlaces.{is_alias, above_right}
+use Rattle.soundness_cells.proofs.PassCells.{Above, NodeIn, above_in}
+use Rattle.soundness_cells.proofs.PassFacts.{Standpoint, context}
+use Rattle.soundness_frame.proofs.PassKeys.{Keys, keys_more, place_keys}
+use Rattle.soundness_frame.proofs.PassTold.{KnownOf, Here}
+use Rattle.soundness_frame.proofs.PassToldForms.{node_above}
+use Rattle.soundness_frame.proofs.PassToldPlaces.{is_alias, above_right}
 
 -- keys below some nodes are the number of none of them
 pub other_keys : (ns : List Node) (m : Node) (place : Place) → NodeIn ns m → Keys (λ k. Above k ns) place →

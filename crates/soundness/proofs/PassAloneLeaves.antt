@@ -1,46 +1,45 @@
 -- An argument leaves what earlier ones name, where what it changes lies apart from that, as the text tells, and the
 -- calls inside it are in order.
-use Rattle.std.proofs.Common.{◌≡◌, ◌<◌, inr, ℕ, false, List, [], ◌∷◌, map, Option, Some, None, ap, sym, ◌∙◌, subst}
+use Rattle.std.proofs.Common.{◌≡◌, ◌<◌, ℕ, false, List, [], ◌∷◌, map, Option, Some, None, ap, sym, ◌∙◌, subst}
 use Rattle.std.specs.Prelude.{slice_get}
 use Rattle.store_model.specs.Effects.{EffectSite, Operand, Action, Effects}
 use Rattle.store_model.specs.Places.Place.{Place}
-use Rattle.typed_tree.specs.Nodes.{nodes_of, nodes_among}
 use Rattle.typed_tree.specs.Tree as tree
 use Rattle.typed_tree.specs.Tree.{Node, node, Form, Nodes, no_node, a_node, BodyTree, ProgramTree}
 use Rattle.src_meaning.specs.Evaluation.{meaning, meanings}
+use Rattle.src_meaning.specs.Forms as forms
 use Rattle.src_meaning.specs.Forms.{Into, LoopsAndGuards, Meaning, all_moved, site_in}
 use Rattle.src_meaning.specs.Locals.Effects.{action_at, operand_at}
 use Rattle.src_meaning.specs.Locals.OfBody.{local_ty, local_of}
 use Rattle.src_meaning.specs.Scopes.{Scopes, Value, Breaks, Continues, Returns, Panics, Run, At, Over}
 use Rattle.src_meaning.specs.Shape as shapes
-use Rattle.soundness.specs.Laws.{IsSound}
-use Rattle.soundness.proofs.AlsoTests.{Also}
-use Rattle.soundness.proofs.Checked.{Checking}
-use Rattle.soundness.proofs.CheckedBodies.{is_reference_param}
-use Rattle.soundness.proofs.Checks as checks
-use Rattle.soundness.proofs.Facts.{Naming, Facts, Each}
-use Rattle.soundness.proofs.PassWithin.{Outer}
+use Rattle.soundness_values.specs.Laws.{IsSound}
+use Rattle.soundness_values.proofs.AlsoTests.{Also}
+use Rattle.soundness_values.proofs.Checked.{Checking}
+use Rattle.soundness_values.proofs.CheckedBodies.{is_reference_param}
+use Rattle.soundness_values.proofs.Checks as checks
+use Rattle.soundness_values.proofs.Facts.{Naming, Facts, Each}
+use Rattle.soundness_frame.proofs.PassWithin.{Outer}
 use Rattle.soundness.proofs.PassAloneArgs.{Arg, KnownIf, AllKnown, locals_of, names_of, all_named, operands_so, makes_none}
 use Rattle.soundness.proofs.PassAloneBrings.{args_of, Leaves, all_ends}
 use Rattle.soundness.proofs.PassAloneFrame.{Stay, May_, any_halt, acts_in, keeping}
-use Rattle.soundness.proofs.PassAloneLeft.{CallLeft, block_rises, same_locals, nodes_so}
+use Rattle.soundness.proofs.PassAloneLeft.{CallLeft, block_rises, same_locals}
 use Rattle.soundness.proofs.PassAloneRoots.{sure_rooted}
 use Rattle.soundness.proofs.PassAloneRun.{run, I, Does_, Drops, Stands, telling}
-use Rattle.soundness.proofs.PassArgsLeft.{named_of, named_left, args_in}
+use Rattle.soundness_frame.proofs.PassArgsLeft.{named_of, named_left, args_in}
 use Rattle.soundness.proofs.PassCallsAlone as alone
-use Rattle.soundness.proofs.PassCells.{NodeIn}
-use Rattle.soundness.proofs.PassFrame as frame
-use Rattle.soundness.proofs.PassFrameCalls as calls
-use Rattle.soundness.proofs.PassFrameCalls.{Ends, called_by, all_end}
-use Rattle.soundness.proofs.PassFrameCells.{Cells, cells_same}
-use Rattle.soundness.proofs.PassFrameFacts.{Fixed, named_by}
-use Rattle.soundness.proofs.PassFrameForms as frames
-use Rattle.soundness.proofs.PassFrameForms.{Calls, a_call, a_method, a_virtual, a_closure, moved_nodes}
-use Rattle.soundness.proofs.PassFrameRuns.{MayAt}
-use Rattle.soundness.proofs.PassRest.{own_local}
-use Rattle.soundness.proofs.PassStays.{MayCall, MayIfUnique, stay_same, stay_sure}
-use Rattle.soundness.proofs.PassStillKnown.{Clear, still_usable}
-use Rattle.soundness.proofs.PassWithin as within
+use Rattle.soundness_frame.proofs.PassFrame as frame
+use Rattle.soundness_frame.proofs.PassFrameCalls as calls
+use Rattle.soundness_frame.proofs.PassFrameCalls.{Ends, called_by, all_end}
+use Rattle.soundness_frame.proofs.PassFrameCells.{Cells, cells_same}
+use Rattle.soundness_frame.proofs.PassFrameFacts.{Fixed, named_by}
+use Rattle.soundness_frame.proofs.PassFrameForms as frames
+use Rattle.soundness_frame.proofs.PassFrameForms.{Calls, a_call, a_method, a_virtual, a_closure, moved_nodes}
+use Rattle.soundness_frame.proofs.PassFrameRuns.{MayAt}
+use Rattle.soundness_cells.proofs.PassRest.{own_local}
+use Rattle.soundness_frame.proofs.PassStays.{MayCall, MayIfUnique, stay_same, stay_sure}
+use Rattle.soundness_frame.proofs.PassStillKnown.{Clear, still_usable}
+use Rattle.soundness_frame.proofs.PassWithin as within
 
 module _ (p : ProgramTree) (sound : IsSound p) (n fuel : ℕ) (b : BodyTree) (at : slice_get p.bodies n ≡ Some b) where
   abbrev V : Type 0
@@ -86,7 +85,7 @@ module _ (p : ProgramTree) (sound : IsSound p) (n fuel : ℕ) (b : BodyTree) (at
     MayNamed = MayIfUnique May p.items (local_ty p.items b) (is_reference_param p.items b)
 
     -- what arguments name by `&mut` may be changed
-    each_may : (ns : Nodes) (places : shapes.Aliases) (loops : Outer) →
+    pub each_may : (ns : Nodes) (places : shapes.Aliases) (loops : Outer) →
         within.AllWithin p.items May_at (Above least) places loops ns → Each MayNamed (named (args places ns))
     each_may no_node places loops w = tt
     each_may (a_node (node id at ty by form) rest) places loops w = by_form form w.0 (each_may rest places loops w.1)
@@ -103,7 +102,7 @@ module _ (p : ProgramTree) (sound : IsSound p) (n fuel : ℕ) (b : BodyTree) (at
         cells0)
         (Above least) fuel at_node ns
 
-    may_action : (form : Form) (ns : Nodes) (action : EffectSite → List Operand → Action) → Calls form ns action →
+    pub may_action : (form : Form) (ns : Nodes) (action : EffectSite → List Operand → Action) → Calls form ns action →
         (site : EffectSite) (operands : List Operand) (facts : Facts) →
         Each MayNamed (checks.named_by_all p.items (local_ty p.items b) (is_reference_param p.items b) facts
         (map (operand_at (local_of p.items b)) operands)) →
@@ -114,7 +113,7 @@ module _ (p : ProgramTree) (sound : IsSound p) (n fuel : ℕ) (b : BodyTree) (at
     may_action _ _ _ (a_virtual trait_no method receiver args) site operands facts h = h
     may_action _ _ _ (a_closure callee value args) site operands facts h = h
 
-    names_so : (form : Form) (ns : Nodes) (around : LoopsAndGuards) →
+    pub names_so : (form : Form) (ns : Nodes) (around : LoopsAndGuards) →
         CallLeft p sound n fuel b (block_rises p sound n b at) form ns around → (id : ℕ) (v : V) →
         AllKnown p.items b (args around.aliases ns) v →
         checks.named_by_all p.items (local_ty p.items b) (is_reference_param p.items b) v.facts
@@ -129,7 +128,7 @@ module _ (p : ProgramTree) (sound : IsSound p) (n fuel : ℕ) (b : BodyTree) (at
         (all_named p.items b v (args around.aliases ns) j)
 
     -- each call inside changes only what its own arguments name
-    at_calls : frames.AtCalls p.items q (any_halt p.items b also May facts0 cells0) (Does_ p.items b also)
+    pub at_calls : frames.AtCalls p.items q (any_halt p.items b also May facts0 cells0) (Does_ p.items b also)
         (Drops p.items b also) May_at May_at May_at Kept (keeping p.items b also May facts0 cells0) (Above least) fuel
     at_calls = record {
       called_kept = λ form ns action c id ty by s around loops a w says ev own_cell own to d.
@@ -158,11 +157,12 @@ module _ (p : ProgramTree) (sound : IsSound p) (n fuel : ℕ) (b : BodyTree) (at
           (subst (λ l. MayCall May p.items (local_ty p.items b) (is_reference_param p.items b) v.facts
           (action_at (local_of p.items b) (action (site_in id key) l))) (sym (by_number id ns))
           (may_action form ns action c (site_in id key) (moved_nodes id ns) v.facts
-          (subst (Each MayNamed) (sym (names_so form ns around k id v j)) (each_may ns around.aliases (within.passing id loops) w))))
+          (subst (Each MayNamed) (sym (names_so form ns around k id v j)) (each_may ns around.aliases (within.passing
+          id loops) w))))
           (makes_none p.items b also form ns action c (site_in id key) (all_moved id (Ms ns))) i) own_cell d;
     }
 
-    saying : frames.Telling p.items (Does_ p.items b also) (Drops p.items b also) (Above least)
+    pub saying : frames.Telling p.items (Does_ p.items b also) (Drops p.items b also) (Above least)
     saying = record {
       borrows = λ places loops id unique base s. (telling p b also).borrows places loops id unique base s.0;
       assigns = λ places loops id place value s. tt;
@@ -178,7 +178,7 @@ module _ (p : ProgramTree) (sound : IsSound p) (n fuel : ℕ) (b : BodyTree) (at
     to_ends (Over halt v) k = tt
 
     -- a node that changes only such places leaves what is known of others
-    stays_so : (m : Node) (around : LoopsAndGuards) (loops : Outer) → within.Around May_at around loops →
+    pub stays_so : (m : Node) (around : LoopsAndGuards) (loops : Outer) → within.Around May_at around loops →
         within.Within p.items May_at (Above least) around.aliases loops m → (S : Scopes) (v : V) → Kept v →
         Ends Kept ((M m).evaluate around false (Into (M m).head.id) S v)
     stays_so m around loops a w S v k = to_ends ((M m).evaluate around false (Into (M m).head.id) S v)
@@ -190,6 +190,20 @@ module _ (p : ProgramTree) (sound : IsSound p) (n fuel : ℕ) (b : BodyTree) (at
         (Drops p.items b also) May_at May_at May_at Kept (keeping p.items b also May facts0 cells0) (Above least) fuel
         saying at_calls
         m around loops a w own to d)).0.kept 0 S v
+        (calls.none_looked_at p.items q (any_halt p.items b also May facts0 cells0) (Does_ p.items b also)
+        (Drops p.items b also) May_at May_at May_at Kept (keeping p.items b also May facts0 cells0) S) k)
+
+    -- so does one that is a scope of its own, as a guard is
+    pub stays_alone : (m : Node) (around : LoopsAndGuards) (loops : Outer) → within.Around May_at around loops →
+        within.Within p.items May_at (Above least) around.aliases loops m → (S : Scopes) (v : V) → Kept v →
+        Ends Kept (forms.alone p.items q around (M m) (Into (M m).head.id) S v)
+    stays_alone m around loops a w S v k = to_ends (forms.alone p.items q around (M m) (Into (M m).head.id) S v)
+        ((frames.body_from p.items q (any_halt p.items b also May facts0 cells0) (Does_ p.items b also)
+        (Drops p.items b also) May_at May_at May_at Kept (keeping p.items b also May facts0 cells0) (Above least) fuel m
+        around loops w
+        (λ own to d. frames.evaluated p.items q (any_halt p.items b also May facts0 cells0) (Does_ p.items b also)
+        (Drops p.items b also) May_at May_at May_at Kept (keeping p.items b also May facts0 cells0) (Above least) fuel
+        saying at_calls m around loops a w own to d)).kept 0 S v
         (calls.none_looked_at p.items q (any_halt p.items b also May facts0 cells0) (Does_ p.items b also)
         (Drops p.items b also) May_at May_at May_at Kept (keeping p.items b also May facts0 cells0) S) k)
 
@@ -225,7 +239,7 @@ module _ (p : ProgramTree) (sound : IsSound p) (n fuel : ℕ) (b : BodyTree) (at
   all_stay May v w [] c k s = tt
   all_stay May v w (e ∷ es) c k s = (one_stays May v w e.0 e.1 c.0 k.0 s, all_stay May v w es c.1 k.1 s)
 
-  ends_more : (J K : V → Type 0) → ((w : V) → J w → K w) → (r : Run V) → Ends J r → Ends K r
+  pub ends_more : (J K : V → Type 0) → ((w : V) → J w → K w) → (r : Run V) → Ends J r → Ends K r
   ends_more J K f (At Value S v) j = f v j
   ends_more J K f (At (Breaks loop) S v) j = tt
   ends_more J K f (At (Continues loop) S v) j = tt

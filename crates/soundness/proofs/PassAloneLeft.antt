@@ -10,20 +10,20 @@ use Rattle.typed_tree.specs.Tree.{node, Node, Form, Nodes, no_node, a_node, Body
 use Rattle.src_meaning.specs.Forms.{LoopsAndGuards}
 use Rattle.src_meaning.specs.Locals.OfBody.{local_of}
 use Rattle.src_meaning.specs.Shape as shapes
-use Rattle.soundness.specs.Laws.{IsSound}
-use Rattle.soundness.proofs.AlsoTests.{Also}
-use Rattle.soundness.proofs.PassWithin.{Outer, passing, KeysAround}
+use Rattle.soundness_values.specs.Laws.{IsSound}
+use Rattle.soundness_values.proofs.AlsoTests.{Also}
+use Rattle.soundness_frame.proofs.PassWithin.{Outer, passing, KeysAround}
 use Rattle.soundness.proofs.PassAloneArgs.{ParamsOf, ArgsSuit, locals_of, locals_in, AllArgs, calls_by_args}
 use Rattle.soundness.proofs.PassAloneBrings.{named_form, args_of, AllFit, AllLeave, all_ends}
 use Rattle.soundness.proofs.PassAloneRun.{I, Does_, Drops, keeps, Stands, alone_by_calls}
 use Rattle.soundness.proofs.PassCallsAlone as alone
 use Rattle.soundness.proofs.PassCallsAlone.{AloneHolds}
-use Rattle.soundness.proofs.PassCells.{NodeIn}
-use Rattle.soundness.proofs.PassFirst.{body_at}
-use Rattle.soundness.proofs.PassFrameBodies.{any_place}
-use Rattle.soundness.proofs.PassFrameForms.{Calls, a_call, a_method, a_virtual, a_closure}
-use Rattle.soundness.proofs.PassRefilled.{not_mark}
-use Rattle.soundness.proofs.PassToldPlaces.{Rises, rises_right}
+use Rattle.soundness_cells.proofs.PassCells.{NodeIn}
+use Rattle.soundness_cells.proofs.PassFirst.{body_at}
+use Rattle.soundness_frame.proofs.PassFrameBodies.{any_place}
+use Rattle.soundness_frame.proofs.PassFrameForms.{Calls, a_call, a_method, a_virtual, a_closure}
+use Rattle.soundness_cells.proofs.PassRefilled.{not_mark}
+use Rattle.soundness_frame.proofs.PassToldPlaces.{Rises, rises_right}
 
 -- the arguments are the nodes inside
 pub nodes_so : (form : Form) (ns : Nodes) (action : EffectSite → List Operand → Action) → Calls form ns action →

@@ -1,4 +1,5 @@
--- Where the local of a node is of type `!`, the node has no value, if it is the use of a place or a call: nothing is ever
+-- Where the local of a node is of type `!`, the node has no value, if it is the use of a place or a call: nothing is
+-- ever
 -- stored there.
 use Rattle.std.proofs.Common.{◌≡◌, ℕ, ◌||◌, Bool, true, false, List, [], ◌∷◌, Option}
 use Rattle.std.proofs.lemmas.Bool.{false≢true}
@@ -19,13 +20,13 @@ use Rattle.src_meaning.specs.Locals.Effects.{action_at}
 use Rattle.src_meaning.specs.Locals.OfBody.{is_place_form, local_ty, local_of}
 use Rattle.src_meaning.specs.Scopes.{Entry, Scopes, with_scope, Exit, Value, Breaks, Continues, Returns, Panics, Run, At, Over, Does, on_value, in_scopes, leave, drop_normally, drop_unwinding, dropped_normally, dropped_unwinding, entry_site}
 use Rattle.src_meaning.specs.Shape.{NodeHead, Shape, head, shape_of, operand_at}
-use Rattle.soundness.proofs.AlsoTests.{Also, checks_also}
-use Rattle.soundness.proofs.Checked.{Checking}
-use Rattle.soundness.proofs.CheckedBodies.{checks_of}
-use Rattle.soundness.proofs.Facts.{Facts}
+use Rattle.soundness_values.proofs.AlsoTests.{Also, checks_also}
+use Rattle.soundness_values.proofs.Checked.{Checking}
+use Rattle.soundness_values.proofs.CheckedBodies.{checks_of}
+use Rattle.soundness_values.proofs.Facts.{Facts}
 use Rattle.soundness.proofs.PassAloneRun.{run}
 use Rattle.soundness.proofs.PassBorrowKnown.{facts_went, unmarked_so}
-use Rattle.soundness.proofs.PassFrameCalls.{Ends, ends_then}
+use Rattle.soundness_frame.proofs.PassFrameCalls.{Ends, ends_then}
 
 abbrev is_call : Form → Bool
 is_call (tree.Call body args) = true
@@ -142,7 +143,8 @@ module _ (items : ItemTable) (body : BodyTree) (also : Also) (fuel : ℕ) where
 
   -- ---- uses of places, and calls
 
-  place_never : (id : ℕ) (ty : TyId) (by : Option Use) (s : Shape) (reach : LoopsAndGuards → Does V) (around : LoopsAndGuards) →
+  place_never : (id : ℕ) (ty : TyId) (by : Option Use) (s : Shape) (reach : LoopsAndGuards → Does V) (around :
+      LoopsAndGuards) →
       never_local items body (local id) ≡ true → (S : Scopes) (v : V) →
       NoValue ((evaluation.a_place items q fuel (head id ty by) s reach).evaluate around false (Into id) S v)
   place_never id ty by s reach around n S v = of_dest (is_never items ty)
@@ -151,7 +153,8 @@ module _ (items : ItemTable) (body : BodyTree) (also : Also) (fuel : ℕ) where
       h = head id ty by
 
       stored : (T : Scopes) (w : V) →
-          NoValue (forms.deliver items q h (λ site. effects.Put site (operand_at h (s.place around.aliases))) (Into id) T w)
+          NoValue (forms.deliver items q h (λ site. effects.Put site (operand_at h (s.place around.aliases))) (Into
+          id) T w)
       stored T w = acts_never (effects.Put (site_in id id) (operand_at h (s.place around.aliases))) n T w
 
       made : NoValue (forms.use_of_place items q h s reach around false (Into id) S v)
@@ -173,7 +176,8 @@ module _ (items : ItemTable) (body : BodyTree) (also : Also) (fuel : ℕ) where
 
       made : NoValue (forms.acting items q h around false ms
           (forms.deliver items q h (λ site. action site (all_moved id ms)) (Into id)) S v)
-      made = leave_never _ (ends_then (λ w. Unit {0}) (λ w. ⊥) (forms.operands items q around ms (with_scope id false S) v)
+      made = leave_never _ (ends_then (λ w. Unit {0}) (λ w. ⊥) (forms.operands items q around ms (with_scope id false
+          S) v)
           _ (any_end (forms.operands items q around ms (with_scope id false S) v)) (λ T w k.
           ends_then (λ w. Unit {0}) (λ w. ⊥) (forms.take items q (forms.keys_of ms) T w) _
           (any_end (forms.take items q (forms.keys_of ms) T w)) (λ U z k.
@@ -188,21 +192,30 @@ module _ (items : ItemTable) (body : BodyTree) (also : Also) (fuel : ℕ) where
       never_local items body (local id) ≡ true → (around : LoopsAndGuards) (S : Scopes) (v : V) →
       NoValue ((M (node id at ty by form)).evaluate around false (Into (M (node id at ty by form)).head.id) S v)
   no_value (tree.Variable key) id at ty by m n around S v =
-      place_never id ty by (shape_of items (tree.Variable key) (head id ty by)) (Of (tree.Variable key) id ty by).reach around n S v
+      place_never id ty by (shape_of items (tree.Variable key) (head id ty by)) (Of (tree.Variable key) id ty
+      by).reach around n S v
   no_value (tree.Captured closure part name) id at ty by m n around S v =
-      place_never id ty by (shape_of items (tree.Captured closure part name) (head id ty by)) (Of (tree.Captured closure part name) id ty by).reach around n S v
+      place_never id ty by (shape_of items (tree.Captured closure part name) (head id ty by)) (Of (tree.Captured
+      closure part name) id ty by).reach around n S v
   no_value (tree.Field base part) id at ty by m n around S v =
-      place_never id ty by (shape_of items (tree.Field base part) (head id ty by)) (Of (tree.Field base part) id ty by).reach around n S v
+      place_never id ty by (shape_of items (tree.Field base part) (head id ty by)) (Of (tree.Field base part) id ty
+      by).reach around n S v
   no_value (tree.Index base index count) id at ty by m n around S v =
-      place_never id ty by (shape_of items (tree.Index base index count) (head id ty by)) (Of (tree.Index base index count) id ty by).reach around n S v
+      place_never id ty by (shape_of items (tree.Index base index count) (head id ty by)) (Of (tree.Index base index
+      count) id ty by).reach around n S v
   no_value (tree.Deref base) id at ty by m n around S v =
-      place_never id ty by (shape_of items (tree.Deref base) (head id ty by)) (Of (tree.Deref base) id ty by).reach around n S v
+      place_never id ty by (shape_of items (tree.Deref base) (head id ty by)) (Of (tree.Deref base) id ty by).reach
+      around n S v
   no_value (tree.Call callee args) id at ty by m n around S v =
-      call_never id ty by (shape_of items (tree.Call callee args) (head id ty by)) (Ms args) (λ site. effects.Call site callee) (λ l. n) around S v
+      call_never id ty by (shape_of items (tree.Call callee args) (head id ty by)) (Ms args) (λ site. effects.Call
+      site callee) (λ l. n) around S v
   no_value (tree.MethodCall callee receiver args) id at ty by m n around S v =
-      call_never id ty by (shape_of items (tree.MethodCall callee receiver args) (head id ty by)) (M receiver ∷ Ms args) (λ site. effects.Call site callee) (λ l. n) around S v
+      call_never id ty by (shape_of items (tree.MethodCall callee receiver args) (head id ty by)) (M receiver ∷ Ms
+      args) (λ site. effects.Call site callee) (λ l. n) around S v
   no_value (tree.VirtualCall trait_no method receiver args) id at ty by m n around S v =
-      call_never id ty by (shape_of items (tree.VirtualCall trait_no method receiver args) (head id ty by)) (M receiver ∷ Ms args) (λ site. effects.CallVirtual site trait_no method) (λ l. n) around S v
+      call_never id ty by (shape_of items (tree.VirtualCall trait_no method receiver args) (head id ty by)) (M
+      receiver ∷ Ms args) (λ site. effects.CallVirtual site trait_no method) (λ l. n) around S v
   no_value (tree.ClosureCall callee value args) id at ty by m n around S v =
-      call_never id ty by (shape_of items (tree.ClosureCall callee value args) (head id ty by)) (M value ∷ Ms args) (λ site. effects.Call site callee) (λ l. n) around S v
+      call_never id ty by (shape_of items (tree.ClosureCall callee value args) (head id ty by)) (M value ∷ Ms args)
+      (λ site. effects.Call site callee) (λ l. n) around S v
   no_value form id at ty by m n around S v = absurd (false≢true m)

@@ -15,22 +15,22 @@ use Rattle.typing_rules.specs.Accesses as rules
 use Rattle.well_typed.specs.Claim.{Holds}
 use Rattle.well_typed.specs.Nodes as typing
 use Rattle.well_typed.specs.Places.{Standing, Passed, Used, borrow_by}
-use Rattle.soundness.proofs.AlsoTests.{Also}
-use Rattle.soundness.proofs.CheckedBodies.{is_reference_param}
-use Rattle.soundness.proofs.Facts.{Naming}
+use Rattle.soundness_values.proofs.AlsoTests.{Also}
+use Rattle.soundness_values.proofs.CheckedBodies.{is_reference_param}
+use Rattle.soundness_values.proofs.Facts.{Naming}
 use Rattle.soundness.proofs.PassAloneArgs.{names_of, locals_in}
 use Rattle.soundness.proofs.PassAloneBrings.{named_form, args_of}
 use Rattle.soundness.proofs.PassAloneKeys.{other_place}
 use Rattle.soundness.proofs.PassAloneRun.{Of}
 use Rattle.soundness.proofs.PassAloneSuit.{local_off}
-use Rattle.soundness.proofs.PassArgsLeft.{OffIfAny, OffAll, AllOff}
-use Rattle.soundness.proofs.PassCells.{Above, NodeIn, above_in, node_left, node_right, rising}
-use Rattle.soundness.proofs.PassFacts.{Standpoint, context}
-use Rattle.soundness.proofs.PassFrameBodies.{any_place}
-use Rattle.soundness.proofs.PassRest.{own_local}
-use Rattle.soundness.proofs.PassTold.{Here}
-use Rattle.soundness.proofs.PassToldForms.{node_above}
-use Rattle.soundness.proofs.PassToldPlaces.{Rises, above_left, above_right, rises_right}
+use Rattle.soundness_frame.proofs.PassArgsLeft.{OffIfAny, OffAll, AllOff}
+use Rattle.soundness_cells.proofs.PassCells.{Above, NodeIn, above_in, node_left, node_right, rising}
+use Rattle.soundness_cells.proofs.PassFacts.{Standpoint, context}
+use Rattle.soundness_frame.proofs.PassFrameBodies.{any_place}
+use Rattle.soundness_cells.proofs.PassRest.{own_local}
+use Rattle.soundness_frame.proofs.PassTold.{Here}
+use Rattle.soundness_frame.proofs.PassToldForms.{node_above}
+use Rattle.soundness_frame.proofs.PassToldPlaces.{Rises, above_left, above_right, rises_right}
 
 -- one of some arguments, and the nodes inside it
 abbrev pub ArgIn : Nodes → Node → Type 0
@@ -90,7 +90,8 @@ module _ (p : ProgramTree) (b : BodyTree) (also : Also) (fuel : ℕ) (rise : Ris
   IfAny = OffIfAny p.items (local_ty p.items b) (is_reference_param p.items b) (own_local p.items b)
 
   -- each argument stands somehow
-  pub one_typed : (x : Standpoint) (ids : List TyId) (ns : Nodes) → Holds (typing.arguments (context p.items x) ids ns) →
+  pub one_typed : (x : Standpoint) (ids : List TyId) (ns : Nodes) → Holds (typing.arguments (context p.items x) ids
+      ns) →
       (a : Node) → ArgIn ns a → (standing : Standing) × Holds (typing.typed (context p.items x) standing a)
   one_typed x ids no_node h a i = absurd i
   one_typed x [] (a_node first rest) h a i = absurd (false≢true h)

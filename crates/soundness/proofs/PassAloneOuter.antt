@@ -1,4 +1,5 @@
--- Cells around a call, into which values of forms around it go, are none that its arguments name; so each argument leaves
+-- Cells around a call, into which values of forms around it go, are none that its arguments name; so each argument
+-- leaves
 -- what earlier ones name, whatever it does.
 use Rattle.std.proofs.Common.{◌≡◌, inl, inr, ℕ, ◌<◌, Bool, true, false, List, [], ◌∷◌, Some, refl, sym, subst, arith}
 use Rattle.std.specs.Prelude.{slice_get}
@@ -14,8 +15,8 @@ use Rattle.src_meaning.specs.Shape.{shape}
 use Rattle.well_typed.specs.Claim.{Holds}
 use Rattle.well_typed.specs.Nodes as typing
 use Rattle.well_typed.specs.Places.{InScope, Passed, Used, borrow_by}
-use Rattle.soundness.specs.Laws.{IsSound}
-use Rattle.soundness.proofs.AlsoTests.{Also}
+use Rattle.soundness_values.specs.Laws.{IsSound}
+use Rattle.soundness_values.proofs.AlsoTests.{Also}
 use Rattle.soundness.proofs.PassAloneApart.{cell_off}
 use Rattle.soundness.proofs.PassAloneArgs.{Arg}
 use Rattle.soundness.proofs.PassAloneBefore.{OffAt, all_leave}
@@ -26,16 +27,16 @@ use Rattle.soundness.proofs.PassAloneLeft.{block_rises, nodes_so}
 use Rattle.soundness.proofs.PassAloneOff.{ArgIn, arg_in, one_typed}
 use Rattle.soundness.proofs.PassAloneRun.{Of, Stands}
 use Rattle.soundness.proofs.PassCallsAlone as alone
-use Rattle.soundness.proofs.PassCells.{Above, NodeIn, above_in, rising}
-use Rattle.soundness.proofs.PassFacts.{Standpoint, context, beside}
-use Rattle.soundness.proofs.PassFrameActs.{DestSo}
-use Rattle.soundness.proofs.PassFrameBodies.{any_place}
-use Rattle.soundness.proofs.PassFrameForms.{Calls}
-use Rattle.soundness.proofs.PassKeys.{Keys, place_keys}
-use Rattle.soundness.proofs.PassTold as here
-use Rattle.soundness.proofs.PassTold.{ids, Here}
-use Rattle.soundness.proofs.PassToldPlaces.{is_alias}
-use Rattle.soundness.proofs.PassWithin.{Outer, passing, is_among, DestIn, KeysAround, DestsAround}
+use Rattle.soundness_cells.proofs.PassCells.{Above, NodeIn, above_in, rising}
+use Rattle.soundness_cells.proofs.PassFacts.{Standpoint, context, beside}
+use Rattle.soundness_frame.proofs.PassFrameActs.{DestSo}
+use Rattle.soundness_frame.proofs.PassFrameBodies.{any_place}
+use Rattle.soundness_frame.proofs.PassFrameForms.{Calls}
+use Rattle.soundness_frame.proofs.PassKeys.{Keys, place_keys}
+use Rattle.soundness_frame.proofs.PassTold as here
+use Rattle.soundness_frame.proofs.PassTold.{ids, Here}
+use Rattle.soundness_frame.proofs.PassToldPlaces.{is_alias}
+use Rattle.soundness_frame.proofs.PassWithin.{Outer, passing, is_among, DestIn, KeysAround, DestsAround}
 
 own_node : (m : Node) → NodeIn (nodes_of m) m
 own_node (node id at ty by form) = inl refl

@@ -1,4 +1,5 @@
--- The keys of a place at whose root stands no binding of a guard: on its way are nodes inside alone, and a place without
+-- The keys of a place at whose root stands no binding of a guard: on its way are nodes inside alone, and a place
+-- without
 -- a name at its root is one of them.
 use Rattle.std.proofs.Common.{◌≡◌, inl, inr, ℕ, List, Option, Some, None, refl, sym, subst}
 use Rattle.std.proofs.lemmas.Option.{none-some}
@@ -12,8 +13,8 @@ use Rattle.typed_tree.specs.Tree.{Node, node, Form}
 use Rattle.src_meaning.specs.Shape as shapes
 use Rattle.src_meaning.specs.Shape.{head, shape, shape_of}
 use Rattle.typing_rules.specs.Accesses.{root_of, root_of_form}
-use Rattle.soundness.proofs.PassCells.{NodeIn, node_left, node_right}
-use Rattle.soundness.proofs.PassKeys.{KeysIn, keys_at_end}
+use Rattle.soundness_cells.proofs.PassCells.{NodeIn, node_left, node_right}
+use Rattle.soundness_frame.proofs.PassKeys.{KeysIn, keys_at_end}
 
 module _ (items : ItemTable) (places : shapes.Aliases) (P : ℕ → Type 0) where
   -- a name at the root stands for itself

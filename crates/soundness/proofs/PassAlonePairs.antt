@@ -1,4 +1,5 @@
--- What two arguments of a call name lies apart, if one of the two is `&mut`: neither is an index on the way to the other,
+-- What two arguments of a call name lies apart, if one of the two is `&mut`: neither is an index on the way to the
+-- other,
 -- and where the rule of borrows does not see one of them, they have other roots.
 use Rattle.std.proofs.Common.{◌≡◌, ◌⊎◌, inl, inr, ℕ, ◌||◌, Bool, true, false, List, Option, Some, None, refl, sym, ◌∙◌, subst}
 use Rattle.std.proofs.lemmas.Bool.{false≢true}
@@ -15,17 +16,17 @@ use Rattle.typing_rules.specs.Accesses.{AccessPlace, place_of, root_of, overlap_
 use Rattle.well_typed.specs.Claim.{Holds}
 use Rattle.well_typed.specs.Nodes as typing
 use Rattle.well_typed.specs.Places.{Standing}
-use Rattle.soundness.proofs.Checks.{are_apart}
-use Rattle.soundness.proofs.NoOverlap.{SeenIf, is_seen, node_seen}
+use Rattle.soundness_values.proofs.Checks.{are_apart}
+use Rattle.soundness_values.proofs.NoOverlap.{SeenIf, is_seen, node_seen}
 use Rattle.soundness.proofs.PassAloneOwn.{own_steps, own_root}
 use Rattle.soundness.proofs.PassAloneSuit.{seen_apart, roots_apart}
-use Rattle.soundness.proofs.PassCells.{NodeIn}
-use Rattle.soundness.proofs.PassConflicts.{two_apart}
-use Rattle.soundness.proofs.PassFacts.{Standpoint, context}
-use Rattle.soundness.proofs.PassKeys.{Keys, KeysIn, keys_in_more}
-use Rattle.soundness.proofs.PassTold as here
-use Rattle.soundness.proofs.PassTold.{KnownOf, RootIf, StandsFor, Here, root_unnamed}
-use Rattle.soundness.proofs.PassToldPlaces.{is_alias, unnamed_alias}
+use Rattle.soundness_cells.proofs.PassCells.{NodeIn}
+use Rattle.soundness_frame.proofs.PassConflicts.{two_apart}
+use Rattle.soundness_cells.proofs.PassFacts.{Standpoint, context}
+use Rattle.soundness_frame.proofs.PassKeys.{Keys, KeysIn, keys_in_more}
+use Rattle.soundness_frame.proofs.PassTold as here
+use Rattle.soundness_frame.proofs.PassTold.{KnownOf, RootIf, StandsFor, Here, root_unnamed}
+use Rattle.soundness_frame.proofs.PassToldPlaces.{is_alias, unnamed_alias}
 
 module _ (items : ItemTable) (May : Place → Type 0) (Of : KnownOf) (aliases : rules.Aliases) (places : shapes.Aliases)
   where

@@ -19,11 +19,11 @@ use Rattle.well_typed.specs.Claim.{Holds, fact, both}
 use Rattle.well_typed.specs.Nodes as typing
 use Rattle.well_typed.specs.Places.{Context, Passed, form_of, is_borrow, is_taken, stands}
 use Rattle.well_typed.specs.Types as types
-use Rattle.soundness.proofs.PassConflicts.{EachArgument}
-use Rattle.soundness.proofs.PassFrameForms.{Calls, a_call, a_method, a_virtual, a_closure}
-use Rattle.soundness.proofs.PassTold as here
-use Rattle.soundness.proofs.PassTold.{KnownOf, Told}
-use Rattle.soundness.proofs.PassToldParts.{receiver_told, argument_told}
+use Rattle.soundness_frame.proofs.PassConflicts.{EachArgument}
+use Rattle.soundness_frame.proofs.PassFrameForms.{Calls, a_call, a_method, a_virtual, a_closure}
+use Rattle.soundness_frame.proofs.PassTold as here
+use Rattle.soundness_frame.proofs.PassTold.{KnownOf, Told}
+use Rattle.soundness_frame.proofs.PassToldParts.{receiver_told, argument_told}
 
 abbrev pub refers_of : rules.Aliases → Node → Option Referring
 refers_of aliases (node id at ty by form) = rules.refers_by aliases form

@@ -9,9 +9,9 @@ use Rattle.mir_ty.specs.declared.ty.TyId.{TyId}
 use Rattle.mir_ty.specs.ItemTable.{ItemTable, type_at}
 use Rattle.store_model.specs.Concrete.Location.{named_by}
 use Rattle.store_model.specs.Places.Place.{Step, ToPart, ToField, ToContent, ToElement, Place, Watched, Whole, ThroughReference, ByElement, Reach, is_reference, content_of, watched, watched_content}
-use Rattle.soundness.proofs.Facts.{Facts, bounded_by, variant_at}
-use Rattle.soundness.proofs.Running.{sure_place, sure_in, sure_from, sure_behind}
-use Rattle.soundness.proofs.Watching.{watched_own, watched_sure}
+use Rattle.soundness_values.proofs.Facts.{Facts, bounded_by, variant_at}
+use Rattle.soundness_values.proofs.Running.{sure_place, sure_in, sure_from, sure_behind}
+use Rattle.soundness_values.proofs.Watching.{watched_own, watched_sure}
 
 -- a reference on the way of a place, if any, is its local
 abbrev pub Rooted : Watched → Type 0

@@ -22,30 +22,30 @@ use Rattle.typing_rules.specs.Accesses.{told_form}
 use Rattle.well_typed.specs.Claim.{Holds}
 use Rattle.well_typed.specs.Nodes as typing
 use Rattle.well_typed.specs.Places.{form_of, is_borrow}
-use Rattle.soundness.specs.Laws.{IsSound}
-use Rattle.soundness.proofs.AlsoTests.{Also, checks_also, nothing_else}
-use Rattle.soundness.proofs.Checked.{Checking, with_facts, chosen_with}
-use Rattle.soundness.proofs.CheckedBodies.{checks_of, is_reference_param}
-use Rattle.soundness.proofs.Facts.{Naming, Facts}
-use Rattle.soundness.proofs.Leaving.{ShownOut}
-use Rattle.soundness.proofs.Owing.{starting_of}
-use Rattle.soundness.proofs.PassWithin.{Outer}
-use Rattle.soundness.proofs.PassBlockTold.{in_block, block_within}
+use Rattle.soundness_values.specs.Laws.{IsSound}
+use Rattle.soundness_values.proofs.AlsoTests.{Also, checks_also, nothing_else}
+use Rattle.soundness_values.proofs.Checked.{Checking, with_facts, chosen_with}
+use Rattle.soundness_values.proofs.CheckedBodies.{checks_of, is_reference_param}
+use Rattle.soundness_values.proofs.Facts.{Naming, Facts}
+use Rattle.soundness_values.proofs.Leaving.{ShownOut}
+use Rattle.soundness_values.proofs.Owing.{starting_of}
+use Rattle.soundness_frame.proofs.PassWithin.{Outer}
+use Rattle.soundness_frame.proofs.PassBlockTold.{in_block, block_within}
 use Rattle.soundness.proofs.PassCallsAlone as alone
 use Rattle.soundness.proofs.PassCallsAlone.{alone_mark, alone_marks, alone_run, alone_act, act_alone_if, eight, AloneHolds}
-use Rattle.soundness.proofs.PassCellEffects.{Quiet, acted_quiet, ChosenSo, test_quiet, drop_quiet}
-use Rattle.soundness.proofs.PassCellTests.{cells_act}
-use Rattle.soundness.proofs.PassCells.{NodeIn}
-use Rattle.soundness.proofs.PassFacts.{Standpoint, context}
-use Rattle.soundness.proofs.PassFrameActs.{is_plain, AnsweredSo, KeepingSo}
-use Rattle.soundness.proofs.PassFrameBodies.{any_place, body_kept_by}
-use Rattle.soundness.proofs.PassFrameForms as frames
-use Rattle.soundness.proofs.PassMarks.{StandFor, marked, chosen_marked}
+use Rattle.soundness_cells.proofs.PassCellEffects.{Quiet, acted_quiet, ChosenSo, test_quiet, drop_quiet}
+use Rattle.soundness_cells.proofs.PassCellTests.{cells_act}
+use Rattle.soundness_cells.proofs.PassCells.{NodeIn}
+use Rattle.soundness_cells.proofs.PassFacts.{Standpoint, context}
+use Rattle.soundness_frame.proofs.PassFrameActs.{is_plain, AnsweredSo, KeepingSo}
+use Rattle.soundness_frame.proofs.PassFrameBodies.{any_place, body_kept_by}
+use Rattle.soundness_frame.proofs.PassFrameForms as frames
+use Rattle.soundness_cells.proofs.PassMarks.{StandFor, marked, chosen_marked}
 use Rattle.soundness.proofs.PassNamingKept as kept
-use Rattle.soundness.proofs.PassRefilled.{not_mark, unmarked}
-use Rattle.soundness.proofs.PassRestSplit.{test_calls, drop_calls, give_calls}
-use Rattle.soundness.proofs.PassTold.{KnownOf, Here, Told, ids}
-use Rattle.soundness.proofs.PassToldForms.{Saying}
+use Rattle.soundness_cells.proofs.PassRefilled.{not_mark, unmarked}
+use Rattle.soundness_cells.proofs.PassRestSplit.{test_calls, drop_calls, give_calls}
+use Rattle.soundness_frame.proofs.PassTold.{KnownOf, Here, Told, ids}
+use Rattle.soundness_frame.proofs.PassToldForms.{Saying}
 
 pub none_own : (more own others places apart : Bool) → alone_mark more own others places apart ≡ None → (more && own)
     ≡ true
@@ -279,4 +279,4 @@ module _ (p : ProgramTree) (sound : IsSound p) where
       (I p.items b (alone.also p sound n)) (keeps p.items b (alone.also p sound n)) (Stands p b) fuel
       (telling p b (alone.also p sound n)) (asked n fuel b e) (gives p.items b (alone.also p sound n)) b
       (block_within p sound.typed sound.borrows n b e (InBlock p b) (λ m i. i) (Stands p b) (says p b))
-      (Rattle.soundness.proofs.Relating.feeds list (starting_of p b)) tt)
+      (Rattle.soundness_values.proofs.Relating.feeds list (starting_of p b)) tt)

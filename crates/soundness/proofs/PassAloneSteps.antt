@@ -6,21 +6,21 @@ use Rattle.store_model.specs.Effects.{EffectSite, Operand, Action}
 use Rattle.typed_tree.specs.Nodes.{number_of, nodes_of}
 use Rattle.typed_tree.specs.Tree.{Node, node, Form, Nodes, BodyTree, ProgramTree}
 use Rattle.src_meaning.specs.Forms.{LoopsAndGuards}
-use Rattle.soundness.specs.Laws.{IsSound}
-use Rattle.soundness.proofs.PassWithin.{Outer, passing, KeysAround}
+use Rattle.soundness_values.specs.Laws.{IsSound}
+use Rattle.soundness_frame.proofs.PassWithin.{Outer, passing, KeysAround}
 use Rattle.soundness.proofs.PassAloneLeaves.{LeftAbove}
 use Rattle.soundness.proofs.PassAloneLeft.{CallLeft, block_rises, alone_by_left}
 use Rattle.soundness.proofs.PassAloneRun.{Stands}
 use Rattle.soundness.proofs.PassCallsAlone.{AloneHolds}
-use Rattle.soundness.proofs.PassCells.{NodeIn}
-use Rattle.soundness.proofs.PassFrameForms.{Calls}
+use Rattle.soundness_cells.proofs.PassCells.{NodeIn}
+use Rattle.soundness_frame.proofs.PassFrameForms.{Calls}
 
 -- a number above those of some nodes
 abbrev top : List Node → ℕ
 top [] = 0
 top (n ∷ ns) = suc (number_of n) + top ns
 
-below_top : (ns : List Node) (m : Node) → NodeIn ns m → number_of m < top ns
+pub below_top : (ns : List Node) (m : Node) → NodeIn ns m → number_of m < top ns
 below_top [] m i = absurd i
 below_top (n ∷ ns) m (inl same) =
     let e : number_of n ≡ number_of m = ap number_of same in
@@ -34,11 +34,12 @@ module _ (p : ProgramTree) (sound : IsSound p) where
   abbrev pub CallSteps : Type 0
   CallSteps = (n fuel : ℕ) (b : BodyTree) (e : slice_get p.bodies n ≡ Some b) (form : Form) (ns : Nodes)
       (action : EffectSite → List Operand → Action) → Calls form ns action → (id : ℕ) (around : LoopsAndGuards)
-      (loops : Outer) → Stands p b around.aliases loops id form → KeysAround around (passing id loops) → LeftAbove p sound n fuel b e id →
+      (loops : Outer) → Stands p b around.aliases loops id form → KeysAround around (passing id loops) → LeftAbove p
+      sound n fuel b e id →
       CallLeft p sound n fuel b (block_rises p sound n b e) form ns around
 
   module _ (steps : CallSteps) (n fuel : ℕ) (b : BodyTree) (e : slice_get p.bodies n ≡ Some b) where
-    abbrev end : ℕ
+    abbrev pub end : ℕ
     end = top (nodes_of b.block)
 
     below_end : (form : Form) (id : ℕ) (around : LoopsAndGuards) (loops : Outer) →
@@ -46,7 +47,7 @@ module _ (p : ProgramTree) (sound : IsSound p) where
     below_end form id around loops s = below_top (nodes_of b.block) (node id s.at s.ty s.by form)
         (s.here.all (node id s.at s.ty s.by form) (inl refl))
 
-    left_above : (k least : ℕ) → end ≤ least + k → LeftAbove p sound n fuel b e least
+    pub left_above : (k least : ℕ) → end ≤ least + k → LeftAbove p sound n fuel b e least
     left_above zero least h form ns action c id around loops s a =
         let high : least < id = s.1 in
         let low : id < end = below_end form id around loops s.0 in
@@ -66,4 +67,5 @@ module _ (p : ProgramTree) (sound : IsSound p) where
   -- so no run fails by a call
   pub alone_by_steps : CallSteps → AloneHolds p sound
   alone_by_steps steps = alone_by_left p sound
-      (λ n fuel b e form ns action c id around loops s a. all_left steps n fuel b e form ns action c id around loops s a)
+      (λ n fuel b e form ns action c id around loops s a. all_left steps n fuel b e form ns action c id around loops
+      s a)

@@ -10,18 +10,18 @@ use Rattle.src_meaning.specs.Locals.Effects.{place_at, step_at}
 use Rattle.src_meaning.specs.Locals.OfBody.{local_ty, local_of, local_keys}
 use Rattle.typing_rules.specs.Accesses as rules
 use Rattle.typing_rules.specs.Accesses.{AccessPlace}
-use Rattle.soundness.proofs.CheckedBodies.{is_reference_param}
-use Rattle.soundness.proofs.Checks.{are_apart, meet}
-use Rattle.soundness.proofs.Facts.{takes_index}
-use Rattle.soundness.proofs.NoOverlap.{Seen}
+use Rattle.soundness_values.proofs.CheckedBodies.{is_reference_param}
+use Rattle.soundness_values.proofs.Checks.{are_apart, meet}
+use Rattle.soundness_values.proofs.Facts.{takes_index}
+use Rattle.soundness_values.proofs.NoOverlap.{Seen}
 use Rattle.soundness.proofs.PassAloneArgs.{locals_in}
-use Rattle.soundness.proofs.PassArgsLeft.{Differs, Distinct}
+use Rattle.soundness_frame.proofs.PassArgsLeft.{Differs, Distinct}
 use Rattle.soundness.proofs.PassBorrowApart.{no_index}
-use Rattle.soundness.proofs.PassCells.{Above, rising}
-use Rattle.soundness.proofs.PassKeys.{Keys, KeysIn}
-use Rattle.soundness.proofs.PassPlacesApart.{locals_differ, none_common}
-use Rattle.soundness.proofs.PassRest.{own_local}
-use Rattle.soundness.proofs.PassToldPlaces.{Rises, above_right, rises_right}
+use Rattle.soundness_cells.proofs.PassCells.{Above, rising}
+use Rattle.soundness_frame.proofs.PassKeys.{Keys, KeysIn}
+use Rattle.soundness_frame.proofs.PassPlacesApart.{locals_differ, none_common}
+use Rattle.soundness_cells.proofs.PassRest.{own_local}
+use Rattle.soundness_frame.proofs.PassToldPlaces.{Rises, above_right, rises_right}
 
 module _ (items : ItemTable) (body : BodyTree) where
   abbrev keys : List ℕ

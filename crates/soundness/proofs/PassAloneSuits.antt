@@ -1,5 +1,7 @@
--- What each argument of a call names suits its parameter, by the rules of typing: a borrow is of the type of the parameter;
--- what is no borrow is of type `!` where a reference is wanted, and is then the use of a place or a call, or has no cell.
+-- What each argument of a call names suits its parameter, by the rules of typing: a borrow is of the type of the
+-- parameter;
+-- what is no borrow is of type `!` where a reference is wanted, and is then the use of a place or a call, or has no
+-- cell.
 use Rattle.std.proofs.Common.{◌≡◌, inl, inr, ℕ, ◌<◌, ◌&&◌, ◌||◌, not, Bool, true, false, List, [], ◌∷◌, ◌++◌, Option, Some, None, is_none, is_some, if◌then◌else◌, refl, ap, sym, ◌∙◌, subst, arith}
 use Rattle.std.specs.Prelude.{slice_get, option_and_then}
 use Rattle.std.specs.Cmp.{second_so}
@@ -26,30 +28,30 @@ use Rattle.well_typed.specs.Claim.{Holds, fact, both}
 use Rattle.well_typed.specs.Nodes as typing
 use Rattle.well_typed.specs.Places.{Context, Passed, Used, borrow_by, form_of, ty_of, is_borrow, is_taken, is_behind_shared}
 use Rattle.well_typed.specs.Types as types
-use Rattle.soundness.proofs.AlsoTests.{Also}
-use Rattle.soundness.proofs.CheckedBodies.{is_reference_param}
-use Rattle.soundness.proofs.Checks as checks
-use Rattle.soundness.proofs.Checks.{if_so}
-use Rattle.soundness.proofs.Facts.{Naming}
+use Rattle.soundness_values.proofs.AlsoTests.{Also}
+use Rattle.soundness_values.proofs.CheckedBodies.{is_reference_param}
+use Rattle.soundness_values.proofs.Checks as checks
+use Rattle.soundness_values.proofs.Checks.{if_so}
+use Rattle.soundness_values.proofs.Facts.{Naming}
 use Rattle.soundness.proofs.PassAloneArgs.{Suits, SuitsAs, SuitsOne, AllSuit, is_listed, reference_to}
 use Rattle.soundness.proofs.PassAloneBrings.{Fit, AllFit, named_form, args_of}
 use Rattle.soundness.proofs.PassAloneChanges.{borrowed_changes}
 use Rattle.soundness.proofs.PassAloneNever.{never_local, is_use_or_call}
 use Rattle.soundness.proofs.PassAlonePassed.{Argued, AllTold}
 use Rattle.soundness.proofs.PassAloneTogether.{no_alias}
-use Rattle.soundness.proofs.PassBlockTold.{in_block}
-use Rattle.soundness.proofs.PassCellPatterns.{made_of_never}
-use Rattle.soundness.proofs.PassCellTypes.{never_same}
-use Rattle.soundness.proofs.PassCells.{NodeIn, is_literal, made_in, made_ty}
-use Rattle.soundness.proofs.PassFacts.{Standpoint, context}
-use Rattle.soundness.proofs.PassFrameBodies.{any_place}
+use Rattle.soundness_frame.proofs.PassBlockTold.{in_block}
+use Rattle.soundness_cells.proofs.PassCellPatterns.{made_of_never}
+use Rattle.soundness_cells.proofs.PassCellTypes.{never_same}
+use Rattle.soundness_cells.proofs.PassCells.{NodeIn, is_literal, made_in, made_ty}
+use Rattle.soundness_cells.proofs.PassFacts.{Standpoint, context}
+use Rattle.soundness_frame.proofs.PassFrameBodies.{any_place}
 use Rattle.soundness.proofs.PassMadeCells.{local_made}
-use Rattle.soundness.proofs.PassPastParams.{no_param}
+use Rattle.soundness_frame.proofs.PassPastParams.{no_param}
 use Rattle.soundness.proofs.PassProtectEnds.{numbered_in}
-use Rattle.soundness.proofs.PassTold as here
-use Rattle.soundness.proofs.PassTold.{KnownOf, Here, Told}
-use Rattle.soundness.proofs.PassToldPlaces.{Rises, rises_right}
-use Rattle.soundness.proofs.PlaceTypes.{some_holds, same_type}
+use Rattle.soundness_frame.proofs.PassTold as here
+use Rattle.soundness_frame.proofs.PassTold.{KnownOf, Here, Told}
+use Rattle.soundness_frame.proofs.PassToldPlaces.{Rises, rises_right}
+use Rattle.soundness_values.proofs.PlaceTypes.{some_holds, same_type}
 
 module _ (items : ItemTable) (b : BodyTree) (also : Also) (fuel : ℕ)
     (rise : Rises (param_nodes b.params ++ nodes_of b.block)) (aliases : rules.Aliases) (places : shapes.Aliases)
@@ -246,7 +248,7 @@ module _ (items : ItemTable) (b : BodyTree) (also : Also) (fuel : ℕ)
     fit id at ty by form want (f (node id at ty by form) (inl refl)) h.0
         (o.all (node id at ty by form) (inl refl)),
     all_fit rest tys
-        (λ m i. f m (Rattle.soundness.proofs.PassCells.node_right (nodes_of (node id at ty by form)) (nodes_among rest)
+        (λ m i. f m (Rattle.soundness_cells.proofs.PassCells.node_right (nodes_of (node id at ty by form)) (nodes_among rest)
         m i))
         (here.here_right items any_place Of aliases places x (nodes_of (node id at ty by form)) (nodes_among rest) o)
         h.1,
@@ -288,7 +290,7 @@ module _ (items : ItemTable) (b : BodyTree) (also : Also) (fuel : ℕ)
         (own_access (access_by by) (place_of aliases (node id at ty by form)) (root_of_form form) at)
         (subst (Told items any_place Of aliases) k.0.1 t.0)) (type_at items want) refl,
     all_suit rest tys as_ k.1
-        (λ m i. f m (Rattle.soundness.proofs.PassCells.node_right (nodes_of (node id at ty by form)) (nodes_among rest)
+        (λ m i. f m (Rattle.soundness_cells.proofs.PassCells.node_right (nodes_of (node id at ty by form)) (nodes_among rest)
         m i))
         (here.here_right items any_place Of aliases places x (nodes_of (node id at ty by form)) (nodes_among rest) o)
         h.1 t.1,

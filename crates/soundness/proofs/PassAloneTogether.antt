@@ -19,24 +19,24 @@ use Rattle.typing_rules.specs.Accesses.{Argument, Referring, told, told_form, in
 use Rattle.well_typed.specs.Claim.{Holds}
 use Rattle.well_typed.specs.Nodes as typing
 use Rattle.well_typed.specs.Places.{Passed, Used, borrow_by}
-use Rattle.soundness.proofs.AlsoTests.{Also}
-use Rattle.soundness.proofs.CheckedBodies.{is_reference_param}
-use Rattle.soundness.proofs.Checks as checks
-use Rattle.soundness.proofs.Facts.{Naming}
+use Rattle.soundness_values.proofs.AlsoTests.{Also}
+use Rattle.soundness_values.proofs.CheckedBodies.{is_reference_param}
+use Rattle.soundness_values.proofs.Checks as checks
+use Rattle.soundness_values.proofs.Facts.{Naming}
 use Rattle.soundness.proofs.PassAloneArgs.{names_of}
 use Rattle.soundness.proofs.PassAloneBrings.{args_of}
 use Rattle.soundness.proofs.PassAloneKeys.{other_keys, below_later, other_place}
 use Rattle.soundness.proofs.PassAlonePairs.{NoAlias, Without, Placed, placed, pair_apart}
 use Rattle.soundness.proofs.PassAlonePassed.{Argued, AllTold}
-use Rattle.soundness.proofs.PassArgsLeft.{named_of}
-use Rattle.soundness.proofs.PassCells.{Above, NodeIn, node_left, node_right, above_in}
-use Rattle.soundness.proofs.PassConflicts.{EachArgument, Apart, first_apart, rest_apart}
-use Rattle.soundness.proofs.PassFacts.{Standpoint, context}
-use Rattle.soundness.proofs.PassRest.{own_local}
-use Rattle.soundness.proofs.PassTold as here
-use Rattle.soundness.proofs.PassTold.{KnownOf, Here, Told}
-use Rattle.soundness.proofs.PassToldForms.{node_above}
-use Rattle.soundness.proofs.PassToldPlaces.{Rises}
+use Rattle.soundness_frame.proofs.PassArgsLeft.{named_of}
+use Rattle.soundness_cells.proofs.PassCells.{Above, NodeIn, node_left, node_right, above_in}
+use Rattle.soundness_frame.proofs.PassConflicts.{EachArgument, Apart, first_apart, rest_apart}
+use Rattle.soundness_cells.proofs.PassFacts.{Standpoint, context}
+use Rattle.soundness_cells.proofs.PassRest.{own_local}
+use Rattle.soundness_frame.proofs.PassTold as here
+use Rattle.soundness_frame.proofs.PassTold.{KnownOf, Here, Told}
+use Rattle.soundness_frame.proofs.PassToldForms.{node_above}
+use Rattle.soundness_frame.proofs.PassToldPlaces.{Rises}
 
 module _ (items : ItemTable) (May : Place → Type 0) (Of : KnownOf) (aliases : rules.Aliases) (places : shapes.Aliases)
     (x : Standpoint) where
@@ -53,7 +53,8 @@ module _ (items : ItemTable) (May : Place → Type 0) (Of : KnownOf) (aliases : 
 
   -- what is borrowed by `&mut` is no binding of a guard
   pub no_alias : (at : Pos) (unique : Bool) (base : Node) → Told items May Of aliases
-      (told_form aliases at (tree.Borrow unique base)) → unique ≡ true → NoAlias items May Of aliases places (root_of base)
+      (told_form aliases at (tree.Borrow unique base)) → unique ≡ true → NoAlias items May Of aliases places (root_of
+      base)
   no_alias at unique base t u key e =
       (here.told_right items May Of aliases (inside aliases base)
       (one (if unique then rules.BorrowsUniquely else rules.Borrows) (place_of aliases base) (root_of base) at)
@@ -64,7 +65,8 @@ module _ (items : ItemTable) (May : Place → Type 0) (Of : KnownOf) (aliases : 
       Holds (typing.typed (context items x) (Passed want) (node id at ty by (tree.Borrow unique base))) →
       Told items May Of aliases (told aliases (node id at ty by (tree.Borrow unique base))) →
       Placed items May Of aliases places base unique
-  arg_placed id at ty by unique base want o h t = placed items May Of aliases places x base (Used (borrow_by unique)) unique
+  arg_placed id at ty by unique base want o h t = placed items May Of aliases places x base (Used (borrow_by unique))
+      unique
       (here.here_in items May Of aliases places x (node id at ty by (tree.Borrow unique base)) (nodes_of base) o) h.1.0
       (no_alias at unique base
       (here.told_left items May Of aliases (told_form aliases at (tree.Borrow unique base))
@@ -76,7 +78,8 @@ module _ (items : ItemTable) (May : Place → Type 0) (Of : KnownOf) (aliases : 
       ((m : Node) → NodeIn (nodes_of base) m → NodeIn (nodes_of first) m) → TypedAs base → (m : Node) →
       NodeIn (nodes_among rest) m → Without items May Of aliases places m (at_place base)
   none_behind first rest o base f h m i = other_keys (nodes_among rest) m (at_place base) i
-      (below_later items May Of aliases places x (nodes_of first) (nodes_among rest) o base (Used (borrow_by h.0)) h.1 f)
+      (below_later items May Of aliases places x (nodes_of first) (nodes_among rest) o base (Used (borrow_by h.0))
+      h.1 f)
 
   -- that of one behind has none of its keys
   pub none_before : (first : Node) (rest : Nodes) → Around (nodes_of first ++ nodes_among rest) → (base : Node) →
@@ -130,8 +133,10 @@ module _ (items : ItemTable) (May : Place → Type 0) (Of : KnownOf) (aliases : 
       apart_rest (a_node n part) [] as_ k f g typed t a = absurd (false≢true typed)
       apart_rest (a_node n part) (want ∷ tys) [] k f g typed t a = absurd k
       apart_rest (a_node (node key pos its usage form) part) (want ∷ tys) (arg ∷ as_) k f g typed t a =
-          by_form form k.0 typed.0 (here.here_left items May Of aliases places x (nodes_of (node key pos its usage form))
-          (nodes_among part) g) t.0 (λ m i. f m (node_left (nodes_of (node key pos its usage form)) (nodes_among part) m i))
+          by_form form k.0 typed.0 (here.here_left items May Of aliases places x (nodes_of (node key pos its usage
+          form))
+          (nodes_among part) g) t.0 (λ m i. f m (node_left (nodes_of (node key pos its usage form)) (nodes_among
+          part) m i))
           (apart_rest part tys as_ k.1
           (λ m i. f m (node_right (nodes_of (node key pos its usage form)) (nodes_among part) m i))
           (here.here_right items May Of aliases places x (nodes_of (node key pos its usage form)) (nodes_among part) g)

@@ -14,12 +14,12 @@ use Rattle.well_typed.specs.Claim.{Holds, fact, both, some}
 use Rattle.well_typed.specs.Nodes as typing
 use Rattle.well_typed.specs.Places.{Context, Passed}
 use Rattle.well_typed.specs.Types as types
-use Rattle.soundness.proofs.CheckedBodies.{is_reference_param}
-use Rattle.soundness.proofs.Checks.{head_of}
+use Rattle.soundness_values.proofs.CheckedBodies.{is_reference_param}
+use Rattle.soundness_values.proofs.Checks.{head_of}
 use Rattle.soundness.proofs.PassAloneArgs.{ParamsOf}
-use Rattle.soundness.proofs.PassFacts.{Standpoint, context}
-use Rattle.soundness.proofs.PassFrameForms.{Calls, a_call, a_method, a_virtual, a_closure}
-use Rattle.soundness.proofs.PlaceTypes.{some_holds}
+use Rattle.soundness_cells.proofs.PassFacts.{Standpoint, context}
+use Rattle.soundness_frame.proofs.PassFrameForms.{Calls, a_call, a_method, a_virtual, a_closure}
+use Rattle.soundness_values.proofs.PlaceTypes.{some_holds}
 
 module _ (items : ItemTable) (body : BodyTree) where
   abbrev K : Standpoint → Context

@@ -34,31 +34,31 @@ use Rattle.well_typed.specs.Claim.{Holds}
 use Rattle.well_typed.specs.Nodes as typing
 use Rattle.well_typed.specs.Places.{InScope, entry_with, Used, borrow_by}
 use Rattle.well_typed.specs.Program.{is_body}
-use Rattle.soundness.specs.Laws.{IsSound}
-use Rattle.soundness.proofs.AlsoTests.{Also, checks_also}
-use Rattle.soundness.proofs.Checked.{Checking, Checks, with_facts, chosen_with}
-use Rattle.soundness.proofs.CheckedBodies.{checks_of, is_reference_param}
-use Rattle.soundness.proofs.Facts.{Facts, takes_index}
-use Rattle.soundness.proofs.Leaving.{ShownOut}
-use Rattle.soundness.proofs.PassWithin.{Outer}
-use Rattle.soundness.proofs.PassBlockTold.{in_block, block_within}
-use Rattle.soundness.proofs.PassCellEffects.{Quiet, acted_quiet, ChosenSo, test_quiet, drop_quiet}
-use Rattle.soundness.proofs.PassCells.{Above, NodeIn, node_left, node_right, above_in, rising}
-use Rattle.soundness.proofs.PassFacts.{Standpoint, context}
-use Rattle.soundness.proofs.PassFirst.{body_at}
-use Rattle.soundness.proofs.PassFrameActs.{is_plain, AnsweredSo, KeepingSo}
-use Rattle.soundness.proofs.PassFrameBodies.{any_place, body_kept}
-use Rattle.soundness.proofs.PassFrameForms.{Telling, TellingCalls, moved_nodes}
-use Rattle.soundness.proofs.PassKeys.{Keys, KeysIn, keys_more, place_keys}
-use Rattle.soundness.proofs.PassLocals.{one_key}
-use Rattle.soundness.proofs.PassMarks.{Marks, marked, chosen_marked, marked_effects}
-use Rattle.soundness.proofs.PassNumbers.{Numbered, Rises}
-use Rattle.soundness.proofs.PassPastParams.{no_param}
+use Rattle.soundness_values.specs.Laws.{IsSound}
+use Rattle.soundness_values.proofs.AlsoTests.{Also, checks_also}
+use Rattle.soundness_values.proofs.Checked.{Checking, Checks, with_facts, chosen_with}
+use Rattle.soundness_values.proofs.CheckedBodies.{checks_of, is_reference_param}
+use Rattle.soundness_values.proofs.Facts.{Facts, takes_index}
+use Rattle.soundness_values.proofs.Leaving.{ShownOut}
+use Rattle.soundness_frame.proofs.PassWithin.{Outer}
+use Rattle.soundness_frame.proofs.PassBlockTold.{in_block, block_within}
+use Rattle.soundness_cells.proofs.PassCellEffects.{Quiet, acted_quiet, ChosenSo, test_quiet, drop_quiet}
+use Rattle.soundness_cells.proofs.PassCells.{Above, NodeIn, node_left, node_right, above_in, rising}
+use Rattle.soundness_cells.proofs.PassFacts.{Standpoint, context}
+use Rattle.soundness_cells.proofs.PassFirst.{body_at}
+use Rattle.soundness_frame.proofs.PassFrameActs.{is_plain, AnsweredSo, KeepingSo}
+use Rattle.soundness_frame.proofs.PassFrameBodies.{any_place, body_kept}
+use Rattle.soundness_frame.proofs.PassFrameForms.{Telling, TellingCalls, moved_nodes}
+use Rattle.soundness_frame.proofs.PassKeys.{Keys, KeysIn, keys_more, place_keys}
+use Rattle.soundness_cells.proofs.PassLocals.{one_key}
+use Rattle.soundness_cells.proofs.PassMarks.{Marks, marked, chosen_marked, marked_effects}
+use Rattle.soundness_cells.proofs.PassNumbers.{Numbered, Rises}
+use Rattle.soundness_frame.proofs.PassPastParams.{no_param}
 use Rattle.soundness.proofs.PassProtectEnds.{numbered_in}
-use Rattle.soundness.proofs.PassRefilled.{not_mark, NotMark, unmarked}
-use Rattle.soundness.proofs.PassTold.{KnownOf, Here, Told}
-use Rattle.soundness.proofs.PassToldForms.{Saying}
-use Rattle.soundness.proofs.PassToldPlaces.{is_alias}
+use Rattle.soundness_cells.proofs.PassRefilled.{not_mark, NotMark, unmarked}
+use Rattle.soundness_frame.proofs.PassTold.{KnownOf, Here, Told}
+use Rattle.soundness_frame.proofs.PassToldForms.{Saying}
+use Rattle.soundness_frame.proofs.PassToldPlaces.{is_alias}
 
 -- ---- the test, and its marks: 7 where it fails, 2 where another does
 

@@ -16,21 +16,21 @@ use Rattle.store_model.specs.Places.TypeForms.{same_id, referent}
 use Rattle.src_meaning.specs.Locals.OfBody.{local_ty}
 use Rattle.typed_tree.specs.Tree.{BodyTree}
 use Rattle.typing_rules.specs.Accesses.{begin_alike}
-use Rattle.soundness.proofs.AlsoTests.{Also, checks_also}
-use Rattle.soundness.proofs.Checked.{Checking, Checks, with_facts}
-use Rattle.soundness.proofs.CheckedBodies.{checks_of, is_reference_param}
-use Rattle.soundness.proofs.Checks as checks
-use Rattle.soundness.proofs.Checks.{no_steps}
-use Rattle.soundness.proofs.Facts.{Naming, Facts, takes_index}
-use Rattle.soundness.proofs.NoOverlap.{seen}
-use Rattle.soundness.proofs.PassFrameActs.{KeptOut}
-use Rattle.soundness.proofs.PassFrameCells.{CellsKept, cells_same, free_keeping}
-use Rattle.soundness.proofs.PassFrameFacts as frame
-use Rattle.soundness.proofs.PassFrameFacts.{FactsKept}
-use Rattle.soundness.proofs.PassMarks.{Marks, StandFor, marked, marked_effects}
+use Rattle.soundness_values.proofs.AlsoTests.{Also, checks_also}
+use Rattle.soundness_values.proofs.Checked.{Checking, Checks, with_facts}
+use Rattle.soundness_values.proofs.CheckedBodies.{checks_of, is_reference_param}
+use Rattle.soundness_values.proofs.Checks as checks
+use Rattle.soundness_values.proofs.Checks.{no_steps}
+use Rattle.soundness_values.proofs.Facts.{Naming, Facts, takes_index}
+use Rattle.soundness_values.proofs.NoOverlap.{seen}
+use Rattle.soundness_frame.proofs.PassFrameActs.{KeptOut}
+use Rattle.soundness_frame.proofs.PassFrameCells.{CellsKept, cells_same, free_keeping}
+use Rattle.soundness_frame.proofs.PassFrameFacts as frame
+use Rattle.soundness_frame.proofs.PassFrameFacts.{FactsKept}
+use Rattle.soundness_cells.proofs.PassMarks.{Marks, StandFor, marked, marked_effects}
 use Rattle.soundness.proofs.PassProtectRun.{unless_none}
-use Rattle.soundness.proofs.PassStillKnown.{Clear, still_sure}
-use Rattle.soundness.proofs.Running.{sure_place}
+use Rattle.soundness_frame.proofs.PassStillKnown.{Clear, still_sure}
+use Rattle.soundness_values.proofs.Running.{sure_place}
 
 not_same : (b : Bool) → not b ≡ true → b ≡ false
 not_same true h = absurd (false≢true h)

@@ -19,32 +19,32 @@ use Rattle.src_meaning.specs.Locals.Effects.{at_locals}
 use Rattle.src_meaning.specs.Locals.OfBody.{local_of, local_ty}
 use Rattle.src_meaning.specs.Programs.{activation}
 use Rattle.typed_tree.specs.Tree.{BodyTree, ProgramTree}
-use Rattle.soundness.specs.Laws.{IsSound}
-use Rattle.soundness.proofs.AlsoTests.{Also, checks_also, nothing_else}
-use Rattle.soundness.proofs.Checked.{Checking}
-use Rattle.soundness.proofs.CheckedBodies.{checks_of, is_reference_param}
-use Rattle.soundness.proofs.Checks as checks
-use Rattle.soundness.proofs.Checks.{is_none}
-use Rattle.soundness.proofs.Facts.{Facts}
-use Rattle.soundness.proofs.Leaving.{ShownOut}
-use Rattle.soundness.proofs.OnceByPass.{protected}
-use Rattle.soundness.proofs.Owing.{starting_of}
+use Rattle.soundness_values.specs.Laws.{IsSound}
+use Rattle.soundness_values.proofs.AlsoTests.{Also, checks_also, nothing_else}
+use Rattle.soundness_values.proofs.Checked.{Checking}
+use Rattle.soundness_values.proofs.CheckedBodies.{checks_of, is_reference_param}
+use Rattle.soundness_values.proofs.Checks as checks
+use Rattle.soundness_values.proofs.Checks.{is_none}
+use Rattle.soundness_values.proofs.Facts.{Facts}
+use Rattle.soundness_values.proofs.Leaving.{ShownOut}
+use Rattle.soundness_values.proofs.OnceByPass.{protected}
+use Rattle.soundness_values.proofs.Owing.{starting_of}
 use Rattle.soundness.proofs.PassBorrowApart.{apart_act, apart_mark, apart_marks, apart_run, apart_ends}
-use Rattle.soundness.proofs.PassCellTests.{cells_act, cells_test, cells_drop, cells_give}
-use Rattle.soundness.proofs.PassEmpty.{finds_nothing}
-use Rattle.soundness.proofs.PassMarks.{Marks, marked_effects}
-use Rattle.soundness.proofs.PassMarksJoin.{Carries, CarriesMark, carried}
+use Rattle.soundness_cells.proofs.PassCellTests.{cells_act, cells_test, cells_drop, cells_give}
+use Rattle.soundness_cells.proofs.PassEmpty.{finds_nothing}
+use Rattle.soundness_cells.proofs.PassMarks.{Marks, marked_effects}
+use Rattle.soundness_cells.proofs.PassMarksJoin.{Carries, CarriesMark, carried}
 use Rattle.soundness.proofs.PassMarksSplit.{Splits, SplitsMark, NotItself, split_marks}
 use Rattle.soundness.proofs.PassProtectEnds.{rise, protect_ends}
 use Rattle.soundness.proofs.PassProtectRun as runs
 use Rattle.soundness.proofs.PassProtectRun.{also_mark, also_marks}
-use Rattle.soundness.proofs.PassRefilled.{none_waits, not_mark}
-use Rattle.soundness.proofs.PassRest.{own_local}
-use Rattle.soundness.proofs.PassRestCalls.{left_call}
-use Rattle.soundness.proofs.PassRestSplit as halves
-use Rattle.soundness.proofs.PassRestSplit.{split_mark, calls_act, places_now, places_test, places_drop, places_give, CallsHold, act_calls}
-use Rattle.soundness.proofs.ProtectTests.{protect_tests}
-use Rattle.soundness.proofs.Relating.{feeds}
+use Rattle.soundness_cells.proofs.PassRefilled.{none_waits, not_mark}
+use Rattle.soundness_cells.proofs.PassRest.{own_local}
+use Rattle.soundness_cells.proofs.PassRestCalls.{left_call}
+use Rattle.soundness_cells.proofs.PassRestSplit as halves
+use Rattle.soundness_cells.proofs.PassRestSplit.{split_mark, calls_act, places_now, places_test, places_drop, places_give, CallsHold, act_calls}
+use Rattle.soundness_values.proofs.ProtectTests.{protect_tests}
+use Rattle.soundness_values.proofs.Relating.{feeds}
 
 -- the half on calls is 8 here; 6 where a test of protected parameters fails and all else holds
 abbrev pub half_mark : (more own others places : Bool) → Option ℕ

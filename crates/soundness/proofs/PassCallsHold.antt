@@ -1,28 +1,28 @@
 -- The half on calls holds: no run of a body of a sound program fails by a call, by a borrow, or by a test of protected
 -- parameters, while all else holds. Of each call is shown what it asks, where the calls behind it are in order.
-use Rattle.std.proofs.Common.{◌≡◌, inl, inr, ℕ, ◌<◌, List, [], ◌∷◌, ◌++◌, Some, refl, ap, sym, subst, arith}
+use Rattle.std.proofs.Common.{◌≡◌, inl, inr, ℕ, ◌+◌, ◌<◌, ◌≤◌, List, [], ◌∷◌, ◌++◌, Some, refl, ap, sym, subst, arith}
 use Rattle.std.specs.Prelude.{slice_get}
 use Rattle.store_model.specs.Effects.{EffectSite, Operand, Action}
 use Rattle.typed_tree.specs.Nodes.{number_of, nodes_of, nodes_in, nodes_among, param_nodes}
 use Rattle.typed_tree.specs.Tree.{Node, node, Form, Nodes, BodyTree, ProgramTree}
 use Rattle.src_meaning.specs.Forms.{LoopsAndGuards}
 use Rattle.well_typed.specs.Places.{form_of}
-use Rattle.soundness.specs.Laws.{IsSound}
+use Rattle.soundness_values.specs.Laws.{IsSound}
 use Rattle.soundness.proofs.PassAloneGiven.{given_params, given_here, given_distinct, given_off, given_together, given_apart}
 use Rattle.soundness.proofs.PassAloneLeaves.{LeftAbove}
 use Rattle.soundness.proofs.PassAloneLeft.{CallLeft, block_rises, nodes_so}
 use Rattle.soundness.proofs.PassAloneOuter.{given_leave}
 use Rattle.soundness.proofs.PassAloneRun.{Stands}
-use Rattle.soundness.proofs.PassAloneSteps.{CallSteps, alone_by_steps}
+use Rattle.soundness.proofs.PassAloneSteps.{CallSteps, end, left_above, alone_by_steps}
 use Rattle.soundness.proofs.PassAloneSuits.{all_fit, all_suit}
 use Rattle.soundness.proofs.PassCallsAlone as alone
 use Rattle.soundness.proofs.PassCallsAlone.{calls_by_alone}
-use Rattle.soundness.proofs.PassCells.{Above, NodeIn, above_in, rising}
-use Rattle.soundness.proofs.PassFirst.{body_at}
-use Rattle.soundness.proofs.PassFrameForms.{Calls}
-use Rattle.soundness.proofs.PassRestSplit.{CallsHold}
-use Rattle.soundness.proofs.PassToldPlaces.{Rises}
-use Rattle.soundness.proofs.PassWithin.{Outer, passing, KeysAround}
+use Rattle.soundness_cells.proofs.PassCells.{Above, NodeIn, above_in, rising}
+use Rattle.soundness_cells.proofs.PassFirst.{body_at}
+use Rattle.soundness_frame.proofs.PassFrameForms.{Calls}
+use Rattle.soundness_cells.proofs.PassRestSplit.{CallsHold}
+use Rattle.soundness_frame.proofs.PassToldPlaces.{Rises}
+use Rattle.soundness_frame.proofs.PassWithin.{Outer, passing, KeysAround}
 
 -- a node with a number above that of another is not the first of all
 inside_of : (whole call m : Node) → Rises (nodes_of whole) → NodeIn (nodes_of whole) call → NodeIn (nodes_of whole) m →
@@ -77,14 +77,22 @@ module _ (p : ProgramTree) (sound : IsSound p) where
                 stands.x ns params.ids together.args together.argued inside standing params.typed together.told;
             apart = given_apart p sound n fuel b at form ns action c around.aliases loops id stands;
           };
-          fit = all_fit p.items b (alone.also p sound n) fuel (all_rise n b at) stands.aliases around.aliases stands.x ns
+          fit = all_fit p.items b (alone.also p sound n) fuel (all_rise n b at) stands.aliases around.aliases
+              stands.x ns
               params.ids inside standing params.typed;
           leave = given_leave p sound n fuel b at form ns action c around loops id stands keys left;
         }
 
-  all_steps : CallSteps p sound
+  pub all_steps : CallSteps p sound
   all_steps n fuel b at form ns action c id around loops stands keys left =
       call_left n fuel b at form ns action c id around loops stands keys left
+
+  -- so all are
+  pub all_above : (n fuel : ℕ) (b : BodyTree) (at : slice_get p.bodies n ≡ Some b) (least : ℕ) →
+      LeftAbove p sound n fuel b at least
+  all_above n fuel b at least =
+      let enough : end p sound all_steps n fuel b at ≤ least + end p sound all_steps n fuel b at = omega arith in
+      left_above p sound all_steps n fuel b at (end p sound all_steps n fuel b at) least enough
 
   -- so the half on calls holds
   pub calls_hold : CallsHold p sound.typed (alone.also p sound)

@@ -1,16 +1,16 @@
--- What is stored into and borrowed by `&mut` may be changed, by the rules of typing: it is in a local that is no parameter
--- which is a reference, or behind `&mut`. Asked is that the name at its root is no binding of a guard.
-use Rattle.std.proofs.Common.{◌≡◌, ℕ, ◌==◌, ◌&&◌, ◌||◌, not, Bool, true, false, Option, Some, None, is_none, is_some, refl, ap, sym, ◌∙◌, subst}
+-- What is stored into and borrowed by `&mut` may be changed, by the rules of typing: it is in a local that is no
+-- parameter which is a reference, or behind `&mut`. Asked is that the name at its root is no binding of a guard.
+use Rattle.std.proofs.Common.{◌≡◌, ℕ, ◌==◌, ◌&&◌, ◌||◌, not, Bool, true, false, Option, Some, None, is_some, refl, ap, sym, ◌∙◌, subst}
 use Rattle.std.specs.Prelude.{option_and_then}
 use Rattle.std.specs.Option.{option_map_or}
 use Rattle.std.proofs.lemmas.Bool.{false≢true}
 use Rattle.std.proofs.lemmas.Bool.Decides.{Decides-eqb}
-use Rattle.std.proofs.lemmas.Option.{none-some, same_Some}
+use Rattle.std.proofs.lemmas.Option.{none-some}
 use Rattle.mir_ty.specs.declared.ty.Ty.{Ty}
 use Rattle.mir_ty.specs.declared.ty.TyId.{TyId}
 use Rattle.mir_ty.specs.ItemTable.{ItemTable, type_at}
 use Rattle.mir_ty.specs.Parts.{field_ty}
-use Rattle.store_model.specs.Places.Place.{ToPart, ToContent, ToElement, Place, whole_local, is_reference}
+use Rattle.store_model.specs.Places.Place.{Place, whole_local, is_reference}
 use Rattle.store_model.specs.Places.TypeForms.{referent}
 use Rattle.typed_tree.specs.declared.node.Use.{Use}
 use Rattle.typed_tree.specs.Tree as tree
@@ -18,25 +18,23 @@ use Rattle.typed_tree.specs.Tree.{Node, node, Form, BodyTree}
 use Rattle.src_meaning.specs.Forms.{is_never}
 use Rattle.src_meaning.specs.Locals.Effects.{place_at}
 use Rattle.src_meaning.specs.Locals.OfBody.{local_of, local_ty, reached_cells, cells_in}
-use Rattle.src_meaning.specs.Shape.{Aliases, head, shape, shape_of, place_of_key}
+use Rattle.src_meaning.specs.Shape.{Aliases, head, shape, shape_of}
 use Rattle.typing_rules.specs.Accesses.{root_of, root_of_form}
 use Rattle.well_typed.specs.Claim.{Holds, fact, both, some}
 use Rattle.well_typed.specs.Nodes as typing
-use Rattle.well_typed.specs.Places.{InScope, Context, entry_with, ty_of, form_of, is_place, is_rooted, is_rooted_by, Standing, Base}
+use Rattle.well_typed.specs.Places.{Context, entry_with, ty_of, form_of, is_place, is_rooted, is_rooted_by, Standing, Base}
 use Rattle.well_typed.specs.Types as types
-use Rattle.soundness.proofs.CheckedBodies.{is_reference_param}
-use Rattle.soundness.proofs.Checks as checks
-use Rattle.soundness.proofs.PassCellActs.{Cell}
-use Rattle.soundness.proofs.PassCellNames.{Names}
-use Rattle.soundness.proofs.PassCellPatterns as cells_of
-use Rattle.soundness.proofs.PassCellPatterns.{Told, Has}
-use Rattle.soundness.proofs.PassCellPlaces as places
-use Rattle.soundness.proofs.PassCellPlaces.{Scoped}
-use Rattle.soundness.proofs.PassCellTypes as facts
-use Rattle.soundness.proofs.PassFacts.{Standpoint, context}
-use Rattle.soundness.proofs.PassMovable.{Unaliased}
-use Rattle.soundness.proofs.PassRest.{own_local}
-use Rattle.soundness.proofs.PlaceTypes.{some_holds, same_type}
+use Rattle.soundness_values.proofs.CheckedBodies.{is_reference_param}
+use Rattle.soundness_values.proofs.Checks as checks
+use Rattle.soundness_cells.proofs.PassCellActs.{Cell}
+use Rattle.soundness_cells.proofs.PassCellPatterns as cells_of
+use Rattle.soundness_cells.proofs.PassCellPatterns.{Told, Has}
+use Rattle.soundness_cells.proofs.PassCellPlaces as places
+use Rattle.soundness_cells.proofs.PassCellPlaces.{Scoped}
+use Rattle.soundness_cells.proofs.PassFacts.{Standpoint, context}
+use Rattle.soundness.proofs.PassMovable.{RootPlain}
+use Rattle.soundness_cells.proofs.PassRest.{own_local}
+use Rattle.soundness_values.proofs.PlaceTypes.{some_holds, same_type}
 
 module _ (items : ItemTable) (body : BodyTree) (told : Told items) (fuel : ℕ) where
   abbrev K : Standpoint → Context
@@ -44,8 +42,8 @@ module _ (items : ItemTable) (body : BodyTree) (told : Told items) (fuel : ℕ) 
 
   abbrev pub Changeable : Place → Type 0
   Changeable place =
-      checks.may_change items (local_ty items body) (is_reference_param items body) (place_at (local_of items body) place)
-      ≡ true
+      checks.may_change items (local_ty items body) (is_reference_param items body) (place_at (local_of items body)
+      place) ≡ true
 
   first : (a b : Bool) → a ≡ true → (a || b) ≡ true
   first true b h = refl
@@ -60,14 +58,14 @@ module _ (items : ItemTable) (body : BodyTree) (told : Told items) (fuel : ℕ) 
       Changeable (whole_local key)
   own_changeable key id c r = first _ _ (ap not (own_local items body (local_of items body key) id c r))
 
-  unique_changeable : (key : ℕ) (id : TyId) → Cell items body key id → is_some (referent true (type_at items id)) ≡ true →
-      Changeable (whole_local key)
+  unique_changeable : (key : ℕ) (id : TyId) → Cell items body key id → is_some (referent true (type_at items id)) ≡
+      true → Changeable (whole_local key)
   unique_changeable key id c e =
       second _ _ (ap (λ o. is_some (referent true (option_and_then (type_at items) o))) c ∙ e)
 
   -- a variable that is no root behind `&`, and is a reference, is one behind `&mut`
-  unshared : (x : Standpoint) (key : ℕ) (t : TyId) → is_rooted_by (K x) t (tree.Variable key) ≡ false → (o : Option Ty) →
-      type_at items t ≡ o → is_reference o ≡ true → is_some (referent true o) ≡ true
+  unshared : (x : Standpoint) (key : ℕ) (t : TyId) → is_rooted_by (K x) t (tree.Variable key) ≡ false → (o : Option
+      Ty) → type_at items t ≡ o → is_reference o ≡ true → is_some (referent true o) ≡ true
   unshared x key t e None k r = absurd (false≢true r)
   unshared x key t e (Some (Ty.Shared to)) k r =
       let rooted : is_rooted_by (K x) t (tree.Variable key) ≡ true = rw k in absurd (false≢true (sym e ∙ rooted))
@@ -92,21 +90,16 @@ module _ (items : ItemTable) (body : BodyTree) (told : Told items) (fuel : ℕ) 
   array_made (Some Ty.Never) a e = absurd (none-some a e)
   array_made (Some ty) a e = refl
 
-  -- the name at the root is no binding of a guard
-  abbrev pub Unguarded : Standpoint → Option ℕ → Type 0
-  Unguarded x root =
-      (key : ℕ) (y : InScope) → root ≡ Some key → entry_with key x.entries ≡ Some y → y.is_in_guard ≡ false
-
   mutual
     pub changed_place : (n : Node) (x : Standpoint) (standing : Standing) → Holds (typing.typed (K x) standing n) →
         Scoped items body x → Has items body (reached_cells items n) →
         (is_place (form_of n) ≡ false → is_never items (ty_of n) ≡ false) →
         (is_place (form_of n) ≡ false → is_reference (type_at items (ty_of n)) ≡ false) → (aliases : Aliases) →
-        Unaliased x aliases → Unguarded x (root_of n) → is_rooted (K x) n ≡ false →
+        RootPlain aliases (root_of n) → is_rooted (K x) n ≡ false →
         Changeable ((shape items n).place aliases)
-    changed_place (node id at ty by form) x standing h s k made plain aliases u g e = of_kind (is_place form) refl
-        (λ p. changed_form form x id ty by h.1 p s (cells_of.reached_inside items body (node id at ty by form) k) aliases
-        u g e)
+    changed_place (node id at ty by form) x standing h s k made plain aliases g e = of_kind (is_place form) refl
+        (λ p. changed_form form x id ty by h.1 p s (cells_of.reached_inside items body (node id at ty by form) k)
+        aliases g e)
       where
         of_kind : (b : Bool) → is_place form ≡ b →
             (is_place form ≡ true → Changeable ((shape_of items form (head id ty by)).place aliases)) →
@@ -119,14 +112,14 @@ module _ (items : ItemTable) (body : BodyTree) (told : Told items) (fuel : ℕ) 
 
     pub changed_form : (form : Form) (x : Standpoint) (id : ℕ) (ty : TyId) (by : Option Use) →
         Holds (typing.row (K x) id ty form) → is_place form ≡ true → Scoped items body x →
-        Has items body (cells_in items form) → (aliases : Aliases) → Unaliased x aliases →
-        Unguarded x (root_of_form form) → is_rooted_by (K x) ty form ≡ false →
+        Has items body (cells_in items form) → (aliases : Aliases) →
+        RootPlain aliases (root_of_form form) → is_rooted_by (K x) ty form ≡ false →
         Changeable ((shape_of items form (head id ty by)).place aliases)
-    changed_form (tree.Variable key) x id ty by h p s k aliases u g e =
+    changed_form (tree.Variable key) x id ty by h p s k aliases g e =
         let y = some_holds (entry_with key x.entries) (λ y. fact (types.is_same ty y.ty)) h in
         let same = same_type ty y.0.ty y.1.1 in
         let c = s.names key y.0 y.1.0 in
-        subst Changeable (sym (u.names key y.0 y.1.0 (g key y.0 refl y.1.0)))
+        subst Changeable (sym (g key refl))
         (of_type y.0.ty (is_reference (type_at items y.0.ty)) refl c
         (subst (λ t. is_rooted_by (K x) t (tree.Variable key) ≡ false) same e))
       where
@@ -134,26 +127,26 @@ module _ (items : ItemTable) (body : BodyTree) (told : Told items) (fuel : ℕ) 
             is_rooted_by (K x) t (tree.Variable key) ≡ false → Changeable (whole_local key)
         of_type t false r c e = own_changeable key t c r
         of_type t true r c e = unique_changeable key t c (unshared x key t e (type_at items t) refl r)
-    changed_form (tree.Captured closure part name) x id ty by h p s k aliases u g e =
+    changed_form (tree.Captured closure part name) x id ty by h p s k aliases g e =
         let y = some_holds x.closure (λ y. both (fact (y.key == closure))
         (some (field_ty items y.ty 0 part) (λ t. fact (types.is_same ty t)))) h in
         let c = s.closure y.0 y.1.0 in
-        subst (λ z. Changeable (place_of_key z aliases)) ((Decides-eqb y.0.key closure).0 y.1.1.0)
-        (subst Changeable (sym (u.closure y.0 y.1.0))
+        subst Changeable (sym (g closure refl))
+        (subst (λ z. Changeable (whole_local z)) ((Decides-eqb y.0.key closure).0 y.1.1.0)
         (own_changeable y.0.key y.0.ty c.0 (subst (λ o. is_reference o ≡ false) (sym c.1.1) refl)))
-    changed_form (tree.Field base part) x id ty by h p s k aliases u g e =
+    changed_form (tree.Field base part) x id ty by h p s k aliases g e =
         changed_place base x Base h.0 s k (λ q. fields_made (type_at items (ty_of base)) h.1.0)
-        (λ q. places.base_plain items body told fuel base x h.0 s q) aliases u g e
-    changed_form (tree.Index base index count) x id ty by h p s k aliases u g e =
+        (λ q. places.base_plain items body told fuel base x h.0 s q) aliases g e
+    changed_form (tree.Index base index count) x id ty by h p s k aliases g e =
         let a = some_holds (types.array_of items (ty_of base))
         (λ a. fact (types.is_same ty a.0 && count == a.1)) h.1.1.1 in
         changed_place base x Base h.0 s
         (cells_of.has_left items body (reached_cells items base)
         (Rattle.src_meaning.specs.Locals.OfBody.cells items true index) k)
         (λ q. array_made (type_at items (ty_of base)) a.0 a.1.0)
-        (λ q. places.base_plain items body told fuel base x h.0 s q) aliases u g e
-    changed_form (tree.Deref base) x id ty by h p s k aliases u g e =
+        (λ q. places.base_plain items body told fuel base x h.0 s q) aliases g e
+    changed_form (tree.Deref base) x id ty by h p s k aliases g e =
         let t = some_holds (types.inside_of items (ty_of base)) (λ t. fact (types.is_same ty t)) h.1 in
         changed_place base x Base h.0 s k (λ q. inside_made (type_at items (ty_of base)) t.0 t.1.0)
-        (λ q. places.base_plain items body told fuel base x h.0 s q) aliases u g e
-    changed_form form x id ty by h p s k aliases u g e = absurd (false≢true p)
+        (λ q. places.base_plain items body told fuel base x h.0 s q) aliases g e
+    changed_form form x id ty by h p s k aliases g e = absurd (false≢true p)

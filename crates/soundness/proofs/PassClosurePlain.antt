@@ -25,17 +25,17 @@ use Rattle.well_typed.specs.Items.{stands_alone}
 use Rattle.well_typed.specs.Nodes.{is_closure_body}
 use Rattle.well_typed.specs.Program.{WellTyped, are_params}
 use Rattle.well_typed.specs.Types as types
-use Rattle.soundness.proofs.Behind.{names_it}
-use Rattle.soundness.proofs.Checks.{head_of}
-use Rattle.soundness.proofs.ClaimParts.{numbered_got, there_is, all_got}
-use Rattle.soundness.proofs.MethodHeads.{methods_of}
-use Rattle.soundness.proofs.OnceByPass.{is_reference_at, protected}
-use Rattle.soundness.proofs.PassCells.{NodeIn}
-use Rattle.soundness.proofs.PassCellTypes as facts
-use Rattle.soundness.proofs.PassNumbers.{Rises}
+use Rattle.soundness_values.proofs.Behind.{names_it}
+use Rattle.soundness_values.proofs.Checks.{head_of}
+use Rattle.soundness_values.proofs.ClaimParts.{numbered_got, there_is, all_got}
+use Rattle.soundness_values.proofs.MethodHeads.{methods_of}
+use Rattle.soundness_values.proofs.OnceByPass.{is_reference_at, protected}
+use Rattle.soundness_cells.proofs.PassCells.{NodeIn}
+use Rattle.soundness_cells.proofs.PassCellTypes as facts
+use Rattle.soundness_cells.proofs.PassNumbers.{Rises}
 use Rattle.soundness.proofs.PassProtectArgs.{ArgOk, ArgsOk}
 use Rattle.soundness.proofs.PassProtectLaw.{Param, protected_param, passed_kept, first_passed, rest_passed, mapped_in}
-use Rattle.soundness.proofs.Virtual.{a_reference, Method}
+use Rattle.soundness_values.proofs.Virtual.{a_reference, Method}
 
 -- a member of a list has a number in it
 pub some_at : {A : Type 0} (test : A → Bool) (l : List A) → list_any test l ≡ true →

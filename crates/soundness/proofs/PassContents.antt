@@ -15,8 +15,8 @@ use Rattle.src_meaning.specs.Shape as shapes
 use Rattle.src_meaning.specs.Shape.{head, shape, shape_of}
 use Rattle.typing_rules.specs.Accesses.{root_of, root_of_form}
 use Rattle.typing_rules.specs.Replaced.{content_of}
-use Rattle.soundness.proofs.DropsCount.{is_content}
-use Rattle.soundness.proofs.PassCells.{NodeIn}
+use Rattle.soundness_values.proofs.DropsCount.{is_content}
+use Rattle.soundness_cells.proofs.PassCells.{NodeIn}
 
 -- the variable at the root of a place stands for its own local
 abbrev pub Plain : shapes.Aliases → Node → Type 0

@@ -21,13 +21,13 @@ use Rattle.well_typed.specs.Nodes as typing
 use Rattle.well_typed.specs.Patterns as patterns
 use Rattle.well_typed.specs.Patterns.{Matched}
 use Rattle.well_typed.specs.Types as types
-use Rattle.soundness.proofs.AlsoTests.{Also}
-use Rattle.soundness.proofs.Checked.{Checking}
-use Rattle.soundness.proofs.Facts.{Facts, takes_index}
-use Rattle.soundness.proofs.PassCellNames.{PlaceOk, place_further}
-use Rattle.soundness.proofs.PassCellPatterns.{Told, Has}
-use Rattle.soundness.proofs.PassCellTaken.{AllTaken, names_taken}
-use Rattle.soundness.proofs.PassCellTypes as facts_of
+use Rattle.soundness_values.proofs.AlsoTests.{Also}
+use Rattle.soundness_values.proofs.Checked.{Checking}
+use Rattle.soundness_values.proofs.Facts.{Facts, takes_index}
+use Rattle.soundness_cells.proofs.PassCellNames.{PlaceOk, place_further}
+use Rattle.soundness_cells.proofs.PassCellPatterns.{Told, Has}
+use Rattle.soundness_cells.proofs.PassCellTaken.{AllTaken, names_taken}
+use Rattle.soundness_cells.proofs.PassCellTypes as facts_of
 use Rattle.soundness.proofs.PassKnownKept.{Away, Keeps}
 use Rattle.soundness.proofs.PassKnownNames.{Stands, AllKnown, names_known}
 use Rattle.soundness.proofs.PassKnownPatterns as answers
@@ -38,8 +38,8 @@ use Rattle.soundness.proofs.PassKnownTests as tests
 use Rattle.soundness.proofs.PassKnownTests.{Answers, no_way, same_index}
 use Rattle.soundness.proofs.PassMovable.{Movable, is_index}
 use Rattle.soundness.proofs.PassMovableNames.{AllMovable, names_movable}
-use Rattle.soundness.proofs.PassNumbers.{Numbered, numbered_left, numbered_right}
-use Rattle.soundness.proofs.PassRestSplit.{split_run}
+use Rattle.soundness_cells.proofs.PassNumbers.{Numbered, numbered_left, numbered_right}
+use Rattle.soundness.proofs.PassCallsAlone.{alone_run}
 
 module _ (items : ItemTable) (Q : Place → Type 0)
     (further : (place : Place) (step : Step) → Q place → is_index step ≡ false → Q (extended step place)) where
@@ -190,10 +190,10 @@ module _ (items : ItemTable) (body : BodyTree) (also : Also) (told : Told items)
       Answers (λ w. ((w.facts.refilled ≡ None)
       × rules.AllFit items body also w.facts ((shape items p).bindings place)) × Keeps Own v.facts w.facts)
       (λ w. (w.facts.refilled ≡ None) × Keeps Own v.facts w.facts)
-      (forms.all_hold items (split_run items body also) ((shape items p).tests place) v)
+      (forms.all_hold items (alone_run items body also) ((shape items p).tests place) v)
   matched_both p m want h r cells_in own place ok moved lies v calm k =
       tests.answers_more items body also Own
-      (forms.all_hold items (split_run items body also) ((shape items p).tests place) v)
+      (forms.all_hold items (alone_run items body also) ((shape items p).tests place) v)
       (λ w. Keeps Own v.facts w.facts × Stands items body w.facts p place)
       (λ w. ((w.facts.refilled ≡ None) × rules.AllFit items body also w.facts ((shape items p).bindings place))
       × Keeps Own v.facts w.facts)
@@ -221,10 +221,10 @@ module _ (items : ItemTable) (body : BodyTree) (also : Also) (told : Told items)
       Answers (λ w. (w.facts.refilled ≡ None)
       × rules.AllFit items body also w.facts ((shape items p).bindings place))
       (λ w. (w.facts.refilled ≡ None) × Keeps Own v.facts w.facts)
-      (forms.all_hold items (split_run items body also) ((shape items p).tests place) v)
+      (forms.all_hold items (alone_run items body also) ((shape items p).tests place) v)
   matched_answer p m want h r cells_in own place ok moved lies v calm k =
       tests.answers_more items body also Own
-      (forms.all_hold items (split_run items body also) ((shape items p).tests place) v)
+      (forms.all_hold items (alone_run items body also) ((shape items p).tests place) v)
       (λ w. ((w.facts.refilled ≡ None) × rules.AllFit items body also w.facts ((shape items p).bindings place))
       × Keeps Own v.facts w.facts)
       (λ w. (w.facts.refilled ≡ None) × rules.AllFit items body also w.facts ((shape items p).bindings place))

@@ -10,12 +10,12 @@ use Rattle.mir_ty.specs.declared.ty.TyId.{TyId}
 use Rattle.mir_ty.specs.ItemTable.{ItemTable, type_at}
 use Rattle.store_model.specs.Concrete.Location.{named_by}
 use Rattle.store_model.specs.Places.Place.{Step, ToPart, ToField, ToContent, ToElement, Place, step_ty, before_element}
-use Rattle.soundness.proofs.Checks.{with_bounded}
-use Rattle.soundness.proofs.Facts.{Facts, bounded_by, variant_at, takes_index, stays, without, same_place}
-use Rattle.soundness.proofs.PassFrameFacts.{variant_known, place_same}
+use Rattle.soundness_values.proofs.Checks.{with_bounded}
+use Rattle.soundness_values.proofs.Facts.{Facts, bounded_by, variant_at, takes_index, stays, without, same_place}
+use Rattle.soundness_frame.proofs.PassFrameFacts.{variant_known, place_same}
 use Rattle.soundness.proofs.PassKnownKept.{Keeps, Away, steps_kept, known_kept}
-use Rattle.soundness.proofs.PassSure.{is_known, then_known, known_step, are_known, known_behind, known_from, known_in, known_place}
-use Rattle.soundness.proofs.StillSure.{kept_any}
+use Rattle.soundness_cells.proofs.PassSure.{is_known, then_known, known_step, are_known, known_behind, known_from, known_in, known_place}
+use Rattle.soundness_values.proofs.StillSure.{kept_any}
 
 -- a change at one place leaves what is known of another
 pub record Leaves (changed place : Place) : Type 0 where

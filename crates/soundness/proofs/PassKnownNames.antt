@@ -25,15 +25,15 @@ use Rattle.well_typed.specs.Claim.{Claim, Holds, fact, both, some}
 use Rattle.well_typed.specs.Patterns as patterns
 use Rattle.well_typed.specs.Patterns.{Matched}
 use Rattle.well_typed.specs.Types as types
-use Rattle.soundness.proofs.Along.{has_one_variant}
-use Rattle.soundness.proofs.Facts.{Facts}
-use Rattle.soundness.proofs.PassCellNames.{PlaceOk, further_ok, goes}
-use Rattle.soundness.proofs.PassCellPatterns.{Told}
-use Rattle.soundness.proofs.PassCellTaken as taken
-use Rattle.soundness.proofs.PassCellTypes as facts_of
-use Rattle.soundness.proofs.PassFrameFacts.{variant_known}
+use Rattle.soundness_values.proofs.Along.{has_one_variant}
+use Rattle.soundness_values.proofs.Facts.{Facts}
+use Rattle.soundness_cells.proofs.PassCellNames.{PlaceOk, further_ok, goes}
+use Rattle.soundness_cells.proofs.PassCellPatterns.{Told}
+use Rattle.soundness_cells.proofs.PassCellTaken as taken
+use Rattle.soundness_cells.proofs.PassCellTypes as facts_of
+use Rattle.soundness_frame.proofs.PassFrameFacts.{variant_known}
 use Rattle.soundness.proofs.PassKnownPlaces.{Known, StepKnown, further_known}
-use Rattle.soundness.proofs.PlaceTypes.{some_holds, same_type}
+use Rattle.soundness_values.proofs.PlaceTypes.{some_holds, same_type}
 
 module _ (items : ItemTable) (body : BodyTree) (facts : Facts) where
   -- the variants that a pattern names stand where it looks, of enums with more than one

@@ -24,31 +24,31 @@ use Rattle.well_typed.specs.Claim.{Holds, fact, both}
 use Rattle.well_typed.specs.Patterns as patterns
 use Rattle.well_typed.specs.Patterns.{Matched}
 use Rattle.well_typed.specs.Types as types
-use Rattle.soundness.proofs.AlsoTests.{Also}
-use Rattle.soundness.proofs.Checked.{Checking}
-use Rattle.soundness.proofs.Checks.{with_variant}
-use Rattle.soundness.proofs.Facts.{Facts}
-use Rattle.soundness.proofs.PassCellNames.{PlaceOk, further_ok}
-use Rattle.soundness.proofs.PassCellPatterns.{Told}
-use Rattle.soundness.proofs.PassCellTaken as taken
-use Rattle.soundness.proofs.PassCellTypes as facts_of
-use Rattle.soundness.proofs.PassFrameFacts.{variant_known}
+use Rattle.soundness_values.proofs.AlsoTests.{Also}
+use Rattle.soundness_values.proofs.Checked.{Checking}
+use Rattle.soundness_values.proofs.Checks.{with_variant}
+use Rattle.soundness_values.proofs.Facts.{Facts}
+use Rattle.soundness_cells.proofs.PassCellNames.{PlaceOk, further_ok}
+use Rattle.soundness_cells.proofs.PassCellPatterns.{Told}
+use Rattle.soundness_cells.proofs.PassCellTaken as taken
+use Rattle.soundness_cells.proofs.PassCellTypes as facts_of
+use Rattle.soundness_frame.proofs.PassFrameFacts.{variant_known}
 use Rattle.soundness.proofs.PassKnownKept.{Keeps, keeps_same, keeps_then, keeps_variant}
 use Rattle.soundness.proofs.PassKnownNames.{Stands, StandsIn, StandFields, StandParts, one_variant}
 use Rattle.soundness.proofs.PassKnownPlaces.{Known, StepKnown, further_known}
 use Rattle.soundness.proofs.PassKnownTests as tests
 use Rattle.soundness.proofs.PassKnownTests.{Answers, variant_found}
 use Rattle.soundness.proofs.PassMovable.{is_index}
-use Rattle.soundness.proofs.PassNumbers.{Numbered, numbered_left, numbered_right}
-use Rattle.soundness.proofs.PassRestSplit.{split_run}
-use Rattle.soundness.proofs.PlaceTypes.{some_holds, same_type}
+use Rattle.soundness_cells.proofs.PassNumbers.{Numbered, numbered_left, numbered_right}
+use Rattle.soundness.proofs.PassCallsAlone.{alone_run}
+use Rattle.soundness_values.proofs.PlaceTypes.{some_holds, same_type}
 
 module _ (items : ItemTable) (body : BodyTree) (also : Also) (told : Told items) (Own : ℕ → Type 0) where
   abbrev V : Type 0
   V = Checking Facts
 
   abbrev q : Effects V
-  q = split_run items body also
+  q = alone_run items body also
 
   abbrev L : ℕ → ℕ
   L = local_of items body

@@ -22,18 +22,18 @@ use Rattle.well_typed.specs.Claim.{Holds, fact, both, some}
 use Rattle.well_typed.specs.Nodes as typing
 use Rattle.well_typed.specs.Places.{Context, ty_of, form_of, is_place, Standing, Base}
 use Rattle.well_typed.specs.Types as types
-use Rattle.soundness.proofs.CheckedBodies.{is_reference_param}
-use Rattle.soundness.proofs.Facts.{Facts, bounded_by}
-use Rattle.soundness.proofs.PassCellNames.{Names, PlaceOk, place_further}
-use Rattle.soundness.proofs.PassCellPatterns as cells_of
-use Rattle.soundness.proofs.PassCellPatterns.{Told, Has}
-use Rattle.soundness.proofs.PassCellPlaces as places
-use Rattle.soundness.proofs.PassCellPlaces.{Scoped}
-use Rattle.soundness.proofs.PassCellTypes as facts_of
-use Rattle.soundness.proofs.PassFacts.{Standpoint, context}
+use Rattle.soundness_values.proofs.CheckedBodies.{is_reference_param}
+use Rattle.soundness_values.proofs.Facts.{Facts, bounded_by}
+use Rattle.soundness_cells.proofs.PassCellNames.{Names, PlaceOk, place_further}
+use Rattle.soundness_cells.proofs.PassCellPatterns as cells_of
+use Rattle.soundness_cells.proofs.PassCellPatterns.{Told, Has}
+use Rattle.soundness_cells.proofs.PassCellPlaces as places
+use Rattle.soundness_cells.proofs.PassCellPlaces.{Scoped}
+use Rattle.soundness_cells.proofs.PassCellTypes as facts_of
+use Rattle.soundness_cells.proofs.PassFacts.{Standpoint, context}
 use Rattle.soundness.proofs.PassKnownSteps as steps_of
-use Rattle.soundness.proofs.PassSure.{known_place}
-use Rattle.soundness.proofs.PlaceTypes.{some_holds}
+use Rattle.soundness_cells.proofs.PassSure.{known_place}
+use Rattle.soundness_values.proofs.PlaceTypes.{some_holds}
 
 module _ (items : ItemTable) (body : BodyTree) (facts : Facts) where
   -- enough is known of a place

@@ -18,24 +18,26 @@ use Rattle.src_meaning.specs.Locals.Effects.{step_at, place_at, action_at}
 use Rattle.src_meaning.specs.Locals.OfBody.{local_of, local_ty}
 use Rattle.src_meaning.specs.Scopes.{Scope, Scopes, with_entry, Exit, Value, Breaks, Continues, Returns, Panics, Run, At, Over, on_value, in_scopes}
 use Rattle.src_meaning.specs.Shape.{NodeHead, BoundName, extended, site_at, copied_or_moved}
-use Rattle.soundness.proofs.AlsoTests.{Also}
-use Rattle.soundness.proofs.Checked.{Checking, with_facts}
-use Rattle.soundness.proofs.CheckedBodies.{is_reference_param}
-use Rattle.soundness.proofs.Checks as checks
-use Rattle.soundness.proofs.Checks.{with_bounded}
-use Rattle.soundness.proofs.Facts.{Facts, bounded_by, takes_index, without}
-use Rattle.soundness.proofs.Leaving.{Shown, ShownOut}
-use Rattle.soundness.proofs.PassCellActs.{Cell}
-use Rattle.soundness.proofs.PassCellEffects.{Quiet, acted_quiet}
-use Rattle.soundness.proofs.PassCellNames.{before_at}
+use Rattle.soundness_values.proofs.AlsoTests.{Also}
+use Rattle.soundness_values.proofs.Checked.{Checking, with_facts}
+use Rattle.soundness_values.proofs.CheckedBodies.{is_reference_param}
+use Rattle.soundness_values.proofs.Checks as checks
+use Rattle.soundness_values.proofs.Checks.{with_bounded}
+use Rattle.soundness_values.proofs.Facts.{Facts, bounded_by, takes_index, without}
+use Rattle.soundness_values.proofs.Leaving.{Shown, ShownOut}
+use Rattle.soundness_cells.proofs.PassCellActs.{Cell}
+use Rattle.soundness_cells.proofs.PassCellEffects.{Quiet, acted_quiet}
+use Rattle.soundness_cells.proofs.PassCellNames.{before_at}
 use Rattle.soundness.proofs.PassKnownKept.{Away, Keeps, keeps_without, known_kept}
 use Rattle.soundness.proofs.PassKnownMoved.{Leaves, known_left, known_bounded, array_known}
 use Rattle.soundness.proofs.PassKnownPlaces.{Known, StepKnown, cell_known, further_known}
-use Rattle.soundness.proofs.PassMarks.{marked}
+use Rattle.soundness_cells.proofs.PassMarks.{marked}
 use Rattle.soundness.proofs.PassMovable.{Movable, movable_moved}
-use Rattle.soundness.proofs.PassRefilled.{not_mark, unmarked}
-use Rattle.soundness.proofs.PassRest.{own_local}
-use Rattle.soundness.proofs.PassRestSplit.{split_run, act_places, places_now, places_act}
+use Rattle.soundness_cells.proofs.PassRefilled.{not_mark, unmarked}
+use Rattle.soundness_cells.proofs.PassRest.{own_local}
+use Rattle.soundness.proofs.PassCallsAlone.{alone_run}
+use Rattle.soundness.proofs.PassPlacesMarks.{act_places}
+use Rattle.soundness_cells.proofs.PassRestSplit.{places_now, places_act}
 
 -- an element of an array is reached as far as the array is
 before_more : (steps : List Step) (i : ℕ) → before_element (steps ++ ToElement i ∷ []) ≡ before_element steps
@@ -50,7 +52,7 @@ module _ (items : ItemTable) (body : BodyTree) (also : Also) where
   V = Checking Facts
 
   abbrev q : Effects V
-  q = split_run items body also
+  q = alone_run items body also
 
   abbrev L : ℕ → ℕ
   L = local_of items body
@@ -95,7 +97,7 @@ module _ (items : ItemTable) (body : BodyTree) (also : Also) where
       Known items body facts (forms.array_around items q (extended (ToElement i) place))
   array_at facts place i h = subst (λ s. Known items body facts (record { local = place.local; steps = s }))
       (sym (before_more place.steps i))
-      (subst (λ s. Rattle.soundness.proofs.PassSure.known_place items (local_ty items body)
+      (subst (λ s. Rattle.soundness_cells.proofs.PassSure.known_place items (local_ty items body)
       (is_reference_param items body) facts (record { local = L place.local; steps = s }) ≡ true)
       (before_at items body place.steps)
       (array_known items (local_ty items body) (is_reference_param items body) facts (place_at L place) h))
@@ -226,7 +228,7 @@ module _ (items : ItemTable) (body : BodyTree) (also : Also) where
       places_now items body v.facts v.free.cells (action_at L (Put t b)) ≡ true
   put_places true b v e c f = subst (λ o. checks.unless_refilled o
       (places_act items body v.facts v.free.cells (action_at L (Put true b)))
-      (λ hole. Rattle.soundness.proofs.PassRestMarks.left_refill items body v.facts hole (action_at L (Put true b)))
+      (λ hole. Rattle.soundness_cells.proofs.PassRestMarks.left_refill items body v.facts hole (action_at L (Put true b)))
       ≡ true) (sym c) (both_true (both_true
       (cell_known items body (without (place_at L b.site.place) v.facts) b.key)
       (both_true (first _ _ (ap not (own_local items body (L b.key) b.ty f.cell f.plain))) refl))

@@ -22,12 +22,12 @@ use Rattle.well_typed.specs.Names.{is_number_among, are_distinct_numbers}
 use Rattle.well_typed.specs.Patterns as patterns
 use Rattle.well_typed.specs.Patterns.{Matched, field_numbers}
 use Rattle.well_typed.specs.Types as types
-use Rattle.soundness.proofs.Facts.{takes_index, hits, stays}
-use Rattle.soundness.proofs.PassCellTypes as facts_of
+use Rattle.soundness_values.proofs.Facts.{takes_index, hits, stays}
+use Rattle.soundness_cells.proofs.PassCellTypes as facts_of
 use Rattle.soundness.proofs.PassKnownMoved.{Leaves}
-use Rattle.soundness.proofs.PlaceTypes.{some_holds}
-use Rattle.soundness.proofs.StillSure.{index_above}
-use Rattle.soundness.proofs.Ways.{has_index}
+use Rattle.soundness_values.proofs.PlaceTypes.{some_holds}
+use Rattle.soundness_values.proofs.StillSure.{index_above}
+use Rattle.soundness_values.proofs.Ways.{has_index}
 
 -- ---- steps that part
 

@@ -11,10 +11,10 @@ use Rattle.mir_ty.specs.ItemTable.{ItemTable, type_at}
 use Rattle.store_model.specs.Concrete.Location.{named_by}
 use Rattle.store_model.specs.Places.Place.{Step, ToPart, ToField, ToContent, ToElement, Place, whole_local, step_ty, ty_along, place_ty}
 use Rattle.src_meaning.specs.Shape.{extended}
-use Rattle.soundness.proofs.Along.{has_one_variant}
-use Rattle.soundness.proofs.Facts.{Facts, bounded_by, variant_at}
-use Rattle.soundness.proofs.PassFrameFacts.{variant_known}
-use Rattle.soundness.proofs.PassSure.{is_known, then_known, known_step, are_known, known_behind, known_from, known_in, known_place}
+use Rattle.soundness_values.proofs.Along.{has_one_variant}
+use Rattle.soundness_values.proofs.Facts.{Facts, bounded_by, variant_at}
+use Rattle.soundness_frame.proofs.PassFrameFacts.{variant_known}
+use Rattle.soundness_cells.proofs.PassSure.{is_known, then_known, known_step, are_known, known_behind, known_from, known_in, known_place}
 
 -- what references name stands behind one step, all else where it is
 named_content : (items : ItemTable) (o : Option Ty) (to : TyId) → named_by o ≡ Some to →

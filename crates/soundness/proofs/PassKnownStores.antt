@@ -20,21 +20,23 @@ use Rattle.src_meaning.specs.Locals.Effects as locals_of
 use Rattle.src_meaning.specs.Locals.Effects.{place_at, action_at}
 use Rattle.src_meaning.specs.Locals.OfBody.{local_of, local_ty}
 use Rattle.src_meaning.specs.Scopes.{Scopes, innermost, without_operands, Exit, Value, Panics, At, in_scopes, on_value}
-use Rattle.soundness.proofs.AlsoTests.{Also}
-use Rattle.soundness.proofs.CheckedBodies.{is_reference_param}
-use Rattle.soundness.proofs.Checked.{Checking}
-use Rattle.soundness.proofs.Checks as checks
-use Rattle.soundness.proofs.Checks.{no_steps}
-use Rattle.soundness.proofs.Facts.{Facts, takes_index, hits, stays, without}
-use Rattle.soundness.proofs.Leaving.{Shown, ShownOut}
-use Rattle.soundness.proofs.PassCellEffects.{drop_quiet}
-use Rattle.soundness.proofs.PassCellNames.{PlaceOk}
+use Rattle.soundness_values.proofs.AlsoTests.{Also}
+use Rattle.soundness_values.proofs.CheckedBodies.{is_reference_param}
+use Rattle.soundness_values.proofs.Checked.{Checking}
+use Rattle.soundness_values.proofs.Checks as checks
+use Rattle.soundness_values.proofs.Checks.{no_steps}
+use Rattle.soundness_values.proofs.Facts.{Facts, takes_index, hits, stays, without}
+use Rattle.soundness_values.proofs.Leaving.{Shown, ShownOut}
+use Rattle.soundness_cells.proofs.PassCellEffects.{drop_quiet}
+use Rattle.soundness_cells.proofs.PassCellNames.{PlaceOk}
 use Rattle.soundness.proofs.PassKnownMoved.{Leaves, known_left}
 use Rattle.soundness.proofs.PassKnownPlaces.{Known, cell_known}
 use Rattle.soundness.proofs.PassKnownRules as rules
 use Rattle.soundness.proofs.PassMovable.{Movable, movable_moved}
-use Rattle.soundness.proofs.PassRefilled.{not_mark}
-use Rattle.soundness.proofs.PassRestSplit.{split_run, drop_places, places_now, places_drop}
+use Rattle.soundness_cells.proofs.PassRefilled.{not_mark}
+use Rattle.soundness.proofs.PassCallsAlone.{alone_run}
+use Rattle.soundness.proofs.PassPlacesMarks.{drop_places}
+use Rattle.soundness_cells.proofs.PassRestSplit.{places_now, places_drop}
 
 -- a step to a field of a variant
 abbrev pub has_field : List Step → Bool
@@ -44,7 +46,7 @@ has_field (ToPart n ∷ steps) = has_field steps
 has_field (ToContent ∷ steps) = has_field steps
 has_field (ToElement i ∷ steps) = has_field steps
 
-field_there : (above : List Step) (u m : ℕ) (below : List Step) → has_field (above ++ ToField u m ∷ below) ≡ true
+pub field_there : (above : List Step) (u m : ℕ) (below : List Step) → has_field (above ++ ToField u m ∷ below) ≡ true
 field_there [] u m below = refl
 field_there (ToField v n ∷ above) u m below = refl
 field_there (ToPart n ∷ above) u m below = field_there above u m below
@@ -131,8 +133,8 @@ module _ (items : ItemTable) (body : BodyTree) (also : Also) where
         Known items body other site.place → (no_steps P.steps || not (needs site.place)) ≡ true →
         places_now items body other cells (action_at L (Store site key)) ≡ true
     calm_store other cells c h e = subst (λ o. checks.unless_refilled o
-        (Rattle.soundness.proofs.PassRestSplit.places_act items body other cells (action_at L (Store site key)))
-        (λ hole. Rattle.soundness.proofs.PassRestMarks.left_refill items body other hole
+        (Rattle.soundness_cells.proofs.PassRestSplit.places_act items body other cells (action_at L (Store site key)))
+        (λ hole. Rattle.soundness_cells.proofs.PassRestMarks.left_refill items body other hole
         (action_at L (Store site key))) ≡ true) (sym c)
         (both_true (both_true (beside other h) (both_true r.changeable (empty (no_steps P.steps) (needs site.place) _ e)))
         (both_true (cell_known items body other key) (movable_moved items body (whole_local key) r.value)))
@@ -162,9 +164,9 @@ module _ (items : ItemTable) (body : BodyTree) (also : Also) where
         by false n = waiting_store cells
 
     drop_shown : (v : V) → v.facts ≡ facts → ShownOut (not_mark 5) (rules.With items body also (dropped true site.place facts))
-        (rules.With items body also (dropped true site.place facts)) ((split_run items body also).drop Normal site v)
+        (rules.With items body also (dropped true site.place facts)) ((alone_run items body also).drop Normal site v)
     drop_shown v same = subst (λ f. ShownOut (not_mark 5) (rules.With items body also (dropped true site.place f))
-        (rules.With items body also (dropped true site.place f)) ((split_run items body also).drop Normal site v)) same
+        (rules.With items body also (dropped true site.place f)) ((alone_run items body also).drop Normal site v)) same
         (rules.shown items body also _ v _ _ _
         (drop_places items body also Normal (locals_of.site_at L site) v.free v.facts
         (subst (λ f. places_drop items body f P ≡ true) (sym same)
@@ -178,12 +180,12 @@ module _ (items : ItemTable) (body : BodyTree) (also : Also) where
     store_shown : (drops : Bool) → (drops ≡ false → needs site.place ≡ false) → (v : V) →
         v.facts ≡ dropped drops site.place facts →
         ShownOut (not_mark 5) (rules.With items body also (replaced drops site key facts))
-        (rules.With items body also (replaced drops site key facts)) ((split_run items body also).act (Store site key) v)
+        (rules.With items body also (replaced drops site key facts)) ((alone_run items body also).act (Store site key) v)
     store_shown drops e v same = subst (λ f. ShownOut (not_mark 5)
         (rules.With items body also (checks.after_action items (local_ty items body) (is_reference_param items body)
         (action_at L (Store site key)) f))
         (rules.With items body also (checks.after_action items (local_ty items body) (is_reference_param items body)
-        (action_at L (Store site key)) f)) ((split_run items body also).act (Store site key) v)) same
+        (action_at L (Store site key)) f)) ((alone_run items body also).act (Store site key) v)) same
         (rules.acts_shown items body also (Store site key) v
         (subst (λ f. places_now items body f v.free.cells (action_at L (Store site key)) ≡ true) (sym same)
         (stores drops v.free.cells e)))
@@ -207,17 +209,17 @@ module _ (items : ItemTable) (body : BodyTree) (also : Also) where
     after_drop : (drops : Bool) → (drops ≡ false → needs site.place ≡ false) → (S : Scopes) (o : Out V) →
         ShownOut (not_mark 5) (rules.With items body also (dropped drops site.place facts))
         (rules.With items body also (dropped drops site.place facts)) o →
-        Shown (not_mark 5) (After drops) (forms.stored_after items (split_run items body also) site key S o)
+        Shown (not_mark 5) (After drops) (forms.stored_after items (alone_run items body also) site key S o)
     after_drop drops e S (Go w) h = in_scope drops (innermost (without_operands (key ∷ [])) S)
-        ((split_run items body also).act (Store site key) w) (store_shown drops e w h)
+        ((alone_run items body also).act (Store site key) w) (store_shown drops e w h)
     after_drop drops e S (Unwind w) h = then_panic drops (innermost (without_operands (key ∷ [])) S)
-        ((split_run items body also).act (Store site key) w) (store_shown drops e w h)
+        ((alone_run items body also).act (Store site key) w) (store_shown drops e w h)
     after_drop drops e S (Halts halt w) h = h
 
     -- the value of a place is replaced
     pub replacing_known : (drops : Bool) → (drops ≡ false → needs site.place ≡ false) → (S : Scopes) (v : V) →
         v.facts ≡ facts →
-        Shown (not_mark 5) (After drops) (forms.replacing items (split_run items body also) drops site key S v)
+        Shown (not_mark 5) (After drops) (forms.replacing items (alone_run items body also) drops site key S v)
     replacing_known true e S v same =
-        after_drop true e S ((split_run items body also).drop Normal site v) (drop_shown v same)
+        after_drop true e S ((alone_run items body also).drop Normal site v) (drop_shown v same)
     replacing_known false e S v same = after_drop false e S (Go v) same

@@ -33,30 +33,32 @@ use Rattle.well_typed.specs.Claim.{Holds, fact, both}
 use Rattle.well_typed.specs.Patterns as patterns
 use Rattle.well_typed.specs.Patterns.{Matched}
 use Rattle.well_typed.specs.Types as types
-use Rattle.soundness.proofs.AlsoTests.{Also, checks_also}
-use Rattle.soundness.proofs.Checked.{Checking, Checks, with_facts, chosen_with}
-use Rattle.soundness.proofs.CheckedBodies.{checks_of, is_reference_param}
-use Rattle.soundness.proofs.Checks as checks
-use Rattle.soundness.proofs.Checks.{with_variant}
-use Rattle.soundness.proofs.Facts.{Facts, same_place, takes_index, without}
-use Rattle.soundness.proofs.Leaving.{ShownOut}
-use Rattle.soundness.proofs.PassCellEffects.{Quiet, ChosenSo, compare_quiet, test_quiet}
-use Rattle.soundness.proofs.PassCellNames.{PlaceOk, further_ok, place_further}
-use Rattle.soundness.proofs.PassCellPatterns.{Told}
-use Rattle.soundness.proofs.PassCellTaken as taken
-use Rattle.soundness.proofs.PassCellTypes as facts_of
-use Rattle.soundness.proofs.PassFrameFacts.{variant_known}
+use Rattle.soundness_values.proofs.AlsoTests.{Also, checks_also}
+use Rattle.soundness_values.proofs.Checked.{Checking, Checks, with_facts, chosen_with}
+use Rattle.soundness_values.proofs.CheckedBodies.{checks_of, is_reference_param}
+use Rattle.soundness_values.proofs.Checks as checks
+use Rattle.soundness_values.proofs.Checks.{with_variant}
+use Rattle.soundness_values.proofs.Facts.{Facts, same_place, takes_index, without}
+use Rattle.soundness_values.proofs.Leaving.{ShownOut}
+use Rattle.soundness_cells.proofs.PassCellEffects.{Quiet, ChosenSo, compare_quiet, test_quiet}
+use Rattle.soundness_cells.proofs.PassCellNames.{PlaceOk, further_ok, place_further}
+use Rattle.soundness_cells.proofs.PassCellPatterns.{Told}
+use Rattle.soundness_cells.proofs.PassCellTaken as taken
+use Rattle.soundness_cells.proofs.PassCellTypes as facts_of
+use Rattle.soundness_frame.proofs.PassFrameFacts.{variant_known}
 use Rattle.soundness.proofs.PassKnownKept.{Away, Keeps, keeps_same, keeps_then, keeps_variant, keeps_without, known_kept}
 use Rattle.soundness.proofs.PassKnownNames as names
 use Rattle.soundness.proofs.PassKnownNames.{Stands, StandFields, StandParts}
 use Rattle.soundness.proofs.PassKnownPlaces.{Known, StepKnown, further_known}
-use Rattle.soundness.proofs.PassMarks.{marked, chosen_marked}
+use Rattle.soundness_cells.proofs.PassMarks.{marked, chosen_marked}
 use Rattle.soundness.proofs.PassMovable.{is_index}
-use Rattle.soundness.proofs.PassNumbers.{Numbered, numbered_left, numbered_right}
-use Rattle.soundness.proofs.PassRefilled.{not_mark, NotMark, unmarked}
-use Rattle.soundness.proofs.PassRestSplit.{split_marks, split_run, act_places, test_places, places_now}
-use Rattle.soundness.proofs.PlaceTypes.{some_holds, same_type}
-use Rattle.soundness.proofs.Steps.{step_itself}
+use Rattle.soundness_cells.proofs.PassNumbers.{Numbered, numbered_left, numbered_right}
+use Rattle.soundness_cells.proofs.PassRefilled.{not_mark, NotMark, unmarked}
+use Rattle.soundness.proofs.PassCallsAlone.{alone_run}
+use Rattle.soundness.proofs.PassPlacesMarks.{act_places, test_places}
+use Rattle.soundness_cells.proofs.PassRestSplit.{places_now}
+use Rattle.soundness_values.proofs.PlaceTypes.{some_holds, same_type}
+use Rattle.soundness_values.proofs.Steps.{step_itself}
 
 -- ---- small facts
 
@@ -110,7 +112,7 @@ module _ (items : ItemTable) (body : BodyTree) (also : Also) where
   V = Checking Facts
 
   abbrev q : Effects V
-  q = split_run items body also
+  q = alone_run items body also
 
   abbrev L : ℕ → ℕ
   L = local_of items body

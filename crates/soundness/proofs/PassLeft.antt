@@ -20,27 +20,27 @@ use Rattle.src_meaning.specs.Programs.{IsAccepted}
 use Rattle.src_meaning.specs.Scopes.{Entry}
 use Rattle.well_typed.specs.Claim.{Holds}
 use Rattle.well_typed.specs.Program.{WellTyped, is_body}
-use Rattle.soundness.proofs.AlsoTests.{Also, checks_also}
-use Rattle.soundness.proofs.Checked.{Checking, no_use_refused, no_store_refused}
-use Rattle.soundness.proofs.CheckedBodies.{checks_of}
-use Rattle.soundness.proofs.CountedOwing.{LocalClear, ClearAtReturn, ClearAtPanic}
-use Rattle.soundness.proofs.Facts.{Facts, no_facts}
-use Rattle.soundness.proofs.Leaving.{ShownOut}
-use Rattle.soundness.proofs.NeverStuck.{Shows}
-use Rattle.soundness.proofs.OnceByPass.{protected, PassShowsAll}
-use Rattle.soundness.proofs.Owing.{checked_body}
-use Rattle.soundness.proofs.PassAllTests.{RestHolds, uncomplaining}
-use Rattle.soundness.proofs.PassCells.{parts, locals_are}
-use Rattle.soundness.proofs.PassClear.{any}
-use Rattle.soundness.proofs.PassEnds as ends
-use Rattle.soundness.proofs.PassFirst.{body_at}
-use Rattle.soundness.proofs.PassGiven.{result_whole}
-use Rattle.soundness.proofs.PassGood.{TypedParams, entry_local}
-use Rattle.soundness.proofs.PassLocals.{EntryIn, keys, tys, at_local}
-use Rattle.soundness.proofs.PassNumbers.{Rises}
-use Rattle.soundness.proofs.PassOneEach.{one_index, locals_distinct}
-use Rattle.soundness.proofs.PassRefilled.{says_lost, SaysLost, checked_ends}
-use Rattle.soundness.proofs.ProtectTests.{protect_tests}
+use Rattle.soundness_values.proofs.AlsoTests.{Also, checks_also}
+use Rattle.soundness_values.proofs.Checked.{Checking, no_use_refused, no_store_refused}
+use Rattle.soundness_values.proofs.CheckedBodies.{checks_of}
+use Rattle.soundness_values.proofs.CountedOwing.{LocalClear, ClearAtReturn, ClearAtPanic}
+use Rattle.soundness_values.proofs.Facts.{Facts, no_facts}
+use Rattle.soundness_values.proofs.Leaving.{ShownOut}
+use Rattle.soundness_values.proofs.NeverStuck.{Shows}
+use Rattle.soundness_values.proofs.OnceByPass.{protected, PassShowsAll}
+use Rattle.soundness_values.proofs.Owing.{checked_body}
+use Rattle.soundness_cells.proofs.PassAllTests.{RestHolds, uncomplaining}
+use Rattle.soundness_cells.proofs.PassCells.{parts, locals_are}
+use Rattle.soundness_cells.proofs.PassClear.{any}
+use Rattle.soundness_cells.proofs.PassEnds as ends
+use Rattle.soundness_cells.proofs.PassFirst.{body_at}
+use Rattle.soundness_cells.proofs.PassGiven.{result_whole}
+use Rattle.soundness_cells.proofs.PassGood.{TypedParams, entry_local}
+use Rattle.soundness_cells.proofs.PassLocals.{EntryIn, keys, tys, at_local}
+use Rattle.soundness_cells.proofs.PassNumbers.{Rises}
+use Rattle.soundness_cells.proofs.PassOneEach.{one_index, locals_distinct}
+use Rattle.soundness_cells.proofs.PassRefilled.{says_lost, SaysLost, checked_ends}
+use Rattle.soundness_values.proofs.ProtectTests.{protect_tests}
 
 -- ---- each local is that of a key
 

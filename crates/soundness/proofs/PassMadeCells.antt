@@ -1,4 +1,5 @@
--- Each cell of a body is that of a node: it has the node's type, and a node of type `!` with one is a place, a call or a
+-- Each cell of a body is that of a node: it has the node's type, and a node of type `!` with one is a place, a call or
+-- a
 -- name. So the local of a node of the block has the type of the node, if it has any.
 use Rattle.std.proofs.Common.{◌≡◌, ◌⊎◌, inl, inr, ℕ, ◌&&◌, not, Bool, true, false, List, [], ◌∷◌, ◌++◌, map, Option, Some, None, slice_get, refl, ap, sym, ◌∙◌, subst}
 use Rattle.std.specs.Cmp.{second_so}
@@ -16,14 +17,14 @@ use Rattle.src_meaning.specs.Locals.OfBody as of_body
 use Rattle.src_meaning.specs.Locals.OfBody.{cells, reached_cells, cells_in, all_cells, cells_of_fields, cells_if_any, initial_cells, is_place_form, local_of, local_ty}
 use Rattle.src_meaning.specs.Scopes.{Entry}
 use Rattle.well_typed.specs.Places.{form_of, ty_of}
-use Rattle.soundness.proofs.Leaving.{AllOf, all_append, Among}
-use Rattle.soundness.proofs.PassCellPatterns.{made_of_never}
-use Rattle.soundness.proofs.PassCells.{NodeIn, node_left, node_right, one_node, is_literal, made_ty, made_in, parts, param_entry, inside, inside_params, locals_are}
-use Rattle.soundness.proofs.PassLocals.{EntryIn, entry_of_all, Standing, found_or_none}
-use Rattle.soundness.proofs.PassNumbers.{Numbered, first_apart, rises_apart, inside_numbered}
-use Rattle.soundness.proofs.PassOneEach.{tops_key, insides_key}
+use Rattle.soundness_values.proofs.Leaving.{AllOf, all_append, Among}
+use Rattle.soundness_cells.proofs.PassCellPatterns.{made_of_never}
+use Rattle.soundness_cells.proofs.PassCells.{NodeIn, node_left, node_right, one_node, is_literal, made_ty, made_in, parts, param_entry, inside, inside_params, locals_are}
+use Rattle.soundness_cells.proofs.PassLocals.{EntryIn, entry_of_all, Standing, found_or_none}
+use Rattle.soundness_cells.proofs.PassNumbers.{Numbered, first_apart, rises_apart, inside_numbered}
+use Rattle.soundness_cells.proofs.PassOneEach.{tops_key, insides_key}
 use Rattle.soundness.proofs.PassProtectEnds.{numbered_in}
-use Rattle.soundness.proofs.PassToldPlaces.{Rises, rises_right}
+use Rattle.soundness_frame.proofs.PassToldPlaces.{Rises, rises_right}
 
 abbrev has_value : Form → Bool
 has_value (tree.Let pattern initialiser) = false

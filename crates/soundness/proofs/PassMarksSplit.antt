@@ -12,9 +12,9 @@ use Rattle.src_meaning.proofs.RunLaws.{located}
 use Rattle.src_meaning.specs.Locals.Effects.{at_locals}
 use Rattle.src_meaning.specs.Programs.{activation}
 use Rattle.typed_tree.specs.Tree.{BodyTree}
-use Rattle.soundness.proofs.Checked.{Checking, Checks}
-use Rattle.soundness.proofs.PassMarks.{Marks, marked, chosen_marked, marked_effects}
-use Rattle.soundness.proofs.PassMarksJoin.{OtherMark}
+use Rattle.soundness_values.proofs.Checked.{Checking, Checks}
+use Rattle.soundness_cells.proofs.PassMarks.{Marks, marked, chosen_marked, marked_effects}
+use Rattle.soundness_cells.proofs.PassMarksJoin.{OtherMark}
 
 -- where the first has no mark, the second has none; where it has this one, the second has one of two
 abbrev pub Splits : (own one two : ℕ) → Option ℕ → Option ℕ → Type 0

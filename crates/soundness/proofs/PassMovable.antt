@@ -1,6 +1,7 @@
--- What is moved may be moved, by the rules of typing: its place is in a local that is no parameter which is a reference, is
--- no element, and in no value with a `Drop` impl. Asked is that names which are no bindings of a guard stand for themselves.
-use Rattle.std.proofs.Common.{◌≡◌, ◌⊎◌, inl, inr, ℕ, ◌==◌, ◌&&◌, not, Bool, true, false, List, [], ◌∷◌, ◌++◌, map, Option, Some, None, is_none, is_some, refl, ap, sym, ◌∙◌, subst}
+-- What is moved may be moved, by the rules of typing: its place is in a local that is no parameter which is a
+-- reference, is no element, and in no value with a `Drop` impl. Asked is that names which are no bindings of a guard
+-- stand for themselves.
+use Rattle.std.proofs.Common.{◌≡◌, ℕ, ◌==◌, not, Bool, true, false, List, [], ◌∷◌, ◌++◌, Option, Some, None, is_some, refl, ap, sym, ◌∙◌, subst}
 use Rattle.std.specs.Prelude.{slice_get, option_and_then}
 use Rattle.std.specs.Option.{option_map_or}
 use Rattle.std.specs.Cmp.Derive.{both_true}
@@ -26,20 +27,20 @@ use Rattle.well_typed.specs.Claim.{Holds, fact, both, some}
 use Rattle.well_typed.specs.Nodes as typing
 use Rattle.well_typed.specs.Places.{InScope, Context, entry_with, ty_of, form_of, is_place, may_move, may_move_by, Standing, Base}
 use Rattle.well_typed.specs.Types as types
-use Rattle.soundness.proofs.Along.{are_plain, next_plain}
-use Rattle.soundness.proofs.CheckedBodies.{is_reference_param}
-use Rattle.soundness.proofs.Checks as checks
-use Rattle.soundness.proofs.PassCellActs.{Cell}
-use Rattle.soundness.proofs.PassCellNames.{Names, place_further}
-use Rattle.soundness.proofs.PassCellPatterns as cells_of
-use Rattle.soundness.proofs.PassCellPatterns.{Told, Has}
-use Rattle.soundness.proofs.PassCellPlaces as places
-use Rattle.soundness.proofs.PassCellPlaces.{Scoped}
-use Rattle.soundness.proofs.PassCellTypes as facts
-use Rattle.soundness.proofs.PassFacts.{Standpoint, context}
-use Rattle.soundness.proofs.PassRest.{own_local}
-use Rattle.soundness.proofs.PlaceTypes.{some_holds}
-use Rattle.soundness.proofs.Ways.{has_index}
+use Rattle.soundness_values.proofs.Along.{are_plain, next_plain}
+use Rattle.soundness_values.proofs.CheckedBodies.{is_reference_param}
+use Rattle.soundness_values.proofs.Checks as checks
+use Rattle.soundness_cells.proofs.PassCellActs.{Cell}
+use Rattle.soundness_cells.proofs.PassCellNames.{Names, place_further}
+use Rattle.soundness_cells.proofs.PassCellPatterns as cells_of
+use Rattle.soundness_cells.proofs.PassCellPatterns.{Told, Has}
+use Rattle.soundness_cells.proofs.PassCellPlaces as places
+use Rattle.soundness_cells.proofs.PassCellPlaces.{Scoped}
+use Rattle.soundness_cells.proofs.PassCellTypes as facts
+use Rattle.soundness_cells.proofs.PassFacts.{Standpoint, context}
+use Rattle.soundness_cells.proofs.PassRest.{own_local}
+use Rattle.soundness_values.proofs.PlaceTypes.{some_holds}
+use Rattle.soundness_values.proofs.Ways.{has_index}
 
 -- names that are no bindings of a guard stand for themselves, and so does the value of a closure
 pub record Unaliased (x : Standpoint) (aliases : Aliases) : Type 0 where
@@ -70,6 +71,10 @@ same_index local (ToField v n) = refl
 same_index local ToContent = refl
 same_index local (ToElement i) = refl
 
+-- so does the name at the root of a place
+abbrev pub RootPlain : Aliases → Option ℕ → Type 0
+RootPlain aliases root = (key : ℕ) → root ≡ Some key → place_of_key key aliases ≡ whole_local key
+
 module _ (items : ItemTable) where
   -- a value of a type has no `Drop` impl
   abbrev pub NoImpl : TyId → Type 0
@@ -87,7 +92,8 @@ module _ (items : ItemTable) where
       of_adt n None e = refl
       of_adt n (Some adt) e = of_body n adt.drop_body e
 
-      by : (o : Option Ty) → option_map_or (ty_has_drop_impl items) o false ≡ false → is_some (drop_impl items o) ≡ false
+      by : (o : Option Ty) → option_map_or (ty_has_drop_impl items) o false ≡ false → is_some (drop_impl items o) ≡
+          false
       by (Some (Ty.Adt n)) e = of_adt n (slice_get items.adts n) e
       by None e = refl
       by (Some ty) e = refl
@@ -149,8 +155,8 @@ module _ (items : ItemTable) (body : BodyTree) where
         (by (local_ty items body (local_of items body place.local)) t m.plain);
   }
     where
-      by : (o : Option TyId) → option_and_then (ty_along items (place_at (local_of items body) place).steps) o ≡ Some id →
-          option_map_or (are_plain items (place_at (local_of items body) place).steps) o false ≡ true →
+      by : (o : Option TyId) → option_and_then (ty_along items (place_at (local_of items body) place).steps) o ≡ Some
+          id → option_map_or (are_plain items (place_at (local_of items body) place).steps) o false ≡ true →
           option_map_or (are_plain items ((place_at (local_of items body) place).steps
           ++ step_at (local_of items body) step ∷ [])) o false ≡ true
       by None t h = absurd (none-some id t)
@@ -216,8 +222,8 @@ module _ (items : ItemTable) (body : BodyTree) (told : Told items) (fuel : ℕ) 
         (ap (λ o. not (option_map_or (λ (z : InScope). z.is_in_guard) o false)) (sym y.1.0) ∙ m) in
         subst (Movable items body) (sym (u.names key y.0 y.1.0 free))
         (whole_movable items body key y.0.ty (s.names key y.0 y.1.0)
-        (subst (λ t. is_reference (type_at items t) ≡ false) (Rattle.soundness.proofs.PlaceTypes.same_type ty y.0.ty y.1.1)
-        r))
+        (subst (λ t. is_reference (type_at items t) ≡ false) (Rattle.soundness_values.proofs.PlaceTypes.same_type ty y.0.ty
+        y.1.1) r))
     moved_form (tree.Captured closure part name) x id ty by h p s k r aliases names u m =
         let y = some_holds x.closure (λ y. both (fact (y.key == closure))
         (some (field_ty items y.ty 0 part) (λ t. fact (types.is_same ty t)))) h in
@@ -237,7 +243,8 @@ module _ (items : ItemTable) (body : BodyTree) (told : Told items) (fuel : ℕ) 
         (facts.right_of (not (has_drop_impl items (ty_of base))) _ m))
         (places.node_place items body told fuel base x Base h.0 s k made plain aliases names).typed refl
         (no_impl items (ty_of base)
-        (facts.is_false (has_drop_impl items (ty_of base)) (facts.left_of (not (has_drop_impl items (ty_of base))) _ m)))
+        (facts.is_false (has_drop_impl items (ty_of base)) (facts.left_of (not (has_drop_impl items (ty_of base))) _
+        m)))
     moved_form (tree.Index base index count) x id ty by h p s k r aliases names u m = absurd (false≢true m)
     moved_form (tree.Deref base) x id ty by h p s k r aliases names u m =
         let t = some_holds (types.inside_of items (ty_of base)) (λ t. fact (types.is_same ty t)) h.1 in

@@ -22,12 +22,12 @@ use Rattle.well_typed.specs.Patterns as patterns
 use Rattle.well_typed.specs.Patterns.{Matched}
 use Rattle.well_typed.specs.Places.{is_by, taking}
 use Rattle.well_typed.specs.Types as types
-use Rattle.soundness.proofs.PassCellNames.{PlaceOk, further_ok}
-use Rattle.soundness.proofs.PassCellPatterns.{Told}
-use Rattle.soundness.proofs.PassCellTaken as taken
-use Rattle.soundness.proofs.PassCellTypes as facts
+use Rattle.soundness_cells.proofs.PassCellNames.{PlaceOk, further_ok}
+use Rattle.soundness_cells.proofs.PassCellPatterns.{Told}
+use Rattle.soundness_cells.proofs.PassCellTaken as taken
+use Rattle.soundness_cells.proofs.PassCellTypes as facts
 use Rattle.soundness.proofs.PassMovable.{Movable, NoImpl, no_impl, movable_further, is_index}
-use Rattle.soundness.proofs.PlaceTypes.{some_holds, same_type}
+use Rattle.soundness_values.proofs.PlaceTypes.{some_holds, same_type}
 
 module _ (items : ItemTable) (body : BodyTree) where
   abbrev pub AllMovable : List BoundName → Type 0

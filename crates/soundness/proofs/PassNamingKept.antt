@@ -6,8 +6,8 @@ use Rattle.mir_ty.specs.ItemTable.{ItemTable}
 use Rattle.store_model.specs.Effects as effects
 use Rattle.store_model.specs.Effects.{EffectSite, Operand, Action, Test}
 use Rattle.store_model.specs.Places.Place.{Place}
-use Rattle.soundness.proofs.Checks as checks
-use Rattle.soundness.proofs.Facts.{Naming, Facts, Each, each_kept, without}
+use Rattle.soundness_values.proofs.Checks as checks
+use Rattle.soundness_values.proofs.Facts.{Naming, Facts, Each, each_kept, without}
 
 module _ (items : ItemTable) (local_ty : ℕ → Option TyId) (is_target : ℕ → Bool) (P : Naming → Type 0) where
   abbrev pub AllNamed : Facts → Type 0

@@ -1,9 +1,9 @@
--- What the place of a node is made of, where names that are no bindings of a guard stand for themselves: its root is the name
--- there or one of the nodes, its indices are nodes, it leads through no variant, and its own local is no index on its way.
-use Rattle.std.proofs.Common.{◌≡◌, ◌⊎◌, inl, inr, ℕ, ◌==◌, ◌||◌, not, Bool, true, false, List, [], ◌∷◌, ◌++◌, map, Option, Some, None, refl, ap, sym, ◌∙◌, subst}
+-- What the place of a node is made of, where names that are no bindings of a guard stand for themselves: its root is
+-- the name there or one of the nodes, its indices are nodes, it leads through no variant, and its own local is no
+-- index on its way.
+use Rattle.std.proofs.Common.{◌≡◌, ◌⊎◌, inl, inr, ℕ, ◌==◌, ◌||◌, Bool, true, false, List, [], ◌∷◌, ◌++◌, Option, Some, refl, sym, ◌∙◌, subst}
 use Rattle.std.proofs.lemmas.Bool.{false≢true}
 use Rattle.std.proofs.lemmas.Bool.Decides.{Decides-eqb}
-use Rattle.mir_base.specs.declared.place_in_text.Pos.{Pos}
 use Rattle.mir_ty.specs.declared.ty.TyId.{TyId}
 use Rattle.mir_ty.specs.ItemTable.{ItemTable}
 use Rattle.store_model.specs.Places.Place.{Step, ToPart, ToField, ToContent, ToElement, Place, whole_local}
@@ -11,23 +11,19 @@ use Rattle.typed_tree.specs.declared.node.Use.{Use}
 use Rattle.typed_tree.specs.Nodes.{nodes_of, nodes_in, number_of}
 use Rattle.typed_tree.specs.Tree as tree
 use Rattle.typed_tree.specs.Tree.{Node, node, Form, BodyTree}
-use Rattle.src_meaning.specs.Locals.Effects.{step_at, place_at}
 use Rattle.src_meaning.specs.Shape.{Aliases, head, extended, shape, shape_of, place_of_key}
 use Rattle.typing_rules.specs.Accesses.{root_of, root_of_form}
-use Rattle.well_typed.specs.Claim.{Holds, fact}
+use Rattle.well_typed.specs.Claim.{Holds}
 use Rattle.well_typed.specs.Nodes as typing
-use Rattle.well_typed.specs.Places.{InScope, Context, entry_with, form_of, is_place, Standing, Base}
-use Rattle.well_typed.specs.Types as types
-use Rattle.soundness.proofs.Facts.{takes_index}
-use Rattle.soundness.proofs.PassCellPatterns.{Told}
-use Rattle.soundness.proofs.PassCellPlaces as places
-use Rattle.soundness.proofs.PassChangeable as changing
-use Rattle.soundness.proofs.PassFacts.{Standpoint, context}
+use Rattle.well_typed.specs.Places.{Context, is_place, Standing, Base}
+use Rattle.soundness_values.proofs.Facts.{takes_index}
+use Rattle.soundness_cells.proofs.PassCellPatterns.{Told}
+use Rattle.soundness_cells.proofs.PassCellPlaces as places
+use Rattle.soundness_cells.proofs.PassFacts.{Standpoint, context}
 use Rattle.soundness.proofs.PassKnownStores.{has_field}
 use Rattle.soundness.proofs.PassKnownTests.{no_way}
-use Rattle.soundness.proofs.PassMovable.{Unaliased, is_index}
-use Rattle.soundness.proofs.PassNumbers.{Numbered, Rises, numbered_left, numbered_right, own_number, rises_left, rises_right, rises_apart}
-use Rattle.soundness.proofs.PlaceTypes.{some_holds}
+use Rattle.soundness.proofs.PassMovable.{RootPlain, is_index}
+use Rattle.soundness_cells.proofs.PassNumbers.{Numbered, Rises, numbered_left, numbered_right, own_number, rises_left, rises_right, rises_apart}
 
 -- ---- one step more
 
@@ -54,7 +50,7 @@ same_way i steps step e h = by (takes_index i steps) refl
     by true k = refl
     by false k = absurd (false≢true (sym (no_way i steps step k e) ∙ h))
 
-last_index : (i k : ℕ) (steps : List Step) → takes_index i (steps ++ ToElement k ∷ []) ≡ true →
+pub last_index : (i k : ℕ) (steps : List Step) → takes_index i (steps ++ ToElement k ∷ []) ≡ true →
     (takes_index i steps ≡ true) ⊎ (k ≡ i)
 last_index i k [] h = inr (one (k == i) refl h)
   where
@@ -142,21 +138,19 @@ module _ (items : ItemTable) (body : BodyTree) (told : Told items) (fuel : ℕ) 
   abbrev K : Standpoint → Context
   K = context items
 
-  abbrev Unguarded : Standpoint → Option ℕ → Type 0
-  Unguarded = changing.Unguarded items body told fuel
-
   elsewhere_inside : (root : Option ℕ) (ns more : List Node) → ((key : ℕ) → Numbered ns key → Numbered more key) →
       Elsewhere root more → Elsewhere root ns
   elsewhere_inside root ns more f e key same n = e key same (f key n)
 
   mutual
     pub made_place : (n : Node) (x : Standpoint) (standing : Standing) → Holds (typing.typed (K x) standing n) →
-        (aliases : Aliases) → Unaliased x aliases → Unguarded x (root_of n) → Rises (nodes_of n) →
+        (aliases : Aliases) → RootPlain aliases (root_of n) → Rises (nodes_of n) →
         Elsewhere (root_of n) (nodes_of n) → Made (nodes_of n) (root_of n) ((shape items n).place aliases)
-    made_place (node id at ty by form) x standing h aliases u g r e = of_kind (is_place form) refl
-        (λ p. made_form form x id ty by h.1 p aliases u g
+    made_place (node id at ty by form) x standing h aliases g r e = of_kind (is_place form) refl
+        (λ p. made_form form x id ty by h.1 p aliases g
         (rises_right (node id at ty by form ∷ []) (nodes_in form) r)
-        (elsewhere_inside (root_of_form form) (nodes_in form) (node id at ty by form ∷ nodes_in form) (λ key n. inr n) e))
+        (elsewhere_inside (root_of_form form) (nodes_in form) (node id at ty by form ∷ nodes_in form) (λ key n. inr n)
+        e))
       where
         of_kind : (b : Bool) → is_place form ≡ b → (is_place form ≡ true →
             Made (nodes_in form) (root_of_form form) ((shape_of items form (head id ty by)).place aliases)) →
@@ -169,30 +163,25 @@ module _ (items : ItemTable) (body : BodyTree) (told : Told items) (fuel : ℕ) 
             (whole_made (node id at ty by form ∷ nodes_in form) (root_of_form form) id (inr (inl refl)))
 
     made_form : (form : Form) (x : Standpoint) (id : ℕ) (ty : TyId) (by : Option Use) →
-        Holds (typing.row (K x) id ty form) → is_place form ≡ true → (aliases : Aliases) → Unaliased x aliases →
-        Unguarded x (root_of_form form) → Rises (nodes_in form) → Elsewhere (root_of_form form) (nodes_in form) →
+        Holds (typing.row (K x) id ty form) → is_place form ≡ true → (aliases : Aliases) →
+        RootPlain aliases (root_of_form form) → Rises (nodes_in form) → Elsewhere (root_of_form form) (nodes_in form) →
         Made (nodes_in form) (root_of_form form) ((shape_of items form (head id ty by)).place aliases)
-    made_form (tree.Variable key) x id ty by h p aliases u g r e =
-        let y = some_holds (entry_with key x.entries) (λ y. fact (types.is_same ty y.ty)) h in
-        subst (Made [] (Some key)) (sym (u.names key y.0 y.1.0 (g key y.0 refl y.1.0)))
+    made_form (tree.Variable key) x id ty by h p aliases g r e =
+        subst (Made [] (Some key)) (sym (g key refl))
         (whole_made [] (Some key) key (inl refl))
-    made_form (tree.Captured closure part name) x id ty by h p aliases u g r e =
-        let y = some_holds x.closure (λ y. Rattle.well_typed.specs.Claim.both (fact (y.key == closure))
-        (Rattle.well_typed.specs.Claim.some (Rattle.mir_ty.specs.Parts.field_ty items y.ty 0 part)
-        (λ t. fact (types.is_same ty t)))) h in
+    made_form (tree.Captured closure part name) x id ty by h p aliases g r e =
         made_further [] (Some closure) (place_of_key closure aliases) (ToPart part) refl refl
-        (subst (λ z. Made [] (Some z) (place_of_key z aliases)) ((Decides-eqb y.0.key closure).0 y.1.1.0)
-        (subst (Made [] (Some y.0.key)) (sym (u.closure y.0 y.1.0)) (whole_made [] (Some y.0.key) y.0.key (inl refl))))
-    made_form (tree.Field base part) x id ty by h p aliases u g r e =
+        (subst (Made [] (Some closure)) (sym (g closure refl)) (whole_made [] (Some closure) closure (inl refl)))
+    made_form (tree.Field base part) x id ty by h p aliases g r e =
         made_further (nodes_of base) (root_of base) ((shape items base).place aliases) (ToPart part) refl refl
-        (made_place base x Base h.0 aliases u g r e)
-    made_form (tree.Index base index count) x id ty by h p aliases u g r e =
-        made_element (nodes_of base) (nodes_of index) (root_of base) ((shape items base).place aliases) (number_of index)
-        (own_number index) r e
-        (made_place base x Base h.0 aliases u g (rises_left (nodes_of base) (nodes_of index) r)
+        (made_place base x Base h.0 aliases g r e)
+    made_form (tree.Index base index count) x id ty by h p aliases g r e =
+        made_element (nodes_of base) (nodes_of index) (root_of base) ((shape items base).place aliases) (number_of
+        index) (own_number index) r e
+        (made_place base x Base h.0 aliases g (rises_left (nodes_of base) (nodes_of index) r)
         (elsewhere_inside (root_of base) (nodes_of base) (nodes_of base ++ nodes_of index)
         (λ key n. numbered_left (nodes_of base) (nodes_of index) key n) e))
-    made_form (tree.Deref base) x id ty by h p aliases u g r e =
+    made_form (tree.Deref base) x id ty by h p aliases g r e =
         made_further (nodes_of base) (root_of base) ((shape items base).place aliases) ToContent refl refl
-        (made_place base x Base h.0 aliases u g r e)
-    made_form form x id ty by h p aliases u g r e = absurd (false≢true p)
+        (made_place base x Base h.0 aliases g r e)
+    made_form form x id ty by h p aliases g r e = absurd (false≢true p)

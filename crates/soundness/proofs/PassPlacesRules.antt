@@ -12,9 +12,9 @@ use Rattle.src_meaning.specs.Forms.{Destination, Into, Coerced, LoopsAndGuards, 
 use Rattle.src_meaning.specs.Scopes as source
 use Rattle.src_meaning.specs.Scopes.{Entry, Scope, Scopes, with_scope, innermost, around_innermost, nearest_temporary, with_entry, with_pending, without_pending, becomes_entry, without_operands, needing_drop, Exit, Value, Breaks, Continues, Returns, Panics, Run, At, Over, Does, ◌>>◌, on_value, in_scopes, back_in, leave, drop_normally, drop_unwinding, entry_site, choosing, chosen, in_scope, then_or_leave}
 use Rattle.src_meaning.specs.Shape.{NodeHead, Shape, BoundName}
-use Rattle.soundness.proofs.Leaving.{Shown, ShownOut}
-use Rattle.soundness.proofs.PassFrameCalls.{Ends}
-use Rattle.soundness.proofs.PassKept.{Answered}
+use Rattle.soundness_values.proofs.Leaving.{Shown, ShownOut}
+use Rattle.soundness_frame.proofs.PassFrameCalls.{Ends}
+use Rattle.soundness_cells.proofs.PassKept.{Answered}
 
 -- an action that neither copies from a place, nor borrows or touches one, and moves whole locals alone
 abbrev pub touches_none : Action → Bool

@@ -1,197 +1,186 @@
--- What stands around a node outside of guards: names in scope stand for their own locals, with numbers below all nodes
--- behind them. So the place of a scrutinee is made of its own nodes and of such a name.
-use Rattle.std.proofs.Common.{◌≡◌, ◌⊎◌, inl, inr, ℕ, ◌==◌, ◌<◌, Bool, true, false, List, [], ◌∷◌, ◌++◌, Option, Some, None, if◌then◌else◌, refl, ap, ◌∙◌, subst, arith}
-use Rattle.std.specs.List.{filter_map, cons_option, flat_map}
+-- What stands around a node: the bindings of the guards that it is in stand for parts of their scrutinees, all other
+-- names in scope for their own locals, with numbers below all nodes behind them.
+use Rattle.std.proofs.Common.{◌≡◌, ◌⊎◌, inl, inr, ℕ, ◌==◌, ◌<◌, ◌≤◌, Bool, true, false, List, [], ◌∷◌, ◌++◌, Option, Some, None, refl, sym, ◌∙◌, subst, arith, append_assoc}
 use Rattle.std.proofs.lemmas.Bool.{false≢true}
 use Rattle.std.proofs.lemmas.Bool.Decides.{Decides-eqb}
 use Rattle.std.proofs.lemmas.Option.{none-some, same_Some}
-use Rattle.mir_base.specs.declared.place_in_text.Pos.{Pos}
 use Rattle.mir_ty.specs.declared.ty.TyId.{TyId}
 use Rattle.mir_ty.specs.ItemTable.{ItemTable}
 use Rattle.mir_ty.specs.Parts.{field_ty}
-use Rattle.typed_tree.specs.declared.node.Use.{Use}
-use Rattle.typed_tree.specs.Nodes.{nodes_of, nodes_in, nodes_among, nodes_if_any}
+use Rattle.store_model.specs.Places.Place.{Place, whole_local}
+use Rattle.typed_tree.specs.Nodes.{nodes_of, nodes_in, nodes_among, nodes_if_any, number_of}
 use Rattle.typed_tree.specs.Tree as tree
 use Rattle.typed_tree.specs.Tree.{Node, node, Form, Nodes, no_node, a_node, ParamTree, BodyTree}
-use Rattle.typing_rules.specs.Accesses.{root_of, root_of_form}
+use Rattle.typing_rules.specs.Accesses as rules
+use Rattle.typing_rules.specs.Accesses.{CollectedAccesses, root_of, root_of_form}
+use Rattle.src_meaning.specs.Shape as shapes
 use Rattle.src_meaning.specs.Shape.{shape}
 use Rattle.well_typed.specs.Claim.{Holds, fact, both, some}
 use Rattle.well_typed.specs.Nodes as typing
-use Rattle.well_typed.specs.Patterns.{binding_entry, entries_of}
+use Rattle.well_typed.specs.Patterns.{entries_of}
 use Rattle.well_typed.specs.Places.{InScope, LoopAround, Context, entry_with, Standing, Base}
 use Rattle.well_typed.specs.Types as types
-use Rattle.soundness.proofs.PassCellPatterns.{Told}
-use Rattle.soundness.proofs.PassCells.{Above}
-use Rattle.soundness.proofs.PassFacts.{Standpoint, context, with_names, in_a_loop, behind}
-use Rattle.soundness.proofs.PassMovable.{Unaliased}
-use Rattle.soundness.proofs.PassNames.{NameIn, named_by}
-use Rattle.soundness.proofs.PassNumbers.{Numbered, above_numbered}
+use Rattle.soundness_values.proofs.Facts.{takes_index}
+use Rattle.soundness_cells.proofs.PassCellNames.{Names, no_names}
+use Rattle.soundness_cells.proofs.PassCellPatterns.{Told}
+use Rattle.soundness_cells.proofs.PassCells.{Above}
+use Rattle.soundness_cells.proofs.PassCellPlaces.{Scoped}
+use Rattle.soundness_cells.proofs.PassFacts.{Standpoint, context, with_names, in_a_loop, behind, beside}
+use Rattle.soundness_frame.proofs.PassFrameBodies.{any_place}
+use Rattle.soundness.proofs.PassMovable.{Unaliased, RootPlain}
+use Rattle.soundness_cells.proofs.PassNames.{named_by}
+use Rattle.soundness_cells.proofs.PassNumbers.{Numbered, above_numbered}
 use Rattle.soundness.proofs.PassPlaceMade.{Made, Elsewhere, made_place}
-use Rattle.soundness.proofs.PassTold.{KnownOf}
-use Rattle.soundness.proofs.PassToldPatterns.{name_left}
-use Rattle.soundness.proofs.PassToldPlaces.{Rises, rises_left, rises_right, above_left, above_right, name_above, found_in}
-use Rattle.soundness.proofs.PlaceTypes.{some_holds}
+use Rattle.soundness_frame.proofs.PassTold as here
+use Rattle.soundness_frame.proofs.PassTold.{KnownOf, Here}
+use Rattle.soundness_frame.proofs.PassBlockTold.{in_block}
+use Rattle.soundness_cells.proofs.PassCells.{NodeIn, node_left, node_right}
+use Rattle.soundness_frame.proofs.PassToldParts as told_parts
+use Rattle.soundness_frame.proofs.PassToldPatterns.{name_left}
+use Rattle.soundness_frame.proofs.PassToldPlaces as told_places
+use Rattle.soundness_frame.proofs.PassToldPlaces.{Rises, name_above, found_in, no_name, above_left, is_alias}
+use Rattle.soundness_frame.proofs.PassWithin.{Outer}
+use Rattle.soundness_values.proofs.PlaceTypes.{some_holds}
 
--- nothing is said of nodes
-abbrev pub any_node : KnownOf
-any_node = record { node = λ n. Unit {0}; root = λ key. Unit {0}; typed = λ key ty. Unit {0} }
+-- the nodes of the block, and its names
+abbrev pub Of : ItemTable → BodyTree → KnownOf
+Of items body = in_block items body (λ m. NodeIn (nodes_of body.block) m)
 
--- ---- names that are no bindings of a guard
-
-abbrev AllPlain : List InScope → Type 0
-AllPlain [] = Unit {0}
-AllPlain (y ∷ es) = (y.is_in_guard ≡ false) × AllPlain es
-
-own_plain : (form : Form) (id : ℕ) (at : Pos) (ty : TyId) (by : Option Use) (y : InScope) →
-    binding_entry (node id at ty by form) ≡ Some y → y.is_in_guard ≡ false
-own_plain (tree.Binding name) id at ty by y e =
-    subst (λ (w : InScope). w.is_in_guard ≡ false) (same_Some (record { key = id; ty = ty; is_in_guard = false }) y e) refl
-own_plain form id at ty by y e = absurd (none-some y e)
-
-node_plain : (n : Node) (y : InScope) → binding_entry n ≡ Some y → y.is_in_guard ≡ false
-node_plain (node id at ty by form) y e = own_plain form id at ty by y e
-
-all_plain : (ns : List Node) → AllPlain (filter_map binding_entry ns)
-all_plain [] = tt
-all_plain (n ∷ ns) = by (binding_entry n) refl (all_plain ns)
-  where
-    by : (o : Option InScope) → binding_entry n ≡ o → AllPlain (filter_map binding_entry ns) →
-        AllPlain (cons_option o (filter_map binding_entry ns))
-    by None e later = later
-    by (Some y) e later = (node_plain n y e, later)
-
-found_plain : (es : List InScope) (key : ℕ) (y : InScope) → AllPlain es → entry_with key es ≡ Some y →
-    y.is_in_guard ≡ false
-found_plain [] key y a e = absurd (none-some y e)
-found_plain (z ∷ es) key y a e = by (z.key == key) e (λ f. found_plain es key y a.1 f)
-  where
-    by : (b : Bool) → (if b then Some z else entry_with key es) ≡ Some y →
-        (entry_with key es ≡ Some y → y.is_in_guard ≡ false) → y.is_in_guard ≡ false
-    by true e later = subst (λ (w : InScope). w.is_in_guard ≡ false) (same_Some z y e) a.0
-    by false e later = later e
-
--- no name in scope is a binding of a guard
-abbrev pub Plain : Standpoint → Type 0
-Plain x = (key : ℕ) (y : InScope) → entry_with key x.entries ≡ Some y → y.is_in_guard ≡ false
-
-plain_names : (p : Node) (x : Standpoint) → Plain x → Plain (with_names (entries_of p) x)
-plain_names p x u key y e = by (found_in key (entries_of p) x.entries y e)
-  where
-    by : (entry_with key (entries_of p) ≡ Some y)
-        ⊎ ((entry_with key (entries_of p) ≡ None) × (entry_with key x.entries ≡ Some y)) → y.is_in_guard ≡ false
-    by (inl f) = found_plain (entries_of p) key y (all_plain (nodes_of p)) f
-    by (inr f) = u key y f.1
-
--- the names of parameters
-pub params_plain : (params : List ParamTree) (key : ℕ) (y : InScope) →
-    entry_with key (flat_map (λ (q : ParamTree). entries_of q.pattern) params) ≡ Some y → y.is_in_guard ≡ false
-params_plain [] key y e = absurd (none-some y e)
-params_plain (q ∷ params) key y e =
-    by (found_in key (entries_of q.pattern) (flat_map (λ (r : ParamTree). entries_of r.pattern) params) y e)
-    (λ f. params_plain params key y f)
-  where
-    by : (entry_with key (entries_of q.pattern) ≡ Some y) ⊎ ((entry_with key (entries_of q.pattern) ≡ None)
-        × (entry_with key (flat_map (λ (r : ParamTree). entries_of r.pattern) params) ≡ Some y)) →
-        (entry_with key (flat_map (λ (r : ParamTree). entries_of r.pattern) params) ≡ Some y → y.is_in_guard ≡ false) →
-        y.is_in_guard ≡ false
-    by (inl f) later = found_plain (entries_of q.pattern) key y (all_plain (nodes_of q.pattern)) f
-    by (inr f) later = later f.1
-
-plain_statement : (form : Form) (x : Standpoint) → Plain x → Plain (with_names (typing.entries_in form) x)
-plain_statement (tree.Let pattern value) x u = plain_names pattern x u
-plain_statement form x u = u
+abbrev pub nothing : shapes.Aliases → Outer → ℕ → Form → Type 0
+nothing places loops id form = Unit {0}
 
 -- ---- what stands around some nodes
 
-module _ (items : ItemTable) where
+-- the own local of a place is no index on its way
+abbrev pub Unmet : Place → Type 0
+Unmet place = takes_index place.local place.steps ≡ false
+
+-- the bindings of guards around, for the rule of borrows and as they stand for places, and a number that no node is
+-- below
+pub record Bindings (items : ItemTable) (body : BodyTree) : Type 0 where
+  pub outer : rules.Aliases
+  pub aliases : shapes.Aliases
+  pub least : ℕ
+  pub names : Names items body aliases
+  pub unmet : (key : ℕ) → Unmet (shapes.place_of_key key aliases)
+
+-- outside of guards
+abbrev pub no_bindings : (items : ItemTable) (body : BodyTree) → Bindings items body
+no_bindings items body = record {
+  outer = [];
+  aliases = [];
+  least = 0;
+  names = no_names items body;
+  unmet = λ key. refl;
+}
+
+module _ (items : ItemTable) (body : BodyTree) (bs : Bindings items body) where
   abbrev K : Standpoint → Context
   K = context items
 
-  -- names in scope, and the value of a closure, have lower numbers than nodes behind, which rise
-  pub record Lower (x : Standpoint) (ns : List Node) : Type 0 where
-    pub rises : Rises ns
-    pub outer : (y : InScope) → x.closure ≡ Some y → Above y.key ns
-    pub low : (key : ℕ) (y : InScope) → entry_with key x.entries ≡ Some y → Above key ns
+  -- names that the rule of borrows knows as bindings of guards are such
+  abbrev pub Marked : Standpoint → Type 0
+  Marked x = (key : ℕ) (y : InScope) → entry_with key x.entries ≡ Some y → is_alias bs.outer key ≡ true →
+      y.is_in_guard ≡ true
+
+  -- nothing conflicts in what is told, and it replaces no binding of a guard
+  abbrev pub Free : CollectedAccesses → Type 0
+  Free = here.Told items any_place (Of items body) bs.outer
 
   pub record Stood (x : Standpoint) (ns : List Node) : Type 0 where
-    pub here : Lower x ns
-    pub plain : Plain x
+    pub here : Here items any_place (Of items body) bs.outer bs.aliases x ns
+    pub marked : Marked x
+    pub above : (m : Node) → NodeIn ns m → bs.least ≤ number_of m
+
+  -- names of a pattern are none
+  marked_names : (p : Node) (x : Standpoint) → told_places.Past items any_place bs.outer (nodes_of p) → Marked x →
+      Marked (with_names (entries_of p) x)
+  marked_names p x past u key y e a = by (found_in key (entries_of p) x.entries y e)
+    where
+      by : (entry_with key (entries_of p) ≡ Some y)
+          ⊎ ((entry_with key (entries_of p) ≡ None) × (entry_with key x.entries ≡ Some y)) → y.is_in_guard ≡ true
+      by (inl f) = absurd (no_name (nodes_of p) key (past key a) (named_by (nodes_of p) key y f))
+      by (inr f) = u key y f.1 a
+
+  marked_statement : (form : Form) (x : Standpoint) → told_places.Past items any_place bs.outer (nodes_in form) →
+      Marked x → Marked (with_names (typing.entries_in form) x)
+  marked_statement (tree.Let pattern value) x past u =
+      marked_names pattern x (λ key a. above_left key (nodes_of pattern) (nodes_if_any value) (past key a)) u
+  marked_statement form x past u = u
 
   pub stood_left : (x : Standpoint) (a b : List Node) → Stood x (a ++ b) → Stood x a
   stood_left x a b s = record {
-    here = record {
-      rises = rises_left a b s.here.rises;
-      outer = λ y e. above_left y.key a b (s.here.outer y e);
-      low = λ key y e. above_left key a b (s.here.low key y e);
-    };
-    plain = s.plain;
+    here = here.here_left items any_place (Of items body) bs.outer bs.aliases x a b s.here;
+    marked = s.marked;
+    above = λ m i. s.above m (node_left a b m i);
   }
 
   pub stood_right : (x : Standpoint) (a b : List Node) → Stood x (a ++ b) → Stood x b
   stood_right x a b s = record {
-    here = record {
-      rises = rises_right a b s.here.rises;
-      outer = λ y e. above_right y.key a b (s.here.outer y e);
-      low = λ key y e. above_right key a b (s.here.low key y e);
-    };
-    plain = s.plain;
+    here = here.here_right items any_place (Of items body) bs.outer bs.aliases x a b s.here;
+    marked = s.marked;
+    above = λ m i. s.above m (node_right a b m i);
   }
 
   pub stood_in : (x : Standpoint) (n : Node) (ns : List Node) → Stood x (n ∷ ns) → Stood x ns
   stood_in x n ns s = stood_right x (n ∷ []) ns s
 
+  pub stood_beside : (x : Standpoint) (n : Node) (ns : List Node) → Stood x (n ∷ ns) → Stood (beside (number_of n) x) ns
+  stood_beside x n ns s = record {
+    here = here.here_beside items any_place (Of items body) bs.outer bs.aliases x n ns s.here;
+    marked = s.marked;
+    above = λ m i. s.above m (inr i);
+  }
+
+  pub scoped_beside : (id : ℕ) (x : Standpoint) → Scoped items body x → Scoped items body (beside id x)
+  scoped_beside id x s = record { names = s.names; roots = s.roots; listed = s.listed; closure = s.closure }
+
   pub stood_loop : (a : LoopAround) (x : Standpoint) (ns : List Node) → Stood x ns → Stood (in_a_loop a x) ns
-  stood_loop a x ns s =
-      record { here = record { rises = s.here.rises; outer = s.here.outer; low = s.here.low }; plain = s.plain }
+  stood_loop a x ns s = record {
+    here = here.here_loop items any_place (Of items body) bs.outer bs.aliases x a ns s.here;
+    marked = s.marked;
+    above = s.above;
+  }
 
   -- with the names of a pattern, which stands before these nodes
-  names_lower : (x : Standpoint) (p : Node) (ns : List Node) →
-      ((key : ℕ) → NameIn (nodes_of p) key → Above key ns) → Lower x ns → Lower (with_names (entries_of p) x) ns
-  names_lower x p ns above h = record {
-    rises = h.rises;
-    outer = h.outer;
-    low = λ key y e. by key y (found_in key (entries_of p) x.entries y e);
-  }
-    where
-      by : (key : ℕ) (y : InScope) → (entry_with key (entries_of p) ≡ Some y)
-          ⊎ ((entry_with key (entries_of p) ≡ None) × (entry_with key x.entries ≡ Some y)) → Above key ns
-      by key y (inl e) = above key (named_by (nodes_of p) key y e)
-      by key y (inr e) = h.low key y e.1
-
   pub stood_names : (x : Standpoint) (p : Node) (more ns : List Node) → Stood x ((nodes_of p ++ more) ++ ns) →
       Stood (with_names (entries_of p) x) ns
   stood_names x p more ns s = record {
-    here = names_lower x p ns
+    here = here.here_names items any_place (Of items body) bs.outer bs.aliases x p ns own.past
         (λ key i. name_above (nodes_of p ++ more) ns key s.here.rises (name_left (nodes_of p) more key i))
-        (stood_right x (nodes_of p ++ more) ns s).here;
-    plain = plain_names p x s.plain;
+        own.names own.under own.name_types
+        (here.here_right items any_place (Of items body) bs.outer bs.aliases x (nodes_of p ++ more) ns s.here);
+    marked = marked_names p x own.past s.marked;
+    above = λ m i. s.above m (node_right (nodes_of p ++ more) ns m i);
   }
+    where
+      own : Here items any_place (Of items body) bs.outer bs.aliases x (nodes_of p)
+      own = here.here_left items any_place (Of items body) bs.outer bs.aliases x (nodes_of p) more
+          (here.here_left items any_place (Of items body) bs.outer bs.aliases x (nodes_of p ++ more) ns s.here)
 
   -- behind a statement, and behind several
-  statement_lower : (form : Form) (x : Standpoint) (ns : List Node) → Rises (nodes_in form ++ ns) → Lower x ns →
-      Lower (with_names (typing.entries_in form) x) ns
-  statement_lower (tree.Let pattern value) x ns r h = names_lower x pattern ns
-      (λ key i. name_above (nodes_of pattern ++ nodes_if_any value) ns key r
-      (name_left (nodes_of pattern) (nodes_if_any value) key i)) h
-  statement_lower form x ns r h = record { rises = h.rises; outer = h.outer; low = h.low }
-
-  stood_statement : (form : Form) (x : Standpoint) (ns : List Node) → Rises (nodes_in form ++ ns) → Stood x ns →
-      Stood (with_names (typing.entries_in form) x) ns
-  stood_statement form x ns r s =
-      record { here = statement_lower form x ns r s.here; plain = plain_statement form x s.plain }
+  stood_statement : (form : Form) (x : Standpoint) (ns : List Node) → Stood x (nodes_in form) →
+      Rises (nodes_in form ++ ns) → Stood x ns → Stood (with_names (typing.entries_in form) x) ns
+  stood_statement form x ns g r s = record {
+    here = told_parts.statement_names items any_place (Of items body) nothing form bs.outer bs.aliases x ns g.here r
+        s.here;
+    marked = marked_statement form x g.here.past s.marked;
+    above = s.above;
+  }
 
   pub stood_next : (first : Node) (x : Standpoint) (more : List Node) → Stood x (nodes_of first ++ more) →
       Stood (with_names (typing.entries_in (Rattle.well_typed.specs.Places.form_of first)) x) more
   stood_next (node id at ty by form) x more s = stood_statement form x more
-      (rises_right (node id at ty by form ∷ []) (nodes_in form ++ more) s.here.rises)
+      (stood_in x (node id at ty by form) (nodes_in form) (stood_left x (nodes_of (node id at ty by form)) more s))
+      (told_places.rises_right (node id at ty by form ∷ []) (nodes_in form ++ more) s.here.rises)
       (stood_right x (nodes_of (node id at ty by form)) more s)
 
   pub stood_grouped : (x : Standpoint) (a b c : List Node) → Stood x ((a ++ b) ++ c) → Stood x (a ++ (b ++ c))
-  stood_grouped x a b c s = subst (Stood x) (grouped a b c) s
-    where
-      grouped : (a b c : List Node) → (a ++ b) ++ c ≡ a ++ (b ++ c)
-      grouped [] b c = refl
-      grouped (n ∷ a) b c = ap (λ l. n ∷ l) (grouped a b c)
+  stood_grouped x a b c s = record {
+    here = told_parts.regrouped items any_place (Of items body) nothing a b c bs.outer bs.aliases x s.here;
+    marked = s.marked;
+    above = subst (λ l. (m : Node) → NodeIn l m → bs.least ≤ number_of m) (append_assoc a b c) s.above;
+  }
 
   pub stood_behind : (ns : Nodes) (x : Standpoint) (more : List Node) → Stood x (nodes_among ns ++ more) →
       Stood (behind x ns) more
@@ -203,8 +192,39 @@ module _ (items : ItemTable) where
 
   -- ---- the place of a node
 
-  pub unaliased : (x : Standpoint) → Unaliased x []
-  unaliased x = record { names = λ key y e f. refl; closure = λ y e. refl }
+  alias_or : (key : ℕ) → (is_alias bs.outer key ≡ true) ⊎ (is_alias bs.outer key ≡ false)
+  alias_or key = by (is_alias bs.outer key)
+    where
+      by : (b : Bool) → (b ≡ true) ⊎ (b ≡ false)
+      by true = inl refl
+      by false = inr refl
+
+  pub unaliased : (x : Standpoint) (ns : List Node) → Stood x ns → Unaliased x bs.aliases
+  unaliased x ns s = record {
+    names = λ key y e f. name key y e f (alias_or key);
+    closure = λ y e. self y e (alias_or y.key);
+  }
+    where
+      name : (key : ℕ) (y : InScope) → entry_with key x.entries ≡ Some y → y.is_in_guard ≡ false →
+          (is_alias bs.outer key ≡ true) ⊎ (is_alias bs.outer key ≡ false) →
+          shapes.place_of_key key bs.aliases ≡ whole_local key
+      name key y e f (inl a) = absurd (false≢true (sym f ∙ s.marked key y e a))
+      name key y e f (inr a) = s.here.sees.plain key a
+
+      self : (y : InScope) → x.closure ≡ Some y → (is_alias bs.outer y.key ≡ true) ⊎ (is_alias bs.outer y.key ≡ false) →
+          shapes.place_of_key y.key bs.aliases ≡ whole_local y.key
+      self y e (inl a) = absurd (s.here.sees.closure y e a)
+      self y e (inr a) = s.here.sees.plain y.key a
+
+  -- a root that is no binding of a guard stands for itself
+  pub root_plain : (x : Standpoint) (ns : List Node) → Stood x ns → (root : Option ℕ) →
+      ((key : ℕ) → root ≡ Some key → is_alias bs.outer key ≡ true → ⊥) → RootPlain bs.aliases root
+  root_plain x ns s root f key e = by (alias_or key)
+    where
+      by : (is_alias bs.outer key ≡ true) ⊎ (is_alias bs.outer key ≡ false) →
+          shapes.place_of_key key bs.aliases ≡ whole_local key
+      by (inl a) = absurd (f key e a)
+      by (inr a) = s.here.sees.plain key a
 
   -- the variable at the root of a place is in scope
   abbrev Named : Standpoint → ℕ → Type 0
@@ -233,20 +253,21 @@ module _ (items : ItemTable) where
     form_named (tree.Deref base) x id ty h key e = root_named base x Base h.0 key e
     form_named form x id ty h key e = absurd (none-some key e)
 
-  not_behind : (key : ℕ) (ns : List Node) → Above key ns → Numbered ns key → ⊥
+  pub not_behind : (key : ℕ) (ns : List Node) → Above key ns → Numbered ns key → ⊥
   not_behind key ns a n = let less : key < key = above_numbered key ns key a n in omega (less, arith)
 
   -- and is none of the nodes behind
   pub elsewhere : (n : Node) (x : Standpoint) (standing : Standing) → Holds (typing.typed (K x) standing n) →
-      (ns : List Node) → Stood x ns → Elsewhere (root_of n) ns
-  elsewhere n x standing h ns s key e i = by (root_named n x standing h key e)
+      (ns : List Node) → Stood x ns → RootPlain bs.aliases (root_of n) → Elsewhere (root_of n) ns
+  elsewhere n x standing h ns s plain key e i = by (root_named n x standing h key e)
     where
       by : Named x key → ⊥
-      by (inl y) = not_behind key ns (s.here.low key y.0 y.1) i
+      by (inl y) = not_behind key ns (subst (λ (q : Place). Above q.local ns) (plain key e)
+          (s.here.low key y.0 y.1).0) i
       by (inr y) = not_behind key ns (subst (λ k. Above k ns) y.1.1 (s.here.outer y.0 y.1.0)) i
 
-  pub made_at : (body : BodyTree) (told : Told items) (fuel : ℕ) (n : Node) (x : Standpoint) (standing : Standing) →
-      Holds (typing.typed (K x) standing n) → Stood x (nodes_of n) →
-      Made (nodes_of n) (root_of n) ((shape items n).place [])
-  made_at body told fuel n x standing h s = made_place items body told fuel n x standing h [] (unaliased x)
-      (λ key y same e. s.plain key y e) s.here.rises (elsewhere n x standing h (nodes_of n) s)
+  pub made_at : (told : Told items) (fuel : ℕ) (n : Node) (x : Standpoint) (standing : Standing) →
+      Holds (typing.typed (K x) standing n) → Stood x (nodes_of n) → RootPlain bs.aliases (root_of n) →
+      Made (nodes_of n) (root_of n) ((shape items n).place bs.aliases)
+  made_at told fuel n x standing h s plain = made_place items body told fuel n x standing h bs.aliases plain
+      s.here.rises (elsewhere n x standing h (nodes_of n) s plain)

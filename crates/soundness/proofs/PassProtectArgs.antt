@@ -21,16 +21,16 @@ use Rattle.src_meaning.specs.Locals.OfBody.{local_ty, local_of, local_keys}
 use Rattle.typed_tree.specs.Nodes.{number_of, nodes_of, nodes_among}
 use Rattle.typed_tree.specs.Tree.{Node, Nodes, no_node, a_node, BodyTree}
 use Rattle.typing_rules.specs.Replaced.{passes_key}
-use Rattle.soundness.proofs.CheckedBodies.{is_reference_param}
-use Rattle.soundness.proofs.Checks as checks
-use Rattle.soundness.proofs.DropsCount.{is_content}
-use Rattle.soundness.proofs.Facts.{Naming, Facts, Each}
-use Rattle.soundness.proofs.PassCells.{NodeIn, node_left, node_right, one_node}
-use Rattle.soundness.proofs.PassFrameForms.{moved_nodes}
-use Rattle.soundness.proofs.PassLocals.{one_key}
+use Rattle.soundness_values.proofs.CheckedBodies.{is_reference_param}
+use Rattle.soundness_values.proofs.Checks as checks
+use Rattle.soundness_values.proofs.DropsCount.{is_content}
+use Rattle.soundness_values.proofs.Facts.{Naming, Facts, Each}
+use Rattle.soundness_cells.proofs.PassCells.{NodeIn, node_left, node_right, one_node}
+use Rattle.soundness_frame.proofs.PassFrameForms.{moved_nodes}
+use Rattle.soundness_cells.proofs.PassLocals.{one_key}
 use Rattle.soundness.proofs.PassNamingKept.{AllNamed, operand_named}
-use Rattle.soundness.proofs.PassNumbers.{Rises}
-use Rattle.soundness.proofs.ProtectTests.{marked_naming, marked_one, marked}
+use Rattle.soundness_cells.proofs.PassNumbers.{Rises}
+use Rattle.soundness_values.proofs.ProtectTests.{marked_naming, marked_one, marked}
 
 -- one that is found
 found_of : (P : Naming → Type 0) (test : Naming → Bool) (l : List Naming) (m : Naming) → find test l ≡ Some m →

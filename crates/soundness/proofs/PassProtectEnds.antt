@@ -31,34 +31,34 @@ use Rattle.well_typed.specs.Claim.{Holds, fact, both}
 use Rattle.well_typed.specs.Nodes as typing
 use Rattle.well_typed.specs.Nodes.{is_closure_body}
 use Rattle.well_typed.specs.Program.{is_body}
-use Rattle.soundness.specs.Laws.{IsSound}
-use Rattle.soundness.proofs.Checked.{Checking}
-use Rattle.soundness.proofs.CheckedBodies.{is_reference_param}
-use Rattle.soundness.proofs.Checks as checks
-use Rattle.soundness.proofs.DropsCount.{is_content}
-use Rattle.soundness.proofs.Facts.{Facts}
-use Rattle.soundness.proofs.Leaving.{ShownOut}
-use Rattle.soundness.proofs.OnceByPass.{protected}
-use Rattle.soundness.proofs.PassWithin.{Outer}
-use Rattle.soundness.proofs.PassBlockTold.{in_block, block_within}
-use Rattle.soundness.proofs.PassCells.{NodeIn, node_left, node_right}
+use Rattle.soundness_values.specs.Laws.{IsSound}
+use Rattle.soundness_values.proofs.Checked.{Checking}
+use Rattle.soundness_values.proofs.CheckedBodies.{is_reference_param}
+use Rattle.soundness_values.proofs.Checks as checks
+use Rattle.soundness_values.proofs.DropsCount.{is_content}
+use Rattle.soundness_values.proofs.Facts.{Facts}
+use Rattle.soundness_values.proofs.Leaving.{ShownOut}
+use Rattle.soundness_values.proofs.OnceByPass.{protected}
+use Rattle.soundness_frame.proofs.PassWithin.{Outer}
+use Rattle.soundness_frame.proofs.PassBlockTold.{in_block, block_within}
+use Rattle.soundness_cells.proofs.PassCells.{NodeIn, node_left, node_right}
 use Rattle.soundness.proofs.PassContents.{Plain, Names, names_content, content_at}
-use Rattle.soundness.proofs.PassFacts.{Standpoint, context}
-use Rattle.soundness.proofs.PassFirst.{body_at}
-use Rattle.soundness.proofs.PassFrameBodies.{any_place, body_kept}
-use Rattle.soundness.proofs.PassFrameForms.{Telling, TellingCalls, moved_nodes, node_site}
-use Rattle.soundness.proofs.PassNumbers.{Numbered, Rises, rises_right, rises_apart}
+use Rattle.soundness_cells.proofs.PassFacts.{Standpoint, context}
+use Rattle.soundness_cells.proofs.PassFirst.{body_at}
+use Rattle.soundness_frame.proofs.PassFrameBodies.{any_place, body_kept}
+use Rattle.soundness_frame.proofs.PassFrameForms.{Telling, TellingCalls, moved_nodes, node_site}
+use Rattle.soundness_cells.proofs.PassNumbers.{Numbered, Rises, rises_right, rises_apart}
 use Rattle.soundness.proofs.PassProtectArgs as named
 use Rattle.soundness.proofs.PassProtectArgs.{MadeBy, args_hold}
 use Rattle.soundness.proofs.PassProtectCalls as calls
 use Rattle.soundness.proofs.PassProtectLaw.{Param, protected_param, never_stored, param_numbered}
 use Rattle.soundness.proofs.PassProtectRun as runs
 use Rattle.soundness.proofs.PassProtectRun.{unless_none, some_sig, some_head}
-use Rattle.soundness.proofs.PassRefilled.{not_mark}
-use Rattle.soundness.proofs.PassTold as here
-use Rattle.soundness.proofs.PassTold.{KnownOf, Here, IfRoot, Told}
-use Rattle.soundness.proofs.PassToldForms.{Saying}
-use Rattle.soundness.proofs.PassToldPlaces.{is_alias, AllPermit, Permits}
+use Rattle.soundness_cells.proofs.PassRefilled.{not_mark}
+use Rattle.soundness_frame.proofs.PassTold as here
+use Rattle.soundness_frame.proofs.PassTold.{KnownOf, Here, IfRoot, Told}
+use Rattle.soundness_frame.proofs.PassToldForms.{Saying}
+use Rattle.soundness_frame.proofs.PassToldPlaces.{is_alias, AllPermit, Permits}
 
 pub numbered_in : (ns : List Node) (m : Node) → NodeIn ns m → Numbered ns (number_of m)
 numbered_in [] m i = absurd i
@@ -226,7 +226,7 @@ module _ (p : ProgramTree) (sound : IsSound p) (n : ℕ) (b : BodyTree) (at : sl
       args
 
   body_passes : (w : AbstractState) (facts : Facts) (to : EffectSite) (callee : ℕ) (args : List effects.Operand) →
-      (Rattle.soundness.proofs.CheckedBodies.checks_of p.items b).act_ok
+      (Rattle.soundness_values.proofs.CheckedBodies.checks_of p.items b).act_ok
       (action_at local (effects.Call to callee args)) w
       facts ≡ true → (sig : Sig) × ((slice_get p.items.bodies callee ≡ Some sig)
       × (passes facts w sig.params (map (operand_at local) args) ≡ true))
@@ -235,7 +235,7 @@ module _ (p : ProgramTree) (sound : IsSound p) (n : ℕ) (b : BodyTree) (at : sl
       (s.0, (s.1.0, first_so _ _ (second_so _ _ s.1.1)))
 
   trait_passes : (w : AbstractState) (facts : Facts) (to : EffectSite) (trait_no method : ℕ)
-      (args : List effects.Operand) → (Rattle.soundness.proofs.CheckedBodies.checks_of p.items b).act_ok
+      (args : List effects.Operand) → (Rattle.soundness_values.proofs.CheckedBodies.checks_of p.items b).act_ok
       (action_at local (effects.CallVirtual to trait_no method args)) w facts ≡ true →
       (head : List TyId × TyId) × ((checks.head_of p.items (λ key. None) (λ key. false) trait_no method ≡ Some head)
       × (passes facts w head.0 (map (operand_at local) args) ≡ true))

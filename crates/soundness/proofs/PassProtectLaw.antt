@@ -21,10 +21,10 @@ use Rattle.typing_rules.specs.Replaced.{Passing, store_of, stores, passings, pas
 use Rattle.typing_rules.proofs.LeastSet.{rounds_find_the_least}
 use Rattle.well_typed.specs.Claim.{Holds}
 use Rattle.well_typed.specs.Program.{are_params}
-use Rattle.soundness.proofs.OnceByPass.{is_reference_at, protected}
-use Rattle.soundness.proofs.PassCells.{NodeIn, and_left, and_right}
-use Rattle.soundness.proofs.PassLocals.{at_local}
-use Rattle.soundness.proofs.PassNumbers.{Numbered, numbered_left, numbered_right, own_number}
+use Rattle.soundness_values.proofs.OnceByPass.{is_reference_at, protected}
+use Rattle.soundness_cells.proofs.PassCells.{NodeIn, and_left, and_right}
+use Rattle.soundness_cells.proofs.PassLocals.{at_local}
+use Rattle.soundness_cells.proofs.PassNumbers.{Numbered, numbered_left, numbered_right, own_number}
 
 -- ---- members of lists
 

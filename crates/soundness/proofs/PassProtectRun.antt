@@ -22,24 +22,24 @@ use Rattle.src_meaning.specs.Locals.Effects.{at_locals, action_at, test_at, site
 use Rattle.src_meaning.specs.Locals.OfBody.{local_ty, local_of}
 use Rattle.typed_tree.specs.Nodes.{nodes_of}
 use Rattle.typed_tree.specs.Tree.{BodyTree}
-use Rattle.soundness.proofs.AlsoTests.{Also, checks_also}
-use Rattle.soundness.proofs.Checked.{Checking, with_facts, chosen_with, by_list}
-use Rattle.soundness.proofs.CheckedBodies.{checks_of, is_reference_param}
-use Rattle.soundness.proofs.Checks as checks
-use Rattle.soundness.proofs.Checks.{no_steps}
-use Rattle.soundness.proofs.DropsCount.{is_content}
-use Rattle.soundness.proofs.Facts.{Naming, Facts}
-use Rattle.soundness.proofs.Leaving.{ShownOut}
-use Rattle.soundness.proofs.PassCellEffects.{Quiet, acted_quiet, ChosenSo, test_quiet, drop_quiet}
-use Rattle.soundness.proofs.PassFrameActs.{is_plain, AnsweredSo, KeepingSo}
-use Rattle.soundness.proofs.PassFrameBodies.{any_place}
-use Rattle.soundness.proofs.PassMarks.{Marks, marked, chosen_marked, marked_effects}
+use Rattle.soundness_values.proofs.AlsoTests.{Also, checks_also}
+use Rattle.soundness_values.proofs.Checked.{Checking, with_facts, chosen_with, by_list}
+use Rattle.soundness_values.proofs.CheckedBodies.{checks_of, is_reference_param}
+use Rattle.soundness_values.proofs.Checks as checks
+use Rattle.soundness_values.proofs.Checks.{no_steps}
+use Rattle.soundness_values.proofs.DropsCount.{is_content}
+use Rattle.soundness_values.proofs.Facts.{Naming, Facts}
+use Rattle.soundness_values.proofs.Leaving.{ShownOut}
+use Rattle.soundness_cells.proofs.PassCellEffects.{Quiet, acted_quiet, ChosenSo, test_quiet, drop_quiet}
+use Rattle.soundness_frame.proofs.PassFrameActs.{is_plain, AnsweredSo, KeepingSo}
+use Rattle.soundness_frame.proofs.PassFrameBodies.{any_place}
+use Rattle.soundness_cells.proofs.PassMarks.{Marks, marked, chosen_marked, marked_effects}
 use Rattle.soundness.proofs.PassNamingKept as kept
-use Rattle.soundness.proofs.PassNumbers.{Rises}
+use Rattle.soundness_cells.proofs.PassNumbers.{Rises}
 use Rattle.soundness.proofs.PassProtectArgs as named
 use Rattle.soundness.proofs.PassProtectArgs.{MadeBy, NamedSo}
-use Rattle.soundness.proofs.PassRefilled.{not_mark, NotMark, unmarked}
-use Rattle.soundness.proofs.ProtectTests.{protect_tests, marked as passed_marked}
+use Rattle.soundness_cells.proofs.PassRefilled.{not_mark, NotMark, unmarked}
+use Rattle.soundness_values.proofs.ProtectTests.{protect_tests, marked as passed_marked}
 use Rattle.typing_rules.specs.Replaced.{OfTrait, bodies_of}
 
 abbrev pub also_mark : (more own : Bool) → Option ℕ

@@ -8,18 +8,18 @@ use Rattle.store_model.specs.Places.Place.{Step, ToPart, ToField, ToContent, ToE
 use Rattle.typed_tree.specs.Tree.{Node, BodyTree}
 use Rattle.src_meaning.specs.Locals.Effects.{step_at, place_at}
 use Rattle.src_meaning.specs.Locals.OfBody.{local_of, local_keys, local_ty}
-use Rattle.soundness.proofs.AlsoTests.{Also}
-use Rattle.soundness.proofs.CheckedBodies.{is_reference_param}
-use Rattle.soundness.proofs.Checks as checks
-use Rattle.soundness.proofs.Facts.{Facts, takes_index}
+use Rattle.soundness_values.proofs.AlsoTests.{Also}
+use Rattle.soundness_values.proofs.CheckedBodies.{is_reference_param}
+use Rattle.soundness_values.proofs.Checks as checks
+use Rattle.soundness_values.proofs.Facts.{Facts, takes_index}
 use Rattle.soundness.proofs.PassKnownPlaces.{Known}
 use Rattle.soundness.proofs.PassKnownStores.{has_field, Replaced}
-use Rattle.soundness.proofs.PassLocals.{one_key}
+use Rattle.soundness_cells.proofs.PassLocals.{one_key}
 use Rattle.soundness.proofs.PassMovable.{Movable}
-use Rattle.soundness.proofs.PassNumbers.{Numbered}
+use Rattle.soundness_cells.proofs.PassNumbers.{Numbered}
 use Rattle.soundness.proofs.PassPlaceMade.{Made}
 
-same_fields : (local : ℕ → ℕ) (steps : List Step) → has_field (map (step_at local) steps) ≡ has_field steps
+pub same_fields : (local : ℕ → ℕ) (steps : List Step) → has_field (map (step_at local) steps) ≡ has_field steps
 same_fields local [] = refl
 same_fields local (ToPart n ∷ steps) = same_fields local steps
 same_fields local (ToField v n ∷ steps) = refl
