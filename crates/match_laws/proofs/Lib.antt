@@ -1,0 +1,6 @@
+mod Compared
+mod PartsStand
+mod Reach
+mod States
+mod Taken
+mod TypesFound
