@@ -1,11 +1,14 @@
 -- The typed program of a text is well typed and breaks no rule of borrows, so its jumps name loops around them, the
--- numbers of its nodes rise, and its graph has no fault and is prepared for drop elaboration.
+-- numbers of its nodes rise, its graph has no fault and is prepared for drop elaboration, and it passes all checks where
+-- it is accepted.
 use Rattle.std.proofs.Common.{◌≡◌, ℕ, List, Option, Some, None, Result, Ok, Err, IfOk, refl, subst}
 use Rattle.lower_laws.proofs.AcceptedWhole.{are_lowerable, accepted_graphs_are_well_formed}
 use Rattle.lower_ready.proofs.Prepared.{graphs_are_prepared}
 use Rattle.lower_rules.proofs.Typed.{bodies_name_loops}
 use Rattle.lower_rules.specs.Laws.{AllNameTheirLoops}
 use Rattle.lower_laws.proofs.Exact.{bodies_rise}
+use Rattle.soundness_values.specs.Laws.{IsSound}
+use Rattle.src_meaning.specs.Programs.{IsAccepted}
 use Rattle.src_tree.specs.View.{items_of}
 use Rattle.typing_soundness.specs.Texts.{IsTypedProgram}
 use Rattle.typing_soundness.proofs.Texts.{read_is_typed}
@@ -45,6 +48,14 @@ unbroken (Err broken) program e = let never : ⊥ = cc in absurd never
 keeps_borrows : (text : List ℕ) (program : ProgramTree) → IsProgramOf text program → broken_borrow program ≡ None
 keeps_borrows text program (tree, is, read) = unbroken (typed_program (items_of tree) tree.end) program read
 
+-- where it is accepted too, it passes all checks
+pub is_sound : (text : List ℕ) (program : ProgramTree) → IsProgramOf text program → IsAccepted program → IsSound program
+is_sound text program p accepted = record {
+  typed = (is_typed text program p).well_typed;
+  borrows = keeps_borrows text program p;
+  accepted = accepted;
+}
+
 pub has_graph : (text : List ℕ) (program : ProgramTree) → IsProgramOf text program → HasGraph program
 has_graph text program p = (
   name_their_loops text program p,
@@ -52,4 +63,5 @@ has_graph text program p = (
   accepted_graphs_are_well_formed program (is_typed text program p),
   graphs_are_prepared program (is_typed text program p).well_typed (are_lowerable program (is_typed text program p))
       (keeps_borrows text program p),
+  is_sound text program p,
 )

@@ -31,6 +31,8 @@ use Rattle.typed_tree.specs.Nodes.{body_nodes, first_with}
 use Rattle.typed_tree.specs.Tree.{Node, BodyTree, ProgramTree}
 use Rattle.lower_rules.specs.Listed.{program_sites}
 use Rattle.lower_rules.specs.declared.site.Site.{Site}
+use Rattle.mir_pipeline.proofs.ExactRuns.{runs_exactly}
+use Rattle.mir_pipeline.proofs.SoundPrograms.{is_never_stuck}
 use Rattle.mir_pipeline.specs.Building.{HasGraph}
 use Rattle.mir_pipeline.specs.Graphs.{AreSited, IsFirstBad, IsGraphOf, behind_drop, told_by, is_drop, block_of, line_told, site_of, stands_at}
 use Rattle.mir_pipeline.specs.declared.uses.LineOfUse.{LineOfUse}
@@ -144,7 +146,7 @@ each P program holds n tree there =
 -- the graph that was made of a program
 pub is_graph : (program : ProgramTree) → HasGraph program → (same : Lowered) → same.graph ≡ graph_of program → same.sites ≡ program_sites program →
     IsCounted same.graph → IsGraphOf program same
-is_graph program (named, rises, well_formed, prepared) same made listed counted =
+is_graph program (named, rises, well_formed, prepared, sound) same made listed counted =
     record {
       graph = made;
       sites = listed;
@@ -152,7 +154,7 @@ is_graph program (named, rises, well_formed, prepared) same made listed counted 
       prepared = subst IsPrepared (sym made) prepared;
       small = subst (EachBody IsSmall program) (sym made) (each IsSmall program (λ n tree there. lowered_is_small program.items tree));
       counted = counted;
-      values = subst (RunsAsItsSource program) (sym made) (lowered_runs_as_its_source program named);
+      values = alike;
       free =
           subst (EachBody (WalksAsItRunsFreely program.items) program) (sym made)
           (each (WalksAsItRunsFreely program.items) program (λ n tree there. lowered_walks_as_it_runs_freely program.items tree (named n tree there)));
@@ -160,4 +162,10 @@ is_graph program (named, rises, well_formed, prepared) same made listed counted 
           subst (EachBody (MeetsExactly program.items) program) (sym made)
           (each (MeetsExactly program.items) program (lowered-paths-meet-exactly program named rises well_formed));
       sited = sited program named same made listed;
+      sound = sound;
+      never_stuck = λ accepted. is_never_stuck program (sound accepted);
+      exact = λ accepted. runs_exactly program same.graph alike (is_never_stuck program (sound accepted));
     }
+  where
+    alike : RunsAsItsSource program same.graph
+    alike = subst (RunsAsItsSource program) (sym made) (lowered_runs_as_its_source program named)

@@ -17,6 +17,7 @@ use Rattle.lower_laws.specs.Refused.{ruled_by, MeetsExactly}
 use Rattle.move_errors.specs.Refusal.{IsRefused}
 use Rattle.move_errors.specs.declared.errors.BadUse.{BadUse}
 use Rattle.move_paths.specs.declared.uses.Use.{Use}
+use Rattle.soundness_values.specs.Laws.{IsSound}
 use Rattle.src_meaning.specs.Programs.{IsAccepted, reached_by}
 use Rattle.typed_tree.specs.Nodes.{body_nodes, first_with}
 use Rattle.typed_tree.specs.Tree.{Node, BodyTree, ProgramTree}
@@ -24,6 +25,7 @@ use Rattle.lower_rules.specs.Listed.{program_sites}
 use Rattle.lower_rules.specs.Sites.{position_of}
 use Rattle.lower_rules.specs.declared.site.Site.{Site}
 use Rattle.mir_pipeline.specs.Programs.{IsProgramOf, HasNoProgram}
+use Rattle.mir_pipeline.specs.Runs.{IsNeverStuck, RunsExactlyAsItsSource}
 use Rattle.mir_pipeline.specs.declared.refusal.Refusal.{Refusal}
 use Rattle.mir_pipeline.specs.declared.refusal.Refusal.TheVariants as refusal
 use Rattle.mir_pipeline.specs.declared.uses.LineOfUse.{LineOfUse}
@@ -74,7 +76,8 @@ AreSited lowered =
 -- The raw graph of a program, with the sites of its uses. It is well formed and prepared for drop elaboration; its lists
 -- are short, and a body has few blocks for the nodes of its source. It runs as the program does, up to the place where
 -- both are stuck; each body walks as it runs freely, its paths meet exactly the refused uses of its free runs, and each
--- bad use has a site.
+-- bad use has a site. Where the program is accepted it passes all checks; then it is never stuck, and the graph runs
+-- exactly as it does.
 pub record IsGraphOf (program : ProgramTree) (lowered : Lowered) : Type 0 where
   pub graph : lowered.graph ≡ graph_of program
   pub sites : lowered.sites ≡ program_sites program
@@ -86,6 +89,9 @@ pub record IsGraphOf (program : ProgramTree) (lowered : Lowered) : Type 0 where
   pub free : EachBody (WalksAsItRunsFreely program.items) program lowered.graph
   pub paths : EachBody (MeetsExactly program.items) program lowered.graph
   pub sited : AreSited lowered
+  pub sound : IsAccepted program → IsSound program
+  pub never_stuck : IsAccepted program → IsNeverStuck program
+  pub exact : IsAccepted program → RunsExactlyAsItsSource program lowered.graph
 
 -- the raw graph of a text's program
 abbrev pub IsLoweredOf : List ℕ → Lowered → Type 0

@@ -2,4 +2,5 @@ pub mod Building
 pub mod Built
 pub mod Graphs
 pub mod Programs
+pub mod Runs
 pub mod Trees

@@ -10,7 +10,9 @@ use mir_base::NoMemory;
 use std::alloc::Global;
 
 /// The graph with exact drops of an accepted text of at most 4,294,967,294 bytes, and how many drops of its raw graph are
-/// of each kind. It is well formed, and by strict steps it runs as the program does, wherever that is not stuck.
+/// of each kind. It is well formed, and by strict steps it runs exactly as the program does, which is never stuck. Where a
+/// run returns or unwinds to its top, each value with a serial number is dropped, freed or forgotten exactly once; where it
+/// ends otherwise, at most once.
 ///
 /// # Errors
 ///

@@ -10,7 +10,8 @@ use mir_base::NoMemory;
 use std::alloc::Global;
 
 /// The raw graph of a text of at most 4,294,967,294 bytes that breaks no rule, with scheduled drops, and the sites of
-/// its uses. It is well formed. Of its uses nothing is asked.
+/// its uses. It is well formed. Of its uses nothing is asked; where the program is accepted, the graph runs exactly as the
+/// program does, and is never stuck.
 ///
 /// # Errors
 ///

@@ -1,4 +1,5 @@
 mod Items
 mod Numbers
+mod Once
 mod Tokens
 mod Values
