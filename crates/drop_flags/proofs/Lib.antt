@@ -1,3 +1,5 @@
 mod Following
+mod Nearby
+mod Stored
 mod Told
 mod Upper

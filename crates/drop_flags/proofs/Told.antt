@@ -9,9 +9,9 @@ use Rattle.cfg_graph.specs.declared.place.Place as graph
 use Rattle.cfg_graph.specs.declared.statement.Stmt.{Stmt}
 use Rattle.cfg_graph.specs.Moves.Gone.{counts, is_at_or_above, leaves_gone}
 use Rattle.cfg_graph.specs.Places.{named}
-use Rattle.cfg_graph.specs.Uses.{PlaceUse}
+use Rattle.cfg_graph.specs.Uses.{PlaceUse, stmt_uses}
 use Rattle.init_flow.proofs.Upward.{counts-up}
-use Rattle.drop_elaborate.specs.Elaborated.{flags_below, flags_if, flags_of_use, first_flags, at_start}
+use Rattle.drop_elaborate.specs.Elaborated.{flags_below, flags_if, flags_of_use, flags_of_uses, first_flags, at_start, with_flags}
 use Rattle.drop_flags.specs.Flags.{AreFlags, paths_of, store, store_if, stores_below, is_param, first_stores}
 use Rattle.drop_flags.specs.declared.flags.Flags.{Flags}
 
@@ -82,3 +82,28 @@ module _ (items : ItemTable) (body : Body) (flags : Flags) (are : AreFlags items
 
   pub starts-is : first_stores flags.params (paths_of flags) flags.first ≡ at_start items body (paths_of flags) 0
   starts-is = first-is items body (paths_of flags) flags.params (paths_of flags) flags.first 0 are.params from-zero
+
+-- without flags no use asks for a store
+module _ (items : ItemTable) (body : Body) where
+  use-none : (made : PlaceUse × graph.Place) → flags_of_use items body [] made ≡ []
+  use-none made = by (leaves_gone made.0)
+    where
+      by : (left : Option Bool) →
+          (if counts items body (named made.1) then flags_if items body [] left (named made.1) else []) ≡ []
+      by None = nothing (counts items body (named made.1)) _ refl
+      by (Some gone) = nothing (counts items body (named made.1)) _ refl
+
+  pub uses-none : (flagged : List Place) → flagged ≡ [] → (uses : List (PlaceUse × graph.Place)) →
+      flags_of_uses items body flagged uses ≡ []
+  uses-none flagged none uses =
+      ap (λ (l : List Place). flags_of_uses items body l uses) none ∙ each uses
+    where
+      each : (uses : List (PlaceUse × graph.Place)) → flags_of_uses items body [] uses ≡ []
+      each [] = refl
+      each (made ∷ uses) = λ i. use-none made i ++ each uses i
+
+  pub with-none : (flagged : List Place) → flagged ≡ [] → (lines : List Stmt) →
+      with_flags items body flagged lines ≡ lines
+  with-none flagged none [] = refl
+  with-none flagged none (stmt ∷ lines) =
+      λ i. stmt ∷ uses-none flagged none (stmt_uses stmt) i ++ with-none flagged none lines i

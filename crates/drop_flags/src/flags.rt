@@ -9,6 +9,7 @@ ghost use Rattle.drop_elaborate.specs.Elaborated.{flags_of_use, flags_of_uses};
 ghost use Rattle.drop_flags.specs.Flags as stores;
 ghost use Rattle.drop_flags.specs.Flags.{AreFlags, HasRoom, paths_of, store_if, stores_below};
 
+use crate::FlagPaths;
 use crate::above::is_at_or_above;
 use cfg_graph::{Body, Operand, Place, Stmt};
 use drop_copies::whole_local;
@@ -25,7 +26,7 @@ pub struct Flags {
     /// The local of the first flag.
     pub first: u32,
     /// The paths that have flags, in the order of these.
-    pub paths: List<Place>,
+    pub paths: FlagPaths,
 }
 
 /// What a use leaves of a place: gone, present, or as it was.
@@ -86,7 +87,7 @@ impl Flags {
         Ok(Flags {
             params: body.params,
             first: body.locals.len() as u32,
-            paths,
+            paths: FlagPaths::new(paths)?,
         })
     }
 
@@ -102,8 +103,9 @@ impl Flags {
         ensures { OnOk result (stmts.new ≡
             stmts.old ++ stores_below (named place.now) present (paths_of self.now) self.now.first) }
     {
-        let mut flag = self.first;
-        for path in self.paths.as_slice() {
+        let near = self.paths.near(place.local);
+        let mut flag = self.first + near.first as u32;
+        for path in near.paths {
             add_if(alloc, place, path, flag, present, stmts)?;
             flag += 1;
         }

@@ -5,6 +5,8 @@
 mod above;
 mod flags;
 mod lines;
+mod paths;
 mod starts;
 
 pub use flags::Flags;
+pub use paths::{FlagPaths, Near};

@@ -10,20 +10,37 @@ use crate::Flags;
 use cfg_graph::{Stmt, Term};
 use drop_copies::copy_stmt;
 use mir_base::{List, NoMemory};
-use move_paths::{Use, result_place, stmt_uses, term_uses};
+use move_paths::{Use, Used, add_stmt_uses, result_place, term_uses};
 use std::alloc::Global;
+
+/// Adds statements as they are.
+fn copy_stmts(alloc: Global, lines: &[Stmt], stmts: &mut List<Stmt>) -> Result<(), NoMemory>
+    ensures { OnOk result (stmts.new ≡ stmts.old ++ lines.now) }
+{
+    for stmt in lines {
+        stmts.push(copy_stmt(alloc, stmt)?)?;
+    }
+    Ok(())
+}
 
 impl Flags {
     /// Adds a statement and the stores that its uses ask for.
-    fn add_stmt(&self, alloc: Global, stmt: &Stmt, stmts: &mut List<Stmt>) -> Result<(), NoMemory>
+    fn add_stmt<'a>(
+        &self,
+        alloc: Global,
+        stmt: &'a Stmt,
+        uses: &mut List<Used<'a>>,
+        stmts: &mut List<Stmt>,
+    ) -> Result<(), NoMemory>
         requires { HasRoom self.now }
         ensures { OnOk result ((items : ItemTable) (body : GraphBody) → AreFlags items body self.now →
             stmts.new ≡ stmts.old ++ (stmt.now ∷ flags_of_uses items body (paths_of self.now) (graph.stmt_uses stmt.now))) }
     {
         let copy = copy_stmt(alloc, stmt)?;
         stmts.push(copy)?;
-        let list = stmt_uses(alloc, stmt)?;
-        self.add_uses(alloc, list.as_slice(), stmts)
+        uses.truncate(0);
+        add_stmt_uses(uses, stmt)?;
+        self.add_uses(alloc, uses.as_slice(), stmts)
     }
 
     /// Adds statements, each with the stores that its uses ask for.
@@ -37,8 +54,12 @@ impl Flags {
         ensures { OnOk result ((items : ItemTable) (body : GraphBody) → AreFlags items body self.now →
             stmts.new ≡ stmts.old ++ with_flags items body (paths_of self.now) lines.now) }
     {
+        if self.paths.is_empty() {
+            return copy_stmts(alloc, lines, stmts);
+        }
+        let mut uses = List::new(alloc);
         for stmt in lines {
-            self.add_stmt(alloc, stmt, stmts)?;
+            self.add_stmt(alloc, stmt, &mut uses, stmts)?;
         }
         Ok(())
     }
@@ -54,6 +75,9 @@ impl Flags {
         ensures { OnOk result ((items : ItemTable) (body : GraphBody) → AreFlags items body self.now →
             stmts.new ≡ stmts.old ++ flags_of_uses items body (paths_of self.now) (graph.term_uses term.now)) }
     {
+        if self.paths.is_empty() {
+            return Ok(());
+        }
         let list = term_uses(alloc, term)?;
         self.add_uses(alloc, list.as_slice(), stmts)
     }

@@ -60,7 +60,7 @@ impl Flags {
             stmts ≡ at_start items body (paths_of self.now) number
             ++ with_flags items body (paths_of self.now) block.now.stmts) }
     {
-        let mut stmts = List::new(alloc);
+        let mut stmts = List::from_vec(Vec::with_capacity(alloc, block.stmts.len())?);
         self.add_start(alloc, number, &mut stmts)?;
         self.add_stmts(alloc, block.stmts.as_slice(), &mut stmts)?;
         Ok(stmts)

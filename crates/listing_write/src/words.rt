@@ -7,9 +7,9 @@ ghost use Rattle.listing_write.specs.Parts.{comparison_text, math_text, truth_te
 ghost use Rattle.listing_write.specs.Types.{kind_text};
 
 use cfg_graph::{Kind, Unwind};
+use itoa::Buffer;
 use mir_base::{Cmp, IntKind, Math, Why};
 use std::alloc::AllocError;
-use std::fmt::Write;
 
 /// Puts a word behind a text.
 pub fn put(out: &mut String, word: &str) -> Result<(), AllocError>
@@ -22,14 +22,16 @@ pub fn put(out: &mut String, word: &str) -> Result<(), AllocError>
 pub fn put_number(out: &mut String, number: u32) -> Result<(), AllocError>
     ensures { OnOk result (string_bytes out.new ≡ string_bytes out.old ++ decimal number) }
 {
-    write!(out, "{number}")
+    let mut buffer = Buffer::new();
+    out.push_str(buffer.format(number))
 }
 
 /// Puts a number with its sign behind a text.
 pub fn put_signed(out: &mut String, number: i128) -> Result<(), AllocError>
     ensures { OnOk result (string_bytes out.new ≡ string_bytes out.old ++ signed_decimal number) }
 {
-    write!(out, "{number}")
+    let mut buffer = Buffer::new();
+    out.push_str(buffer.format(number))
 }
 
 pub fn word_of_int(kind: IntKind) -> &'static str

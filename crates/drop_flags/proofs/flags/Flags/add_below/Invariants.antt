@@ -5,6 +5,6 @@ use Rattle.drop_flags.proofs.flags.Flags.add_below.Given as goal
 
 abbrev pub invariant-loop-path : goal.invariant-loop-path
 invariant-loop-path l =
-    (l.flag ≡ l.self.first + l.path-index)
-    × (l.stmts ++ stores_below (named l.place) l.present (map named (drop l.path-index l.self.paths)) l.flag
-    ≡ l.initial.stmts ++ stores_below (named l.place) l.present (map named l.self.paths) l.self.first)
+    (l.flag ≡ l.initial.flag + l.path-index)
+    × (l.stmts ++ stores_below (named l.place) l.present (map named (drop l.path-index l.path-items)) l.flag
+    ≡ l.initial.stmts ++ stores_below (named l.place) l.present (map named l.path-items) l.initial.flag)

@@ -1,10 +1,23 @@
-use Rattle.std.proofs.Common.{◌∷◌, refl}
+use Rattle.std.proofs.Common.{◌≡◌, ◌∙◌, ◌∷◌, [], ◌++◌, List, map, refl, sym, ap}
+use Rattle.std.proofs.lemmas.Result.{on_ok_weaker}
+use Rattle.cfg_graph.specs.declared.place.Place.{Place}
 use Rattle.cfg_graph.specs.declared.statement.Stmt.{Stmt}
+use Rattle.cfg_graph.specs.Places.{named}
 use Rattle.cfg_graph.specs.Uses.{stmt_uses}
 use Rattle.drop_elaborate.specs.Elaborated.{flags_of_uses, with_flags}
 use Rattle.drop_flags.specs.Flags.{paths_of}
 use Rattle.drop_flags.proofs.Following.{one_more, none_left}
+use Rattle.drop_flags.proofs.Told.{with-none}
 use Rattle.drop_flags.proofs.flags.Flags.add_stmts.Goals as goal
+
+pub returns-then-is_empty : goal.returns-then-is_empty
+returns-then-is_empty c =
+    let none : paths_of c.args.self.now ≡ [] =
+    ap (λ (l : List Place). map named l) (c.is_empty.ensures.0 c.if-is_empty.true) in
+    on_ok_weaker c.copy_stmts.result
+    (λ copied items body are. copied ∙ ap (λ (l : List Stmt). c.args.stmts.now ++ l)
+    (sym (with-none items body (paths_of c.args.self.now) none c.args.lines.now)))
+    c.copy_stmts.ensures
 
 pub loop-stmt-init : goal.loop-stmt-init
 loop-stmt-init c = λ items body are. refl

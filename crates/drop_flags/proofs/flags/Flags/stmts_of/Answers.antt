@@ -10,5 +10,7 @@ returns c = λ items body are.
     c.in_ok-add_stmts.ensures items body are
     ∙ ap (λ (l : List Stmt). l ++ with_flags items body paths c.as_slice.result.now)
     (c.in_ok-add_start.ensures items body are
-    ∙ ap (λ (l : List Stmt). l ++ at_start items body paths c.args.number) c.new-stmts.ensures)
-    ∙ ap (λ (l : List Stmt). at_start items body paths c.args.number ++ with_flags items body paths l) c.as_slice.ensures
+    ∙ ap (λ (l : List Stmt). l ++ at_start items body paths c.args.number) (c.from_vec-stmts.ensures
+    ∙ c.in_ok-with_capacity.ensures.items))
+    ∙ ap (λ (l : List Stmt). at_start items body paths c.args.number ++ with_flags items body paths l)
+    c.as_slice.ensures
