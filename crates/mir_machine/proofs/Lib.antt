@@ -6,6 +6,8 @@ pub mod ResumesLeft
 pub mod RunsLeft
 pub mod TasksLeft
 pub mod TermsLeft
+pub mod RunsGoOn
 pub mod RunsTold
+pub mod RunsCounted
 pub mod OnlyAdds
 pub mod FlowsOnward

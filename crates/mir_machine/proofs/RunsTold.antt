@@ -20,6 +20,7 @@ use Rattle.store_model.proofs.Concrete.Effects.{ticks_of}
 use Rattle.mir_edge.specs.Told.{WhereTold}
 use Rattle.mir_machine.proofs.FlowsOnward.{all_sent, flows_first, part_of}
 use Rattle.mir_machine.proofs.OnlyAdds.{told_first}
+use Rattle.mir_machine.proofs.RunsGoOn.{EntersMain, StillRuns, begins, ended, goes_on, handed_on}
 use Rattle.mir_machine.specs.declared.trace_flow.TextFlow.{TextFlow}
 use Rattle.mir_machine.specs.declared.error.RunError.{RunError}
 use Rattle.mir_machine.specs.Flows.{Flows, FlowsOn, StopsIn}
@@ -74,23 +75,6 @@ no_main sigs n e = ap (λ l. number_or_zero (position_from is_main n l)) (past s
 
 -- The turns of a run.
 
-abbrev pub EntersMain : Graph → World → Bool → ℕ → Trace × End → Type 0
-EntersMain graph world strict ticks run =
-    AtEntry graph [] (Event.Call (main_of graph.items)) (main_of graph.items) [] strict ticks run (state_of [] world)
-
--- after these events were handed on, the run is what is left where the machine does this next
-abbrev pub StillRuns : Graph → World → Trace → World → List Task → Doing → Type 0
-StillRuns graph first handed now tasks doing =
-    (strict : Bool) (ticks : ℕ) (run : Trace × End) → AreRanked graph → RunsGraph strict graph first → EntersMain graph first strict ticks run →
-    RunsGraph strict graph now × DoingLeft strict graph ticks run tasks (state_of handed now) doing
-
-begins : (graph : Graph) (first now : World) (tasks : List Task) (main : ℕ) (doing : Doing) → main ≡ main_of graph.items → tasks ≡ [] →
-    Keeps graph first now (AtEntry graph tasks (Event.Call main) main []) (Next graph tasks doing) → StillRuns graph first [] now tasks doing
-begins graph first now tasks main doing is none k strict ticks run ranked runs h =
-    k strict ticks run [] ranked runs
-    (subst (λ tasks. AtEntry graph tasks (Event.Call main) main [] strict ticks run (state_of [] first)) (sym none)
-    (subst (λ n. AtEntry graph [] (Event.Call n) n [] strict ticks run (state_of [] first)) (sym is) h))
-
 -- so the lines of what was handed on flow to the sink
 abbrev pub IsTold : Option (List ℕ) → Option (List ℕ) → Graph → World → World → List Task → Doing → TextFlow → Type 0
 IsTold start taken graph first now tasks doing flow = (handed : Trace) × StillRuns graph first handed now tasks doing × Flows start taken (lines_in graph handed) flow
@@ -103,7 +87,7 @@ module _ (start old new : Option (List ℕ)) (graph : Graph) (first now later : 
   pub told_goes_on : (tasks others : List Task) (doing next : Doing) (flow : TextFlow) → IsTold start old graph first now tasks doing flow →
       Keeps graph now later (Next graph tasks doing) (Next graph others next) → IsTold start old graph first later others next flow
   told_goes_on tasks others doing next flow (handed, h, f) k =
-      (handed, (λ strict ticks run ranked runs enters. let s = h strict ticks run ranked runs enters in k strict ticks run handed ranked s.0 s.1), f)
+      (handed, goes_on graph first now later handed tasks others doing next h k, f)
 
 lines_append : (graph : Graph) (a b : Trace) → lines_in graph (a ++ b) ≡ lines_in graph a ++ lines_in graph b
 lines_append graph [] b = refl
@@ -114,7 +98,7 @@ module _ (start old new : Option (List ℕ)) (graph : Graph) (first now : World)
       FlowsOn old new flow after (lines_in graph (events_of now.told)) → IsTold start new graph first later tasks doing after
   told_handed later after (handed, h, f) (none, runs, same) flows = (
     handed ++ events_of now.told,
-    (λ strict ticks run ranked r enters. let s = h strict ticks run ranked r enters in (runs ∙ s.0, subst (λ w. DoingLeft strict graph ticks run tasks w doing) (sym (same handed)) s.1)),
+    handed_on graph first now later handed tasks doing h (none, runs, same),
     subst (λ text. Flows start new text after) (sym (lines_append graph handed (events_of now.told))) (flows start (lines_in graph handed) f),
   )
 
@@ -154,32 +138,20 @@ module _ (start old new : Option (List ℕ)) (graph : Graph) (first now : World)
 
   -- the run has ended
   module _ (end : End) (is : ended_by doing ≡ Some end) (none : now.told ≡ []) where
-    ends : (handed : Trace) → StillRuns graph first handed now tasks doing → ForRun graph first (λ run. run ≡ (handed, end))
-    ends handed h strict ticks run ranked runs enters = by doing is (h strict ticks run ranked runs enters).1
-      where
-        by : (doing : Doing) → ended_by doing ≡ Some end → DoingLeft strict graph ticks run tasks (state_of handed now) doing → run ≡ (handed, end)
-        by (Doing.Ended other) e l =
-            let same : other ≡ end = cc in
-            l ∙ ap (λ (t : List ToldEvents). (handed ++ map event_of t, other)) none ∙ ap (λ t. (t, other)) (append-nil handed) ∙ ap (λ e. (handed, e)) same
-        by (Doing.Walks number block) e l = absurd (cc)
-        by (Doing.Drops post drops turn) e l = absurd (cc)
-        by (Doing.Returned value) e l = absurd (cc)
-        by Doing.Unwound e l = absurd (cc)
-
     pub end_is : IsTold start old graph first now tasks doing flow → ForRun graph first (λ run. run.1 ≡ end)
-    end_is (handed, h, f) strict ticks run ranked runs enters = ap (λ (run : Trace × End). run.1) (ends handed h strict ticks run ranked runs enters)
+    end_is (handed, h, f) strict ticks run ranked runs enters = ap (λ (run : Trace × End). run.1) (ended graph first now handed tasks doing end is none h strict ticks run ranked runs enters)
 
     pub text_is : (after : TextFlow) → IsTold start old graph first now tasks doing flow → FlowsOn old new flow after (end_line end) → string_bytes after.piece ≡ [] →
         ForRun graph first (λ run. WhereTold start (λ taken. new ≡ Some (taken ++ run_text graph run)))
     text_is after (handed, h, f) flows waits strict ticks run ranked runs enters = λ taken at.
         all_sent start new (lines_in graph handed ++ end_line end) after (flows start (lines_in graph handed) f) waits taken at
-        ∙ ap (λ run. Some (taken ++ run_text graph run)) (sym (ends handed h strict ticks run ranked runs enters))
+        ∙ ap (λ run. Some (taken ++ run_text graph run)) (sym (ended graph first now handed tasks doing end is none h strict ticks run ranked runs enters))
 
     pub part_is : (error : RunError) → IsTold start old graph first now tasks doing flow → StopsIn old new flow (end_line end) error →
         ForRun graph first (λ run. TookPart (run_text graph run) start new error)
     part_is error (handed, h, f) stops strict ticks run ranked runs enters =
         part_of start new (lines_in graph handed ++ end_line end) [] (run_text graph run)
-        (ap (run_text graph) (ends handed h strict ticks run ranked runs enters) ∙ sym (append-nil (lines_in graph handed ++ end_line end))) error
+        (ap (run_text graph) (ended graph first now handed tasks doing end is none h strict ticks run ranked runs enters) ∙ sym (append-nil (lines_in graph handed ++ end_line end))) error
         (stops start (lines_in graph handed) f)
 
 -- where memory is wanted at first, nothing was sent

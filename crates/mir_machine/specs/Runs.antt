@@ -1,4 +1,4 @@
--- What the calls `run` and `run_raw` answer.
+-- What the calls `run`, `run_raw` and `run_counted` answer.
 use Rattle.std.specs.Prelude.{◌≡◌, ℕ, ℤ, Bool, true, false, List, [], ◌++◌, map, Some}
 use Rattle.cfg_graph.specs.declared.graph.Graph.{Graph}
 use Rattle.cfg_meaning.specs.Programs.{graph_run, raw_graph_run}
@@ -14,6 +14,8 @@ use Rattle.store_model.specs.Concrete.Bodies.{main_of}
 use Rattle.mir_ty.specs.Named.{adt_name, body_name, text_of}
 use Rattle.mir_base.specs.Lines.{event_lines}
 use Rattle.std.specs.Prelude.{Option, None}
+use Rattle.trace_summary.specs.declared.counts.Counts.{Counts}
+use Rattle.trace_summary.specs.Summary.{counts_of}
 
 -- a strict run, or one of a raw graph
 abbrev pub run_by : Bool → Graph → List ℤ → ℕ → Trace × End
@@ -48,3 +50,7 @@ lines_in graph trace = event_lines (body_name graph.items) (adt_name graph.items
 abbrev pub IsHandedOn : World → World → Type 0
 IsHandedOn old new = (new.told ≡ []) × (run_setting new ≡ run_setting old)
     × ((before : Trace) → state_of (before ++ events_of old.told) new ≡ state_of before old)
+
+-- whatever was counted before: these events are counted too
+abbrev pub Counting : Counts → Counts → Trace → Type 0
+Counting old new more = (trace : Trace) → old ≡ counts_of trace → new ≡ counts_of (trace ++ more)

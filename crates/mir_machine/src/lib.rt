@@ -3,6 +3,7 @@
 
 mod calls;
 mod control;
+mod counted;
 mod drops;
 mod error;
 mod laws;
@@ -14,6 +15,7 @@ mod trace_flow;
 mod turns;
 mod whole;
 
+pub use counted::run_counted;
 pub use error::RunError;
 pub use laws::law_of_runs;
 pub use runs::{run, run_raw};

@@ -31,7 +31,7 @@ fn is_main(name: &Name) -> bool
 }
 
 /// The number of the body with the name `main`, or 0.
-fn main_number(items: &Items) -> u32
+pub fn main_number(items: &Items) -> u32
     ensures { result ≡ main_of items.now }
 {
     for n in 0..u32::MAX {
@@ -48,7 +48,7 @@ fn main_number(items: &Items) -> u32
 }
 
 /// How a run has ended, if it has.
-fn end_of(doing: &Doing) -> Option<End>
+pub fn end_of(doing: &Doing) -> Option<End>
     ensures { result ≡ ended_by doing.now }
 {
     match doing {

@@ -8,6 +8,7 @@ use machine_steps::ToldEvents;
 use mir_base::{End, NoMemory};
 use mir_ty::{Items, put_event_line};
 use std::alloc::Global;
+use trace_summary::put_end_line;
 
 fn write_told(out: &mut String, items: &Items, told: &ToldEvents) -> Result<(), NoMemory>
     ensures { OnOk result (string_bytes out.new ≡ string_bytes out.old
@@ -20,19 +21,6 @@ fn write_told(out: &mut String, items: &Items, told: &ToldEvents) -> Result<(), 
             Ok(())
         }
     }
-}
-
-fn write_end(out: &mut String, end: &End) -> Result<(), NoMemory>
-    ensures { OnOk result (string_bytes out.new ≡ string_bytes out.old ++ end_line end.now) }
-{
-    match end {
-        End::Returned => out.push_str("end: returned\n")?,
-        End::Panicked => out.push_str("end: panicked\n")?,
-        End::Aborted => out.push_str("end: aborted\n")?,
-        End::OutOfTicks => out.push_str("end: out of ticks\n")?,
-        End::Stuck { body, block } => write!(out, "end: stuck in body {body} block {block}\n")?,
-    }
-    Ok(())
 }
 
 /// The line of an event.
@@ -50,6 +38,6 @@ pub fn last_line(alloc: Global, end: &End) -> Result<String, NoMemory>
     ensures { IfOk result (λ line. string_bytes line ≡ end_line end.now) }
 {
     let mut line = String::new(alloc);
-    write_end(&mut line, end)?;
+    put_end_line(&mut line, end)?;
     Ok(line)
 }
