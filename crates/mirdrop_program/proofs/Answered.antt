@@ -3,7 +3,7 @@ use Rattle.std.proofs.Common.{◌≡◌, ℕ, List, arith, ap, sym, ◌∙◌, s
 use Rattle.mir_base.specs.declared.trace.End.{End}
 use Rattle.mirdrop_program.specs.declared.request.Command.{Command}
 use Rattle.mirdrop_program.specs.declared.request.Request.{Request}
-use Rattle.mirdrop_program.specs.Owed.{Owed, owed_by, OwedByCheck, OwedByRaw, OwedByBuild, OwedByRun, OwedByExec, accepted, not_accepted, listed, listed_with_use, no_program, built, not_built, ran, not_run, executed, no_listing, end_status}
+use Rattle.mirdrop_program.specs.Owed.{Owed, owed_by, OwedByCheck, OwedByRaw, OwedByBuild, OwedByRun, OwedByExec, OwedBySoak, summed, accepted, not_accepted, listed, listed_with_use, no_program, built, not_built, ran, not_run, executed, no_listing, end_status}
 
 -- the statuses of failures
 pub record IsAnswer (status : ℕ) : Type 0 where
@@ -42,10 +42,11 @@ by_command : (command : Command) (request : Request) (text : List ℕ) (status :
 by_command Command.Check request text status written owed = by_check text status written owed
 by_command Command.Raw request text status written owed = by_raw text status written owed
 by_command Command.Build request text status written owed = by_build text status written owed
-by_command Command.Run request text status written (ran lowered is) = end_is_answer _
+by_command Command.Run request text status written (ran program is uses never_stuck once) = end_is_answer _
 by_command Command.Run request text status written (not_run why is told) = one_is_answer
 by_command Command.Exec request text status written (executed graph is) = end_is_answer _
 by_command Command.Exec request text status written (no_listing error is told) = one_is_answer
+by_command (Command.Soak functions) request text status written (summed program is uses never_stuck once) = end_is_answer _
 
 pub owed_is_answer : (request : Request) (text : List ℕ) (status : ℕ) (written : List ℕ) → Owed request text status written → IsAnswer status
 owed_is_answer request text status written owed = by_command request.command request text status written owed

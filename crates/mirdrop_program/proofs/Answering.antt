@@ -1,13 +1,18 @@
 -- What was done with the answer to a text.
 use Rattle.std.proofs.Common.{◌≡◌, ℕ, ℤ, Bool, true, List, Option, Result, Ok, Err, IfOk, refl, sym, subst}
 use Rattle.cfg_graph.specs.declared.graph.Graph.{Graph}
-use Rattle.cfg_build.specs.declared.programs.Lowered.{Lowered}
-use Rattle.cfg_meaning.specs.Programs.{graph_run, raw_graph_run}
+use Rattle.cfg_meaning.specs.Programs.{graph_run}
+use Rattle.drop_graphs.specs.declared.exact.Elaborated.{Elaborated}
+use Rattle.mir_base.specs.Trace.{Trace}
+use Rattle.mir_base.specs.declared.trace.End.{End}
 use Rattle.mir_text.specs.Answers.{IsText, Answers as AnswersListing}
 use Rattle.mir_text.specs.declared.error.ListingError.{ListingError}
 use Rattle.mir_base.specs.declared.memory.NoMemory.{NoMemory}
 use Rattle.mir_machine.specs.Runs.{run_text}
-use Rattle.mir_pipeline.specs.Graphs.{IsAcceptedOf, IsNotAccepted}
+use Rattle.mir_pipeline.specs.Built.{IsBuiltOf}
+use Rattle.mir_pipeline.specs.Graphs.{IsNotAccepted}
+use Rattle.mir_ty.specs.ItemTable.{ItemTable}
+use Rattle.mir_ty.specs.Named.{text_of}
 use Rattle.mir_pipeline.specs.declared.refusal.Refusal.{Refusal}
 use Rattle.mirdrop_program.specs.declared.request.Command.{Command}
 use Rattle.mirdrop_program.specs.declared.request.Request.{Request}
@@ -40,13 +45,18 @@ module _ (request : Request) (text : List ℕ) (taken taken_after : Option (List
   was_run status written result owed writes (ran_whole d) = owing owed d
   was_run status written result owed writes (cut n h) = cut_short status written owed writes n h
 
-  pub program_ran : (lowered : Lowered) (result : ℕ) → request.command ≡ Command.Run → IsAcceptedOf text lowered →
-      Ran (end_status (raw_graph_run lowered.graph request.asks request.ticks).1)
-      (run_text lowered.graph (raw_graph_run lowered.graph request.asks request.ticks)) taken taken_after sink_failed result →
-      Done result
-  program_ran lowered result is accepted done =
-      was_run _ _ result (owes_by request Command.Run text is _ _ (ran lowered accepted))
-      (subst writes_by (sym is) refl) done
+  abbrev RanAs : ItemTable → Trace × End → ℕ → Type 0
+  RanAs items run result = Ran (end_status run.1) (text_of items run.0 run.1) taken taken_after sink_failed result
+
+  pub program_ran : (done : Elaborated) (result : ℕ) → request.command ≡ Command.Run → IsBuiltOf text done →
+      RanAs done.graph.items (graph_run done.graph request.asks request.ticks) result → Done result
+  program_ran done result is (program, p, built) wrote =
+      was_run _ _ result
+      (owes_by request Command.Run text is _ _ (ran program p built.source built.never_stuck built.once))
+      (subst writes_by (sym is) refl)
+      (subst (λ (run : Trace × End). RanAs program.items run result) (built.runs request.asks request.ticks)
+      (subst (λ (items : ItemTable). RanAs items (graph_run done.graph request.asks request.ticks) result)
+      built.elaborated.items wrote))
 
   pub listing_ran : (graph : Graph) (result : ℕ) → request.command ≡ Command.Exec → IsText text graph →
       Ran (end_status (graph_run graph request.asks request.ticks).1)

@@ -1,7 +1,10 @@
 pub mod Answered
 pub mod Answering
 pub mod Owing
+pub mod Unread
 pub mod TopCall
+pub mod StuckRuns
+pub mod Soaked
 pub mod Traces
 pub mod CommandLine
 pub mod Limits

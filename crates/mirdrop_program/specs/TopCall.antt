@@ -21,15 +21,23 @@ writes_a_trace Command.Run = true
 writes_a_trace Command.Exec = true
 writes_a_trace command = false
 
--- a status, and the text that is due with it
+-- `soak` reads no text
+abbrev pub reads_text : Command → Bool
+reads_text (Command.Soak functions) = false
+reads_text command = true
+
+-- a status, and the text that is due with it; a text that is not read may be as long as it likes
 pub data DueAnswer (words : List (List ℕ)) (text : List ℕ) (source_failed : Type 0) : ℕ → List ℕ → Type 0 where
   wrong_words : request_of words ≡ None → DueAnswer words text source_failed 2 words_line
-  not_read : (request : Request) → request_of words ≡ Some request → source_failed →
+  not_read : (request : Request) → request_of words ≡ Some request → reads_text request.command ≡ true →
+      source_failed →
       DueAnswer words text source_failed 3 read_line
-  too_long : (request : Request) → request_of words ≡ Some request → 131072 < length text →
+  too_long : (request : Request) → request_of words ≡ Some request → reads_text request.command ≡ true →
+      131072 < length text →
       DueAnswer words text source_failed 6 long_line
   answered : {status : ℕ} {answer : List ℕ} (request : Request) → request_of words ≡ Some request →
-      length text ≤ 131072 → Owed request text status answer → DueAnswer words text source_failed status answer
+      (reads_text request.command ≡ true → length text ≤ 131072) → Owed request text status answer →
+      DueAnswer words text source_failed status answer
 
 -- a status, and what is written with it: all that is due; a part of it, where the sink failed; or, for want of memory,
 -- nothing, and of a trace some beginning
@@ -52,19 +60,25 @@ HasAnswered words left taken taken_after source_failed sink_failed status =
     → (written : List ℕ) × (taken_after ≡ Some (before ++ written)) × Answers words text source_failed sink_failed
     status written
 
--- the same where the words ask for something, the text is not too long, and nothing failed: memory aside, the answer
--- that the text is owed is written
+-- the same where the words ask for something, a text that is read is not too long, and nothing failed: memory aside, the
+-- answer that is owed is written
 abbrev pub IsComplete : List (List ℕ) → Option (List ℕ) → Option (List ℕ) → Option (List ℕ) → Type 0 → Type 0 → ℕ →
     Type 0
 IsComplete words left taken taken_after source_failed sink_failed status =
     (request : Request) (text before : List ℕ) → request_of words ≡ Some request → left ≡ Some text →
-    taken ≡ Some before → length text ≤ 131072 → ¬ source_failed → ¬ sink_failed
+    taken ≡ Some before → (reads_text request.command ≡ true → (length text ≤ 131072) × ¬ source_failed) →
+    ¬ sink_failed
     → (status ≡ 5) ⊎ ((written : List ℕ) × (taken_after ≡ Some (before ++ written)) × Owed request text status written)
 
 -- the statuses that answer a text
 abbrev pub answers_a_text : ℕ → Bool
 answers_a_text status =
     status == 0 || (status == 1 || (status == 10 || (status == 11 || (status == 12 || status == 13))))
+
+-- the statuses of `soak`
+abbrev pub is_of_soak : ℕ → Bool
+is_of_soak status =
+    status == 0 || (status == 4 || (status == 5 || (status == 10 || (status == 11 || status == 12))))
 
 -- a text was handed to a sink, with a status
 pub data Delivered (status : ℕ) (text : List ℕ) (taken taken_after : Option (List ℕ)) (sink_failed : Type 0) : ℕ →

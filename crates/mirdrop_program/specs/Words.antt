@@ -1,5 +1,5 @@
 -- What the words of the command line ask for.
-use Rattle.std.specs.Prelude.{ℕ, ◌+◌, ◌*◌, ◌-◌, ◌&&◌, Bool, List, [], ◌∷◌, fold, length, map, nat_le, true, false, codes, if◌then◌else◌, Option, Some, None, option_and_then, ℤ, pos}
+use Rattle.std.specs.Prelude.{ℕ, ◌+◌, ◌*◌, ◌-◌, ◌≤◌, ◌&&◌, Bool, List, [], ◌∷◌, fold, length, map, nat_le, true, false, codes, if◌then◌else◌, Option, Some, None, option_and_then, option_map, ℤ, pos, ⊤}
 use Rattle.std.specs.List.{list_all}
 use Rattle.std.specs.Str.{bytes_eq}
 use Rattle.clap.specs.Lexer.{usize_max}
@@ -46,13 +46,14 @@ command_of text =
     else (if bytes_eq text (codes "run") then Some Command.Run
     else (if bytes_eq text (codes "exec") then Some Command.Exec else None))))
 
--- how many numbers a command takes at most
+-- how many numbers to be asked a command takes at most
 abbrev pub most_numbers : Command → ℕ
 most_numbers Command.Check = 0
 most_numbers Command.Raw = 0
 most_numbers Command.Build = 0
 most_numbers Command.Run = 64
 most_numbers Command.Exec = 64
+most_numbers (Command.Soak functions) = 0
 
 -- no numbers at all are an empty list of them
 abbrev pub given : Option (List Text) → List Text
@@ -77,16 +78,43 @@ request_with command asks ticks =
     option_and_then
     (λ asks. option_and_then (λ ticks. Some (record { command = command; asks = asks; ticks = ticks })) ticks) asks
 
+-- a command that has no numbers to be asked
+abbrev pub request_with_command : Option Command → Option ℕ → Option Request
+request_with_command command ticks = option_and_then (λ command. request_with command (Some []) ticks) command
+
 abbrev pub request_by : Command → List Text → Option Text → Option Request
 request_by command numbers ticks =
     request_with command (asks_of command numbers) (option_and_then ticks_of ticks)
 
+-- how many functions the program of `soak` is to have: from 1 to 1,500
+abbrev pub HasFewFunctions : Command → Type 0
+HasFewFunctions (Command.Soak functions) = (1 ≤ functions) × (functions ≤ 1500)
+HasFewFunctions command = ⊤
+
+abbrev pub count_of : Text → Option ℕ
+count_of text = if is_up_to 1500 text && nat_le 1 (digits_value text) then Some (digits_value text) else None
+
+-- `soak` takes exactly this one number
+abbrev pub functions_of : List Text → Option ℕ
+functions_of [] = None
+functions_of (text ∷ []) = count_of text
+functions_of (text ∷ other ∷ texts) = None
+
+abbrev pub soak_by : List Text → Option Text → Option Request
+soak_by numbers ticks =
+    request_with_command (option_map Command.Soak (functions_of numbers)) (option_and_then ticks_of ticks)
+
+-- the command that a word names, with its numbers and the text of the ticks
+abbrev pub request_named : List Text → Option Text → Text → Option Request
+request_named numbers ticks word =
+    if bytes_eq word (codes "soak") then soak_by numbers ticks
+    else option_and_then (λ command. request_by command numbers ticks) (command_of word)
+
 -- what was matched, read
 abbrev pub request_in : List Row → Option Request
 request_in rows =
-    option_and_then
-    (λ command. request_by command (given (all_of (codes "numbers") rows)) (first_of (codes "ticks") rows))
-    (option_and_then command_of (first_of (codes "command") rows))
+    option_and_then (request_named (given (all_of (codes "numbers") rows)) (first_of (codes "ticks") rows))
+    (first_of (codes "command") rows)
 
 -- `clap` has nothing to refuse
 abbrev pub has_none : Kinds → Bool

@@ -16,6 +16,7 @@ mod refusals;
 mod request;
 mod rules;
 mod run;
+mod soak;
 mod uses;
 mod words;
 
@@ -24,5 +25,6 @@ pub use listings::{put_graph_line, put_listing_line};
 pub use refusals::{put_listing_refusal, put_refusal};
 pub use request::{Command, Request, WordsError};
 pub use rules::{put_lex_line, put_refused_at, put_rule_line};
+pub use soak_text::soak_text;
 pub use uses::{put_store_line, put_use_line, put_way_lines};
 pub use words::request_of;

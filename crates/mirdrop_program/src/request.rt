@@ -1,6 +1,6 @@
 use mir_base::List;
 
-/// What is done with a text.
+/// What is to be done.
 #[derive(Clone, Copy)]
 pub enum Command {
     /// A program is accepted, or refused with the first reason.
@@ -13,6 +13,9 @@ pub enum Command {
     Run,
     /// The graph of a listing runs, and its trace is written.
     Exec,
+    /// A program with so many functions, from 1 to 1,500, is made and built, its graph runs, and a summary is written. No
+    /// text is read.
+    Soak { functions: u32 },
 }
 
 /// What the words ask for.

@@ -1,7 +1,7 @@
 //! The command `run`.
 ghost use Rattle.std.specs.Prelude.{◌≡◌, ◌≤◌, length};
 ghost use Rattle.cfg_graph.specs.WellFormed.Faults.{IsWellFormed};
-ghost use Rattle.cfg_meaning.specs.Programs.{raw_graph_run};
+ghost use Rattle.cfg_meaning.specs.Programs.{graph_run};
 ghost use Rattle.mir_edge.specs.Faults.{HasRisen};
 ghost use Rattle.mir_machine.specs.Runs.{run_text};
 ghost use Rattle.mirdrop_program.specs.Owed.{end_status};
@@ -15,8 +15,8 @@ use crate::refusals::refused_answer;
 use cfg_graph::Graph;
 use mir_base::End;
 use mir_edge::Sink;
-use mir_machine::{RunError, run_raw};
-use mir_pipeline::checked;
+use mir_machine::{RunError, run};
+use mir_pipeline::build;
 use std::alloc::Global;
 
 /// The status of a run, by its end.
@@ -42,16 +42,16 @@ pub fn status_without(error: RunError) -> u8
     }
 }
 
-/// Runs a raw graph, and writes its trace as it comes.
-fn run_graph<K: Sink>(alloc: Global, request: &Request, graph: &Graph, sink: &mut K) -> u8
+/// Runs a graph by strict steps, and writes its trace as it comes.
+pub fn run_graph<K: Sink>(alloc: Global, request: &Request, graph: &Graph, sink: &mut K) -> u8
     requires well_formed { IsWellFormed graph.now }
     requires ticks { request.now.ticks ≤ 1000000000 }
     ensures counts { K.faults sink.old ≤ K.faults sink.new }
-    ensures done { Ran (end_status (raw_graph_run graph.now request.now.asks request.now.ticks).1)
-        (run_text graph.now (raw_graph_run graph.now request.now.asks request.now.ticks))
+    ensures done { Ran (end_status (graph_run graph.now request.now.asks request.now.ticks).1)
+        (run_text graph.now (graph_run graph.now request.now.asks request.now.ticks))
         (K.taken sink.old) (K.taken sink.new) (HasRisen (K.faults sink.old) (K.faults sink.new)) result }
 {
-    match run_raw(alloc, graph, request.asks.as_slice(), request.ticks, sink) {
+    match run(alloc, graph, request.asks.as_slice(), request.ticks, sink) {
         Ok(end) => status_by(end),
         Err(error) => status_without(error),
     }
@@ -65,10 +65,10 @@ pub fn run_program<K: Sink>(alloc: Global, request: &Request, text: &[u8], sink:
     ensures counts { K.faults sink.old ≤ K.faults sink.new }
     ensures done { Responded request.now text.now (K.taken sink.old) (K.taken sink.new) (HasRisen (K.faults sink.old) (K.faults sink.new)) result }
 {
-    match checked(alloc, text) {
-        Ok(lowered) => {
-            let status = run_graph(alloc, request, &lowered.graph, sink);
-            lowered.discard();
+    match build(alloc, text) {
+        Ok(done) => {
+            let status = run_graph(alloc, request, &done.graph, sink);
+            done.discard();
             status
         }
         Err(refusal) => hand_on(sink, refused_answer(alloc, &refusal)),

@@ -1,5 +1,6 @@
-use Rattle.std.proofs.Common.{refl}
-use Rattle.mirdrop_program.specs.TopCall.{not_read, too_long}
+use Rattle.std.proofs.Common.{ap, refl}
+use Rattle.mirdrop_program.specs.TopCall.{answers_a_text, not_read, too_long}
+use Rattle.mirdrop_program.proofs.StuckRuns.{responded_stuck}
 use Rattle.mirdrop_program.proofs.TopCall.{delivers, wants_memory, answers_text, response, fault_is_no_answer}
 use Rattle.mirdrop_program.proofs.entry.with_request.Goals as goal
 
@@ -22,12 +23,12 @@ returns-in-Ok-clause-answer g c words asked =
 
 pub returns-in-Err-ReadFault-clause-answer : goal.returns-in-Err-ReadFault-clause-answer
 returns-in-Err-ReadFault-clause-answer g c words asked =
-    delivers words _ _ _ _ _ 3 _ c.deliver.result (λ text told. not_read _ asked (c.in-Err-ReadFault.ensures.read_fault (cc)))
+    delivers words _ _ _ _ _ 3 _ c.deliver.result (λ text told. not_read _ asked c.requires.reads (c.in-Err-ReadFault.ensures.read_fault (cc)))
     c.deliver.ensures.done
 
 pub returns-in-Err-TooLong-clause-answer : goal.returns-in-Err-TooLong-clause-answer
 returns-in-Err-TooLong-clause-answer g c words asked =
-    delivers words _ _ _ _ _ 6 _ c.deliver-in-Err-TooLong.result (λ text told. too_long _ asked (c.in-Err-TooLong.ensures.too_long (cc) text told).0)
+    delivers words _ _ _ _ _ 6 _ c.deliver-in-Err-TooLong.result (λ text told. too_long _ asked c.requires.reads (c.in-Err-TooLong.ensures.too_long (cc) text told).0)
     c.deliver-in-Err-TooLong.ensures.done
 
 pub returns-in-Err-TooLong-clause-read_whole : goal.returns-in-Err-TooLong-clause-read_whole
@@ -35,3 +36,14 @@ returns-in-Err-TooLong-clause-read_whole g c is = absurd (fault_is_no_answer 6 _
 
 pub returns-in-Err-Memory-clause-answer : goal.returns-in-Err-Memory-clause-answer
 returns-in-Err-Memory-clause-answer g c words asked = wants_memory words _ _ _ _ _ refl
+
+pub returns-in-Ok-clause-stuck : goal.returns-in-Ok-clause-stuck
+returns-in-Ok-clause-stuck g c e = responded_stuck c.args.request.now _ _ _ _ c.respond.result c.respond.ensures.done e
+
+pub returns-in-Err-ReadFault-clause-stuck : goal.returns-in-Err-ReadFault-clause-stuck
+returns-in-Err-ReadFault-clause-stuck g c e =
+    absurd (fault_is_no_answer 3 _ _ _ _ c.deliver.result refl (ap answers_a_text e) c.deliver.ensures.done)
+
+pub returns-in-Err-TooLong-clause-stuck : goal.returns-in-Err-TooLong-clause-stuck
+returns-in-Err-TooLong-clause-stuck g c e =
+    absurd (fault_is_no_answer 6 _ _ _ _ c.deliver-in-Err-TooLong.result refl (ap answers_a_text e) c.deliver-in-Err-TooLong.ensures.done)

@@ -6,7 +6,7 @@ use Rattle.mirdrop_program.proofs.exec.run_listing.Goals as goal
 
 pub returns-in-Ok-clause-done : goal.returns-in-Ok-clause-done
 returns-in-Ok-clause-done g c =
-    listing_ran c.args.request.now c.args.text.now _ _ _ c.in-Ok.graph c.execute-status.result c.requires.command c.in-Ok.ensures c.execute-status.ensures.done
+    listing_ran c.args.request.now c.args.text.now _ _ _ c.in-Ok.graph c.run_graph-status.result c.requires.command c.in-Ok.ensures c.run_graph-status.ensures.done
 
 pub returns-in-Err-clause-done : goal.returns-in-Err-clause-done
 returns-in-Err-clause-done g c =

@@ -2,11 +2,15 @@ use Rattle.mirdrop_program.specs.Owed.{OwedByRun}
 use Rattle.mirdrop_program.specs.declared.request.Command.{Command}
 use Rattle.mirdrop_program.proofs.Answering.{handed_on, owes_by, program_ran, run_refused}
 use Rattle.mirdrop_program.proofs.Owing.{all_ok}
+use Rattle.mirdrop_program.proofs.Soaked.{built_well}
 use Rattle.mirdrop_program.proofs.run.run_program.Goals as goal
+
+pub run_graph-status-requires-clause-well_formed : goal.run_graph-status-requires-clause-well_formed
+run_graph-status-requires-clause-well_formed g c = built_well c.args.text.now c.in-Ok.done c.in-Ok.ensures.built
 
 pub returns-in-Ok-clause-done : goal.returns-in-Ok-clause-done
 returns-in-Ok-clause-done g c =
-    program_ran c.args.request.now c.args.text.now _ _ _ c.in-Ok.lowered c.run_graph-status.result c.requires.command c.in-Ok.ensures.accepted c.run_graph-status.ensures.done
+    program_ran c.args.request.now c.args.text.now _ _ _ c.in-Ok.done c.run_graph-status.result c.requires.command c.in-Ok.ensures.built c.run_graph-status.ensures.done
 
 pub returns-in-Err-clause-done : goal.returns-in-Err-clause-done
 returns-in-Err-clause-done g c =

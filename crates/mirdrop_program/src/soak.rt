@@ -1,0 +1,74 @@
+//! The command `soak`.
+ghost use Rattle.std.specs.Prelude.{◌≡◌, ◌≤◌, IfOk};
+ghost use Rattle.mir_pipeline.specs.Built.{IsBuiltOf};
+ghost use Rattle.mir_pipeline.specs.declared.refusal.Refusal.{Refusal as a_refusal};
+ghost use Rattle.mirdrop_program.specs.Owed.{OwedBySoak, end_status};
+ghost use Rattle.soak_text.specs.Text as text;
+ghost use Rattle.trace_summary.specs.Summary.{summary_of};
+
+use crate::answers::Answer;
+use crate::run::status_by;
+use drop_graphs::Elaborated;
+use mir_base::{End, NoMemory};
+use mir_machine::run_counted;
+use mir_pipeline::{Refusal, build};
+use soak_text::soak_text;
+use std::alloc::Global;
+use trace_summary::{Counts, summary};
+
+/// What is asked.
+const ZEROS: [i32; 64] = [0; 64];
+
+/// The one reason for which the text of that program is refused.
+fn want_of(refusal: &Refusal) -> NoMemory
+    requires { refusal.now ≡ a_refusal.Memory }
+{
+    NoMemory
+}
+
+/// The graph with exact drops of the program that `soak` runs, which is refused for want of memory alone.
+fn soak_graph(alloc: Global, functions: u32) -> Result<Elaborated, NoMemory>
+    requires some { 1 ≤ functions }
+    requires few { functions ≤ 1500 }
+    ensures { IfOk result (λ done. IsBuiltOf (text.soak_text functions) done) }
+{
+    let text = soak_text(alloc, functions)?;
+    match build(alloc, text.as_slice()) {
+        Ok(done) => Ok(done),
+        Err(refusal) => Err(want_of(&refusal)),
+    }
+}
+
+/// The summary of a run, as an answer.
+fn summary_answer(
+    alloc: Global,
+    functions: u32,
+    end: End,
+    counts: &Counts,
+) -> Result<Answer, NoMemory>
+    ensures status { IfOk result (λ answer. answer.status ≡ end_status end) }
+    ensures text { IfOk result (λ answer. answer.text.items ≡ summary_of functions counts.now end) }
+{
+    let text = summary(alloc, functions, counts, &end)?;
+    Ok(Answer {
+        status: status_by(end),
+        text: text.into_bytes(),
+    })
+}
+
+/// The summary of the run of the program with so many functions, where 64 zeros are asked. The events of the run are
+/// counted as they come, and no trace is kept.
+pub fn soak_answer(alloc: Global, functions: u32, ticks: u64) -> Result<Answer, NoMemory>
+    requires some { 1 ≤ functions }
+    requires few { functions ≤ 1500 }
+    requires ticks { ticks ≤ 1000000000 }
+    ensures { IfOk result (λ answer. OwedBySoak functions ticks answer.status answer.text.items) }
+{
+    let done = soak_graph(alloc, functions)?;
+    let ran = run_counted(alloc, &done.graph, &ZEROS, ticks);
+    done.discard();
+    match ran {
+        Ok((end, counts)) => summary_answer(alloc, functions, end, &counts),
+        Err(NoMemory) => Err(NoMemory),
+    }
+}
