@@ -1,8 +1,6 @@
 -- Each form puts entries where the table says, if its parts do.
-use Rattle.std.proofs.Common.{◌≡◌, ◌∙◌, ◌<◌, ℕ, suc, Bool, true, false, not, ◌||◌, List, [], ◌∷◌, ◌++◌, map, length, Option, Some, None, refl, sym, ap, subst, arith, if◌then◌else◌}
-use Rattle.std.specs.Prelude.{◌≢◌, slice_index_or}
-use Rattle.std.proofs.lemmas.Bool.{eq-eqb, ne_eqb, false≢true}
-use Rattle.std.specs.List.{AllPairs, Contains}
+use Rattle.std.proofs.Common.{◌≡◌, ◌∙◌, ℕ, Bool, true, false, not, ◌||◌, List, [], ◌∷◌, ◌++◌, map, length, Option, Some, None, refl, sym, ap, subst}
+use Rattle.std.proofs.lemmas.Bool.{false≢true}
 use Rattle.mir_base.specs.declared.place_in_text.NodeId.{NodeId}
 use Rattle.mir_base.specs.declared.place_in_text.Pos.{Pos}
 use Rattle.mir_base.specs.declared.trace.Why.{Why}
@@ -10,220 +8,30 @@ use Rattle.mir_ty.specs.declared.ty.TyId.{TyId}
 use Rattle.mir_ty.specs.ItemTable.{ItemTable}
 use Rattle.scope_table.proofs.Entering.{entered_append, entered_missing, Missing}
 use Rattle.scope_table.proofs.Naming.{named_in, names}
-use Rattle.scope_table.proofs.Passing.{AllNumbers, of_reached, in_node, in_form, of_alone, arms_in}
-use Rattle.scope_table.proofs.Rules.{innermost_puts, innermost_keeps, around_puts, innermost_apart, stands_inside, stands_alone, ends_with, Nothing, acts_nothing, panics_nothing, both_nothing, deliver_nothing, unit_nothing, unit_if_nothing, alone_nothing, pending_nothing, pending_nearest, complete_enters, complete_nearest, acting_enters, dropping_enters, assigning_enters, condition_nothing, branch_nothing, bind_enters, put_innermost, declared_enters, touched_nothing, arm_nothing, taken_enters, then_stops, ends_nothing, turns_nothing}
+use Rattle.scope_table.proofs.Passing.{of_reached, in_node, in_form, of_alone, arms_in}
+use Rattle.scope_table.proofs.Rules.{innermost_keeps, around_puts, innermost_apart, stands_inside, stands_alone, ends_with, Nothing, acts_nothing, panics_nothing, both_nothing, deliver_nothing, unit_nothing, unit_if_nothing, alone_nothing, pending_nothing, pending_nearest, complete_enters, complete_nearest, acting_enters, dropping_enters, assigning_enters, condition_nothing, branch_nothing, bind_enters, put_innermost, declared_enters, touched_nothing, arm_nothing, taken_enters, then_stops, ends_nothing, turns_nothing}
 use Rattle.scope_table.proofs.Runs.{then_enters, then_nothing, alike, of_missing, at_value, changing_enters, around_of, scope_enters}
 use Rattle.scope_table.specs.declared.row.MadeAround.{MadeAround}
 use Rattle.scope_table.specs.declared.row.ScopeRow.{ScopeRow}
 use Rattle.scope_table.specs.declared.row.Within.{Within}
-use Rattle.scope_table.specs.Law.{ScopeHead, head_of, Held, held, enter, enter_if_any, entered, in_scope_of, waiting, IsInnermost, IsOr, IsNearest, StandsIn, IsNew, Enters, made_in, Puts, PutsWhereTheTableSays}
-use Rattle.scope_table.specs.Table.{nothing, named, both_in, inner, row, entry_in, made_if_value, reached_in, pending_in, temporary_of, alone, is_idle, if_true, has_destination, by_name, param_rows, pattern_rows_in, rows_of_params, pattern_rows, name_in, let_name, pending_if_value, initial, rows, rows_in, alone_if_any, operand_rows, field_rows, statement_rows, rows_if_any, let_rows, rows_of_arms, form_of}
+use Rattle.scope_table.specs.Law.{ScopeHead, head_of, Held, held, enter, enter_if_any, entered, waiting, IsInnermost, IsNearest, StandsIn, IsNew, Enters, made_in, Puts}
+use Rattle.scope_table.specs.Table.{nothing, named, both_in, inner, row, entry_in, made_if_value, reached_in, pending_in, temporary_of, alone, is_idle, has_destination, pattern_rows, name_in, let_name, pending_if_value, initial, rows, rows_in, alone_if_any, operand_rows, field_rows, statement_rows, rows_if_any, let_rows, rows_of_arms, form_of}
 use Rattle.src_meaning.specs.Evaluation as evaluation
 use Rattle.src_meaning.specs.Evaluation.{Evaluates, values_of, in_number_order, to_own_key, a_value, a_place, drops, otherwise_unit, body_in, coerce, meaning, meaning_of, meanings, fields_of, meaning_if_any}
 use Rattle.src_meaning.specs.Forms as forms
 use Rattle.src_meaning.specs.Forms.{Destination, Into, coerced, LoopsAndGuards, in_loop, loop_destination, Meaning, entry_of, bound_entry, site_of_key, moved, all_moved, pending_if, complete, operand, operands, acts, deliver, scrutinised, touched, arms_in_order, statements, tail_of, is_never, place_of, site_of}
 use Rattle.src_meaning.specs.Locals.OfBody.{is_place_form}
-use Rattle.src_meaning.specs.Programs.{names_of_param, params_entered}
-use Rattle.src_meaning.specs.Scopes.{Entry, Scope, Scopes, innermost, around_innermost, nearest_from, nearest_temporary, with_entry, with_pending, without_pending, Value, Breaks, Returns, At, Does, ◌>>◌, changing}
+use Rattle.src_meaning.specs.Scopes.{Entry, Scopes, innermost, around_innermost, nearest_temporary, with_entry, with_pending, without_pending, Value, Breaks, Returns, At, Does, ◌>>◌, changing}
 use Rattle.src_meaning.specs.Shape.{NodeHead, head, Shape, site_at, kind_of, operand_at, shape, shape_of}
 use Rattle.store_model.specs.Effects as effects
 use Rattle.store_model.specs.Effects.{EffectSite, Action, Effects}
 use Rattle.store_model.specs.Places.Place.{Place, whole_local}
 use Rattle.typed_tree.specs.declared.node.Use.{Use}
 use Rattle.typed_tree.specs.Nodes.{number_of, nodes_of, nodes_in, nodes_among, nodes_of_fields, nodes_if_any}
-use Rattle.typed_tree.specs.Tree.{ParamTree, Node, node, Form, Nodes, no_node, a_node, Fields, no_field, a_field, MaybeNode, absent, present, Number, Truth, UnitValue, Variable, Captured, Field, Index, Deref, Not, Negate, Arithmetic, Comparison, And, Or, Assign, Call, MethodCall, VirtualCall, ClosureCall, Make, Tuple, Array, Closure, NewBox, Print, Ask, DropValue, Forget, Panic, Borrow, Unsize, Block, Let, Evaluate, If, IfLet, Match, Arm, Loop, While, WhileLet, Break, Continue, Return, Wildcard, Binding, NumberPattern, TruthPattern, StructPattern, VariantPattern, TuplePattern, ArrayPattern, OrPattern}
-
--- Nodes with numbers of their own, of which no scope is open.
-
-abbrev pub Differs : ℕ → List Node → Type 0
-Differs id [] = Unit {0}
-Differs id (n ∷ nodes) = (id ≢ number_of n) × Differs id nodes
-
-abbrev pub Fresh : List ScopeHead → List Node → Type 0
-Fresh heads [] = Unit {0}
-Fresh heads (n ∷ nodes) = Missing heads (number_of n) × (Differs (number_of n) nodes × Fresh heads nodes)
-
-differs_left : (id : ℕ) (A B : List Node) → Differs id (A ++ B) → Differs id A
-differs_left id [] B d = tt
-differs_left id (n ∷ A) B d = (d.0, differs_left id A B d.1)
-
-pub fresh_left : (heads : List ScopeHead) (A B : List Node) → Fresh heads (A ++ B) → Fresh heads A
-fresh_left heads [] B g = tt
-fresh_left heads (n ∷ A) B g = (g.0, (differs_left (number_of n) A B g.1.0, fresh_left heads A B g.1.1))
-
-pub fresh_right : (heads : List ScopeHead) (A B : List Node) → Fresh heads (A ++ B) → Fresh heads B
-fresh_right heads [] B g = g
-fresh_right heads (n ∷ A) B g = fresh_right heads A B g.1.1
-
-pub fresh_missing : (heads : List ScopeHead) (nodes : List Node) → Fresh heads nodes → AllNumbers (Missing heads) nodes
-fresh_missing heads [] g = tt
-fresh_missing heads (n ∷ nodes) g = (g.0, fresh_missing heads nodes g.1.1)
-
-pub fresh_inside : (heads : List ScopeHead) (id : ℕ) (own : Bool) (nodes : List Node) → Differs id nodes → Fresh heads nodes → Fresh (record { node = id; for_temporaries = own } ∷ heads) nodes
-fresh_inside heads id own [] d g = tt
-fresh_inside heads id own (n ∷ nodes) d g = ((d.0, g.0), (g.1.0, fresh_inside heads id own nodes d.1 g.1.1))
-
-missing_of : (heads : List ScopeHead) (id : ℕ) → (Contains (map (λ (h : ScopeHead). h.node) heads) id → ⊥) → Missing heads id
-missing_of [] id none = tt
-missing_of (h ∷ heads) id none =
-    (λ same. none (0, omega arith, same), missing_of heads id (λ c. none (suc c.0, omega arith, c.2)))
-
-differs_of : (id : ℕ) (nodes : List Node) → ((j : ℕ) (d : ℕ) → j < length (map number_of nodes) → id ≢ slice_index_or (map number_of nodes) j d) → Differs id nodes
-differs_of id [] h = tt
-differs_of id (n ∷ nodes) h = (h 0 0 (omega arith), differs_of id nodes (λ j d less. h (suc j) d (omega arith)))
-
-pub fresh_of : (heads : List ScopeHead) (nodes : List Node) → AllPairs (λ a b. a ≢ b) (map number_of nodes) → ((id : ℕ) → Contains (map number_of nodes) id → Contains (map (λ (h : ScopeHead). h.node) heads) id → ⊥) → Fresh heads nodes
-fresh_of heads [] pairs none = tt
-fresh_of heads (n ∷ nodes) pairs none = (
-  missing_of heads (number_of n) (none (number_of n) (0, omega arith, refl)),
-  (
-    differs_of (number_of n) nodes (λ j d less. pairs 0 (suc j) d (omega arith) (omega arith)),
-    fresh_of heads nodes (λ i j d below less. pairs (suc i) (suc j) d (omega arith) (omega arith))
-        (λ id c. none id (suc c.0, omega arith, c.2)),
-  ),
-)
-
--- whether a pattern is one name
-data Kind : Form → Type 0 where
-  one_name : (text : List ℕ) → Kind (Binding text)
-  no_name : (form : Form) → ((items : ItemTable) (h : NodeHead) → (shape_of items form h).is_binding ≡ false) →
-      ((id : NodeId) (n : Node) → initial id form n ≡ pending_if_value id n) → ((id scope : NodeId) → (let_name id scope form).entry ≡ Some scope) → ((name : MadeAround) → (by_name name form).entry ≡ None) → Kind form
-
-kind_in : (form : Form) → Kind form
-kind_in (Number value) = no_name (Number value) (λ items h. refl) (λ id n. refl) (λ id scope. refl) (λ name. refl)
-kind_in (Truth value) = no_name (Truth value) (λ items h. refl) (λ id n. refl) (λ id scope. refl) (λ name. refl)
-kind_in UnitValue = no_name UnitValue (λ items h. refl) (λ id n. refl) (λ id scope. refl) (λ name. refl)
-kind_in (Variable key) = no_name (Variable key) (λ items h. refl) (λ id n. refl) (λ id scope. refl) (λ name. refl)
-kind_in (Captured closure part name) = no_name (Captured closure part name) (λ items h. refl) (λ id n. refl) (λ id scope. refl) (λ name. refl)
-kind_in (Field base part) = no_name (Field base part) (λ items h. refl) (λ id n. refl) (λ id scope. refl) (λ name. refl)
-kind_in (Index base index length) = no_name (Index base index length) (λ items h. refl) (λ id n. refl) (λ id scope. refl) (λ name. refl)
-kind_in (Deref base) = no_name (Deref base) (λ items h. refl) (λ id n. refl) (λ id scope. refl) (λ name. refl)
-kind_in (Not operand) = no_name (Not operand) (λ items h. refl) (λ id n. refl) (λ id scope. refl) (λ name. refl)
-kind_in (Negate operand) = no_name (Negate operand) (λ items h. refl) (λ id n. refl) (λ id scope. refl) (λ name. refl)
-kind_in (Arithmetic operator left right) = no_name (Arithmetic operator left right) (λ items h. refl) (λ id n. refl) (λ id scope. refl) (λ name. refl)
-kind_in (Comparison operator left right) = no_name (Comparison operator left right) (λ items h. refl) (λ id n. refl) (λ id scope. refl) (λ name. refl)
-kind_in (And left right) = no_name (And left right) (λ items h. refl) (λ id n. refl) (λ id scope. refl) (λ name. refl)
-kind_in (Or left right) = no_name (Or left right) (λ items h. refl) (λ id n. refl) (λ id scope. refl) (λ name. refl)
-kind_in (Assign target value) = no_name (Assign target value) (λ items h. refl) (λ id n. refl) (λ id scope. refl) (λ name. refl)
-kind_in (Call body args) = no_name (Call body args) (λ items h. refl) (λ id n. refl) (λ id scope. refl) (λ name. refl)
-kind_in (MethodCall body receiver args) = no_name (MethodCall body receiver args) (λ items h. refl) (λ id n. refl) (λ id scope. refl) (λ name. refl)
-kind_in (VirtualCall trait_no method receiver args) = no_name (VirtualCall trait_no method receiver args) (λ items h. refl) (λ id n. refl) (λ id scope. refl) (λ name. refl)
-kind_in (ClosureCall body callee args) = no_name (ClosureCall body callee args) (λ items h. refl) (λ id n. refl) (λ id scope. refl) (λ name. refl)
-kind_in (Make adt variant fields) = no_name (Make adt variant fields) (λ items h. refl) (λ id n. refl) (λ id scope. refl) (λ name. refl)
-kind_in (Tuple parts) = no_name (Tuple parts) (λ items h. refl) (λ id n. refl) (λ id scope. refl) (λ name. refl)
-kind_in (Array elements) = no_name (Array elements) (λ items h. refl) (λ id n. refl) (λ id scope. refl) (λ name. refl)
-kind_in (Closure closure captures) = no_name (Closure closure captures) (λ items h. refl) (λ id n. refl) (λ id scope. refl) (λ name. refl)
-kind_in (NewBox content) = no_name (NewBox content) (λ items h. refl) (λ id n. refl) (λ id scope. refl) (λ name. refl)
-kind_in (Print operand) = no_name (Print operand) (λ items h. refl) (λ id n. refl) (λ id scope. refl) (λ name. refl)
-kind_in Ask = no_name Ask (λ items h. refl) (λ id n. refl) (λ id scope. refl) (λ name. refl)
-kind_in (DropValue operand) = no_name (DropValue operand) (λ items h. refl) (λ id n. refl) (λ id scope. refl) (λ name. refl)
-kind_in (Forget operand) = no_name (Forget operand) (λ items h. refl) (λ id n. refl) (λ id scope. refl) (λ name. refl)
-kind_in Panic = no_name Panic (λ items h. refl) (λ id n. refl) (λ id scope. refl) (λ name. refl)
-kind_in (Borrow unique base) = no_name (Borrow unique base) (λ items h. refl) (λ id n. refl) (λ id scope. refl) (λ name. refl)
-kind_in (Unsize trait_no operand) = no_name (Unsize trait_no operand) (λ items h. refl) (λ id n. refl) (λ id scope. refl) (λ name. refl)
-kind_in (Block statements tail) = no_name (Block statements tail) (λ items h. refl) (λ id n. refl) (λ id scope. refl) (λ name. refl)
-kind_in (Let pattern initialiser) = no_name (Let pattern initialiser) (λ items h. refl) (λ id n. refl) (λ id scope. refl) (λ name. refl)
-kind_in (Evaluate expression) = no_name (Evaluate expression) (λ items h. refl) (λ id n. refl) (λ id scope. refl) (λ name. refl)
-kind_in (If condition consequent otherwise) = no_name (If condition consequent otherwise) (λ items h. refl) (λ id n. refl) (λ id scope. refl) (λ name. refl)
-kind_in (IfLet pattern scrutinee consequent otherwise) = no_name (IfLet pattern scrutinee consequent otherwise) (λ items h. refl) (λ id n. refl) (λ id scope. refl) (λ name. refl)
-kind_in (Match scrutinee arms) = no_name (Match scrutinee arms) (λ items h. refl) (λ id n. refl) (λ id scope. refl) (λ name. refl)
-kind_in (Arm pattern guard body) = no_name (Arm pattern guard body) (λ items h. refl) (λ id n. refl) (λ id scope. refl) (λ name. refl)
-kind_in (Loop body) = no_name (Loop body) (λ items h. refl) (λ id n. refl) (λ id scope. refl) (λ name. refl)
-kind_in (While condition body) = no_name (While condition body) (λ items h. refl) (λ id n. refl) (λ id scope. refl) (λ name. refl)
-kind_in (WhileLet pattern scrutinee body) = no_name (WhileLet pattern scrutinee body) (λ items h. refl) (λ id n. refl) (λ id scope. refl) (λ name. refl)
-kind_in (Break loop value) = no_name (Break loop value) (λ items h. refl) (λ id n. refl) (λ id scope. refl) (λ name. refl)
-kind_in (Continue loop) = no_name (Continue loop) (λ items h. refl) (λ id n. refl) (λ id scope. refl) (λ name. refl)
-kind_in (Return value) = no_name (Return value) (λ items h. refl) (λ id n. refl) (λ id scope. refl) (λ name. refl)
-kind_in Wildcard = no_name Wildcard (λ items h. refl) (λ id n. refl) (λ id scope. refl) (λ name. refl)
-kind_in (Binding name) = one_name name
-kind_in (NumberPattern value) = no_name (NumberPattern value) (λ items h. refl) (λ id n. refl) (λ id scope. refl) (λ name. refl)
-kind_in (TruthPattern value) = no_name (TruthPattern value) (λ items h. refl) (λ id n. refl) (λ id scope. refl) (λ name. refl)
-kind_in (StructPattern fields) = no_name (StructPattern fields) (λ items h. refl) (λ id n. refl) (λ id scope. refl) (λ name. refl)
-kind_in (VariantPattern variant is_test fields) = no_name (VariantPattern variant is_test fields) (λ items h. refl) (λ id n. refl) (λ id scope. refl) (λ name. refl)
-kind_in (TuplePattern parts) = no_name (TuplePattern parts) (λ items h. refl) (λ id n. refl) (λ id scope. refl) (λ name. refl)
-kind_in (ArrayPattern elements) = no_name (ArrayPattern elements) (λ items h. refl) (λ id n. refl) (λ id scope. refl) (λ name. refl)
-kind_in (OrPattern alternatives) = no_name (OrPattern alternatives) (λ items h. refl) (λ id n. refl) (λ id scope. refl) (λ name. refl)
-
--- a value that is made in a destination of its own
-destination_same : (items : ItemTable) (n : Node) → (shape items n).in_destination ≡ has_destination (form_of n)
-destination_same items (node id at ty by form) = by_form form
-  where
-    by_form : (form : Form) → (shape_of items form (head id ty by)).in_destination ≡ has_destination form
-    by_form (Number value) = refl
-    by_form (Truth value) = refl
-    by_form UnitValue = refl
-    by_form (Variable key) = refl
-    by_form (Captured closure part name) = refl
-    by_form (Field base part) = refl
-    by_form (Index base index length) = refl
-    by_form (Deref base) = refl
-    by_form (Not operand) = refl
-    by_form (Negate operand) = refl
-    by_form (Arithmetic operator left right) = refl
-    by_form (Comparison operator left right) = refl
-    by_form (And left right) = refl
-    by_form (Or left right) = refl
-    by_form (Assign target value) = refl
-    by_form (Call body args) = refl
-    by_form (MethodCall body receiver args) = refl
-    by_form (VirtualCall trait_no method receiver args) = refl
-    by_form (ClosureCall body callee args) = refl
-    by_form (Make adt variant fields) = refl
-    by_form (Tuple parts) = refl
-    by_form (Array elements) = refl
-    by_form (Closure closure captures) = refl
-    by_form (NewBox content) = refl
-    by_form (Print operand) = refl
-    by_form Ask = refl
-    by_form (DropValue operand) = refl
-    by_form (Forget operand) = refl
-    by_form Panic = refl
-    by_form (Borrow unique base) = refl
-    by_form (Unsize trait_no operand) = refl
-    by_form (Block statements tail) = refl
-    by_form (Let pattern initialiser) = refl
-    by_form (Evaluate expression) = refl
-    by_form (If condition consequent otherwise) = refl
-    by_form (IfLet pattern scrutinee consequent otherwise) = refl
-    by_form (Match scrutinee arms) = refl
-    by_form (Arm pattern guard body) = refl
-    by_form (Loop body) = refl
-    by_form (While condition body) = refl
-    by_form (WhileLet pattern scrutinee body) = refl
-    by_form (Break loop value) = refl
-    by_form (Continue loop) = refl
-    by_form (Return value) = refl
-    by_form Wildcard = refl
-    by_form (Binding name) = refl
-    by_form (NumberPattern value) = refl
-    by_form (TruthPattern value) = refl
-    by_form (StructPattern fields) = refl
-    by_form (VariantPattern variant is_test fields) = refl
-    by_form (TuplePattern parts) = refl
-    by_form (ArrayPattern elements) = refl
-    by_form (OrPattern alternatives) = refl
-
-innermost_is : (change : Scope → Scope) (i : NodeId) (S : Scopes) → IsInnermost i (map head_of S) → innermost change S ≡ in_scope_of i.0 change S
-innermost_is change i [] h = refl
-innermost_is change i (s ∷ S) h = sym (ap (λ (b : Bool). if b then change s ∷ S else s ∷ in_scope_of i.0 change S) (eq-eqb s.node i.0 h))
-
-nearest_is : (change : Scope → Scope) (t : NodeId) (S : Scopes) → IsNearest t (map head_of S) → nearest_temporary change S ≡ in_scope_of t.0 change S
-nearest_is change t [] h = refl
-nearest_is change t (s ∷ S) h = by s.for_temporaries h (nearest_is change t S)
-  where
-    by : (b : Bool) → IsOr b (s.node ≡ t.0) ((s.node ≢ t.0) × IsNearest t (map head_of S)) → (IsNearest t (map head_of S) → nearest_temporary change S ≡ in_scope_of t.0 change S) → nearest_from b change s S (nearest_temporary change S) ≡ in_scope_of t.0 change (s ∷ S)
-    by true h next = sym (ap (λ (b : Bool). if b then change s ∷ S else s ∷ in_scope_of t.0 change S) (eq-eqb s.node t.0 h))
-    by false h next =
-        ap (λ (rest : Scopes). s ∷ rest) (next h.1)
-        ∙ sym (ap (λ (b : Bool). if b then change s ∷ S else s ∷ in_scope_of t.0 change S) (ne_eqb s.node t.0 h.0))
-
-waits : (b : Bool) (scope : NodeId) (e : Entry) (S changed : Scopes) → changed ≡ in_scope_of scope.0 (with_pending e) S → (in_that : (Scope → Scope) → Scopes → Scopes) → changed ≡ in_that (with_pending e) S → forms.changed_if b (in_that (with_pending e)) S ≡ waiting (if_true b scope) e S
-waits true scope e S changed is in_that same = sym same ∙ is
-waits false scope e S changed is in_that same = refl
-
-entry_either : (b : Bool) (scope : NodeId) (n : Node) → (made_if_value b (pending_in scope)).entry ≡ (made_if_value b (entry_in scope n)).entry
-entry_either true scope n = refl
-entry_either false scope n = refl
+use Rattle.typed_tree.specs.Tree.{Node, node, Form, Nodes, no_node, a_node, Fields, no_field, a_field, MaybeNode, absent, present, Number, Truth, UnitValue, Variable, Captured, Field, Index, Deref, Not, Negate, Arithmetic, Comparison, And, Or, Assign, Call, MethodCall, VirtualCall, ClosureCall, Make, Tuple, Array, Closure, NewBox, Print, Ask, DropValue, Forget, Panic, Borrow, Unsize, Block, Let, Evaluate, If, IfLet, Match, Arm, Loop, While, WhileLet, Break, Continue, Return, Wildcard, Binding, NumberPattern, TruthPattern, StructPattern, VariantPattern, TuplePattern, ArrayPattern, OrPattern}
+use Rattle.scope_table.proofs.Fresh.{Differs, Fresh, fresh_left, fresh_right, fresh_missing, fresh_inside, fresh_of}
+use Rattle.scope_table.proofs.OneName.{Kind, one_name, no_name, kind_in, destination_same}
+use Rattle.scope_table.proofs.Waiting.{innermost_is, nearest_is, waits, entry_either}
 
 module _ {W : Type 0} (items : ItemTable) (p : Effects W) (fuel : ℕ) where
   -- what a node does with the entries of scopes, in each of its roles
@@ -351,7 +159,7 @@ module _ {W : Type 0} (items : ItemTable) (p : Effects W) (fuel : ℕ) where
   one_operand n m placed heads w st g around =
       then_nothing heads (rows w (entry_in w.innermost n) n) (operand items p around m) (At Value) (operand_in n m placed heads w st g around) (at_value heads)
 
-  scrutinised_in : (n : Node) (m : Meaning W) → Placed n m → (heads : List ScopeHead) (w : Within) → StandsIn w heads → Fresh heads (nodes_of n) → (around : LoopsAndGuards) → Enters heads (rows w (reached_in w.temporary n) n) (scrutinised items p around m)
+  pub scrutinised_in : (n : Node) (m : Meaning W) → Placed n m → (heads : List ScopeHead) (w : Within) → StandsIn w heads → Fresh heads (nodes_of n) → (around : LoopsAndGuards) → Enters heads (rows w (reached_in w.temporary n) n) (scrutinised items p around m)
   scrutinised_in n m placed heads w st g around =
       then_nothing heads (rows w (reached_in w.temporary n) n) (m.reach around) (touched items p m.shape.is_place (site_of m around)) (placed.reached heads w st g (reached_in w.temporary n) refl around)
       (touched_nothing items p m.shape.is_place (site_of m around) heads)
@@ -387,7 +195,7 @@ module _ {W : Type 0} (items : ItemTable) (p : Effects W) (fuel : ℕ) where
       (λ same. innermost_apart i id heads in_i missing (sym (ap first_node is) ∙ same))
       (subst (IsInnermost i) (sym (ap later is)) in_i)
 
-  names_of : (t : NodeId) (name : MadeAround) (scope : NodeId) → name.entry ≡ Some scope → (n : Node) (m : Meaning W) → m.shape ≡ shape items n → (place : Place) (H : Held) → entered (pattern_rows t name n) H ≡ named_in scope.0 (m.shape.bindings place) H
+  pub names_of : (t : NodeId) (name : MadeAround) (scope : NodeId) → name.entry ≡ Some scope → (n : Node) (m : Meaning W) → m.shape ≡ shape items n → (place : Place) (H : Held) → entered (pattern_rows t name n) H ≡ named_in scope.0 (m.shape.bindings place) H
   names_of t name scope is n m shaped place H =
       names items t name scope is n place H ∙ ap (λ (s : Shape). named_in scope.0 (s.bindings place) H) (sym shaped)
 
@@ -435,7 +243,7 @@ module _ {W : Type 0} (items : ItemTable) (p : Effects W) (fuel : ℕ) where
         by _ (one_name text) number shaped =
             subst (λ (b : Bool). Enters heads (let_rows (named h.id) w.innermost (node pid pat pty pby (Binding text)) (present value)) (forms.let_value items p b h pm m around))
             (sym (ap (λ (s : Shape). s.is_binding) shaped)) (let_one pid pat pty pby text number)
-        by _ (no_name form none first name unnamed) number shaped =
+        by _ (no_name form none first name unnamed role) number shaped =
             subst (λ (b : Bool). Enters heads (let_rows (named h.id) w.innermost (node pid pat pty pby form) (present value)) (forms.let_value items p b h pm m around))
             (sym (ap (λ (s : Shape). s.is_binding) shaped ∙ none items (head pid pty pby))) (let_more (node pid pat pty pby form) shaped (first (named h.id) value) (name (named h.id) w.innermost))
 
@@ -444,7 +252,7 @@ module _ {W : Type 0} (items : ItemTable) (p : Effects W) (fuel : ℕ) where
     pub law : (n : Node) → Placed n (meaning items p fuel n)
     law (node id at ty by form) = law_of id at ty by form
 
-    operands_law : (nodes : Nodes) (heads : List ScopeHead) (w : Within) → StandsIn w heads → Fresh heads (nodes_among nodes) → (around : LoopsAndGuards) → Enters heads (operand_rows w w.innermost nodes) (operands items p around (means nodes))
+    pub operands_law : (nodes : Nodes) (heads : List ScopeHead) (w : Within) → StandsIn w heads → Fresh heads (nodes_among nodes) → (around : LoopsAndGuards) → Enters heads (operand_rows w w.innermost nodes) (operands items p around (means nodes))
     operands_law no_node heads w st g around = at_value heads
     operands_law (a_node first rest) heads w st g around =
         then_enters heads (rows w (entry_in w.innermost first) first) (operand_rows w w.innermost rest) (operand items p around (mean first)) (operands items p around (means rest))
@@ -458,7 +266,7 @@ module _ {W : Type 0} (items : ItemTable) (p : Effects W) (fuel : ℕ) where
         (operand_in value (mean value) (law value) heads w st (fresh_left heads (nodes_of value) (nodes_of_fields rest) g) around)
         (fields_law rest heads w st (fresh_right heads (nodes_of value) (nodes_of_fields rest) g) around)
 
-    statements_law : (nodes : Nodes) (heads : List ScopeHead) (w : Within) → StandsIn w heads → Fresh heads (nodes_among nodes) → (around : LoopsAndGuards) → Enters heads (statement_rows w nodes) (statements items p around (means nodes))
+    pub statements_law : (nodes : Nodes) (heads : List ScopeHead) (w : Within) → StandsIn w heads → Fresh heads (nodes_among nodes) → (around : LoopsAndGuards) → Enters heads (statement_rows w nodes) (statements items p around (means nodes))
     statements_law no_node heads w st g around = at_value heads
     statements_law (a_node first rest) heads w st g around =
         then_enters heads (rows w nothing first) (statement_rows w rest) ((mean first).evaluate around false (Into (mean first).head.id)) (statements items p around (means rest))
@@ -637,40 +445,3 @@ module _ {W : Type 0} (items : ItemTable) (p : Effects W) (fuel : ℕ) where
             bind_enters items p heads w.innermost.0 innermost (put_innermost items p heads w.innermost st.innermost) (pattern_rows w.temporary (name_in w.innermost) n) ((shape items n).bindings place)
             (λ H. names items w.temporary (name_in w.innermost) w.innermost refl n place H);
       }
-
-  -- Parameters.
-
-  module _ (heads : List ScopeHead) (scope : NodeId) (in_i : IsInnermost scope heads) where
-    param_names : (n : Node) → Enters heads (pattern_rows_in scope (name_in scope) (form_of n)) (names_of_param items p fuel (shape items n).is_binding ((shape items n).bindings (whole_local (number_of n))))
-    param_names (node id at ty by form) = named_by form (kind_in form)
-      where
-        named_by : (form : Form) → Kind form → Enters heads (pattern_rows_in scope (name_in scope) form) (names_of_param items p fuel (shape_of items form (head id ty by)).is_binding ((shape_of items form (head id ty by)).bindings (whole_local id)))
-        named_by _ (one_name text) = at_value heads
-        named_by _ (no_name form none first name unnamed) =
-            let bounds = (shape_of items form (head id ty by)).bindings (whole_local id) in
-            let A = pattern_rows_in scope (name_in scope) form in
-            subst (λ (b : Bool). Enters heads A (names_of_param items p fuel b bounds)) (sym (none items (head id ty by)))
-            (bind_enters items p heads scope.0 innermost (put_innermost items p heads scope in_i) A bounds
-            (λ H. sym (ap (λ (o : Option NodeId). entered A (enter_if_any o (named id) H)) (unnamed (name_in scope)))
-            ∙ names items scope (name_in scope) scope refl (node id at ty by form) (whole_local id) H))
-
-    one_param : (n : Node) (ty : TyId) (rest : List ScopeRow) (next : Does W) → Enters heads rest next → Enters heads (param_rows scope n ++ rest) (changing (innermost (with_entry (record { key = number_of n; ty = ty }))) >> (names_of_param items p fuel (shape items n).is_binding ((shape items n).bindings (whole_local (number_of n))) >> next))
-    one_param (node id at own_ty by form) ty rest next then_made =
-        let n = node id at own_ty by form in
-        let e : Entry = record { key = id; ty = ty } in
-        let inside = pattern_rows_in scope (name_in scope) form in
-        let own = row (named id) scope (name_in scope) in
-        let bound : Does W = names_of_param items p fuel (shape items n).is_binding ((shape items n).bindings (whole_local id)) in
-        then_enters heads (own ∷ []) (inside ++ rest) (changing (innermost (with_entry e))) (bound >> next)
-        (changing_enters heads (own ∷ []) (innermost (with_entry e)) (λ S is. innermost_puts (with_entry e) id (λ s. refl) scope S (subst (IsInnermost scope) (sym is) in_i)))
-        (then_enters heads inside rest bound next (param_names n) then_made)
-
-    pub params_law : (params : List ParamTree) → Enters heads (rows_of_params scope params) (params_entered items p fuel params)
-    params_law [] = at_value heads
-    params_law (param ∷ params) = one_param param.pattern param.ty (rows_of_params scope params) (params_entered items p fuel params) (params_law params)
-
-pub table_is_right : (W : Type 0) → PutsWhereTheTableSays W
-table_is_right W = record {
-  nodes = λ items p fuel heads w n st new. puts items p fuel heads w n st new;
-  params = λ items p fuel heads scope params in_i. params_law items p fuel heads scope in_i params;
-}

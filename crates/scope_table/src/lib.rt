@@ -8,5 +8,5 @@ mod patterns;
 mod row;
 mod walking;
 
-pub use laws::law_of_scopes;
+pub use laws::{law_of_parts, law_of_scopes};
 pub use lookup::{ScopeTable, scopes};

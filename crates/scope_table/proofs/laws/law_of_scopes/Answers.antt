@@ -1,4 +1,4 @@
-use Rattle.scope_table.proofs.Putting.{table_is_right}
+use Rattle.scope_table.proofs.Params.{table_is_right}
 use Rattle.scope_table.proofs.laws.law_of_scopes.Goals as goal
 
 pub returns-clause-values : goal.returns-clause-values
