@@ -1,0 +1,12 @@
+pub mod Asked
+pub mod Reached
+pub mod Dropped
+pub mod Forgotten
+pub mod Acted
+pub mod Walked
+pub mod Listed
+pub mod Told
+pub mod ToldDrops
+pub mod ToldWalks
+pub mod Texts
+pub mod Law
