@@ -1,7 +1,7 @@
 -- The number of `bool` among types, and blocks with other ranks, one after another.
-use Rattle.std.proofs.Common.{◌≡◌, ◌⊎◌, inl, inr, ◌↔◌, ◌∙◌, ◌∷◌, [], ◌++◌, ◌+◌, ◌<◌, ◌≤◌, ℕ, zero, suc, Bool, true, false, List, Some, Contains, drop, length, slice_get, refl, sym, ap, arith}
+use Rattle.std.proofs.Common.{◌≡◌, ◌⊎◌, inl, inr, ◌↔◌, ◌∙◌, ◌∷◌, [], ◌+◌, ◌<◌, ◌≤◌, ℕ, zero, suc, Bool, true, false, List, Some, Contains, length, slice_get, refl, sym, ap, arith}
+use Rattle.std.specs.Prelude.{slice_set}
 use Rattle.std.proofs.lemmas.Bool.{false≢true, cases_lt}
-use Rattle.std.proofs.lemmas.List.{length-append}
 use Rattle.std.proofs.lemmas.Option.{none-some, same_Some}
 use Rattle.mir_ty.proofs.ListLemmas.{slice_get-Contains}
 use Rattle.mir_ty.specs.declared.ty.Ty.{Ty}
@@ -35,38 +35,39 @@ one-past types n result none exact differs i less at = by (cases_lt i n)
 
 -- ---- ranks
 
-pub ranked-one : (blocks : List Block) (block : Block) (ranks : List ℕ) (rank : ℕ) →
-    slice_get ranks (length blocks) ≡ Some rank →
-    ranked_with (blocks ++ block ∷ []) ranks ≡ ranked_with blocks ranks ++ record block { rank = rank } ∷ []
-ranked-one [] block [] rank at = absurd (none-some rank at)
-ranked-one [] block (first ∷ ranks) rank at =
-    ap (λ (n : ℕ). record block { rank = n } ∷ []) (same_Some first rank at)
-ranked-one (b ∷ blocks) block [] rank at = absurd (none-some rank at)
-ranked-one (b ∷ blocks) block (first ∷ ranks) rank at =
-    ap (λ (l : List Block). record b { rank = first } ∷ l) (ranked-one blocks block ranks rank at)
+-- blocks, of which the first ones, so many, have their ranks
+abbrev pub ranked_to : ℕ → List Block → List ℕ → List Block
+ranked_to zero blocks ranks = blocks
+ranked_to (suc n) [] ranks = []
+ranked_to (suc n) (block ∷ blocks) [] = block ∷ blocks
+ranked_to (suc n) (block ∷ blocks) (rank ∷ ranks) = record block { rank = rank } ∷ ranked_to n blocks ranks
 
-none-ranked : (blocks : List Block) → ranked_with blocks [] ≡ []
-none-ranked [] = refl
-none-ranked (block ∷ blocks) = refl
+pub ranked-long : (n : ℕ) (blocks : List Block) (ranks : List ℕ) → length (ranked_to n blocks ranks) ≡ length blocks
+ranked-long zero blocks ranks = refl
+ranked-long (suc n) [] ranks = refl
+ranked-long (suc n) (block ∷ blocks) [] = refl
+ranked-long (suc n) (block ∷ blocks) (rank ∷ ranks) = ap suc (ranked-long n blocks ranks)
 
-pub ranked-both : (one other : List Block) (ranks : List ℕ) →
-    ranked_with (one ++ other) ranks ≡ ranked_with one ranks ++ ranked_with other (drop (length one) ranks)
-ranked-both [] other ranks = refl
-ranked-both (block ∷ one) other [] = sym (none-ranked other)
-ranked-both (block ∷ one) other (rank ∷ ranks) =
-    ap (λ (l : List Block). record block { rank = rank } ∷ l) (ranked-both one other ranks)
+-- one block more
+pub ranked-more : (n : ℕ) (blocks : List Block) (ranks : List ℕ) (block : Block) (rank : ℕ) →
+    slice_get (ranked_to n blocks ranks) n ≡ Some block → slice_get ranks n ≡ Some rank →
+    slice_set (ranked_to n blocks ranks) n (record block { rank = rank }) ≡ ranked_to (suc n) blocks ranks
+ranked-more zero [] ranks block rank at is = absurd (none-some block at)
+ranked-more zero (b ∷ blocks) [] block rank at is = absurd (none-some rank is)
+ranked-more zero (b ∷ blocks) (r ∷ ranks) block rank at is =
+    let one = same_Some b block at in
+    let two = same_Some r rank is in λ i. record (sym one i) { rank = sym two i } ∷ blocks
+ranked-more (suc n) [] ranks block rank at is = absurd (none-some block at)
+ranked-more (suc n) (b ∷ blocks) [] block rank at is = absurd (none-some rank is)
+ranked-more (suc n) (b ∷ blocks) (r ∷ ranks) block rank at is =
+    ap (λ (l : List Block). record b { rank = r } ∷ l) (ranked-more n blocks ranks block rank at is)
 
--- a block that is yet to come is within
-pub within-all : (before rest all : List Block) (block : Block) (first count : ℕ) → before ++ block ∷ rest ≡ all →
-    first + length all ≤ count → first + length before < count
-within-all before rest all block first count is fits =
-    let long = ap length is in
-    let parts = length-append before (block ∷ rest) in omega (long, parts, fits, arith)
-
-pub dropped-at : {A : Type 0} (first : ℕ) (xs : List A) (i : ℕ) (x : A) → slice_get xs (first + i) ≡ Some x →
-    slice_get (drop first xs) i ≡ Some x
-dropped-at zero xs i x at = (let z : i ≡ 0 + i = omega arith in ap (slice_get xs) z) ∙ at
-dropped-at (suc first) [] i x at = absurd (none-some x at)
-dropped-at (suc first) (y ∷ xs) i x at =
-    dropped-at first xs i x
-    (sym (let z : suc first + i ≡ suc (first + i) = omega arith in ap (slice_get (y ∷ xs)) z) ∙ at)
+pub ranked-all : (n : ℕ) (blocks : List Block) (ranks : List ℕ) → length ranks ≡ length blocks → length blocks ≤ n →
+    ranked_to n blocks ranks ≡ ranked_with blocks ranks
+ranked-all zero [] ranks same far = refl
+ranked-all zero (block ∷ blocks) ranks same far = absurd (omega (far, arith))
+ranked-all (suc n) [] ranks same far = refl
+ranked-all (suc n) (block ∷ blocks) [] same far = absurd (omega (same, arith))
+ranked-all (suc n) (block ∷ blocks) (rank ∷ ranks) same far =
+    ap (λ (l : List Block). record block { rank = rank } ∷ l)
+    (ranked-all n blocks ranks (omega (same, arith)) (omega (far, arith)))

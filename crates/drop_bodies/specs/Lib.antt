@@ -3,3 +3,4 @@ pub mod Done
 pub mod Ended
 pub mod Faults
 pub mod Laid
+pub mod Planning

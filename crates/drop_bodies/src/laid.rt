@@ -41,22 +41,23 @@ pub fn laid_blocks(
     alloc: Global,
     flags: &Flags,
     decided: &[Decided],
-    body: &Body,
+    body: Body,
 ) -> Result<Laid, NoMemory>
     requires room { HasRoom flags.now }
-    requires flags { (items : ItemTable) × AreFlags items body.now flags.now }
-    requires count { length decided.now ≡ length body.now.blocks }
-    ensures done { IfOk result (λ laid. (items : ItemTable) → AreFlags items body.now flags.now →
-        AreDone items body.now (paths_of flags.now) decided.now (length body.now.blocks) laid.blocks (made_of laid.new)) }
-    ensures ended { IfOk result (λ laid. (items : ItemTable) → AreFlags items body.now flags.now →
-        AreEnded items body.now (paths_of flags.now) decided.now (length body.now.blocks) laid.blocks (made_of laid.new)) }
-    ensures laid { IfOk result (λ laid. AreLaid body.now laid.blocks laid.new.made laid.sizes) }
+    requires flags { (items : ItemTable) × AreFlags items body flags.now }
+    requires count { length decided.now ≡ length body.blocks }
+    ensures done { IfOk result (λ laid. (items : ItemTable) → AreFlags items body flags.now →
+        AreDone items body (paths_of flags.now) decided.now (length body.blocks) laid.blocks (made_of laid.new)) }
+    ensures ended { IfOk result (λ laid. (items : ItemTable) → AreFlags items body flags.now →
+        AreEnded items body (paths_of flags.now) decided.now (length body.blocks) laid.blocks (made_of laid.new)) }
+    ensures laid { IfOk result (λ laid. AreLaid body laid.blocks laid.new.made laid.sizes) }
 {
-    let mut new = NewBlocks::new(alloc, count_of(body)?);
-    let mut blocks = List::new(alloc);
-    let mut sizes = List::new(alloc);
+    let mut new = NewBlocks::new(alloc, count_of(&body)?);
+    let count = body.blocks.len();
+    let mut blocks = List::from_vec(Vec::with_capacity(alloc, count)?);
+    let mut sizes = List::from_vec(Vec::with_capacity(alloc, count)?);
     let mut number: u32 = 0;
-    for block in body.blocks.as_slice() {
+    for block in body.blocks.into_vec() {
         let before = new.next_number()?;
         let how = &decided[number as usize];
         blocks.push(block_of(alloc, flags, how, number, block, &mut new)?)?;

@@ -9,6 +9,6 @@ mod locals;
 mod planned;
 mod ranked;
 
-pub use body::{ExactBody, elaborate_body};
+pub use body::{PlannedBody, elaborate_body, plan_body};
 pub use counts::DropCounts;
 pub use locals::bool_of;

@@ -40,7 +40,7 @@ pub fn locals_with(
 ) -> Result<List<TyId>, NoMemory>
     ensures { IfOk result (λ locals. locals ≡ body.now.locals ++ replicate flags flag_ty) }
 {
-    let mut locals = List::new(alloc);
+    let mut locals = List::from_vec(Vec::with_capacity(alloc, body.locals.len())?);
     for ty in body.locals.as_slice() {
         locals.push(*ty)?;
     }

@@ -12,7 +12,7 @@ use drop_ends::Decided;
 use drop_flags::Flags;
 use drop_kinds::decisions;
 use drop_plans::{Analyses, flag_table};
-use drop_wants::flagged;
+use drop_wants::{flagged, own_numbers, renumber};
 use mir_base::{List, NoMemory};
 use mir_ty::Items;
 use std::alloc::Global;
@@ -46,9 +46,11 @@ pub fn plan_drops(
         (rules.flag_of items.now body.now (paths_of planned.flags) told.now.forest.paths) (length body.now.blocks)
         planned.decided) }
 {
-    let paths = flagged(alloc, items, body, told)?;
+    let numbers = own_numbers(alloc, told.forest.len())?;
+    let mut decided = decisions(alloc, items, body, told, numbers.as_slice())?;
+    let paths = flagged(alloc, items, body, told, decided.as_slice())?;
     let flags = Flags::new(body, paths)?;
     let table = flag_table(alloc, &told.forest, flags.paths.as_slice(), flags.first)?;
-    let decided = decisions(alloc, items, body, told, table.as_slice())?;
+    renumber(table.as_slice(), &mut decided);
     Ok(Planned { flags, decided })
 }

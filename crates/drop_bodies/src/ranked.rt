@@ -1,5 +1,5 @@
 //! Blocks with new ranks.
-ghost use Rattle.std.specs.Prelude.{◌≡◌, ◌++◌, ◌+◌, ◌<◌, ◌≤◌, ◌^◌, IfOk, OnOk, drop, length, map};
+ghost use Rattle.std.specs.Prelude.{◌≡◌, ◌++◌, ◌<◌, ◌^◌, IfOk, OnOk, length, map};
 ghost use Rattle.drop_laws.specs.Ranked as laws;
 ghost use Rattle.drop_bodies.specs.Laid.{IsRankedBy};
 
@@ -9,10 +9,10 @@ use mir_base::{List, NoMemory};
 use std::alloc::Global;
 
 /// The ranks of the blocks of a body.
-fn ranks_of(alloc: Global, body: &Body) -> Result<List<u32>, NoMemory>
+pub fn ranks_of(alloc: Global, body: &Body) -> Result<List<u32>, NoMemory>
     ensures { IfOk result (λ ranks. ranks ≡ map (λ block. block.rank) body.now.blocks) }
 {
-    let mut ranks = List::new(alloc);
+    let mut ranks = List::from_vec(Vec::with_capacity(alloc, body.blocks.len())?);
     for block in body.blocks.as_slice() {
         ranks.push(block.rank)?;
     }
@@ -28,43 +28,30 @@ fn append(ranks: &mut List<u32>, more: &[u32]) -> Result<(), NoMemory>
     Ok(())
 }
 
-/// New ranks for the blocks of a body and then for what is made for them, so many for each.
-pub fn new_ranks(alloc: Global, body: &Body, sizes: &[u32]) -> Result<List<u32>, NoMemory>
-    requires count { length body.now.blocks < 2 ^ 32 }
-    requires sizes { length sizes.now ≡ length body.now.blocks }
-    ensures { IfOk result (IsRankedBy (map (λ block. block.rank) body.now.blocks) sizes.now) }
+/// New ranks for blocks with these ranks and then for what is made for them, so many for each.
+pub fn new_ranks(alloc: Global, before: &[u32], sizes: &[u32]) -> Result<List<u32>, NoMemory>
+    requires count { length before.now < 2 ^ 32 }
+    requires sizes { length sizes.now ≡ length before.now }
+    ensures { IfOk result (IsRankedBy before.now sizes.now) }
 {
-    let before = ranks_of(alloc, body)?;
-    let mut ranks = tops(alloc, before.as_slice(), sizes)?;
+    let mut ranks = tops(alloc, before, sizes)?;
     let lower = lower_ranks(alloc, ranks.as_slice(), sizes)?;
     append(&mut ranks, lower.as_slice())?;
     Ok(ranks)
 }
 
-/// Adds blocks with these ranks, from one on.
-fn add_ranked(
-    blocks: List<Block>,
-    ranks: &[u32],
-    first: usize,
-    ranked: &mut List<Block>,
-) -> Result<(), NoMemory>
-    requires { first + length blocks ≤ length ranks.now }
-    ensures { OnOk result (ranked.new ≡ ranked.old ++ laws.ranked_with blocks (drop first ranks.now)) }
+/// Gives each block its rank.
+fn set_ranks(blocks: &mut List<Block>, ranks: &[u32])
+    requires { length ranks.now ≡ length blocks.old }
+    ensures { blocks.new ≡ laws.ranked_with blocks.old ranks.now }
 {
-    let mut n = first;
-    for block in blocks.into_vec() {
-        ranked.push(Block {
-            rank: ranks[n],
-            ..block
-        })?;
-        n += 1;
+    for n in 0..blocks.len() {
+        blocks.element_mut(n).rank = ranks[n];
     }
-    Ok(())
 }
 
 /// Blocks, and others behind them, with these ranks.
 pub fn with_ranks(
-    alloc: Global,
     blocks: List<Block>,
     more: List<Block>,
     ranks: &[u32],
@@ -72,9 +59,9 @@ pub fn with_ranks(
     requires { length ranks.now ≡ length (blocks ++ more) }
     ensures { IfOk result (λ ranked. ranked ≡ laws.ranked_with (blocks ++ more) ranks.now) }
 {
-    let mut ranked = List::new(alloc);
-    let count = blocks.len();
-    add_ranked(blocks, ranks, 0, &mut ranked)?;
-    add_ranked(more, ranks, count, &mut ranked)?;
+    let mut all = blocks.into_vec();
+    all.append(&mut more.into_vec())?;
+    let mut ranked = List::from_vec(all);
+    set_ranks(&mut ranked, ranks);
     Ok(ranked)
 }

@@ -16,7 +16,6 @@ use crate::edges::kind_after;
 use crate::ends::{ladder_end, term_end};
 use cfg_graph::{Block, Kind, Place, Stmt, Term, Unwind};
 use drop_blocks::{NewBlocks, Plan};
-use drop_copies::copy_place;
 use drop_flags::Flags;
 use mir_base::{List, NoMemory};
 use move_paths::Use;
@@ -38,7 +37,7 @@ fn drop_end(
     flags: &Flags,
     decided: &Decided,
     kind: Kind,
-    place: &Place,
+    place: Place,
     next: u32,
     unwind: Unwind,
     stmts: &mut List<Stmt>,
@@ -46,20 +45,19 @@ fn drop_end(
 ) -> Result<Term, NoMemory>
     requires { HasRoom flags.now }
     ensures built { IfOk result (λ term. (items : ItemTable) (body : GraphBody) → AreFlags items body flags.now →
-        made_end term (made_of blocks.new) ≡ exact.drop_end items body (paths_of flags.now) decided.now kind place.now
+        made_end term (made_of blocks.new) ≡ exact.drop_end items body (paths_of flags.now) decided.now kind place
         next unwind (made_of blocks.old)) }
     ensures stands { IfOk result (λ term. (items : ItemTable) (body : GraphBody) → AreFlags items body flags.now →
         is_turn_kind kind ≡ false → (ending : Listed Line) × (stmts.new ≡ stmts.old ++ ending)
-        × IsMade (made_of blocks.old) (made_of blocks.new) (λ after. DropEnds items body (paths_of flags.now) after decided.now kind place.now next unwind ending term)) }
+        × IsMade (made_of blocks.old) (made_of blocks.new) (λ after. DropEnds items body (paths_of flags.now) after decided.now kind place next unwind ending term)) }
 {
     match decided {
         Decided::Dead => {
-            flags.add_use(alloc, Use::Drops, place, stmts)?;
+            flags.add_use(alloc, Use::Drops, &place, stmts)?;
             Ok(Term::Goto(next))
         }
         Decided::Plain => {
-            flags.add_use(alloc, Use::Drops, place, stmts)?;
-            let place = copy_place(alloc, place)?;
+            flags.add_use(alloc, Use::Drops, &place, stmts)?;
             Ok(Term::DropAt {
                 place,
                 then: next,
@@ -67,7 +65,7 @@ fn drop_end(
             })
         }
         Decided::Planned(plan) => {
-            let from = ladder_end(alloc, flags, plan, kind, place, next, unwind, blocks)?;
+            let from = ladder_end(alloc, flags, plan, kind, &place, next, unwind, blocks)?;
             Ok(Term::Goto(from))
         }
     }
@@ -78,17 +76,17 @@ fn end_of(
     flags: &Flags,
     decided: &Decided,
     kind: Kind,
-    term: &Term,
+    term: Term,
     stmts: &mut List<Stmt>,
     blocks: &mut NewBlocks,
 ) -> Result<Term, NoMemory>
     requires { HasRoom flags.now }
     ensures built { IfOk result (λ end. (items : ItemTable) (body : GraphBody) → AreFlags items body flags.now →
         made_end end (made_of blocks.new)
-        ≡ end_by items body (paths_of flags.now) decided.now kind term.now (made_of blocks.old)) }
+        ≡ end_by items body (paths_of flags.now) decided.now kind term (made_of blocks.old)) }
     ensures stands { IfOk result (λ end. (items : ItemTable) (body : GraphBody) → AreFlags items body flags.now →
         is_turn_kind kind ≡ false → (ending : Listed Line) × (stmts.new ≡ stmts.old ++ ending)
-        × IsMade (made_of blocks.old) (made_of blocks.new) (λ after. EndsBy items body (paths_of flags.now) after decided.now kind term.now ending end)) }
+        × IsMade (made_of blocks.old) (made_of blocks.new) (λ after. EndsBy items body (paths_of flags.now) after decided.now kind term ending end)) }
 {
     match term {
         Term::DropAt {
@@ -96,11 +94,11 @@ fn end_of(
             then,
             unwind,
         } => drop_end(
-            alloc, flags, decided, kind, place, *then, *unwind, stmts, blocks,
+            alloc, flags, decided, kind, place, then, unwind, stmts, blocks,
         ),
-        _ => {
-            flags.add_term(alloc, term, stmts)?;
-            term_end(alloc, flags, kind, term, blocks)
+        other => {
+            flags.add_term(alloc, &other, stmts)?;
+            term_end(alloc, flags, kind, other, blocks)
         }
     }
 }
@@ -116,23 +114,29 @@ pub fn block_of(
     flags: &Flags,
     decided: &Decided,
     number: u32,
-    block: &Block,
+    block: Block,
     blocks: &mut NewBlocks,
 ) -> Result<Block, NoMemory>
     requires { HasRoom flags.now }
-    ensures kind { IfOk result (λ made. made.kind ≡ block.now.kind) }
+    ensures kind { IfOk result (λ made. made.kind ≡ block.kind) }
     ensures built { IfOk result (λ made. (items : ItemTable) (body : GraphBody) → AreFlags items body flags.now →
         made_end made.term (made_of blocks.new) ≡ end_by items body (paths_of flags.now) decided.now
-        (rules.kind_after items body (paths_of flags.now) body block.now.kind) block.now.term (made_of blocks.old)) }
+        (rules.kind_after items body (paths_of flags.now) body block.kind) block.term (made_of blocks.old)) }
     ensures stands { IfOk result (λ made. (items : ItemTable) (body : GraphBody) → AreFlags items body flags.now →
         IsMade (made_of blocks.old) (made_of blocks.new)
-        (λ after. IsBlockOf items body (paths_of flags.now) after decided.now number block.now made)) }
+        (λ after. IsBlockOf items body (paths_of flags.now) after decided.now number block made)) }
 {
-    let mut stmts = flags.stmts_of(alloc, number, block)?;
-    let kind = kind_after(block.kind);
-    let term = end_of(alloc, flags, decided, kind, &block.term, &mut stmts, blocks)?;
+    let Block {
+        kind: own,
+        stmts,
+        term,
+        ..
+    } = block;
+    let mut stmts = flags.stmts_of(alloc, number, stmts)?;
+    let kind = kind_after(own);
+    let term = end_of(alloc, flags, decided, kind, term, &mut stmts, blocks)?;
     Ok(Block {
-        kind: block.kind,
+        kind: own,
         rank: 0,
         stmts,
         term,

@@ -1,7 +1,8 @@
 //! Where drops that become ladders, and all other terminators, lead.
-ghost use Rattle.std.specs.Prelude.{◌≡◌, IfOk, ℕ, false};
+ghost use Rattle.std.specs.Prelude.{◌≡◌, IfOk, List as Listed, ℕ, false};
 ghost use Rattle.mir_ty.specs.ItemTable.{ItemTable};
 ghost use Rattle.cfg_graph.specs.declared.graph.Body.{Body as GraphBody};
+ghost use Rattle.store_model.specs.Places.Place as plain;
 ghost use Rattle.drop_elaborate.specs.Elaborated as rules;
 ghost use Rattle.drop_elaborate.specs.Elaborated.{EdgeTo, LadderTo, result_flags};
 ghost use Rattle.drop_flags.specs.Flags.{AreFlags, HasRoom, paths_of};
@@ -15,7 +16,7 @@ ghost use Rattle.cfg_graph.specs.Edges.{is_turn_kind};
 use crate::edges::edge;
 use cfg_graph::{Kind, Place, Term, Unwind};
 use drop_blocks::{Chains, NewBlocks, Plan, ladder};
-use drop_copies::{copy_term, next_of};
+use drop_copies::next_of;
 use drop_flags::Flags;
 use mir_base::{List, NoMemory};
 use move_paths::Use;
@@ -82,7 +83,115 @@ pub fn ladder_end(
     Ok(begun.calm)
 }
 
-/// Any other terminator once more: its result sets flags on the way on.
+/// A terminator that goes on in this block, if it stores a result, or only may panic; to any other it makes no difference.
+fn onward_to(term: Term, onward: u32) -> Term
+    ensures { (items : ItemTable) (body after : GraphBody) (flagged : Listed plain.Place) →
+        result ≡ rules.onward_to items body flagged after onward term }
+{
+    match term {
+        Term::Math {
+            to,
+            op,
+            left,
+            right,
+            then: _,
+            unwind,
+        } => Term::Math {
+            to,
+            op,
+            left,
+            right,
+            then: onward,
+            unwind,
+        },
+        Term::Negate {
+            to,
+            of,
+            then: _,
+            unwind,
+        } => Term::Negate {
+            to,
+            of,
+            then: onward,
+            unwind,
+        },
+        Term::Bounds {
+            index,
+            length,
+            then: _,
+            unwind,
+        } => Term::Bounds {
+            index,
+            length,
+            then: onward,
+            unwind,
+        },
+        Term::Call {
+            to,
+            body,
+            args,
+            then: _,
+            unwind,
+        } => Term::Call {
+            to,
+            body,
+            args,
+            then: onward,
+            unwind,
+        },
+        Term::Virtual {
+            to,
+            trait_no,
+            method,
+            args,
+            then: _,
+            unwind,
+        } => Term::Virtual {
+            to,
+            trait_no,
+            method,
+            args,
+            then: onward,
+            unwind,
+        },
+        Term::Ask {
+            to,
+            then: _,
+            unwind,
+        } => Term::Ask {
+            to,
+            then: onward,
+            unwind,
+        },
+        Term::Goto(to) => Term::Goto(to),
+        Term::If { on, yes, no } => Term::If { on, yes, no },
+        Term::Case {
+            on,
+            variant,
+            yes,
+            no,
+        } => Term::Case {
+            on,
+            variant,
+            yes,
+            no,
+        },
+        Term::DropAt {
+            place,
+            then,
+            unwind,
+        } => Term::DropAt {
+            place,
+            then,
+            unwind,
+        },
+        Term::Panic { why, unwind } => Term::Panic { why, unwind },
+        Term::Return => Term::Return,
+        Term::Resume => Term::Resume,
+    }
+}
+
+/// Any other terminator: its result sets flags on the way on.
 ///
 /// # Errors
 ///
@@ -91,20 +200,20 @@ pub fn term_end(
     alloc: Global,
     flags: &Flags,
     kind: Kind,
-    term: &Term,
+    term: Term,
     blocks: &mut NewBlocks,
 ) -> Result<Term, NoMemory>
     requires { HasRoom flags.now }
     ensures built { IfOk result (λ end. (items : ItemTable) (body : GraphBody) → AreFlags items body flags.now →
         made_end end (made_of blocks.new)
-        ≡ exact.term_end items body (paths_of flags.now) kind term.now (made_of blocks.old)) }
+        ≡ exact.term_end items body (paths_of flags.now) kind term (made_of blocks.old)) }
     ensures stands { IfOk result (λ end. (from : ℕ) × ((items : ItemTable) (body : GraphBody) → AreFlags items body flags.now →
         IsMade (made_of blocks.old) (made_of blocks.new)
-        (λ after. (end ≡ rules.onward_to items body (paths_of flags.now) after from term.now)
-        × EdgeTo items body (paths_of flags.now) after kind (result_flags items body (paths_of flags.now) after term.now)
-        from (rules.next_of items body (paths_of flags.now) after term.now)))) }
+        (λ after. (end ≡ rules.onward_to items body (paths_of flags.now) after from term)
+        × EdgeTo items body (paths_of flags.now) after kind (result_flags items body (paths_of flags.now) after term)
+        from (rules.next_of items body (paths_of flags.now) after term)))) }
 {
-    let stmts = flags.result_stores(alloc, term)?;
-    let from = edge(blocks, kind, stmts, next_of(term))?;
-    copy_term(alloc, term, from)
+    let stmts = flags.result_stores(alloc, &term)?;
+    let from = edge(blocks, kind, stmts, next_of(&term))?;
+    Ok(onward_to(term, from))
 }

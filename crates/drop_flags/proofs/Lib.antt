@@ -1,3 +1,4 @@
+mod Asking
 mod Following
 mod Nearby
 mod Stored

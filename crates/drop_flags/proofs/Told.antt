@@ -107,3 +107,7 @@ module _ (items : ItemTable) (body : Body) where
   with-none flagged none [] = refl
   with-none flagged none (stmt ∷ lines) =
       λ i. stmt ∷ uses-none flagged none (stmt_uses stmt) i ++ with-none flagged none lines i
+
+  pub start-none : (flagged : List Place) → flagged ≡ [] → (number : ℕ) → at_start items body flagged number ≡ []
+  start-none flagged none zero = ap (λ (l : List Place). first_flags items body l l 0) none
+  start-none flagged none (suc n) = refl

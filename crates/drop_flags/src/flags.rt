@@ -4,7 +4,7 @@ ghost use Rattle.mir_ty.specs.ItemTable.{ItemTable};
 ghost use Rattle.cfg_graph.specs.declared.graph.Body.{Body as GraphBody};
 ghost use Rattle.cfg_graph.specs.Moves.Gone as gone;
 ghost use Rattle.cfg_graph.specs.Places.{named};
-ghost use Rattle.move_paths.specs.Uses.{listed, use_of};
+ghost use Rattle.move_paths.specs.Uses.{use_of};
 ghost use Rattle.drop_elaborate.specs.Elaborated.{flags_of_use, flags_of_uses};
 ghost use Rattle.drop_flags.specs.Flags as stores;
 ghost use Rattle.drop_flags.specs.Flags.{AreFlags, HasRoom, paths_of, store_if, stores_below};
@@ -14,7 +14,7 @@ use crate::above::is_at_or_above;
 use cfg_graph::{Body, Operand, Place, Stmt};
 use drop_copies::whole_local;
 use mir_base::{List, NoMemory};
-use move_paths::{Use, Used};
+use move_paths::Use;
 use std::alloc::Global;
 
 /// The flags of a body: a `bool` for each of these paths, in locals after its own. A flag tells whether the own part of
@@ -92,7 +92,7 @@ impl Flags {
     }
 
     /// Adds the stores that set or clear the flags at and below a place.
-    fn add_below(
+    pub fn add_below(
         &self,
         alloc: Global,
         place: &Place,
@@ -129,23 +129,6 @@ impl Flags {
             Some(takes) => self.add_below(alloc, place, !takes, stmts),
             None => Ok(()),
         }
-    }
-
-    /// Adds the stores that uses ask for, one use after another.
-    pub fn add_uses(
-        &self,
-        alloc: Global,
-        uses: &[Used<'_>],
-        stmts: &mut List<Stmt>,
-    ) -> Result<(), NoMemory>
-        requires { HasRoom self.now }
-        ensures { OnOk result ((items : ItemTable) (body : GraphBody) → AreFlags items body self.now →
-            stmts.new ≡ stmts.old ++ flags_of_uses items body (paths_of self.now) (listed uses.now)) }
-    {
-        for used in uses {
-            self.add_use(alloc, used.how, used.place, stmts)?;
-        }
-        Ok(())
     }
 
     /// The stores that one use of a place asks for.

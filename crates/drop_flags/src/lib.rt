@@ -7,6 +7,7 @@ mod flags;
 mod lines;
 mod paths;
 mod starts;
+mod uses;
 
 pub use flags::Flags;
 pub use paths::{FlagPaths, Near};

@@ -4,62 +4,42 @@ ghost use Rattle.mir_ty.specs.ItemTable.{ItemTable};
 ghost use Rattle.cfg_graph.specs.declared.graph.Body.{Body as GraphBody};
 ghost use Rattle.cfg_graph.specs.Uses as graph;
 ghost use Rattle.drop_elaborate.specs.Elaborated.{flags_of_uses, with_flags};
+ghost use Rattle.drop_flags.specs.Asked.{stmt_stores};
 ghost use Rattle.drop_flags.specs.Flags.{AreFlags, HasRoom, paths_of};
 
 use crate::Flags;
-use cfg_graph::{Stmt, Term};
-use drop_copies::copy_stmt;
+use cfg_graph::{Operand, Stmt, Term};
 use mir_base::{List, NoMemory};
-use move_paths::{Use, Used, add_stmt_uses, result_place, term_uses};
+use move_paths::{Use, result_place};
 use std::alloc::Global;
 
-/// Adds statements as they are.
-fn copy_stmts(alloc: Global, lines: &[Stmt], stmts: &mut List<Stmt>) -> Result<(), NoMemory>
-    ensures { OnOk result (stmts.new ≡ stmts.old ++ lines.now) }
-{
-    for stmt in lines {
-        stmts.push(copy_stmt(alloc, stmt)?)?;
-    }
-    Ok(())
-}
-
 impl Flags {
-    /// Adds a statement and the stores that its uses ask for.
-    fn add_stmt<'a>(
-        &self,
-        alloc: Global,
-        stmt: &'a Stmt,
-        uses: &mut List<Used<'a>>,
-        stmts: &mut List<Stmt>,
-    ) -> Result<(), NoMemory>
+    /// Adds a statement, which is moved, and the stores that its uses ask for. These stand behind it and are made while it
+    /// is looked at, so its place is kept for it by another one.
+    fn add_stmt(&self, alloc: Global, stmt: Stmt, stmts: &mut List<Stmt>) -> Result<(), NoMemory>
         requires { HasRoom self.now }
-        ensures { OnOk result ((items : ItemTable) (body : GraphBody) → AreFlags items body self.now →
-            stmts.new ≡ stmts.old ++ (stmt.now ∷ flags_of_uses items body (paths_of self.now) (graph.stmt_uses stmt.now))) }
+        ensures { OnOk result (stmts.new ≡ stmts.old ++ (stmt ∷ stmt_stores self.now stmt)) }
     {
-        let copy = copy_stmt(alloc, stmt)?;
-        stmts.push(copy)?;
-        uses.truncate(0);
-        add_stmt_uses(uses, stmt)?;
-        self.add_uses(alloc, uses.as_slice(), stmts)
+        let at = stmts.len();
+        stmts.push(Stmt::Print(Operand::Unit))?;
+        self.add_stmt_stores(alloc, &stmt, stmts)?;
+        stmts.set(at, stmt);
+        Ok(())
     }
 
     /// Adds statements, each with the stores that its uses ask for.
     pub fn add_stmts(
         &self,
         alloc: Global,
-        lines: &[Stmt],
+        lines: List<Stmt>,
         stmts: &mut List<Stmt>,
     ) -> Result<(), NoMemory>
         requires { HasRoom self.now }
         ensures { OnOk result ((items : ItemTable) (body : GraphBody) → AreFlags items body self.now →
-            stmts.new ≡ stmts.old ++ with_flags items body (paths_of self.now) lines.now) }
+            stmts.new ≡ stmts.old ++ with_flags items body (paths_of self.now) lines) }
     {
-        if self.paths.is_empty() {
-            return copy_stmts(alloc, lines, stmts);
-        }
-        let mut uses = List::new(alloc);
-        for stmt in lines {
-            self.add_stmt(alloc, stmt, &mut uses, stmts)?;
+        for stmt in lines.into_vec() {
+            self.add_stmt(alloc, stmt, stmts)?;
         }
         Ok(())
     }
@@ -78,8 +58,7 @@ impl Flags {
         if self.paths.is_empty() {
             return Ok(());
         }
-        let list = term_uses(alloc, term)?;
-        self.add_uses(alloc, list.as_slice(), stmts)
+        self.add_term_stores(alloc, term, stmts)
     }
 
     /// The stores that the result of a terminator asks for, on its way on.

@@ -8,7 +8,7 @@ ghost use Rattle.drop_flags.specs.Flags.{AreFlags, HasRoom, paths_of, first_stor
 
 use crate::Flags;
 use crate::flags::store;
-use cfg_graph::{Block, Stmt};
+use cfg_graph::Stmt;
 use mir_base::{List, NoMemory};
 use std::alloc::Global;
 
@@ -48,21 +48,33 @@ impl Flags {
         }
     }
 
-    /// The statements of a block by its number, before the end of the block.
+    /// How many stores room is made for in a block by its number: all first ones, or one.
+    fn room_for(&self, number: u32) -> usize {
+        match number {
+            0 => self.paths.len(),
+            _ => 1,
+        }
+    }
+
+    /// The statements of a block by its number, before the end of the block: each is moved, and without flags they stay as
+    /// they are.
     pub fn stmts_of(
         &self,
         alloc: Global,
         number: u32,
-        block: &Block,
+        lines: List<Stmt>,
     ) -> Result<List<Stmt>, NoMemory>
         requires { HasRoom self.now }
         ensures { IfOk result (λ stmts. (items : ItemTable) (body : GraphBody) → AreFlags items body self.now →
-            stmts ≡ at_start items body (paths_of self.now) number
-            ++ with_flags items body (paths_of self.now) block.now.stmts) }
+            stmts ≡ at_start items body (paths_of self.now) number ++ with_flags items body (paths_of self.now) lines) }
     {
-        let mut stmts = List::from_vec(Vec::with_capacity(alloc, block.stmts.len())?);
+        if self.paths.is_empty() {
+            return Ok(lines);
+        }
+        let room = lines.len().saturating_add(self.room_for(number));
+        let mut stmts = List::from_vec(Vec::with_capacity(alloc, room)?);
         self.add_start(alloc, number, &mut stmts)?;
-        self.add_stmts(alloc, block.stmts.as_slice(), &mut stmts)?;
+        self.add_stmts(alloc, lines, &mut stmts)?;
         Ok(stmts)
     }
 }

@@ -1,2 +1,4 @@
+pub mod AllGone
 pub mod Bodies
+pub mod Copied
 pub mod Faultless

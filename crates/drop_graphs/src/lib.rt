@@ -2,7 +2,8 @@
 //! remains of its place, the graph with exact drops.
 #![tactic(auto)]
 
+mod copies;
 mod exact;
 
 pub use drop_bodies::DropCounts;
-pub use exact::{Elaborated, elaborate};
+pub use exact::{Elaborated, elaborate, elaborate_with};

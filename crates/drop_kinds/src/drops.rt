@@ -2,6 +2,7 @@
 ghost use Rattle.std.specs.Prelude.{◌≡◌, ◌<◌, ◌^◌, IfOk, Some, false, length, slice_get};
 ghost use Rattle.cfg_graph.specs.declared.place.Place.{Place as GraphPlace};
 ghost use Rattle.cfg_graph.specs.Places.{named};
+ghost use Rattle.move_paths.specs.Forest.{path_at};
 ghost use Rattle.drop_values.specs.Facts.{Tree};
 ghost use Rattle.drop_values.specs.Planning as planning;
 ghost use Rattle.drop_plans.specs.Analysed.{AreAnalyses};
@@ -23,20 +24,14 @@ use std::alloc::Global;
 
 /// What becomes of the drop of a path: it is dead where its plan has no rung, and plain where no path at or below it
 /// may be gone.
-fn decide_path(
-    alloc: Global,
-    at: &Planner<'_>,
-    path: u32,
-    place: &Place,
-    ty: TyId,
-) -> Result<Decided, NoMemory>
+fn decide_path(alloc: Global, at: &Planner<'_>, path: u32, ty: TyId) -> Result<Decided, NoMemory>
     requires told { AreTold at.now }
-    requires path { slice_get at.now.forest.now.paths path ≡ Some (named place.now) }
-    ensures { IfOk result (λ how. (tree : Tree) → IsTreeOf at.now.forest.now.paths (named place.now) tree →
+    requires path { path < length at.now.forest.now.paths }
+    ensures { IfOk result (λ how. (tree : Tree) → IsTreeOf at.now.forest.now.paths (path_at at.now.forest.now.paths path) tree →
         IsDecidedBy how (plan_at at.now tree ty)
         (planning.sure at.now.items.now (facts_of at.now.facts.now) (flag_of at.now.flags.now) tree)) }
 {
-    let plan = plan(alloc, at, path, place, ty)?;
+    let plan = plan(alloc, at, path, ty)?;
     if !has_rung(&plan) {
         return Ok(Decided::Dead);
     }
@@ -105,7 +100,7 @@ fn decide(
         facts: &facts,
         flags,
     };
-    decide_path(alloc, &at, path, place, ty)
+    decide_path(alloc, &at, path, ty)
 }
 
 fn decide_block(
@@ -152,7 +147,7 @@ pub fn decisions(
     requires count { length body.now.blocks < 2 ^ 32 }
     ensures { IfOk result (AreDecided items.now body.now told.now.forest.paths (flag_of flags.now) (length body.now.blocks)) }
 {
-    let mut decided = List::new(alloc);
+    let mut decided = List::from_vec(Vec::with_capacity(alloc, body.blocks.len())?);
     let mut number: u32 = 0;
     for block in body.blocks.as_slice() {
         decided.push(decide_block(alloc, items, body, told, flags, number, block)?)?;

@@ -2,29 +2,20 @@
 use Rattle.std.proofs.Common.{◌≡◌, ◌∙◌, ◌∷◌, [], ◌++◌, ◌+◌, ◌<◌, ◌≤◌, ℕ, zero, suc, Bool, List, Option, Some, None, drop, length, map, slice_get, refl, rules, sym, ap, append_assoc, append-nil, arith}
 use Rattle.std.specs.Prelude.{get_or, is_some, option_and_then, unwrap_or}
 use Rattle.std.proofs.Math.Path.{fun_ext}
-use Rattle.std.proofs.lemmas.List.{at_drop_more, at_drop_all, map-append}
+use Rattle.std.proofs.lemmas.List.{at_drop_more, at_drop_all}
 use Rattle.std.proofs.lemmas.Option.{get_or_from_slice_get, slice_get_within}
 use Rattle.mir_ty.specs.declared.ty.Ty.{Ty}
 use Rattle.mir_ty.specs.declared.ty.TyId.{TyId}
 use Rattle.mir_ty.specs.ItemTable.{ItemTable, type_at}
 use Rattle.mir_ty.specs.Parts.{field_ty, parts_of}
 use Rattle.store_model.specs.Places.Place.{Step, ToPart, ToField, is_enum, part_if, unless_enum, step_ty}
-use Rattle.cfg_graph.specs.declared.place.Place as graph
-use Rattle.cfg_graph.specs.declared.place.Step.{Step as GraphStep}
-use Rattle.cfg_graph.specs.Moves.Gone.{below}
-use Rattle.cfg_graph.specs.Places.{named, named_step}
-use Rattle.drop_elaborate.specs.Ladder.{place_below}
+use Rattle.cfg_graph.specs.Places.{named_step}
 use Rattle.drop_values.specs.Planning.{stepped}
 use Rattle.drop_blocks.specs.Ladders.{step_of}
 use Rattle.drop_blocks.specs.View.{plan_in, parts_in, plans_from}
 use Rattle.drop_blocks.specs.declared.plan.Plan.{Plan, the_lemmas}
 use Rattle.drop_blocks.specs.declared.plan.VariantPlan.{roll-VariantPlan}
 use Rattle.drop_plans.specs.Plans.{ids_in}
-
-pub named-below : (place : graph.Place) (step : GraphStep) →
-    named (place_below place step) ≡ below (named place) (named_step step ∷ [])
-named-below place step =
-    ap (λ (l : List Step). record { local = place.local; steps = l }) (map-append named_step place.steps (step ∷ []))
 
 pub field-is : (items : ItemTable) (id : TyId) (variant n : ℕ) →
     field_ty items id variant n ≡ slice_get (ids_in items (type_at items id) variant) n

@@ -1,5 +1,4 @@
 pub mod Closed
-pub mod Descending
 pub mod Fitted
 pub mod Knowing
 pub mod Listed

@@ -2,17 +2,18 @@
 use Rattle.std.proofs.Common.{◌≡◌, ◌⊎◌, inl, inr, ◌∙◌, ◌∷◌, [], ◌<◌, ℕ, Bool, true, false, not, List, Option, Some, None, Contains, length, map, slice_get, refl, sym, ap}
 use Rattle.std.specs.Prelude.{option_map, slice_index_or}
 use Rattle.std.proofs.lemmas.List.{get_or-map, length-map}
-use Rattle.std.proofs.lemmas.Option.{get_or_from_slice_get, slice_get_within}
+use Rattle.std.proofs.lemmas.Option.{get_or_from_slice_get, slice_get_within, slice_get-get_or}
 use Rattle.bit_rows.specs.Words.{any_both}
 use Rattle.mir_ty.specs.declared.ty.Ty.{Ty}
 use Rattle.mir_ty.specs.declared.ty.TyId.{TyId}
 use Rattle.mir_ty.specs.Facts.{needs_drop, has_drop_impl}
 use Rattle.mir_ty.specs.ItemTable.{ItemTable, type_at}
 use Rattle.mir_ty.specs.Parts.{parts_of}
-use Rattle.store_model.specs.Places.Place.{Place, Step, ToContent, ToPart, is_enum}
+use Rattle.store_model.specs.Places.Place.{Place, Step, ToContent, ToPart, is_enum, whole_local}
 use Rattle.store_model.specs.Places.TypeForms.{box_content}
 use Rattle.cfg_graph.specs.Moves.Gone.{is_at_or_above, below}
 use Rattle.init_flow.specs.Moved.{mask_of}
+use Rattle.move_paths.specs.Forest.{path_at}
 use Rattle.drop_values.specs.Facts.{Tree, at_path, Branches, no_branch, a_branch}
 use Rattle.drop_values.specs.Plan as plain
 use Rattle.drop_values.specs.Planning as planning
@@ -22,6 +23,10 @@ use Rattle.drop_plans.specs.Trees.{IsTreeOf}
 use Rattle.drop_plans.specs.declared.planner.Planner.{Planner}
 use Rattle.drop_plans.proofs.Sureness.{sure-is}
 use Rattle.drop_plans.proofs.Under.{branch-tree, some-branch, no-branch, plan-by}
+
+-- the place of a path is that
+pub path-there : (paths : List Place) (path : ℕ) → path < length paths → slice_get paths path ≡ Some (path_at paths path)
+path-there paths path within = slice_get-get_or paths path (whole_local 0) within
 
 module _ (at : Planner) (told : AreTold at) (path : ℕ) (place : Place)
     (here : slice_get at.forest.now.paths path ≡ Some place) where

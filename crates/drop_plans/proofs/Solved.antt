@@ -1,5 +1,5 @@
 -- The rows of a solution say of the paths of a body what its paths tell.
-use Rattle.std.proofs.Common.{◌≡◌, ◌<◌, ℕ, Bool, List, [], length, slice_index_or, Result, Ok, Err, IfOk, ◌∙◌}
+use Rattle.std.proofs.Common.{◌≡◌, ◌<◌, ℕ, Bool, List, [], length, slice_index_or, ◌∙◌}
 use Rattle.mir_ty.specs.ItemTable.{ItemTable}
 use Rattle.store_model.specs.Places.Place.{Place}
 use Rattle.cfg_graph.specs.declared.graph.Body.{Body}
@@ -23,8 +23,3 @@ rows-say items body paths gone pass first rows says carried count widths = recor
     bits = λ number path at. solved-says items body paths gone pass first rows says carried n number path within at;
   };
 }
-
--- what three clauses say of a result that is there
-pub ok-three : {X E : Type 0} (r : Result X E) (P Q R S : X → Type 0) → ((x : X) → P x → Q x → R x → S x) → IfOk r P → IfOk r Q → IfOk r R → IfOk r S
-ok-three (Ok x) P Q R S f p q r = f x p q r
-ok-three (Err e) P Q R S f p q r = tt

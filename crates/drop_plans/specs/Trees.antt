@@ -20,10 +20,3 @@ abbrev mutual
 -- containers of paths are paths
 abbrev pub AreClosed : List Place → Type 0
 AreClosed paths = (place : Place) (steps : List Step) → Contains paths (below place steps) → Contains paths place
-
--- a place is one step below a path
-pub record IsJustBelow (paths : List Place) (path : ℕ) (place : Place) : Type 0 where
-  pub upper : Place
-  pub step : Step
-  pub at : slice_get paths path ≡ Some upper
-  pub is : place ≡ below upper (step ∷ [])

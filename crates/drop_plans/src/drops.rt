@@ -1,7 +1,7 @@
 //! The plan of a drop where a block of a body comes to it.
-ghost use Rattle.std.specs.Prelude.{◌≡◌, IfOk, Some, length, slice_get};
+ghost use Rattle.std.specs.Prelude.{◌≡◌, ◌<◌, IfOk, Some, length, slice_get};
 ghost use Rattle.cfg_graph.specs.declared.graph.Body.{Body as GraphBody};
-ghost use Rattle.cfg_graph.specs.Places.{named};
+ghost use Rattle.move_paths.specs.Forest.{path_at};
 ghost use Rattle.drop_values.specs.Facts.{Tree, Facts as Known};
 ghost use Rattle.drop_values.specs.Planning as planning;
 ghost use Rattle.drop_blocks.specs.View.{plan_in};
@@ -12,7 +12,7 @@ ghost use Rattle.drop_plans.specs.Plans.{flag_of};
 
 use crate::facts::facts_at;
 use crate::{Analyses, Planner, plan};
-use cfg_graph::{Block, Place};
+use cfg_graph::Block;
 use drop_blocks::Plan;
 use mir_base::NoMemory;
 use mir_ty::{Items, TyId};
@@ -32,15 +32,14 @@ pub fn plan_at(
     number: u32,
     block: &Block,
     path: u32,
-    place: &Place,
     ty: TyId,
 ) -> Result<Plan, NoMemory>
     requires told { (body : GraphBody) × AreAnalyses items.now body told.now }
     requires flags { length flags.now ≡ length told.now.forest.paths }
-    requires path { slice_get told.now.forest.paths path ≡ Some (named place.now) }
+    requires path { path < length told.now.forest.paths }
     ensures { IfOk result (λ made. (body : GraphBody) (tree : Tree) → AreAnalyses items.now body told.now →
         slice_get body.blocks number ≡ Some block.now → EndsInDrop block.now →
-        IsTree items.now body told.now.forest.paths (named place.now) tree →
+        IsTree items.now body told.now.forest.paths (path_at told.now.forest.paths path) tree →
         (known : Known) × AreFacts items.now body told.now.forest.paths number known
         × (plan_in made ≡ planning.plan_of items.now known (flag_of flags.now) tree ty)) }
 {
@@ -52,5 +51,5 @@ pub fn plan_at(
         facts: &facts,
         flags,
     };
-    plan(alloc, &at, path, place, ty)
+    plan(alloc, &at, path, ty)
 }

@@ -12,7 +12,7 @@ mod shape;
 mod tables;
 mod wholes;
 
-pub use analyses::Analyses;
+pub use analyses::{Analyses, Gone};
 pub use drops::plan_at;
 pub use facts::{Facts, facts_at, pass_stmts};
 pub use planner::{Planner, plan};

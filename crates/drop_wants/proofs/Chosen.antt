@@ -1,5 +1,5 @@
 -- What a row of bits chooses of a list is what a test by these bits leaves of it.
-use Rattle.std.proofs.Common.{◌≡◌, ◌⊎◌, inl, inr, ◌∙◌, ◌∷◌, [], ◌++◌, ◌+◌, ◌<◌, ◌≤◌, ℕ, zero, suc, Bool, true, false, List, Option, Some, None, drop, filter, length, map, slice_get, refl, sym, ap, append-nil, append_assoc, arith, if◌then◌else◌}
+use Rattle.std.proofs.Common.{◌≡◌, ◌∙◌, ◌∷◌, [], ◌++◌, ◌+◌, ◌<◌, ◌≤◌, ℕ, zero, suc, Bool, true, false, List, Some, drop, filter, length, map, slice_get, refl, sym, ap, append-nil, append_assoc, arith, if◌then◌else◌}
 use Rattle.std.specs.Prelude.{get_or, slice_index_or}
 use Rattle.std.proofs.lemmas.Bool.{false≢true}
 use Rattle.std.proofs.lemmas.List.{at_drop_all, at_drop_more}
@@ -9,7 +9,7 @@ use Rattle.cfg_graph.specs.NamedPlaces.{same_place}
 use Rattle.init_flow.specs.Carried.{Bits}
 use Rattle.move_paths.specs.Trie.{AreOnce}
 use Rattle.drop_elaborate.proofs.Refilled.{same-places, same-itself}
-use Rattle.drop_wants.specs.Marks.{chosen}
+use Rattle.drop_wants.specs.Marks.{chosen, AllOff}
 
 -- the bit of a place
 abbrev pub bit_of : Bits → List Place → Place → Bool
@@ -56,6 +56,18 @@ chosen-map f [] xs = refl
 chosen-map f (bit ∷ row) [] = refl
 chosen-map f (true ∷ row) (x ∷ xs) = ap (λ z. f x ∷ z) (chosen-map f row xs)
 chosen-map f (false ∷ row) (x ∷ xs) = chosen-map f row xs
+
+pub past-end : {X : Type 0} (xs : List X) (i : ℕ) (d : X) → length xs ≤ i → slice_index_or xs i d ≡ d
+past-end [] i d far = refl
+past-end (x ∷ xs) zero d far = absurd (omega (far, arith))
+past-end (x ∷ xs) (suc i) d far = past-end xs i d (omega (far, arith))
+
+-- nothing is chosen by bits that are off
+pub chosen-none : {X : Type 0} (row : Bits) (xs : List X) → AllOff row → chosen row xs ≡ []
+chosen-none [] xs off = refl
+chosen-none (bit ∷ row) [] off = refl
+chosen-none (true ∷ row) (x ∷ xs) off = absurd (false≢true (sym (off 0)))
+chosen-none (false ∷ row) (x ∷ xs) off = chosen-none row xs (λ k. off (suc k))
 
 -- element after element
 module _ {X : Type 0} (row : Bits) (xs : List X) (long : length row ≡ length xs) where

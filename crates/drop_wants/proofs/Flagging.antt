@@ -1,11 +1,11 @@
 -- The bits that plans with a flag for each path turn on are those of the paths that need a flag.
-use Rattle.std.proofs.Common.{◌≡◌, ◌⊎◌, inl, inr, ◌↔◌, ◌∙◌, ◌∷◌, [], ◌<◌, ◌+◌, ℕ, zero, suc, Bool, true, false, ◌||◌, List, Option, Some, None, Contains, filter, length, map, slice_get, refl, sym, ap, subst, arith}
+use Rattle.std.proofs.Common.{◌≡◌, inl, inr, ◌∙◌, ◌∷◌, [], ◌<◌, ◌+◌, ℕ, zero, suc, Bool, true, false, ◌||◌, List, Option, Some, None, length, map, slice_get, refl, sym, ap, subst, arith}
 use Rattle.std.specs.Prelude.{slice_index_or}
 use Rattle.std.specs.List.{range_with_len}
 use Rattle.std.proofs.lemmas.Bool.{false≢true}
 use Rattle.std.proofs.lemmas.Option.{none-some, same_Some, slice_get_within, slice_get_cases}
 use Rattle.mir_ty.specs.ItemTable.{ItemTable}
-use Rattle.mir_ty.proofs.ListLemmas.{Contains-slice_get, slice_get-Contains}
+use Rattle.mir_ty.proofs.ListLemmas.{slice_get-Contains}
 use Rattle.store_model.specs.Places.Place.{Place}
 use Rattle.cfg_graph.specs.declared.graph.Block.{Block}
 use Rattle.cfg_graph.specs.declared.graph.Body.{Body}
@@ -16,7 +16,7 @@ use Rattle.cfg_graph.specs.Places.{named}
 use Rattle.init_flow.specs.Carried.{Bits}
 use Rattle.move_paths.specs.Forest.{PathForest, IsForest}
 use Rattle.drop_elaborate.specs.Elaborated.{is_drop}
-use Rattle.drop_elaborate.specs.Kinds.{IsDrop, NeedsFlag, IsFlagged, AreFlagged}
+use Rattle.drop_elaborate.specs.Kinds.{IsDrop, IsFlagged, AreFlagged}
 use Rattle.drop_blocks.specs.View.{plan_in}
 use Rattle.drop_blocks.specs.declared.plan.Plan.{Plan}
 use Rattle.drop_ends.specs.declared.decided.Decided.{Decided}
@@ -35,7 +35,7 @@ use Rattle.drop_wants.proofs.Chosen.{bit_of, bit-is, chosen-filtered}
 abbrev pub own_numbers : ℕ → List (Option ℕ)
 own_numbers count = map Some (range_with_len 0 count)
 
-from-to : (n count i : ℕ) → i < count → slice_index_or (map Some (range_with_len n count)) i None ≡ Some (n + i)
+pub from-to : (n count i : ℕ) → i < count → slice_index_or (map Some (range_with_len n count)) i None ≡ Some (n + i)
 from-to n zero i less = absurd (omega (less, arith))
 from-to n (suc count) zero less = (let z : n ≡ n + 0 = omega arith in ap Some z)
 from-to n (suc count) (suc i) less =
@@ -57,7 +57,7 @@ some-asks k (how ∷ rest) h = by (asks k how) refl h (some-asks k rest)
     by true e h again = (0, how, refl, e)
     by false e h again = let r = again h in (suc r.0, r.1, r.2, r.3)
 
-asks-some : (k : ℕ) (decided : List Decided) (n : ℕ) (how : Decided) → slice_get decided n ≡ Some how →
+pub asks-some : (k : ℕ) (decided : List Decided) (n : ℕ) (how : Decided) → slice_get decided n ≡ Some how →
     asks k how ≡ true →
     any_asks k decided ≡ true
 asks-some k [] n how e h = absurd (none-some how e)
@@ -82,7 +82,7 @@ module _ (items : ItemTable) (body : Body) (made : IsReadyBody items body) (fore
   abbrev paths : List Place
   paths = forest.paths
 
-  abbrev numbered : ℕ → Option ℕ
+  abbrev pub numbered : ℕ → Option ℕ
   numbered = flag_of (own_numbers (length paths))
 
   by_number : (number k : ℕ) → numbered number ≡ Some k → k ≡ number
@@ -93,15 +93,17 @@ module _ (items : ItemTable) (body : Body) (made : IsReadyBody items body) (fore
       from-to 0 (length paths) number (slice_get_within paths number q e)
       ∙ (let z : 0 + number ≡ number = omega arith in ap Some z)
 
-  -- a flag that is read is one that some drop needs
-  asked-flagged : (k : ℕ) (q : Place) → slice_get paths k ≡ Some q → any_asks k decided ≡ true →
-      IsFlagged items body paths q
-  asked-flagged k q at h = let r = some-asks k decided h in by r.0 r.1 r.2 r.3
+  -- a flag that is read is that of a path that some drop needs
+  abbrev pub AsksFor : ℕ → Type 0
+  AsksFor k = (q : Place) × (slice_get paths k ≡ Some q) × IsFlagged items body paths q
+
+  pub asked-path : (k : ℕ) → any_asks k decided ≡ true → AsksFor k
+  asked-path k h = let r = some-asks k decided h in by r.0 r.1 r.2 r.3
     where
       at-drop : (n : ℕ) (block : Block) (plan : Plan) → slice_get body.blocks n ≡ Some block →
           slice_get decided n ≡ Some (Decided.Planned plan) → reads k (plan_in plan) ≡ true →
           is_drop block.term ≡ true →
-          IsFlagged items body paths q
+          AsksFor k
       at-drop n block plan there here h d =
           let e = drop-is block.term d in
           let p = are.each n block e.0 (Decided.Planned plan) (there, (e.1, e.2, e.3)) here in
@@ -110,31 +112,34 @@ module _ (items : ItemTable) (body : Body) (made : IsReadyBody items body) (fore
           p.facts p.are_facts numbered by_number all_have (named e.0) p.not_dead p.not_sure p.tree p.id p.is_tree
           p.typed k
           (ap (reads k) (sym p.plan_is) ∙ h) in (
-            n,
-            named e.0,
-            record {
-              block = block;
-              there = there;
-              dropped = e.0;
-              next = e.1;
-              unwind = e.2;
-              term_is = e.3;
-              place_is =
-                  refl;
-            },
-            subst (λ (z : Place). NeedsFlag items body paths n (named e.0) z)
-                (same_Some needed.0 q (sym needed.1 ∙ at)) needed.2,
+            needed.0,
+            needed.1,
+            (
+              n,
+              named e.0,
+              record {
+                block = block;
+                there = there;
+                dropped = e.0;
+                next = e.1;
+                unwind = e.2;
+                term_is = e.3;
+                place_is =
+                    refl;
+              },
+              needed.2,
+            ),
           )
 
       at-block : (n : ℕ) (block : Block) (plan : Plan) → slice_get body.blocks n ≡ Some block →
           slice_get decided n ≡ Some (Decided.Planned plan) → reads k (plan_in plan) ≡ true → (b : Bool) →
           is_drop block.term ≡ b →
-          IsFlagged items body paths q
+          AsksFor k
       at-block n block plan there here h true d = at-drop n block plan there here h d
       at-block n block plan there here h false d =
           absurd (false≢true (sym (ap (asks k) (are.others n block (Decided.Planned plan) there d here)) ∙ h))
 
-      by : (n : ℕ) (how : Decided) → slice_get decided n ≡ Some how → asks k how ≡ true → IsFlagged items body paths q
+      by : (n : ℕ) (how : Decided) → slice_get decided n ≡ Some how → asks k how ≡ true → AsksFor k
       by n Decided.Dead here h = absurd (false≢true h)
       by n Decided.Plain here h = absurd (false≢true h)
       by n (Decided.Planned plan) here h = elim ((slice_get_cases body.blocks n).1) [
@@ -143,6 +148,12 @@ module _ (items : ItemTable) (body : Body) (made : IsReadyBody items body) (fore
             let f = past.0 in
             absurd (let never : ⊥ = omega (w, l, f, arith) in never))
       ]
+
+  asked-flagged : (k : ℕ) (q : Place) → slice_get paths k ≡ Some q → any_asks k decided ≡ true →
+      IsFlagged items body paths q
+  asked-flagged k q at h =
+      let r = asked-path k h in
+      subst (λ (z : Place). IsFlagged items body paths z) (same_Some r.0 q (sym r.1 ∙ at)) r.2
 
   -- and the other way
   flagged-asked : (k : ℕ) (q : Place) → slice_get paths k ≡ Some q → IsFlagged items body paths q →

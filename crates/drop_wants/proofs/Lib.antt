@@ -1,5 +1,8 @@
+pub mod Agreeing
+mod Changing
 pub mod Chosen
 pub mod Flagging
 pub mod Marking
-pub mod Noting
 pub mod Numbering
+pub mod Renumbering
+mod Turned

@@ -1,12 +1,12 @@
 -- The numbers of places in a list, and a table of flags by the numbers of paths.
-use Rattle.std.proofs.Common.{◌≡◌, ◌⊎◌, inl, inr, ◌∙◌, ◌∷◌, [], ◌+◌, ◌<◌, ◌≤◌, ℕ, zero, suc, Bool, true, false, List, Option, Some, None, Contains, length, slice_get, refl, sym, ap, arith, if◌then◌else◌}
+use Rattle.std.proofs.Common.{◌≡◌, ◌⊎◌, inl, inr, ◌∙◌, ◌∷◌, [], ◌+◌, ◌<◌, ℕ, zero, suc, Bool, true, false, List, Option, Some, None, length, slice_get, refl, sym, ap, arith, if◌then◌else◌}
 use Rattle.std.specs.Prelude.{option_and_then, slice_index_or}
 use Rattle.std.specs.Option.{option_map_or}
 use Rattle.std.proofs.Math.Path.{fun_ext}
 use Rattle.std.proofs.lemmas.Bool.{false≢true}
 use Rattle.std.proofs.lemmas.Option.{none-some, same_Some}
 use Rattle.mir_ty.specs.ItemTable.{ItemTable}
-use Rattle.mir_ty.proofs.ListLemmas.{Contains-slice_get, slice_get-Contains}
+use Rattle.mir_ty.proofs.ListLemmas.{slice_get-Contains}
 use Rattle.store_model.specs.Places.Place.{Place}
 use Rattle.cfg_graph.specs.declared.graph.Body.{Body}
 use Rattle.cfg_graph.specs.NamedPlaces.{same_place}

@@ -1,6 +1,5 @@
 -- Which flags the plans of a body read, as bits of a row; and what such a row chooses.
 use Rattle.std.specs.Prelude.{◌≡◌, ℕ, ◌<◌, Bool, true, false, ◌||◌, List, [], ◌∷◌, length, slice_index_or}
-use Rattle.store_model.specs.Places.Place.{Place}
 use Rattle.init_flow.specs.Carried.{Bits}
 use Rattle.drop_blocks.specs.View.{plan_in}
 use Rattle.drop_ends.specs.declared.decided.Decided.{Decided}
@@ -32,3 +31,7 @@ chosen (false ∷ row) (x ∷ xs) = chosen row xs
 pub record Marks (more : ℕ → Bool) (old new : Bits) : Type 0 where
   pub long : length new ≡ length old
   pub bits : (k : ℕ) → k < length old → slice_index_or new k false ≡ (slice_index_or old k false || more k)
+
+-- no bit is on
+abbrev pub AllOff : Bits → Type 0
+AllOff row = (k : ℕ) → slice_index_or row k false ≡ false

@@ -3,6 +3,7 @@
 
 mod marks;
 mod needed;
-mod places;
+mod renumbered;
 
-pub use needed::flagged;
+pub use needed::{flagged, own_numbers};
+pub use renumbered::renumber;

@@ -1,5 +1,5 @@
 -- At the end of the work list the rows are those that paths carry.
-use Rattle.std.proofs.Common.{◌≡◌, ◌⊎◌, inl, inr, ℕ, zero, suc, ◌*◌, ◌<◌, Bool, true, false, ◌||◌, if◌then◌else◌, List, [], ◌∷◌, replicate, Option, Some, None, refl, sym, ap, subst, ◌∙◌, arith}
+use Rattle.std.proofs.Common.{◌≡◌, ◌⊎◌, inl, inr, ℕ, zero, suc, ◌<◌, Bool, true, false, ◌||◌, if◌then◌else◌, List, [], ◌∷◌, replicate, Option, Some, None, refl, sym, ap, subst, ◌∙◌, arith}
 use Rattle.std.specs.Prelude.{◌==◌, slice_index_or, Contains}
 use Rattle.std.proofs.lemmas.Bool.{false≢true, cases_lt, eqb-true, eq-eqb}
 use Rattle.std.proofs.lemmas.List.{get_or-replicate, length-replicate}
@@ -75,7 +75,7 @@ module _ (f : Problem) (law : Law f) where
                   let same : m ≡ to = eqb-true m to e in
                   there n k to row (last_of to path) end (is ∙ ap Some same) small (onward h)
 
-  module _ (s : SolverState) (done : Good f s [] (f.blocks * 2)) (started : Started f s)
+  module _ (s : SolverState) (done : Good f s [] 0 2) (started : Started f s)
       (exists : (n k m : ℕ) → f.target n k ≡ Some m → n < f.blocks) where
     none_on : (i : ℕ) → slice_index_or (replicate f.width false) i false ≡ false
     none_on i = elim (cases_lt i f.width) [ inl h ↦ get_or-replicate f.width i false false h | inr h ↦ get_or-eq_default (replicate f.width false) false (omega (h, length-replicate {A = Bool} f.width false, arith)) ]

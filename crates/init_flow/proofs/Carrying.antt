@@ -1,5 +1,5 @@
 -- What a path carries says what is gone.
-use Rattle.std.proofs.Common.{◌≡◌, ◌⊎◌, inl, inr, ℕ, zero, suc, ◌+◌, ◌*◌, ◌<◌, Bool, true, false, if◌then◌else◌, List, [], ◌∷◌, ◌++◌, length, Option, Some, None, slice_get, Contains, refl, sym, ap, ◌∙◌, arith}
+use Rattle.std.proofs.Common.{◌≡◌, ◌⊎◌, inl, inr, ℕ, zero, suc, ◌+◌, ◌*◌, ◌<◌, Bool, true, false, if◌then◌else◌, List, [], ◌∷◌, ◌++◌, map, length, Option, Some, None, slice_get, Contains, refl, sym, ap, ◌∙◌, arith}
 use Rattle.std.specs.Prelude.{slice_index_or, option_and_then}
 use Rattle.std.proofs.lemmas.Bool.{false≢true, eqb-true}
 use Rattle.std.proofs.lemmas.Option.{none-some}
@@ -12,10 +12,12 @@ use Rattle.init_flow.specs.Carried.{Bits, leads_to, rows_along}
 use Rattle.init_flow.specs.Ways.{target, way_target, exit_at, on_paths}
 use Rattle.init_flow.proofs.WayLemmas.{way_is}
 use Rattle.move_paths.specs.Forest.{PathForest, IsForest}
+use Rattle.init_flow.specs.declared.switches.Switch.{Switch}
 use Rattle.init_flow.specs.declared.switches.Switches.{Switches}
-use Rattle.init_flow.specs.Fits.{AreSwitches, way_uses}
+use Rattle.init_flow.specs.Fits.{AreSwitches, start_row, way_uses}
 use Rattle.init_flow.specs.Moved.{Says}
-use Rattle.init_flow.specs.Switches.{passed_by, all_switched, way_switches}
+use Rattle.init_flow.specs.Switches.{passed_by, all_switched, taken, way_switches}
+use Rattle.init_flow.proofs.Fitting.{fits-taken}
 use Rattle.init_flow.proofs.Following.{state, AreIn}
 use Rattle.init_flow.proofs.Along.{actions_in, actions_between, came, came-is, step}
 
@@ -49,16 +51,20 @@ way-of items body n way to is = by (slice_get body.blocks n) refl is
 
 module _ (items : ItemTable) (body : Body) (forest : PathForest) (is : IsForest items body forest)
     (inside : (n way : ℕ) (block : Block) → way < 2 → slice_get body.blocks n ≡ Some block → AreIn items body forest.paths (way_uses block way))
-    (gone : Bool) (s : Switches) (are : AreSwitches forest.paths gone s body) where
+    (gone : Bool) (s : Switches) (are : AreSwitches forest.paths s body) (first : Bits) (begins : first ≡ start_row forest.paths body gone) where
   abbrev pass : ℕ → ℕ → Bits → Bits
-  pass block way row = passed_by s block way row
+  pass block way row = passed_by s gone block way row
+
+  abbrev switches : ℕ → ℕ → List Switch
+  switches n way = map (taken gone) (way_switches (slice_get s.blocks n) way)
 
   one_way : (n way to : ℕ) (earlier : List PathAction) → way < 2 → target items body n way ≡ Some to
       → pass n way (state items body forest.paths gone earlier) ≡ state items body forest.paths gone (earlier ++ (actions_in body n ++ actions_between body n to))
   one_way n way to earlier small there =
       let at = way-of items body n way to there in
-      ap (λ (z : List Bits). all_switched z (way_switches (slice_get s.blocks n) way) (state items body forest.paths gone earlier)) are.below
-      ∙ step items body forest is gone n way to at.0 (way_switches (slice_get s.blocks n) way) earlier at.1 at.2 (are.ways.each n at.0 at.1 way small) (inside n way at.0 small at.1)
+      ap (λ (z : List Bits). all_switched z (switches n way) (state items body forest.paths gone earlier)) are.below
+      ∙ step items body forest is gone n way to at.0 (switches n way) earlier at.1 at.2
+      (fits-taken forest.paths gone (way_switches (slice_get s.blocks n) way) (way_uses at.0 way) (are.ways.each n at.0 at.1 way small)) (inside n way at.0 small at.1)
 
   along : (path : List ℕ) (n : ℕ) (row end : Bits) (earlier : List PathAction) → row ≡ state items body forest.paths gone earlier
       → Contains (rows_along (target items body) pass n row path) end → end ≡ state items body forest.paths gone (earlier ++ came body n path)
@@ -78,12 +84,12 @@ module _ (items : ItemTable) (body : Body) (forest : PathForest) (is : IsForest 
         | inr here ↦ on 1 (omega arith) here
       ]
 
-  pub says-all : Says items body forest.paths gone (target items body) pass s.first
+  pub says-all : Says items body forest.paths gone (target items body) pass first
   says-all = record {
-    width = ap length are.first ∙ length-map forest.paths _;
+    width = ap length begins ∙ length-map forest.paths _;
     rows = λ rest row has. (
       came body 0 rest,
       came-is body 0 rest,
-      along rest 0 s.first row [] are.first has,
+      along rest 0 first row [] begins has,
     );
   }

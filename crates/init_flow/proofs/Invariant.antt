@@ -1,5 +1,5 @@
 -- What holds of the work list, turn after turn, and that what paths carry is in the rows at its end.
-use Rattle.std.proofs.Common.{◌≡◌, ◌≢◌, ◌⊎◌, inl, inr, ℕ, zero, suc, ◌+◌, ◌*◌, ◌<◌, ◌≤◌, Bool, true, false, List, [], length, replicate, Some, refl, sym, ap, subst, ◌∙◌, arith}
+use Rattle.std.proofs.Common.{◌≡◌, ◌≢◌, ◌⊎◌, inl, inr, ℕ, ◌+◌, ◌<◌, ◌≤◌, Bool, true, false, List, [], length, replicate, Some, refl, sym, ap, subst, ◌∙◌, arith}
 use Rattle.std.specs.Prelude.{slice_index_or, slice_set, Contains, sum_by}
 use Rattle.std.proofs.lemmas.Bool.{false≢true, cases_eq, cases_lt}
 use Rattle.std.proofs.lemmas.List.{get_or-set_same, get_or-set_other, get_or-replicate, length-replicate, length-set}
@@ -7,7 +7,7 @@ use Rattle.std.proofs.Math.ListN.{get_or-eq_default}
 use Rattle.std.proofs.lemmas.List.Sums.{sum_by-set}
 use Rattle.bit_rows.specs.Words.{union}
 use Rattle.init_flow.specs.Carried.{Bits}
-use Rattle.init_flow.specs.WorkList.{Problem, SolverState, row_at, is_reached, waits, way_at, Onward, here, there, Made, one, both, Law, Good, Started, Grows, arrived, untouched, is_off, off, unsettled}
+use Rattle.init_flow.specs.WorkList.{Problem, SolverState, row_at, is_reached, waits, Onward, here, there, Made, one, both, Law, Good, Started, Grows, arrived, untouched, is_off, off, unsettled}
 use Rattle.init_flow.proofs.Rows.{union-length, union-again, union-stays, union-none, in_between, fewer, fewer-than}
 
 module _ (f : Problem) where
@@ -41,8 +41,8 @@ module _ (f : Problem) where
     more : (a b c : Bits) → length a ≡ f.width → length b ≡ f.width → length c ≡ f.width → union a b ≡ b → union b c ≡ c → union a c ≡ c
     more a b c la lb lc ab bc = in_between a b c (la ∙ sym lb) (lb ∙ sym lc) ab bc
 
-    -- At the end: no way waits, and what paths carry is in the rows.
-    module _ (s : SolverState) (done : Good f s [] (f.blocks * 2)) (started : Started f s) where
+    -- At the end: no block waits, and what paths carry is in the rows.
+    module _ (s : SolverState) (done : Good f s [] 0 2) (started : Started f s) where
       nothing_waits : (i : ℕ) → waits s i ≡ false
       nothing_waits i = by (waits s i) refl
         where
@@ -63,7 +63,7 @@ module _ (f : Problem) where
         carried_in _ _ _ _ (there n k m row last end to small rest) l w r is =
             let here = exists n k m to in
             let next = met m (f.pass n k row) last end rest l in
-            let step = done.flows n k m here next small to r (λ e. absurd (omega (here, small, e, arith))) (nothing_waits (way_at n k)) in
+            let step = done.flows n k m here next small to r (λ e. small) (nothing_waits n) in
             carried_in m (f.pass n k row) last end rest l (law.keeps n k row w) step.0
             (more (f.pass n k row) (f.pass n k (row_at s n)) (row_at s m) (law.keeps n k row w) (law.keeps n k (row_at s n) (done.widths n here)) (done.widths m next) (passes n k row (row_at s n) w (done.widths n here) is) step.1)
 
@@ -77,10 +77,10 @@ module _ (f : Problem) where
 -- One turn.
 
 module _ (f : Problem) (law : Law f) where
-  abbrev Is : SolverState → List ℕ → ℕ → Type 0
+  abbrev Is : SolverState → List ℕ → ℕ → ℕ → Type 0
   Is = Good f
 
-  module _ (s : SolverState) (heap : List ℕ) (but : ℕ) (good : Is s heap but) (m : ℕ) (here : m < f.blocks) (row : Bits) (long : length row ≡ f.width) (makes : Made f m row) where
+  module _ (s : SolverState) (heap : List ℕ) (block done : ℕ) (good : Is s heap block done) (m : ℕ) (here : m < f.blocks) (row : Bits) (long : length row ≡ f.width) (makes : Made f m row) where
     new : Bits
     new = union row (row_at s m)
 
@@ -101,22 +101,16 @@ module _ (f : Problem) (law : Law f) where
     reached_else n other = get_or-set_other s.reached m n true false other
 
     abbrev waiting : List Bool
-    waiting = slice_set (slice_set s.waiting (way_at m 0) true) (way_at m 1) true
+    waiting = slice_set s.waiting m true
 
-    waits_there : (k : ℕ) → k < 2 → slice_index_or waiting (way_at m k) false ≡ true
-    waits_there zero h =
-        get_or-set_other (slice_set s.waiting (way_at m 0) true) (way_at m 1) (way_at m 0) true false (λ e. absurd (omega (e, arith)))
-        ∙ get_or-set_same s.waiting (way_at m 0) true false (omega (here, good.waiting_are, arith))
-    waits_there (suc zero) h =
-        get_or-set_same (slice_set s.waiting (way_at m 0) true) (way_at m 1) true false (omega (here, good.waiting_are, length-set s.waiting (way_at m 0) true, arith))
-    waits_there (suc (suc k)) h = absurd (omega (h, arith))
+    waits_there : slice_index_or waiting m false ≡ true
+    waits_there = get_or-set_same s.waiting m true false (omega (here, good.waiting_are, arith))
 
-    waits_else : (i : ℕ) → i ≢ way_at m 0 → i ≢ way_at m 1 → slice_index_or waiting i false ≡ waits s i
-    waits_else i o1 o2 =
-        get_or-set_other (slice_set s.waiting (way_at m 0) true) (way_at m 1) i true false o2 ∙ get_or-set_other s.waiting (way_at m 0) i true false o1
+    waits_else : (n : ℕ) → n ≢ m → slice_index_or waiting n false ≡ waits s n
+    waits_else n other = get_or-set_other s.waiting m n true false other
 
     -- what was reached is
-    still : (n : ℕ) → is_reached s n ≡ true → slice_index_or (slice_set s.reached m true) n false ≡ true
+    pub still : (n : ℕ) → is_reached s n ≡ true → slice_index_or (slice_set s.reached m true) n false ≡ true
     still n r = elim (cases_eq n m) [ inl e ↦ subst (λ (z : ℕ). slice_index_or (slice_set s.reached m true) z false ≡ true) (sym e) reached_there | inr o ↦ reached_else n o ∙ r ]
 
     -- and what was in a row is
@@ -145,21 +139,20 @@ module _ (f : Problem) (law : Law f) where
             let alone : union row (row_at s m) ≡ row = ap (union row) (good.none m here r ∙ ap (λ z. replicate z false) (sym long)) ∙ union-none row in
             subst (Made f m) (sym alone) makes
 
-    module _ (next : List ℕ) (grows : Grows heap next (way_at m 0) (way_at m 1))
-        -- the way that was left out led here with this row
-        (hole : (n k c : ℕ) → n < f.blocks → k < 2 → f.target n k ≡ Some c → way_at n k ≡ but → (c ≡ m) × (row ≡ f.pass n k (row_at s n))) where
-      pub good-arrived : Is (arrived s m row) next (f.blocks * 2)
+    module _ (next : List ℕ) (grows : Grows heap next m)
+        -- the next way of the block led here with this row
+        (hole : (n k c : ℕ) → n < f.blocks → k < 2 → f.target n k ≡ Some c → n ≡ block → k ≡ done → (c ≡ m) × (row ≡ f.pass n k (row_at s n))) where
+      pub good-arrived : Is (arrived s m row) next block (done + 1)
       unfolding new
       good-arrived =
           record {
             rows_are = length-set s.rows m new ∙ good.rows_are;
             reached_are = length-set s.reached m true ∙ good.reached_are;
-            waiting_are = length-set (slice_set s.waiting (way_at m 0) true) (way_at m 1) true ∙ length-set s.waiting (way_at m 0) true ∙ good.waiting_are;
+            waiting_are = length-set s.waiting m true ∙ good.waiting_are;
             widths = widths_now;
             made = made_now;
             none = none_now;
             flows = flows_now;
-            within = within_now;
             held = held_now;
             known = known_now;
           }
@@ -181,44 +174,44 @@ module _ (f : Problem) (law : Law f) where
                 | inr o ↦ row_else n o ∙ good.none n h (sym (reached_else n o) ∙ r)
               ]
 
-          flows_now : (n k c : ℕ) → n < f.blocks → c < f.blocks → k < 2 → f.target n k ≡ Some c → slice_index_or (slice_set s.reached m true) n false ≡ true → way_at n k ≢ f.blocks * 2 → slice_index_or waiting (way_at n k) false ≡ false
+          flows_now : (n k c : ℕ) → n < f.blocks → c < f.blocks → k < 2 → f.target n k ≡ Some c → slice_index_or (slice_set s.reached m true) n false ≡ true → (n ≡ block → k < done + 1) → slice_index_or waiting n false ≡ false
               → (slice_index_or (slice_set s.reached m true) c false ≡ true) × (union (f.pass n k (slice_index_or (slice_set s.rows m new) n [])) (slice_index_or (slice_set s.rows m new) c []) ≡ slice_index_or (slice_set s.rows m new) c [])
           flows_now n k c h l small leads r other w =
               elim (cases_eq n m) [
-                | inl e ↦ absurd (false≢true (sym w ∙ subst (λ (z : ℕ). slice_index_or waiting (way_at z k) false ≡ true) (sym e) (waits_there k small)))
+                | inl e ↦ absurd (false≢true (sym w ∙ subst (λ (z : ℕ). slice_index_or waiting z false ≡ true) (sym e) waits_there))
                 | inr o ↦ rw (row_else n o) (elsewhere o)
               ]
             where
               elsewhere : n ≢ m → (slice_index_or (slice_set s.reached m true) c false ≡ true) × (union (f.pass n k (row_at s n)) (slice_index_or (slice_set s.rows m new) c []) ≡ slice_index_or (slice_set s.rows m new) c [])
-              elsewhere o = elim (cases_eq (way_at n k) but) [ inl e ↦ left_out e | inr d ↦ as_before d ]
+              elsewhere o = elim (cases_eq n block) [
+                | inl e ↦ elim (cases_eq k done) [ inl d ↦ left_out e d | inr d ↦ as_before (λ z. let small = other z in omega (small, d, arith)) ]
+                | inr d ↦ as_before (λ z. absurd (d z))
+              ]
                 where
-                  left_out : way_at n k ≡ but → (slice_index_or (slice_set s.reached m true) c false ≡ true) × (union (f.pass n k (row_at s n)) (slice_index_or (slice_set s.rows m new) c []) ≡ slice_index_or (slice_set s.rows m new) c [])
-                  left_out e =
-                      let at = hole n k c h small leads e in
+                  left_out : n ≡ block → k ≡ done → (slice_index_or (slice_set s.reached m true) c false ≡ true) × (union (f.pass n k (row_at s n)) (slice_index_or (slice_set s.rows m new) c []) ≡ slice_index_or (slice_set s.rows m new) c [])
+                  left_out e d =
+                      let at = hole n k c h small leads e d in
                       subst (λ (z : ℕ). (slice_index_or (slice_set s.reached m true) z false ≡ true) × (union (f.pass n k (row_at s n)) (slice_index_or (slice_set s.rows m new) z []) ≡ slice_index_or (slice_set s.rows m new) z [])) (sym at.0)
                       (reached_there, rw (row_there, sym at.1) (union-again row (row_at s m) (long ∙ sym (good.widths m here))))
 
-                  as_before : way_at n k ≢ but → (slice_index_or (slice_set s.reached m true) c false ≡ true) × (union (f.pass n k (row_at s n)) (slice_index_or (slice_set s.rows m new) c []) ≡ slice_index_or (slice_set s.rows m new) c [])
+                  as_before : (n ≡ block → k < done) → (slice_index_or (slice_set s.reached m true) c false ≡ true) × (union (f.pass n k (row_at s n)) (slice_index_or (slice_set s.rows m new) c []) ≡ slice_index_or (slice_set s.rows m new) c [])
                   as_before d =
-                      let was = sym (waits_else (way_at n k) (λ e. o (omega (e, small, arith))) (λ e. o (omega (e, small, arith)))) ∙ w in
+                      let was = sym (waits_else n o) ∙ w in
                       let flow = good.flows n k c h l small leads (sym (reached_else n o) ∙ r) d was in
                       (still c flow.0, grown c (f.pass n k (row_at s n)) l (law.keeps n k (row_at s n) (good.widths n h)) flow.1)
 
-          within_now : (i : ℕ) → Contains next i → i < f.blocks * 2
-          within_now i c = elim (grows.only i c) [ inl old ↦ good.within i old | inr new ↦ elim new [ inl e ↦ omega (e, here, arith) | inr e ↦ omega (e, here, arith) ] ]
-
-          held_now : (i : ℕ) → slice_index_or waiting i false ≡ true → Contains next i
-          held_now i w =
-              elim (cases_eq i (way_at m 0)) [
-                | inl e ↦ subst (Contains next) (sym e) grows.first
-                | inr o1 ↦ elim (cases_eq i (way_at m 1)) [ inl e ↦ subst (Contains next) (sym e) grows.second | inr o2 ↦ grows.kept i (good.held i (sym (waits_else i o1 o2) ∙ w)) ]
+          held_now : (n : ℕ) → slice_index_or waiting n false ≡ true → Contains next n
+          held_now n w =
+              elim (cases_eq n m) [
+                | inl e ↦ subst (Contains next) (sym e) grows.there
+                | inr o ↦ grows.kept n (good.held n (sym (waits_else n o) ∙ w))
               ]
 
-          known_now : (n k : ℕ) → k < 2 → Contains next (way_at n k) → (n < f.blocks) × (slice_index_or (slice_set s.reached m true) n false ≡ true)
-          known_now n k small c =
-              elim (grows.only (way_at n k) c) [
-                | inl old ↦ (let was = good.known n k small old in (was.0, still n was.1))
-                | inr new ↦ at_m (elim new [ inl e ↦ omega (e, small, arith) | inr e ↦ omega (e, small, arith) ])
+          known_now : (n : ℕ) → Contains next n → (n < f.blocks) × (slice_index_or (slice_set s.reached m true) n false ≡ true)
+          known_now n c =
+              elim (grows.only n c) [
+                | inl old ↦ (let was = good.known n old in (was.0, still n was.1))
+                | inr e ↦ at_m e
               ]
             where
               at_m : n ≡ m → (n < f.blocks) × (slice_index_or (slice_set s.reached m true) n false ≡ true)
@@ -245,10 +238,10 @@ module _ (f : Problem) (law : Law f) where
           one_block_less : is_reached s m ≡ false → sum_by is_off (slice_set s.reached m true) < sum_by is_off s.reached
           one_block_less e = let is : is_off (is_reached s m) ≡ 1 = ap is_off e in omega (flags, is, arith)
 
-  -- A way that waited is taken up: it is the one that is left out.
-  pub good-taken : (s : SolverState) (heap next : List ℕ) (i : ℕ) → Is s heap (f.blocks * 2) → i < f.blocks * 2
+  -- A block that waited is taken up: none of its ways is done.
+  pub good-taken : (s : SolverState) (heap next : List ℕ) (i : ℕ) → Is s heap 0 2 → i < f.blocks
       → ((c : ℕ) → Contains heap c → (c ≡ i) ⊎ Contains next c) → ((c : ℕ) → Contains next c → Contains heap c)
-      → Is (record s { waiting = slice_set s.waiting i false }) next i
+      → Is (record s { waiting = slice_set s.waiting i false }) next i 0
   good-taken s heap next i good within kept only =
       record {
         rows_are = good.rows_are;
@@ -257,20 +250,19 @@ module _ (f : Problem) (law : Law f) where
         widths = good.widths;
         made = good.made;
         none = good.none;
-        flows = λ n k m h l small leads r other w. good.flows n k m h l small leads r (λ e. absurd (omega (e, h, small, arith))) (sym (get_or-set_other s.waiting i (way_at n k) false false other) ∙ w);
-        within = λ c h. good.within c (only c h);
+        flows = λ n k m h l small leads r but w. good.flows n k m h l small leads r (λ e. small) (sym (get_or-set_other s.waiting i n false false (λ e. let none = but e in absurd (omega (none, arith)))) ∙ w);
         held = λ c w. elim (cases_eq c i) [
           | inl e ↦ absurd (false≢true (sym (get_or-set_same s.waiting i false false (omega (within, good.waiting_are, arith))) ∙ subst (λ (z : ℕ). slice_index_or (slice_set s.waiting i false) z false ≡ true) e w))
           | inr o ↦ elim (kept c (good.held c (sym (get_or-set_other s.waiting i c false false o) ∙ w))) [ inl e ↦ absurd (o e) | inr c ↦ c ]
         ];
-        known = λ n k small c. good.known n k small (only (way_at n k) c);
+        known = λ n c. good.known n (only n c);
       }
 
-  -- The way that was left out leads nowhere, or has done what it does.
-  pub good-done : (s : SolverState) (heap : List ℕ) (but : ℕ) → Is s heap but
-      → ((n k c : ℕ) → n < f.blocks → c < f.blocks → k < 2 → f.target n k ≡ Some c → is_reached s n ≡ true → way_at n k ≡ but → (is_reached s c ≡ true) × (union (f.pass n k (row_at s n)) (row_at s c) ≡ row_at s c))
-      → Is s heap (f.blocks * 2)
-  good-done s heap but good did =
+  -- The next way of the block leads nowhere, or has done what it does.
+  pub good-done : (s : SolverState) (heap : List ℕ) (block done : ℕ) → Is s heap block done
+      → ((n k c : ℕ) → n < f.blocks → c < f.blocks → k < 2 → f.target n k ≡ Some c → is_reached s n ≡ true → n ≡ block → k ≡ done → (is_reached s c ≡ true) × (union (f.pass n k (row_at s n)) (row_at s c) ≡ row_at s c))
+      → Is s heap block (done + 1)
+  good-done s heap block done good did =
       record {
         rows_are = good.rows_are;
         reached_are = good.reached_are;
@@ -278,27 +270,49 @@ module _ (f : Problem) (law : Law f) where
         widths = good.widths;
         made = good.made;
         none = good.none;
-        flows = λ n k m h l small leads r other w. elim (cases_eq (way_at n k) but) [ inl e ↦ did n k m h l small leads r e | inr o ↦ good.flows n k m h l small leads r o w ];
-        within = good.within;
+        flows = λ n k m h l small leads r but w. elim (cases_eq n block) [
+          | inl e ↦ elim (cases_eq k done) [
+            | inl d ↦ did n k m h l small leads r e d
+            | inr d ↦ good.flows n k m h l small leads r (λ z. let below = but z in omega (below, d, arith)) w
+          ]
+          | inr o ↦ good.flows n k m h l small leads r (λ z. absurd (o z)) w
+        ];
+        held = good.held;
+        known = good.known;
+      }
+
+  -- Both ways of the block are done: no block is left out.
+  pub good-both : (s : SolverState) (heap : List ℕ) (block done : ℕ) → Is s heap block done → 2 ≤ done → Is s heap 0 2
+  good-both s heap block done good all =
+      record {
+        rows_are = good.rows_are;
+        reached_are = good.reached_are;
+        waiting_are = good.waiting_are;
+        widths = good.widths;
+        made = good.made;
+        none = good.none;
+        flows = λ n k m h l small leads r but w. good.flows n k m h l small leads r (λ e. omega (small, all, arith)) w;
         held = good.held;
         known = good.known;
       }
 
   -- Before anything arrived.
-  pub good-untouched : Is (untouched f.width f.blocks) [] (f.blocks * 2)
+  pub good-untouched : Is (untouched f.width f.blocks) [] 0 2
   good-untouched =
       record {
         rows_are = length-replicate f.blocks (replicate f.width false);
         reached_are = length-replicate f.blocks false;
-        waiting_are = length-replicate (f.blocks * 2) false;
+        waiting_are = length-replicate f.blocks false;
         widths = λ n h. ap length (get_or-replicate f.blocks n (replicate f.width false) [] h) ∙ length-replicate f.width false;
         made = λ n h r. absurd (false≢true (sym (get_or-replicate f.blocks n false false h) ∙ r));
         none = λ n h r. get_or-replicate f.blocks n (replicate f.width false) [] h;
-        flows = λ n k m h l small leads r other w. absurd (false≢true (sym (get_or-replicate f.blocks n false false h) ∙ r));
-        within = λ i c. absurd (omega (c.1, arith));
+        flows = λ n k m h l small leads r but w. absurd (false≢true (sym (get_or-replicate f.blocks n false false h) ∙ r));
         held = λ i w. absurd (false≢true (sym (never i) ∙ w));
-        known = λ n k small c. absurd (omega (c.1, arith));
+        known = λ n c. absurd (omega (c.1, arith));
       }
     where
-      never : (i : ℕ) → slice_index_or (replicate (f.blocks * 2) false) i false ≡ false
-      never i = elim (cases_lt i (f.blocks * 2)) [ inl h ↦ get_or-replicate (f.blocks * 2) i false false h | inr h ↦ get_or-eq_default (replicate (f.blocks * 2) false) false (omega (h, length-replicate {A = Bool} (f.blocks * 2) false, arith)) ]
+      never : (i : ℕ) → slice_index_or (replicate f.blocks false) i false ≡ false
+      never i = elim (cases_lt i f.blocks) [
+        | inl h ↦ get_or-replicate f.blocks i false false h
+        | inr h ↦ get_or-eq_default (replicate f.blocks false) false (omega (h, length-replicate {A = Bool} f.blocks false, arith))
+      ]

@@ -42,24 +42,24 @@ start-all paths body gone row count long all bits =
     let inside : n < length paths = omega (small, long, arith) in
     get_or_default row n d false small ∙ bits n (omega (inside, all, arith)) ∙ sym (get_or-map (start_bit body gone) paths n (whole_local 0) d inside))
 
-module _ (paths : List Named) (gone : Bool) where
-  pub ways-none : AreWays paths gone [] []
+module _ (paths : List Named) where
+  pub ways-none : AreWays paths [] []
   ways-none = record { long = refl; each = λ n block is way small. absurd (none-some block is) }
 
-  pub ways-more : (made : List BlockSwitches) (blocks : List Block) (one : BlockSwitches) (block : Block) → AreWays paths gone made blocks → FitsBlock paths gone (Some one) block
-      → AreWays paths gone (made ++ one ∷ []) (blocks ++ block ∷ [])
+  pub ways-more : (made : List BlockSwitches) (blocks : List Block) (one : BlockSwitches) (block : Block) → AreWays paths made blocks → FitsBlock paths (Some one) block
+      → AreWays paths (made ++ one ∷ []) (blocks ++ block ∷ [])
   ways-more made blocks one block ways fits =
       record {
         long = (let a = length-append made (one ∷ []) in let b = length-append blocks (block ∷ []) in let c = ways.long in omega (a, b, c, arith));
         each = λ n other is. by n other (slice_get-push_cases blocks block n other is);
       }
     where
-      by : (n : ℕ) (other : Block) → (slice_get blocks n ≡ Some other) ⊎ ((n ≡ length blocks) × (block ≡ other)) → FitsBlock paths gone (slice_get (made ++ one ∷ []) n) other
+      by : (n : ℕ) (other : Block) → (slice_get blocks n ≡ Some other) ⊎ ((n ≡ length blocks) × (block ≡ other)) → FitsBlock paths (slice_get (made ++ one ∷ []) n) other
       by n other (inl before) =
           let within = slice_get_within blocks n other before in
-          subst (λ (z : Option BlockSwitches). FitsBlock paths gone z other)
+          subst (λ (z : Option BlockSwitches). FitsBlock paths z other)
           (sym (slice_get-below made (one ∷ []) n (let c = ways.long in omega (within, c, arith)))) (ways.each n other before)
       by n other (inr end) =
-          subst (FitsBlock paths gone (slice_get (made ++ one ∷ []) n)) end.1
-          (subst (λ (z : Option BlockSwitches). FitsBlock paths gone z block)
+          subst (FitsBlock paths (slice_get (made ++ one ∷ []) n)) end.1
+          (subst (λ (z : Option BlockSwitches). FitsBlock paths z block)
           (sym (ap (slice_get (made ++ one ∷ [])) (end.0 ∙ sym ways.long) ∙ slice_get-last made one)) fits)

@@ -80,16 +80,17 @@ FirstBit paths body row path gone bit =
     ((n : ℕ) → n < path → slice_index_or row n false ≡ start_bit body gone (place_at paths n))
     → bit ≡ start_bit body gone (place_at paths path)
 
--- what a block switches on each way out of it
-abbrev pub FitsBlock : (paths : List Named) (gone : Bool) → Option BlockSwitches → Block → Type 0
-FitsBlock paths gone made block = (way : ℕ) → way < 2 → Fits paths gone (way_switches made way) (way_uses block way)
+-- what a block switches on each way out of it, where bits say what is gone
+abbrev pub FitsBlock : (paths : List Named) → Option BlockSwitches → Block → Type 0
+FitsBlock paths made block = (way : ℕ) → way < 2 → Fits paths true (way_switches made way) (way_uses block way)
 
 -- what all blocks switch
-pub record AreWays (paths : List Named) (gone : Bool) (made : List BlockSwitches) (blocks : List Block) : Type 0 where
+pub record AreWays (paths : List Named) (made : List BlockSwitches) (blocks : List Block) : Type 0 where
   pub long : length made ≡ length blocks
-  pub each : (n : ℕ) (block : Block) → slice_get blocks n ≡ Some block → FitsBlock paths gone (slice_get made n) block
+  pub each : (n : ℕ) (block : Block) → slice_get blocks n ≡ Some block → FitsBlock paths (slice_get made n) block
 
-pub record AreSwitches (paths : List Named) (gone : Bool) (s : Switches) (body : Body) : Type 0 where
-  pub first : s.first ≡ start_row paths body gone
+-- what is gone as a body starts, and what its blocks switch
+pub record AreSwitches (paths : List Named) (s : Switches) (body : Body) : Type 0 where
+  pub first : s.first ≡ start_row paths body true
   pub below : s.below ≡ masks_of paths
-  pub ways : AreWays paths gone s.blocks body.blocks
+  pub ways : AreWays paths s.blocks body.blocks

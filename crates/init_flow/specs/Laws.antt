@@ -1,12 +1,12 @@
 -- Switches keep the length of a row, and what they make of a union is the union of what they make of the two.
-use Rattle.std.specs.Prelude.{◌≡◌, ℕ, suc, nat_eq, Bool, true, false, not, ◌||◌, ◌&&◌, List, [], ◌∷◌, length, Option, Some, None, slice_get, if◌then◌else◌}
+use Rattle.std.specs.Prelude.{◌≡◌, ℕ, suc, nat_eq, Bool, true, false, not, ◌||◌, ◌&&◌, List, [], ◌∷◌, length, map, Option, Some, None, slice_get, if◌then◌else◌}
 use Rattle.std.proofs.Common.{refl, ap, sym, ◌∙◌, arith}
 use Rattle.std.proofs.lemmas.Bool.{eqb-true}
 use Rattle.bit_rows.specs.Words.{union, difference}
 use Rattle.init_flow.specs.Carried.{Bits}
 use Rattle.init_flow.specs.declared.switches.Switch.{Switch}
 use Rattle.init_flow.specs.declared.switches.Switches.{Switches}
-use Rattle.init_flow.specs.Switches.{switched, by_mask, switch_by, all_switched, passed_by, way_switches}
+use Rattle.init_flow.specs.Switches.{switched, by_mask, switch_by, all_switched, taken, passed_by, way_switches}
 
 length-union : (a b : Bits) → length a ≡ length b → length (union a b) ≡ length b
 length-union [] [] e = refl
@@ -101,12 +101,13 @@ all-union below (switch ∷ switches) a b same =
     ∙ sym (length-mask (slice_get below switch.path) switch.on b))
 
 -- the laws of an analysis
-pub keeps : (s : Switches) (block way : ℕ) (row : Bits) → length row ≡ length s.first
-    → length (passed_by s block way row) ≡ length s.first
-keeps s block way row long = length-all s.below (way_switches (slice_get s.blocks block) way) row ∙ long
+pub keeps : (s : Switches) (gone : Bool) (width block way : ℕ) (row : Bits) → length row ≡ width
+    → length (passed_by s gone block way row) ≡ width
+keeps s gone width block way row long =
+    length-all s.below (map (taken gone) (way_switches (slice_get s.blocks block) way)) row ∙ long
 
 pub distributes :
-    (s : Switches) (block way : ℕ) (a b : Bits) → length a ≡ length s.first → length b ≡ length s.first
-    → passed_by s block way (union a b) ≡ union (passed_by s block way a) (passed_by s block way b)
-distributes s block way a b long other =
-    all-union s.below (way_switches (slice_get s.blocks block) way) a b (long ∙ sym other)
+    (s : Switches) (gone : Bool) (width block way : ℕ) (a b : Bits) → length a ≡ width → length b ≡ width
+    → passed_by s gone block way (union a b) ≡ union (passed_by s gone block way a) (passed_by s gone block way b)
+distributes s gone width block way a b long other =
+    all-union s.below (map (taken gone) (way_switches (slice_get s.blocks block) way)) a b (long ∙ sym other)

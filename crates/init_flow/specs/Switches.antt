@@ -1,7 +1,8 @@
 -- What switches make of rows.
-use Rattle.std.specs.Prelude.{ℕ, ◌==◌, nat_eq, Bool, List, [], ◌∷◌, ◌++◌, length, Option, Some, None, slice_get, if◌then◌else◌}
+use Rattle.std.specs.Prelude.{ℕ, ◌==◌, nat_eq, Bool, List, [], ◌∷◌, ◌++◌, map, length, Option, Some, None, slice_get, if◌then◌else◌}
 use Rattle.bit_rows.specs.Words.{union, difference}
 use Rattle.init_flow.specs.Carried.{Bits}
+use Rattle.init_flow.specs.Moved.{says}
 use Rattle.init_flow.specs.declared.switches.Switch.{Switch}
 use Rattle.init_flow.specs.declared.switches.BlockSwitches.{BlockSwitches}
 use Rattle.init_flow.specs.declared.switches.Switches.{Switches}
@@ -37,6 +38,11 @@ abbrev pub way_switches : Option BlockSwitches → (way : ℕ) → List Switch
 way_switches None way = []
 way_switches (Some block) way = block.uses ++ at_most_one (result_switch block way)
 
--- the row past a way out of a block
-abbrev pub passed_by : Switches → (block way : ℕ) → Bits → Bits
-passed_by s block way row = all_switched s.below (way_switches (slice_get s.blocks block) way) row
+-- a switch of what is gone, as bits take it that say what is gone, or what is present
+abbrev pub taken : (gone : Bool) → Switch → Switch
+taken gone switch = record { path = switch.path; on = says gone switch.on }
+
+-- the row past a way out of a block, by switches of what is gone
+abbrev pub passed_by : Switches → (gone : Bool) → (block way : ℕ) → Bits → Bits
+passed_by s gone block way row =
+    all_switched s.below (map (taken gone) (way_switches (slice_get s.blocks block) way)) row

@@ -1,7 +1,8 @@
-//! The rows of blocks, and the work list: the ways out of blocks whose row changed, the block of the greatest rank
-//! first, so that a block is met when the blocks before it are done.
-ghost use Rattle.std.specs.Prelude.{◌≡◌, ◌<◌, ◌≤◌, ◌+◌, ◌*◌, ◌↔◌, IsFalse, ℕ, Contains, IfOk, OnOk, IfSome, IfNone, [], length, replicate, slice_set, slice_index_or, false, true};
-ghost use Rattle.init_flow.specs.WorkList.{SolverState, state_of, ways_in, way_at, bit, untouched, row_at, Waits, Taken, Arrives};
+//! The rows of blocks, and the work list: the blocks whose row changed, the one of the greatest number first. Lowering
+//! numbers the blocks of a body from its end, and a turn block before the blocks of its loop, so a block is met when the
+//! blocks before it are done, and a loop is gone over once more when all ways back to its turn block are.
+ghost use Rattle.std.specs.Prelude.{◌≡◌, ◌<◌, ◌↔◌, IsFalse, ℕ, Contains, IfOk, OnOk, IfSome, IfNone, [], length, replicate, slice_set, slice_index_or, false, true};
+ghost use Rattle.init_flow.specs.WorkList.{state_of, blocks_in, untouched, row_at, Waits, Taken, Arrives};
 ghost use Rattle.bit_rows.specs.Words.{union};
 
 use bit_rows::BitRow;
@@ -9,14 +10,13 @@ use mir_base::{List, NoMemory};
 use std::alloc::Global;
 use std::collections::BinaryHeap;
 
-/// The row of each block, whether it was reached, which ways wait, and these as a heap: the rank of the block, the
-/// block, and which of its two ways.
+/// The row of each block, whether it was reached, whether it waits, and those that do as a heap.
 #[derive(Drop)]
 pub struct Flow {
     pub rows: List<BitRow>,
     pub reached: List<bool>,
     pub waiting: List<bool>,
-    pub heap: BinaryHeap<(u32, u32, bool)>,
+    pub heap: BinaryHeap<u32>,
 }
 
 fn empty_rows(alloc: Global, bits: u32, count: usize) -> Result<List<BitRow>, NoMemory>
@@ -39,55 +39,53 @@ impl Flow {
     /// Rows of so many bits for so many blocks, of which none was reached.
     pub fn new(alloc: Global, bits: u32, count: usize) -> Result<Flow, NoMemory>
         ensures state { IfOk result (λ flow. state_of flow ≡ untouched bits count) }
-        ensures heap { IfOk result (λ flow. ways_in flow ≡ []) }
+        ensures heap { IfOk result (λ flow. blocks_in flow ≡ []) }
     {
-        let ways = count.checked_mul(2).ok_or(NoMemory::past_32_bits())?;
         Ok(Flow {
             rows: empty_rows(alloc, bits, count)?,
             reached: no_flags(alloc, count)?,
-            waiting: no_flags(alloc, ways)?,
+            waiting: no_flags(alloc, count)?,
             heap: BinaryHeap::new(alloc),
         })
     }
 
-    fn waits(&self, at: usize) -> bool
-        requires { at < length self.now.waiting }
-        ensures { result ≡ slice_index_or self.now.waiting at false }
+    fn waits(&self, block: usize) -> bool
+        requires { block < length self.now.waiting }
+        ensures { result ≡ slice_index_or self.now.waiting block false }
     {
-        self.waiting.as_slice()[at]
+        self.waiting.as_slice()[block]
     }
 
-    /// Lets a way wait, unless it does.
-    fn wait(&mut self, rank: u32, block: u32, way: bool) -> Result<(), NoMemory>
-        requires { way_at block (bit way) < length self.old.waiting }
-        ensures { OnOk result (Waits self.old self.new (way_at block (bit way))) }
+    /// Lets a block wait, unless it does.
+    fn wait(&mut self, block: u32) -> Result<(), NoMemory>
+        requires { block < length self.old.waiting }
+        ensures { OnOk result (Waits self.old self.new block) }
     {
-        let at = block as usize * 2 + way as usize;
-        if !self.waits(at) {
-            self.heap.push((rank, block, way))?;
-            self.waiting.set(at, true);
+        if !self.waits(block as usize) {
+            self.heap.push(block)?;
+            self.waiting.set(block as usize, true);
         }
         Ok(())
     }
 
-    /// Takes up a way that waits.
-    pub fn take(&mut self) -> Option<(u32, bool)>
-        requires { (i : ℕ) → Contains (ways_in self.old) i → i < length self.old.waiting }
-        ensures some { IfSome result (λ way. Taken self.old self.new (way_at way.0 (bit way.1))) }
-        ensures none { IfNone result (ways_in self.old ≡ []) }
+    /// Takes up a block that waits.
+    pub fn take(&mut self) -> Option<u32>
+        requires { (n : ℕ) → Contains (blocks_in self.old) n → n < length self.old.waiting }
+        ensures some { IfSome result (Taken self.old self.new) }
+        ensures none { IfNone result (blocks_in self.old ≡ []) }
         ensures same { IfNone result (state_of self.new ≡ state_of self.old) }
     {
-        let (_, block, way) = self.heap.pop()?;
-        self.waiting.set(block as usize * 2 + way as usize, false);
-        Some((block, way))
+        let block = self.heap.pop()?;
+        self.waiting.set(block as usize, false);
+        Some(block)
     }
 
-    /// Unites the row of a block with one that comes there. Both ways of the block wait where that changed the row, or
-    /// the block was not reached before.
-    pub fn arrive(&mut self, rank: u32, block: u32, row: &BitRow) -> Result<(), NoMemory>
+    /// Unites the row of a block with one that comes there. The block waits where that changed the row, or the block was
+    /// not reached before.
+    pub fn arrive(&mut self, block: u32, row: &BitRow) -> Result<(), NoMemory>
         requires rows { block < length self.old.rows }
         requires reached { block < length self.old.reached }
-        requires waiting { block * 2 + 1 < length self.old.waiting }
+        requires waiting { block < length self.old.waiting }
         requires row { length row.now ≡ length (row_at (state_of self.old) block) }
         ensures { OnOk result (Arrives self.old self.new block row.now) }
     {
@@ -96,8 +94,7 @@ impl Flow {
             return Ok(());
         }
         self.reached.set(block as usize, true);
-        self.wait(rank, block, false)?;
-        self.wait(rank, block, true)
+        self.wait(block)
     }
 
     /// The row of a block.

@@ -5,7 +5,7 @@ ghost use Rattle.cfg_graph.specs.declared.graph.Body.{Body as GraphBody};
 ghost use Rattle.init_flow.specs.Ways.{target};
 ghost use Rattle.move_paths.specs.Forest.{IsForest};
 ghost use Rattle.init_flow.specs.Laws.{keeps as lengths, distributes as over_union};
-ghost use Rattle.init_flow.specs.Moved.{Says, masks_of};
+ghost use Rattle.init_flow.specs.Moved.{Says};
 ghost use Rattle.init_flow.specs.Fits.{param_of, FirstBit, start_row, AreWays, AreSwitches};
 ghost use Rattle.init_flow.specs.Switches.{passed_by};
 
@@ -30,7 +30,7 @@ impl Analysis for MaybeGone {
 
     ghost first = { λ a. a.switches.first };
 
-    ghost passed = { λ a body block way row. passed_by a.switches block way row };
+    ghost passed = { λ a body block way row. passed_by a.switches true block way row };
 
     ghost IsFor = { λ a body. length a.switches.blocks ≡ length body.blocks };
 
@@ -39,52 +39,53 @@ impl Analysis for MaybeGone {
     }
 
     fn start(&self, row: &mut BitRow) {
-        self.switches.start(row);
+        self.switches.first.copy_into(row);
     }
 
     fn pass(&self, body: &Body, block: u32, edge: u32, row: &mut BitRow) {
-        self.switches.pass(block, edge, row);
+        self.switches.pass(true, block, edge, row);
     }
 
     ghost first_width = { λ a. refl };
 
-    ghost keeps = { λ a body block way row long. lengths a.switches block way row long };
+    ghost keeps = { λ a body block way row long. lengths a.switches true (length a.switches.first) block way row long };
 
-    ghost distributes = { λ a body block way one other long same. over_union a.switches block way one other long same };
+    ghost distributes = { λ a body block way one other long same. over_union a.switches true (length a.switches.first) block way one other long same };
 }
 
 /// Which paths are present on some path of a body: the bit of a path says this of its own part.
 #[derive(Drop)]
 pub struct MaybeInit {
+    first: BitRow,
     switches: Switches,
 }
 
 impl Analysis for MaybeInit {
-    ghost width = { λ a. length a.switches.first };
+    ghost width = { λ a. length a.first };
 
-    ghost first = { λ a. a.switches.first };
+    ghost first = { λ a. a.first };
 
-    ghost passed = { λ a body block way row. passed_by a.switches block way row };
+    ghost passed = { λ a body block way row. passed_by a.switches false block way row };
 
     ghost IsFor = { λ a body. length a.switches.blocks ≡ length body.blocks };
 
     fn bits(&self) -> u32 {
-        self.switches.first.len()
+        self.first.len()
     }
 
     fn start(&self, row: &mut BitRow) {
-        self.switches.start(row);
+        self.first.copy_into(row);
     }
 
     fn pass(&self, body: &Body, block: u32, edge: u32, row: &mut BitRow) {
-        self.switches.pass(block, edge, row);
+        self.switches.pass(false, block, edge, row);
     }
 
     ghost first_width = { λ a. refl };
 
-    ghost keeps = { λ a body block way row long. lengths a.switches block way row long };
+    ghost keeps = { λ a body block way row long. lengths a.switches false (length a.first) block way row long };
 
-    ghost distributes = { λ a body block way one other long same. over_union a.switches block way one other long same };
+    ghost distributes = { λ a body block way one other long same. over_union a.switches false (length a.first) block way one other long same };
 }
 
 /// Whether a local is a parameter.
@@ -118,36 +119,26 @@ fn first_row(alloc: Global, body: &Body, forest: &Forest, gone: bool) -> Result<
     Ok(row)
 }
 
-fn all_blocks(
-    alloc: Global,
-    body: &Body,
-    forest: &Forest,
-    gone: bool,
-) -> Result<List<BlockSwitches>, NoMemory>
-    ensures { IfOk result (λ made. AreWays forest.now.paths gone made body.now.blocks) }
+fn all_blocks(alloc: Global, body: &Body, forest: &Forest) -> Result<List<BlockSwitches>, NoMemory>
+    ensures { IfOk result (λ made. AreWays forest.now.paths made body.now.blocks) }
 {
     let mut made = List::from_vec(Vec::with_capacity(alloc, body.blocks.len())?);
     let mut uses = List::new(alloc);
     for block in body.blocks.as_slice() {
         uses.truncate(0);
         add_inner_uses(&mut uses, block)?;
-        made.push(block_switches(alloc, forest, block, uses.as_slice(), gone)?)?;
+        made.push(block_switches(alloc, forest, block, uses.as_slice())?)?;
     }
     Ok(made)
 }
 
-fn switches_of(
-    alloc: Global,
-    body: &Body,
-    forest: &Forest,
-    gone: bool,
-) -> Result<Switches, NoMemory>
-    ensures { IfOk result (λ switches. AreSwitches forest.now.paths gone switches body.now) }
+fn switches_of(alloc: Global, body: &Body, forest: &Forest) -> Result<Switches, NoMemory>
+    ensures { IfOk result (λ switches. AreSwitches forest.now.paths switches body.now) }
 {
     Ok(Switches {
-        first: first_row(alloc, body, forest, gone)?,
+        first: first_row(alloc, body, forest, true)?,
         below: masks_of_paths(alloc, forest)?,
-        blocks: all_blocks(alloc, body, forest, gone)?,
+        blocks: all_blocks(alloc, body, forest)?,
     })
 }
 
@@ -157,16 +148,12 @@ fn switches_in(
     graph: &Graph,
     body: u32,
     forest: &Forest,
-    gone: bool,
 ) -> Result<Switches, NoMemory>
-    requires body { body < length graph.now.bodies }
-    requires forest { (found : GraphBody) → slice_get graph.now.bodies body ≡ Some found → IsForest graph.now.items found forest.now }
-    ensures is_for { IfOk result (λ switches. (found : GraphBody) → slice_get graph.now.bodies body ≡ Some found → length switches.blocks ≡ length found.blocks) }
-    ensures says { IfOk result (λ switches. (found : GraphBody) → slice_get graph.now.bodies body ≡ Some found → Says graph.now.items found forest.now.paths gone (target graph.now.items found) (λ block way row. passed_by switches block way row) switches.first) }
-    ensures masks { IfOk result (λ switches. switches.below ≡ masks_of forest.now.paths) }
+    requires { body < length graph.now.bodies }
+    ensures { IfOk result (λ switches. (found : GraphBody) → slice_get graph.now.bodies body ≡ Some found → AreSwitches forest.now.paths switches found) }
 {
     let body = &graph.bodies.as_slice()[body as usize];
-    switches_of(alloc, body, forest, gone)
+    switches_of(alloc, body, forest)
 }
 
 impl MaybeGone {
@@ -181,21 +168,19 @@ impl MaybeGone {
         requires body { body < length graph.now.bodies }
         requires forest { (found : GraphBody) → slice_get graph.now.bodies body ≡ Some found → IsForest graph.now.items found forest.now }
         ensures is_for { IfOk result (λ a. (found : GraphBody) → slice_get graph.now.bodies body ≡ Some found → length a.switches.blocks ≡ length found.blocks) }
-        ensures says { IfOk result (λ a. (found : GraphBody) → slice_get graph.now.bodies body ≡ Some found → Says graph.now.items found forest.now.paths true (target graph.now.items found) (λ block way row. passed_by a.switches block way row) a.switches.first) }
-        ensures masks { IfOk result (λ a. a.switches.below ≡ masks_of forest.now.paths) }
+        ensures says { IfOk result (λ a. (found : GraphBody) → slice_get graph.now.bodies body ≡ Some found → Says graph.now.items found forest.now.paths true (target graph.now.items found) (λ block way row. passed_by a.switches true block way row) a.switches.first) }
+        ensures switches { IfOk result (λ a. (found : GraphBody) → slice_get graph.now.bodies body ≡ Some found → AreSwitches forest.now.paths a.switches found) }
     {
         Ok(MaybeGone {
-            switches: switches_in(alloc, graph, body, forest, true)?,
+            switches: switches_in(alloc, graph, body, forest)?,
         })
     }
 
-    /// What is gone before the body does anything, and the masks of the paths of the forest.
-    pub fn into_parts(self) -> (BitRow, Masks)
-        ensures first { result.0 ≡ self.switches.first }
-        ensures masks { result.1 ≡ self.switches.below }
+    /// What the body switches, when the rows are solved.
+    pub fn into_switches(self) -> Switches
+        ensures { result ≡ self.switches }
     {
-        let Switches { first, below, .. } = self.switches;
-        (first, below)
+        self.switches
     }
 }
 
@@ -211,10 +196,38 @@ impl MaybeInit {
         requires body { body < length graph.now.bodies }
         requires forest { (found : GraphBody) → slice_get graph.now.bodies body ≡ Some found → IsForest graph.now.items found forest.now }
         ensures is_for { IfOk result (λ a. (found : GraphBody) → slice_get graph.now.bodies body ≡ Some found → length a.switches.blocks ≡ length found.blocks) }
-        ensures says { IfOk result (λ a. (found : GraphBody) → slice_get graph.now.bodies body ≡ Some found → Says graph.now.items found forest.now.paths false (target graph.now.items found) (λ block way row. passed_by a.switches block way row) a.switches.first) }
+        ensures says { IfOk result (λ a. (found : GraphBody) → slice_get graph.now.bodies body ≡ Some found → Says graph.now.items found forest.now.paths false (target graph.now.items found) (λ block way row. passed_by a.switches false block way row) a.first) }
     {
-        Ok(MaybeInit {
-            switches: switches_in(alloc, graph, body, forest, false)?,
-        })
+        let switches = switches_in(alloc, graph, body, forest)?;
+        MaybeInit::of(alloc, graph, body, forest, switches)
+    }
+
+    /// The same, by what another analysis of the body switches: what is present is what is not gone.
+    pub fn of(
+        alloc: Global,
+        graph: &Graph,
+        body: u32,
+        forest: &Forest,
+        switches: Switches,
+    ) -> Result<MaybeInit, NoMemory>
+        requires body { body < length graph.now.bodies }
+        requires forest { (found : GraphBody) → slice_get graph.now.bodies body ≡ Some found → IsForest graph.now.items found forest.now }
+        requires switches { (found : GraphBody) → slice_get graph.now.bodies body ≡ Some found → AreSwitches forest.now.paths switches found }
+        ensures is_for { IfOk result (λ a. (found : GraphBody) → slice_get graph.now.bodies body ≡ Some found → length a.switches.blocks ≡ length found.blocks) }
+        ensures says { IfOk result (λ a. (found : GraphBody) → slice_get graph.now.bodies body ≡ Some found → Says graph.now.items found forest.now.paths false (target graph.now.items found) (λ block way row. passed_by a.switches false block way row) a.first) }
+        ensures switches { IfOk result (λ a. a.switches ≡ switches) }
+    {
+        let found = &graph.bodies.as_slice()[body as usize];
+        let first = first_row(alloc, found, forest, false)?;
+        Ok(MaybeInit { first, switches })
+    }
+
+    /// The masks of the paths of the forest, when the rows are solved.
+    pub fn into_masks(self) -> Masks
+        ensures { result ≡ self.switches.below }
+    {
+        let MaybeInit { switches, .. } = self;
+        let Switches { below, .. } = switches;
+        below
     }
 }

@@ -1,14 +1,14 @@
-ghost use Rattle.std.specs.Prelude.{◌≡◌, ◌<◌, ◌*◌, ℕ, [], length, slice_get, slice_index_or, IfOk, OnOk, true};
+ghost use Rattle.std.specs.Prelude.{◌≡◌, ◌<◌, ◌+◌, ℕ, [], length, slice_get, slice_index_or, IfOk, OnOk, true};
 ghost use Rattle.std.specs.Option.{option_copied};
 ghost use Rattle.init_flow.specs.Ways.{target as target_of};
 ghost use Rattle.init_flow.specs.Carried.{AreCarried};
-ghost use Rattle.init_flow.specs.WorkList.{Good, Started, Turns, problem, state_of, ways_in, way_at, bit, untouched, is_reached};
+ghost use Rattle.init_flow.specs.WorkList.{Good, Started, Turns, problem, state_of, blocks_in, bit, untouched, is_reached};
 
 use crate::analysis::Analysis;
 use crate::flow::Flow;
 use crate::ways::target;
 use bit_rows::BitRow;
-use cfg_graph::{Body, rank};
+use cfg_graph::Body;
 use mir_base::{List, NoMemory};
 use mir_ty::Items;
 use std::alloc::Global;
@@ -47,8 +47,8 @@ fn begin<A: Analysis>(
 ) -> Result<(), NoMemory>
     requires row { length row.old ≡ A.width analysis.now }
     requires state { state_of flow.old ≡ untouched (A.width analysis.now) (length body.now.blocks) }
-    requires heap { ways_in flow.old ≡ [] }
-    ensures good { OnOk result (Good (problem (A.width analysis.now) (A.first analysis.now) (A.passed analysis.now) items.now body.now) (state_of flow.new) (ways_in flow.new) (length body.now.blocks * 2)) }
+    requires heap { blocks_in flow.old ≡ [] }
+    ensures good { OnOk result (Good (problem (A.width analysis.now) (A.first analysis.now) (A.passed analysis.now) items.now body.now) (state_of flow.new) (blocks_in flow.new) 0 2) }
     ensures started { OnOk result (Started (problem (A.width analysis.now) (A.first analysis.now) (A.passed analysis.now) items.now body.now) (state_of flow.new)) }
     ensures row { length row.new ≡ A.width analysis.now }
 {
@@ -56,7 +56,7 @@ fn begin<A: Analysis>(
         return Ok(());
     }
     analysis.start(row);
-    flow.arrive(rank(body, 0).unwrap_or(0), 0, row)
+    flow.arrive(0, row)
 }
 
 /// Takes what a block has along a way to the next block. It is made in a row of as many bits.
@@ -71,10 +71,10 @@ fn turn<A: Analysis>(
 ) -> Result<(), NoMemory>
     requires row { length row.old ≡ A.width analysis.now }
     requires is_for { A.IsFor analysis.now body.now }
-    requires good { Good (problem (A.width analysis.now) (A.first analysis.now) (A.passed analysis.now) items.now body.now) (state_of flow.old) (ways_in flow.old) (way_at block (bit way)) }
+    requires good { Good (problem (A.width analysis.now) (A.first analysis.now) (A.passed analysis.now) items.now body.now) (state_of flow.old) (blocks_in flow.old) block (bit way) }
     requires block { block < length body.now.blocks }
     requires reached { is_reached (state_of flow.old) block ≡ true }
-    ensures turns { OnOk result (Turns (problem (A.width analysis.now) (A.first analysis.now) (A.passed analysis.now) items.now body.now) flow.old flow.new) }
+    ensures turns { OnOk result (Turns (problem (A.width analysis.now) (A.first analysis.now) (A.passed analysis.now) items.now body.now) flow.old flow.new block (bit way + 1)) }
     ensures row { length row.new ≡ A.width analysis.now }
 {
     let Some(to) = target(items, body, block, way as u32) else {
@@ -85,14 +85,35 @@ fn turn<A: Analysis>(
     }
     flow.row_of(block as usize).copy_into(row);
     analysis.pass(body, block, way as u32, row);
-    flow.arrive(rank(body, to).unwrap_or(0), to, row)
+    flow.arrive(to, row)
+}
+
+/// Takes what a block has along both its ways.
+fn turn_block<A: Analysis>(
+    analysis: &A,
+    items: &Items,
+    body: &Body,
+    flow: &mut Flow,
+    row: &mut BitRow,
+    block: u32,
+) -> Result<(), NoMemory>
+    requires row { length row.old ≡ A.width analysis.now }
+    requires is_for { A.IsFor analysis.now body.now }
+    requires good { Good (problem (A.width analysis.now) (A.first analysis.now) (A.passed analysis.now) items.now body.now) (state_of flow.old) (blocks_in flow.old) block 0 }
+    requires block { block < length body.now.blocks }
+    requires reached { is_reached (state_of flow.old) block ≡ true }
+    ensures turns { OnOk result (Turns (problem (A.width analysis.now) (A.first analysis.now) (A.passed analysis.now) items.now body.now) flow.old flow.new 0 2) }
+    ensures row { length row.new ≡ A.width analysis.now }
+{
+    turn(analysis, items, body, flow, row, block, false)?;
+    turn(analysis, items, body, flow, row, block, true)
 }
 
 /// The rows that an analysis has at the start of each block of a body, at its fixed point: exactly the bits that some
 /// path from block 0 carries there.
 ///
-/// Each way out of a block is passed once and again only after the row of its block changed; a block of a greater rank
-/// goes first, so a body without loops is gone over once. Time is in proportion to these passes, each with the words of
+/// The ways out of a block are passed once and again only after the row of the block changed; a block of a greater number
+/// goes first, so a lowered body without loops is gone over once. Time is in proportion to these passes, each with the words of
 /// a row, and a logarithm of the number of blocks; memory to the blocks times the words of a row.
 pub fn solve<A: Analysis>(
     alloc: Global,
@@ -109,8 +130,8 @@ pub fn solve<A: Analysis>(
     let mut flow = Flow::new(alloc, bits, body.blocks.len())?;
     let mut row = BitRow::new(alloc, bits)?;
     begin(analysis, items, body, &mut flow, &mut row)?;
-    while let Some((block, way)) = flow.take() {
-        turn(analysis, items, body, &mut flow, &mut row, block, way)?;
+    while let Some(block) = flow.take() {
+        turn_block(analysis, items, body, &mut flow, &mut row, block)?;
     }
     Ok(Solution { rows: flow.rows })
 }

@@ -1,5 +1,5 @@
 //! What each way out of a block switches.
-ghost use Rattle.std.specs.Prelude.{◌≡◌, ◌<◌, ◌*◌, ◌+◌, ◌++◌, ℕ, [], ◌∷◌, Some, map, flat_map, length, slice_get, slice_index_or, IfOk, OnOk};
+ghost use Rattle.std.specs.Prelude.{◌≡◌, ◌<◌, ◌*◌, ◌+◌, ◌++◌, ℕ, [], ◌∷◌, Some, true, map, flat_map, length, slice_get, slice_index_or, IfOk, OnOk};
 ghost use Rattle.std.specs.Option.{option_copied};
 ghost use Rattle.cfg_graph.specs.declared.graph.Block.{Block as GraphBlock};
 ghost use Rattle.cfg_graph.specs.Moves.Gone.{leaves_gone};
@@ -41,41 +41,30 @@ fn add_use(
     forest: &Forest,
     how: Use,
     place: &Place,
-    gone: bool,
 ) -> Result<(), NoMemory>
-    ensures { OnOk result (AreSwitched forest.now.paths gone switches.old switches.new ((use_of how, place.now) ∷ [])) }
+    ensures { OnOk result (AreSwitched forest.now.paths true switches.old switches.new ((use_of how, place.now) ∷ [])) }
 {
-    match switch_of(forest, how, place, gone) {
+    match switch_of(forest, how, place, true) {
         Some(switch) => switches.push(switch),
         None => Ok(()),
     }
 }
 
-fn add_uses(
-    switches: &mut List<Switch>,
-    forest: &Forest,
-    uses: &[Used<'_>],
-    gone: bool,
-) -> Result<(), NoMemory>
-    ensures { OnOk result (AreSwitched forest.now.paths gone switches.old switches.new (listed uses.now)) }
+fn add_uses(switches: &mut List<Switch>, forest: &Forest, uses: &[Used<'_>]) -> Result<(), NoMemory>
+    ensures { OnOk result (AreSwitched forest.now.paths true switches.old switches.new (listed uses.now)) }
 {
     for used in uses {
-        add_use(switches, forest, used.how, used.place, gone)?;
+        add_use(switches, forest, used.how, used.place)?;
     }
     Ok(())
 }
 
 /// What uses switch, one use after another.
-fn use_switches(
-    alloc: Global,
-    forest: &Forest,
-    uses: &[Used<'_>],
-    gone: bool,
-) -> Result<List<Switch>, NoMemory>
-    ensures { IfOk result (λ switches. Fits forest.now.paths gone switches (listed uses.now)) }
+fn use_switches(alloc: Global, forest: &Forest, uses: &[Used<'_>]) -> Result<List<Switch>, NoMemory>
+    ensures { IfOk result (λ switches. Fits forest.now.paths true switches (listed uses.now)) }
 {
     let mut switches = List::new(alloc);
-    add_uses(&mut switches, forest, uses, gone)?;
+    add_uses(&mut switches, forest, uses)?;
     Ok(switches)
 }
 
@@ -127,11 +116,11 @@ fn result_on(term: &Term, way: u32) -> Option<&Place>
 }
 
 /// What the store of a result on a way out of a terminator switches.
-fn result_switch(forest: &Forest, term: &Term, way: u32, gone: bool) -> Option<Switch>
-    ensures { Fits forest.now.paths gone (at_most_one result) (map (λ place. (graph.Stores, place)) (way_result term.now way)) }
+fn result_switch(forest: &Forest, term: &Term, way: u32) -> Option<Switch>
+    ensures { Fits forest.now.paths true (at_most_one result) (map (λ place. (graph.Stores, place)) (way_result term.now way)) }
 {
     match result_on(term, way) {
-        Some(place) => switch_of(forest, Use::Stores, place, gone),
+        Some(place) => switch_of(forest, Use::Stores, place, true),
         None => None,
     }
 }
@@ -142,15 +131,14 @@ pub fn block_switches(
     forest: &Forest,
     block: &Block,
     uses: &[Used<'_>],
-    gone: bool,
 ) -> Result<BlockSwitches, NoMemory>
     requires { listed uses.now ≡ inner_uses block.now }
-    ensures { IfOk result (λ made. FitsBlock forest.now.paths gone (Some made) block.now) }
+    ensures { IfOk result (λ made. FitsBlock forest.now.paths (Some made) block.now) }
 {
-    let uses = use_switches(alloc, forest, uses, gone)?;
+    let uses = use_switches(alloc, forest, uses)?;
     Ok(BlockSwitches {
         uses,
-        first: result_switch(forest, &block.term, 0, gone),
-        second: result_switch(forest, &block.term, 1, gone),
+        first: result_switch(forest, &block.term, 0),
+        second: result_switch(forest, &block.term, 1),
     })
 }

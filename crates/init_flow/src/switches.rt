@@ -1,12 +1,12 @@
 //! Analyses whose ways turn bits on and off.
-ghost use Rattle.std.specs.Prelude.{◌≡◌, ◌*◌, ◌+◌, length};
-ghost use Rattle.init_flow.specs.Switches.{all_switched, result_switch, switch_by, passed_by};
+ghost use Rattle.std.specs.Prelude.{◌≡◌, map};
+ghost use Rattle.init_flow.specs.Switches.{all_switched, result_switch, switch_by, taken, passed_by};
 
 use crate::masks::Masks;
 use bit_rows::BitRow;
 use mir_base::List;
 
-/// The bits of a path and of all paths below it turn on or off.
+/// The bits of a path and of all paths below it turn on or off, where bits say what is gone.
 #[derive(Clone, Copy)]
 pub struct Switch {
     pub path: u32,
@@ -30,7 +30,7 @@ impl BlockSwitches {
     }
 }
 
-/// The row at the start of a body, for each path the mask of the paths at or below it, and what each block switches.
+/// What is gone as a body starts, for each path the mask of the paths at or below it, and what each block switches.
 #[derive(Drop)]
 pub struct Switches {
     pub first: BitRow,
@@ -39,40 +39,32 @@ pub struct Switches {
 }
 
 impl Switches {
-    fn switch(&self, switch: Switch, row: &mut BitRow)
-        ensures { row.new ≡ switch_by self.now.below switch row.old }
+    fn switch(&self, gone: bool, switch: Switch, row: &mut BitRow)
+        ensures { row.new ≡ switch_by self.now.below (taken gone switch) row.old }
     {
-        self.below.turn(switch.path, switch.on, row);
+        let on = if gone { switch.on } else { !switch.on };
+        self.below.turn(switch.path, on, row);
     }
 
-    fn all(&self, switches: &[Switch], row: &mut BitRow)
-        ensures { row.new ≡ all_switched self.now.below switches.now row.old }
+    fn all(&self, gone: bool, switches: &[Switch], row: &mut BitRow)
+        ensures { row.new ≡ all_switched self.now.below (map (taken gone) switches.now) row.old }
     {
         for switch in switches {
-            self.switch(*switch, row);
+            self.switch(gone, *switch, row);
         }
     }
 
-    /// Makes the row at the start of a block the one at the end of a way out of it.
-    pub fn pass(&self, block: u32, way: u32, row: &mut BitRow)
-        ensures { row.new ≡ passed_by self.now block way row.old }
+    /// Makes the row at the start of a block the one at the end of a way out of it. The row says what is gone, or what is
+    /// present.
+    pub fn pass(&self, gone: bool, block: u32, way: u32, row: &mut BitRow)
+        ensures { row.new ≡ passed_by self.now gone block way row.old }
     {
         let Some(found) = self.blocks.get(block as usize) else {
             return;
         };
-        self.all(found.uses.as_slice(), row);
+        self.all(gone, found.uses.as_slice(), row);
         if let Some(switch) = found.result(way) {
-            self.switch(switch, row);
-        }
-    }
-
-    /// Makes a row the one at the start of a body.
-    pub fn start(&self, row: &mut BitRow)
-        requires { length row.old ≡ length self.now.first }
-        ensures { row.new ≡ self.now.first }
-    {
-        for i in 0..row.len() {
-            row.set(i, self.first.get(i));
+            self.switch(gone, switch, row);
         }
     }
 }

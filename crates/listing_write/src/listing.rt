@@ -1,6 +1,7 @@
 ghost use Rattle.std.specs.Prelude.{◌≡◌, ◌<◌, ◌-◌, ◌^◌, [], ◌∷◌, ◌++◌, IfOk, OnOk, codes, flat_map, length};
 ghost use Rattle.std.specs.Fmt.{decimal};
 ghost use Rattle.mir_ty.specs.Named.{body_name};
+ghost use Rattle.std.specs.Str.{IsUtf8};
 ghost use Rattle.std.specs.String.{string_bytes};
 ghost use Rattle.listing_write.specs.Items as items_lines;
 ghost use Rattle.listing_write.specs.Items.{counted};
@@ -149,10 +150,11 @@ fn put_listing(out: &mut String, graph: &Graph) -> Result<(), AllocError>
 }
 
 /// The listing of a graph: its items, bodies, locals and blocks in lines, each of which ends by a line feed. Each list
-/// of the graph has fewer than 4,294,967,295 members.
+/// of the graph has fewer than 4,294,967,295 members. Names are in UTF-8, so the listing is.
 pub fn write_listing(alloc: Global, graph: &Graph) -> Result<List<u8>, NoMemory>
     requires { IsShortGraph graph.now }
-    ensures { IfOk result (λ text. text ≡ listing graph.now) }
+    ensures listed { IfOk result (λ text. text ≡ listing graph.now) }
+    ensures in_utf8 { IfOk result IsUtf8 }
 {
     let mut out = String::new(alloc);
     put_listing(&mut out, graph)?;

@@ -1,4 +1,4 @@
-ghost use Rattle.std.specs.Prelude.{◌≡◌, ◌++◌, OnOk};
+ghost use Rattle.std.specs.Prelude.{◌≡◌, ◌++◌, IfSome, OnOk};
 ghost use Rattle.std.specs.Fmt.{decimal, signed_decimal};
 ghost use Rattle.std.specs.String.{string_bytes};
 ghost use Rattle.mir_base.specs.Lines.{why_word};
@@ -18,10 +18,32 @@ pub fn put(out: &mut String, word: &str) -> Result<(), AllocError>
     out.push_str(word)
 }
 
+/// What is written of a number of one digit. Steps of places and numbers of variants are such numbers for the most part.
+fn digit(number: u32) -> Option<&'static str>
+    ensures { IfSome result (λ word. word.now ≡ decimal number) }
+{
+    match number {
+        0 => Some("0"),
+        1 => Some("1"),
+        2 => Some("2"),
+        3 => Some("3"),
+        4 => Some("4"),
+        5 => Some("5"),
+        6 => Some("6"),
+        7 => Some("7"),
+        8 => Some("8"),
+        9 => Some("9"),
+        _ => None,
+    }
+}
+
 /// Puts a number behind a text.
 pub fn put_number(out: &mut String, number: u32) -> Result<(), AllocError>
     ensures { OnOk result (string_bytes out.new ≡ string_bytes out.old ++ decimal number) }
 {
+    if let Some(word) = digit(number) {
+        return put(out, word);
+    }
     let mut buffer = Buffer::new();
     out.push_str(buffer.format(number))
 }

@@ -2,8 +2,8 @@
 use Rattle.std.proofs.Common.{◌≡◌, ℕ, Bool, true, false, List, sym, subst}
 use Rattle.cfg_graph.specs.declared.graph.Graph.{Graph}
 use Rattle.cfg_build.specs.declared.programs.Lowered.{Lowered}
-use Rattle.mir_pipeline.specs.Graphs.{IsAcceptedOf, IsLoweredOf, IsNotAccepted}
-use Rattle.mir_pipeline.specs.Programs.{HasNoProgram}
+use Rattle.mir_pipeline.specs.Graphs.{IsLoweredOf, IsNotAccepted}
+use Rattle.mir_pipeline.specs.Programs.{HasAcceptedProgram, HasNoProgram}
 use Rattle.mir_pipeline.specs.declared.refusal.Refusal.{Refusal}
 use Rattle.mir_text.specs.Answers.{IsText, Answers as AnswersListing}
 use Rattle.mir_text.specs.declared.error.ListingError.{ListingError}
@@ -17,9 +17,9 @@ use Rattle.look_program.specs.Drawings.{drawing}
 use Rattle.look_program.specs.Explanations.{explanation, listing_explanation}
 
 module _ (text : List ℕ) (status : ℕ) (written : List ℕ) where
-  pub explain_accepted : (lowered : Lowered) → IsAcceptedOf text lowered → status ≡ 0 → written ≡ accepted_line →
+  pub explain_accepted : HasAcceptedProgram text → status ≡ 0 → written ≡ accepted_line →
       OwedToProgram text Look.Explain status written
-  explain_accepted lowered is s w = as_said (OwedToProgram text Look.Explain) status 0 written accepted_line s w (accepted lowered is)
+  explain_accepted is s w = as_said (OwedToProgram text Look.Explain) status 0 written accepted_line s w (accepted is)
 
   pub explain_refused : (why : Refusal) → IsNotAccepted text why → IsTold why → status ≡ 1 → written ≡ explanation text why →
       OwedToProgram text Look.Explain status written

@@ -3,8 +3,8 @@ use Rattle.std.specs.Prelude.{◌≡◌, ℕ, Bool, true, false, List, codes, Er
 use Rattle.std.specs.List.{starts_with}
 use Rattle.cfg_graph.specs.declared.graph.Graph.{Graph}
 use Rattle.cfg_build.specs.declared.programs.Lowered.{Lowered}
-use Rattle.mir_pipeline.specs.Graphs.{IsAcceptedOf, IsLoweredOf, IsNotAccepted}
-use Rattle.mir_pipeline.specs.Programs.{HasNoProgram}
+use Rattle.mir_pipeline.specs.Graphs.{IsLoweredOf, IsNotAccepted}
+use Rattle.mir_pipeline.specs.Programs.{HasAcceptedProgram, HasNoProgram}
 use Rattle.mir_pipeline.specs.declared.refusal.Refusal.{Refusal}
 use Rattle.mir_text.specs.Answers.{IsText, Answers as AnswersListing}
 use Rattle.mir_text.specs.declared.error.ListingError.{ListingError}
@@ -26,7 +26,7 @@ graph_text Look.Dot graph = drawing graph
 module _ (text : List ℕ) where
   -- a program is accepted, or its refusal is explained; its raw graph is drawn
   pub data OwedToProgram : Look → ℕ → List ℕ → Type 0 where
-    accepted : (lowered : Lowered) → IsAcceptedOf text lowered → OwedToProgram Look.Explain 0 accepted_line
+    accepted : HasAcceptedProgram text → OwedToProgram Look.Explain 0 accepted_line
     not_accepted : (why : Refusal) → IsNotAccepted text why → IsTold why →
         OwedToProgram Look.Explain 1 (explanation text why)
     drawn : (lowered : Lowered) → IsLoweredOf text lowered → OwedToProgram Look.Dot 0 (drawing lowered.graph)

@@ -13,7 +13,7 @@ use crate::drawings::draw;
 use crate::explanations::{explanation, listing_explanation};
 use cfg_graph::Graph;
 use mir_base::NoMemory;
-use mir_pipeline::{Refusal, build_raw, checked};
+use mir_pipeline::{Refusal, build_raw, check};
 use mir_text::{ListingError, read_listing};
 use std::alloc::Global;
 
@@ -81,11 +81,8 @@ fn explain_program(alloc: Global, text: &[u8]) -> Result<Answer, NoMemory>
     requires { length text.now ≤ 131072 }
     ensures { IfOk result (λ answer. OwedToProgram text.now a_look.Explain answer.status answer.text.items) }
 {
-    match checked(alloc, text) {
-        Ok(lowered) => {
-            lowered.discard();
-            accepted_answer(alloc)
-        }
+    match check(alloc, text) {
+        Ok(()) => accepted_answer(alloc),
         Err(refusal) => refused_answer(alloc, text, &refusal),
     }
 }

@@ -11,7 +11,7 @@ use Rattle.lower_laws.proofs.Law.{lowered-paths-meet}
 use Rattle.src_meaning.specs.Programs.{IsAccepted}
 use Rattle.typed_tree.specs.Tree.{BodyTree, ProgramTree}
 use Rattle.mir_pipeline.specs.Graphs.{IsAcceptedOf, IsLoweredOf, IsNotAccepted, RefusesUses, UsesStand}
-use Rattle.mir_pipeline.specs.Programs.{HasNoProgram}
+use Rattle.mir_pipeline.specs.Programs.{HasAcceptedProgram, HasNoProgram}
 use Rattle.cfg_graph.specs.Moves.BadUses as rules
 use Rattle.mir_pipeline.proofs.Programs.{name_their_loops}
 use Rattle.mir_pipeline.proofs.Source.{refused_as}
@@ -32,6 +32,10 @@ pub is_accepted : (text : List ℕ) (lowered same : Lowered) → IsLoweredOf tex
 is_accepted text lowered same (program, p, g) (is, stand) =
     subst (IsAcceptedOf text) (sym is)
     (program, p, record { lowered_is = g; uses = stand; source = source_stands program lowered.graph g.graph stand (name_their_loops text program p) })
+
+pub has_accepted_program : (text : List ℕ) (lowered : Lowered) → IsLoweredOf text lowered → UsesStand lowered.graph → HasAcceptedProgram text
+has_accepted_program text lowered (program, p, g) stand =
+    (program, p, source_stands program lowered.graph g.graph stand (name_their_loops text program p))
 
 pub has_no_program : (text : List ℕ) (r : Refusal) → HasNoProgram text r → IsNotAccepted text r
 has_no_program text (Lex code at) h = h

@@ -41,6 +41,7 @@ is_built text lowered done (program, p, is) elaborated counts well_formed counte
   p,
   record {
     source = is.source;
+    sound = is.lowered_is.sound is.source;
     ready = subst IsReadyGraph same (is_ready program lowered is);
     elaborated = subst (λ (raw : Graph). IsElaboration raw done.graph) same elaborated;
     counts = subst (λ (raw : Graph). AreSums raw done.graph (totals_of done.counts)) same counts;

@@ -10,3 +10,4 @@ pub mod Sited
 pub mod SoundPrograms
 mod Source
 pub mod Unread
+mod Watched

@@ -2,6 +2,7 @@
 use Rattle.std.specs.Prelude.{◌≡◌, List, Result, Ok, Err, ℕ}
 use Rattle.mir_base.specs.declared.place_in_text.Pos.{Pos}
 use Rattle.mir_base.specs.declared.rule.Rule.{Rule}
+use Rattle.src_meaning.specs.Programs.{IsAccepted}
 use Rattle.src_tree.specs.declared.node.Tree.{Tree}
 use Rattle.src_tree.specs.View.{items_of}
 use Rattle.typed_tree.specs.Tree.{ProgramTree}
@@ -17,6 +18,10 @@ program_in tree = rules.read_typed (items_of tree) tree.end
 -- the text has a tree that breaks no rule, and this is its typed program
 abbrev pub IsProgramOf : List ℕ → ProgramTree → Type 0
 IsProgramOf text program = (tree : Tree) × IsTreeOf text tree × (program_in tree ≡ Ok program)
+
+-- it has one that is accepted
+abbrev pub HasAcceptedProgram : List ℕ → Type 0
+HasAcceptedProgram text = (program : ProgramTree) × IsProgramOf text program × IsAccepted program
 
 -- the text has a tree, and this is the first rule that it breaks
 abbrev pub IsBroken : List ℕ → Rule → Pos → Type 0

@@ -13,4 +13,4 @@ pub use graphs::build_raw;
 pub use read::read_tree;
 pub use refusal::Refusal;
 pub use typed::read_typed;
-pub use uses::{checked, checked_uses};
+pub use uses::{check, checked_uses};

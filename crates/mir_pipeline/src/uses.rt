@@ -4,6 +4,8 @@ ghost use Rattle.std.specs.Option.{option_copied};
 ghost use Rattle.cfg_graph.specs.WellFormed.Faults.{IsCounted, IsWellFormed};
 ghost use Rattle.mir_pipeline.specs.Graphs as graphs;
 ghost use Rattle.mir_pipeline.specs.Graphs.{AreSited, IsAcceptedOf, IsFirstBad, IsNotAccepted, RefusesUses, UsesStand};
+ghost use Rattle.mir_pipeline.specs.Programs.{HasAcceptedProgram};
+ghost use Rattle.drop_graphs.specs.GoneIn.{AreGoneIn};
 ghost use Rattle.mir_pipeline.specs.Building.{HasFirstBad};
 ghost use Rattle.cfg_graph.specs.Moves.BadUses.{U1, U2};
 
@@ -11,9 +13,10 @@ use crate::graphs::build_raw;
 use crate::refusal::Refusal;
 use cfg_build::Lowered;
 use cfg_graph::{Block, Graph, Term};
+use drop_plans::Gone;
 use lower_rules::Site;
-use mir_base::NoMemory;
-use move_errors::{BadUse, UseError, check_uses};
+use mir_base::{List, NoMemory};
+use move_errors::{BadUse, GoneMoves, UseError, check_uses, checked_moves};
 use move_paths::Use;
 use std::alloc::Global;
 
@@ -179,16 +182,85 @@ pub fn checked_uses(alloc: Global, lowered: &Lowered) -> Result<(), Refusal>
     }
 }
 
-/// The graph, if all its uses stand.
-fn accept_uses(alloc: Global, lowered: Lowered) -> Result<Lowered, Refusal>
+/// What may be gone in a body, as the check of its uses tells.
+fn gone_of(moves: GoneMoves) -> Gone
+    ensures { result ≡ record { forest = moves.forest; switches = moves.switches; rows = moves.rows } }
+{
+    let GoneMoves {
+        forest,
+        switches,
+        rows,
+    } = moves;
+    Gone {
+        forest,
+        switches,
+        rows,
+    }
+}
+
+/// What may be gone in each body, if all uses stand.
+fn gone_moves(alloc: Global, graph: &Graph) -> Result<List<Gone>, UseError>
+    requires well_formed { IsWellFormed graph.now }
+    requires counted { IsCounted graph.now }
+    ensures accepted { OnOk result (UsesStand graph.now) }
+    ensures gone { IfOk result (λ gone. AreGoneIn graph.now gone) }
+    ensures refused { IfErr result (HasFirstBad graph.now) }
+{
+    let count = graph.bodies.len() as u32;
+    let mut all = List::new(alloc);
+    for number in 0..count {
+        match checked_moves(alloc, graph, number) {
+            Ok(moves) => all.push(gone_of(moves))?,
+            Err(error) => return Err(error),
+        }
+    }
+    Ok(all)
+}
+
+/// A raw graph, and what may be gone in each of its bodies.
+#[derive(Drop)]
+pub struct Watched {
+    pub lowered: Lowered,
+    pub gone: List<Gone>,
+}
+
+/// The graph, if all its uses stand, and what may be gone in each of its bodies.
+fn accept_moves(alloc: Global, lowered: Lowered) -> Result<Watched, Refusal>
     requires well_formed { IsWellFormed lowered.graph }
     requires counted { IsCounted lowered.graph }
     requires sited { AreSited lowered }
-    ensures accepted { IfOk result (λ same. (same ≡ lowered) × UsesStand lowered.graph) }
+    ensures accepted { IfOk result (λ watched. (watched.lowered ≡ lowered) × UsesStand lowered.graph) }
+    ensures gone { IfOk result (λ watched. AreGoneIn watched.lowered.graph watched.gone) }
     ensures refused { IfErr result (λ refusal. RefusesUses lowered refusal) }
 {
+    match gone_moves(alloc, &lowered.graph) {
+        Ok(gone) => Ok(Watched { lowered, gone }),
+        Err(error) => {
+            let refusal = refusal_of_use(alloc, &lowered, error);
+            lowered.discard();
+            Err(refusal)
+        }
+    }
+}
+
+/// Checks that the program of a text of at most 4,294,967,294 bytes is accepted.
+///
+/// # Errors
+///
+/// As [`build_raw`] where the text has no graph, and otherwise as [`checked_uses`]: then the program is not accepted,
+/// since with the same choices the free run of that body is refused.
+#[tactic(auto, using(crate::proofs::Accepted::has_no_program, crate::proofs::Accepted::has_bad_use, crate::proofs::Accepted::has_accepted_program))]
+pub fn check(alloc: Global, text: &[u8]) -> Result<(), Refusal>
+    requires { length text.now < 2 ^ 32 - 1 }
+    ensures accepted { OnOk result (HasAcceptedProgram text.now) }
+    ensures refused { IfErr result (λ refusal. IsNotAccepted text.now refusal) }
+{
+    let lowered = build_raw(alloc, text)?;
     match checked_uses(alloc, &lowered) {
-        Ok(()) => Ok(lowered),
+        Ok(()) => {
+            lowered.discard();
+            Ok(())
+        }
         Err(refusal) => {
             lowered.discard();
             Err(refusal)
@@ -196,18 +268,19 @@ fn accept_uses(alloc: Global, lowered: Lowered) -> Result<Lowered, Refusal>
     }
 }
 
-/// The raw graph of an accepted text of at most 4,294,967,294 bytes, with scheduled drops, and the sites of its uses.
+/// The raw graph of an accepted text of at most 4,294,967,294 bytes, with scheduled drops and the sites of its uses, and what
+/// may be gone in each of its bodies.
 ///
 /// # Errors
 ///
-/// As [`build_raw`] where the text has no graph, and otherwise as [`checked_uses`]: then the program is not accepted,
-/// since with the same choices the free run of that body is refused.
+/// As [`check`].
 #[tactic(auto, using(crate::proofs::Accepted::has_no_program, crate::proofs::Accepted::has_bad_use))]
-pub fn checked(alloc: Global, text: &[u8]) -> Result<Lowered, Refusal>
+pub fn checked_moves_of(alloc: Global, text: &[u8]) -> Result<Watched, Refusal>
     requires { length text.now < 2 ^ 32 - 1 }
-    ensures accepted { IfOk result (λ lowered. IsAcceptedOf text.now lowered) }
+    ensures accepted { IfOk result (λ watched. IsAcceptedOf text.now watched.lowered) }
+    ensures gone { IfOk result (λ watched. AreGoneIn watched.lowered.graph watched.gone) }
     ensures refused { IfErr result (λ refusal. IsNotAccepted text.now refusal) }
 {
     let lowered = build_raw(alloc, text)?;
-    accept_uses(alloc, lowered)
+    accept_moves(alloc, lowered)
 }

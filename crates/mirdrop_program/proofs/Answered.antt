@@ -26,7 +26,7 @@ end_is_answer End.OutOfTicks = record { no_words = λ h. omega arith; no_read_fa
 end_is_answer (End.Stuck body block) = record { no_words = λ h. omega arith; no_read_fault = λ h. omega arith; no_write_fault = λ h. omega arith; not_long = λ h. omega arith }
 
 by_check : (text : List ℕ) (status : ℕ) (written : List ℕ) → OwedByCheck text status written → IsAnswer status
-by_check text status written (accepted lowered is) = zero_is_answer
+by_check text status written (accepted is) = zero_is_answer
 by_check text status written (not_accepted why is told) = one_is_answer
 
 by_raw : (text : List ℕ) (status : ℕ) (written : List ℕ) → OwedByRaw text status written → IsAnswer status
@@ -35,7 +35,7 @@ by_raw text status written (listed_with_use lowered is why refuses of_use refuse
 by_raw text status written (no_program why is told) = one_is_answer
 
 by_build : (text : List ℕ) (status : ℕ) (written : List ℕ) → OwedByBuild text status written → IsAnswer status
-by_build text status written (built done is) = zero_is_answer
+by_build text status written (built done is back) = zero_is_answer
 by_build text status written (not_built why is told) = one_is_answer
 
 by_command : (command : Command) (request : Request) (text : List ℕ) (status : ℕ) (written : List ℕ) → owed_by command request text status written → IsAnswer status

@@ -1,5 +1,7 @@
 pub mod Answered
 pub mod Answering
+pub mod Built
+pub mod Executed
 pub mod Owing
 pub mod Unread
 pub mod TopCall

@@ -6,10 +6,11 @@ use Rattle.cfg_graph.specs.WellFormed.Faults.{IsCounted, IsCountedBody}
 use Rattle.mir_pipeline.proofs.Accepted.{is_accepted, has_bad_use}
 use Rattle.drop_graphs.specs.declared.exact.Elaborated.{Elaborated}
 use Rattle.mir_pipeline.specs.Built.{IsBuiltOf}
-use Rattle.mir_pipeline.specs.Graphs.{IsAcceptedOf, IsLoweredOf, IsNotAccepted, RefusesUses, UsesStand}
-use Rattle.mir_pipeline.specs.Programs.{HasNoProgram}
+use Rattle.mir_pipeline.specs.Graphs.{IsLoweredOf, IsNotAccepted, RefusesUses, UsesStand}
+use Rattle.mir_pipeline.specs.Programs.{HasAcceptedProgram, HasNoProgram}
 use Rattle.mir_pipeline.specs.declared.refusal.Refusal.{Refusal}
 use Rattle.cfg_build.specs.declared.programs.Lowered.{Lowered}
+use Rattle.listing_trip.specs.Trip.{ReadsBack}
 use Rattle.listing_write.specs.Listing.{IsShortBody, IsShortGraph, listing}
 use Rattle.mirdrop_program.specs.Owed.{OwedByBuild, OwedByCheck, OwedByRaw, built, not_built, accepted, not_accepted, listed, listed_with_use, no_program, accepted_line, IsOfUse}
 use Rattle.mirdrop_program.specs.Refusals.{IsTold, refusal_lines}
@@ -20,9 +21,9 @@ pub as_said : (Says : ℕ → List ℕ → Type 0) (status same_status : ℕ) (t
 as_said Says status same_status text same_text s t says =
     subst (λ (n : ℕ). Says n text) (sym s) (subst (λ (l : List ℕ). Says same_status l) (sym t) says)
 
-pub check_accepted : (text : List ℕ) (lowered : Lowered) (status : ℕ) (written : List ℕ) → IsAcceptedOf text lowered → status ≡ 0 → written ≡ accepted_line →
-    OwedByCheck text status written
-check_accepted text lowered status written is s w = as_said (OwedByCheck text) status 0 written accepted_line s w (accepted lowered is)
+pub check_accepted : (text : List ℕ) (status : ℕ) (written : List ℕ) → HasAcceptedProgram text → status ≡ 0 →
+    written ≡ accepted_line → OwedByCheck text status written
+check_accepted text status written is s w = as_said (OwedByCheck text) status 0 written accepted_line s w (accepted is)
 
 pub check_refused : (text : List ℕ) (why : Refusal) (status : ℕ) (written : List ℕ) → IsNotAccepted text why → IsTold why → status ≡ 1 → written ≡ refusal_lines why →
     OwedByCheck text status written
@@ -45,8 +46,9 @@ raw_refused text why status written is told s w =
     as_said (OwedByRaw text) status 1 written (refusal_lines why) s w (no_program why is told)
 
 pub build_listed : (text : List ℕ) (done : Elaborated) (status : ℕ) (written : List ℕ) → IsBuiltOf text done → status ≡ 0 →
-    written ≡ listing done.graph → OwedByBuild text status written
-build_listed text done status written is s w = as_said (OwedByBuild text) status 0 written (listing done.graph) s w (built done is)
+    written ≡ listing done.graph → ReadsBack done.graph → OwedByBuild text status written
+build_listed text done status written is s w back =
+    as_said (OwedByBuild text) status 0 written (listing done.graph) s w (built done is back)
 
 pub build_refused : (text : List ℕ) (why : Refusal) (status : ℕ) (written : List ℕ) → IsNotAccepted text why → IsTold why →
     status ≡ 1 → written ≡ refusal_lines why → OwedByBuild text status written

@@ -17,7 +17,7 @@ not_stuck End.OutOfTicks free e = omega (arith, e)
 not_stuck (End.Stuck body block) free e = free body block refl
 
 by_check : (text : List ℕ) (status : ℕ) (written : List ℕ) → OwedByCheck text status written → status ≡ 13 → ⊥
-by_check text status written (accepted lowered is) e = omega (arith, e)
+by_check text status written (accepted is) e = omega (arith, e)
 by_check text status written (not_accepted why is told) e = omega (arith, e)
 
 by_raw : (text : List ℕ) (status : ℕ) (written : List ℕ) → OwedByRaw text status written → status ≡ 13 → ⊥
@@ -26,7 +26,7 @@ by_raw text status written (listed_with_use lowered is why refuses of_use refuse
 by_raw text status written (no_program why is told) e = omega (arith, e)
 
 by_build : (text : List ℕ) (status : ℕ) (written : List ℕ) → OwedByBuild text status written → status ≡ 13 → ⊥
-by_build text status written (built done is) e = omega (arith, e)
+by_build text status written (built done is back) e = omega (arith, e)
 by_build text status written (not_built why is told) e = omega (arith, e)
 
 owed_stuck : (command : Command) (request : Request) (text : List ℕ) (status : ℕ) (written : List ℕ) →

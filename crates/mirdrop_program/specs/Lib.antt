@@ -1,3 +1,4 @@
+pub mod Laws
 pub mod Owed
 pub mod Refusals
 pub mod TopCall

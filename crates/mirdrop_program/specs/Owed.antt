@@ -13,10 +13,11 @@ use Rattle.mir_ty.specs.Named.{text_of}
 use Rattle.drop_graphs.specs.declared.exact.Elaborated.{Elaborated}
 use Rattle.mir_pipeline.specs.Built.{IsBuiltOf}
 use Rattle.mir_pipeline.specs.Graphs.{IsAcceptedOf, IsLoweredOf, IsNotAccepted, RefusesUses}
-use Rattle.mir_pipeline.specs.Programs.{HasNoProgram, IsProgramOf}
+use Rattle.mir_pipeline.specs.Programs.{HasAcceptedProgram, HasNoProgram, IsProgramOf}
 use Rattle.mir_pipeline.specs.Runs.{EndsEachOnce, IsNeverStuck}
 use Rattle.mir_pipeline.specs.declared.refusal.Refusal.{Refusal}
 use Rattle.mir_pipeline.specs.declared.refusal.Refusal.TheVariants.{U1, U2}
+use Rattle.listing_trip.specs.Trip.{ReadsBack}
 use Rattle.listing_write.specs.Listing.{listing}
 use Rattle.soak_text.specs.Text.{soak_text}
 use Rattle.src_meaning.specs.Programs.{IsAccepted, source}
@@ -50,7 +51,7 @@ trace_text program run = text_of program.items run.0 run.1
 module _ (text : List ℕ) where
   -- `check`: whether the program is accepted
   pub data OwedByCheck : ℕ → List ℕ → Type 0 where
-    accepted : (lowered : Lowered) → IsAcceptedOf text lowered → OwedByCheck 0 accepted_line
+    accepted : HasAcceptedProgram text → OwedByCheck 0 accepted_line
     not_accepted : (why : Refusal) → IsNotAccepted text why → IsTold why →
         OwedByCheck 1 (refusal_lines why)
 
@@ -61,9 +62,10 @@ module _ (text : List ℕ) where
         IsOfUse why → IsNotAccepted text why → OwedByRaw 0 (listing lowered.graph ++ refusal_lines why)
     no_program : (why : Refusal) → HasNoProgram text why → IsTold why → OwedByRaw 1 (refusal_lines why)
 
-  -- `build`: the listing of its graph with exact drops, where the program is accepted
+  -- `build`: the listing of its graph with exact drops, where the program is accepted; nothing but a graph that runs
+  -- alike is read of that listing
   pub data OwedByBuild : ℕ → List ℕ → Type 0 where
-    built : (done : Elaborated) → IsBuiltOf text done → OwedByBuild 0 (listing done.graph)
+    built : (done : Elaborated) → IsBuiltOf text done → ReadsBack done.graph → OwedByBuild 0 (listing done.graph)
     not_built : (why : Refusal) → IsNotAccepted text why → IsTold why → OwedByBuild 1 (refusal_lines why)
 
   -- `run`: the trace of the program, where it is accepted. No run of it is stuck, and each value that has a serial number

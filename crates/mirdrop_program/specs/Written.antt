@@ -1,7 +1,13 @@
 -- What was done with an answer; no public contract speaks of these words.
 use Rattle.std.specs.Prelude.{◌≡◌, ℕ, List, ◌++◌, take, Option, Some, Result, Ok, Err}
+use Rattle.cfg_graph.specs.declared.graph.Graph.{Graph}
 use Rattle.mir_base.specs.declared.memory.NoMemory.{NoMemory}
 use Rattle.mir_machine.specs.declared.error.RunError.{RunError}
+use Rattle.mir_pipeline.specs.Programs.{IsProgramOf}
+use Rattle.mir_pipeline.specs.Runs.{EndsEachOnce, IsNeverStuck, RunsStrictlyAsItsSource}
+use Rattle.soak_text.specs.Text.{soak_text}
+use Rattle.src_meaning.specs.Programs.{IsAccepted}
+use Rattle.typed_tree.specs.Tree.{ProgramTree}
 use Rattle.mirdrop_program.specs.TopCall.{Delivered}
 use Rattle.mirdrop_program.specs.declared.answers.Answer.{Answer}
 
@@ -23,3 +29,12 @@ HandedOn (Err want) taken taken_after sink_failed result = (taken_after ≡ take
 abbrev pub error_status : RunError → ℕ
 error_status (RunError.WriteFault written) = 4
 error_status RunError.Memory = 5
+
+-- a graph that runs as the program with so many functions that `soak` runs
+pub record IsSoaked (functions : ℕ) (graph : Graph) : Type 0 where
+  pub program : ProgramTree
+  pub read : IsProgramOf (soak_text functions) program
+  pub accepted : IsAccepted program
+  pub runs : RunsStrictlyAsItsSource program graph
+  pub never_stuck : IsNeverStuck program
+  pub once : EndsEachOnce program

@@ -5,7 +5,7 @@ ghost use Rattle.mirdrop_program.specs.Owed.{OwedByCheck, accepted_line};
 use crate::answers::Answer;
 use crate::refusals::refused_answer;
 use mir_base::NoMemory;
-use mir_pipeline::checked;
+use mir_pipeline::check;
 use std::alloc::Global;
 
 /// The answer to a program that is accepted.
@@ -25,11 +25,8 @@ pub fn check_answer(alloc: Global, text: &[u8]) -> Result<Answer, NoMemory>
     requires { length text.now ≤ 131072 }
     ensures { IfOk result (λ answer. OwedByCheck text.now answer.status answer.text.items) }
 {
-    match checked(alloc, text) {
-        Ok(lowered) => {
-            lowered.discard();
-            accepted_answer(alloc)
-        }
+    match check(alloc, text) {
+        Ok(()) => accepted_answer(alloc),
         Err(refusal) => refused_answer(alloc, &refusal),
     }
 }

@@ -8,6 +8,7 @@ mod commands;
 mod deliver;
 mod entry;
 mod exec;
+mod law;
 mod listings;
 mod number;
 mod parts;
@@ -21,6 +22,7 @@ mod uses;
 mod words;
 
 pub use entry::mirdrop;
+pub use law::law_of_exec;
 pub use listings::{put_graph_line, put_listing_line};
 pub use refusals::{put_listing_refusal, put_refusal};
 pub use request::{Command, Request, WordsError};

@@ -1,3 +1,4 @@
+pub mod GoneRows
 pub mod Refusal
 pub mod Shown
 pub mod Stands

@@ -2,6 +2,7 @@
 ghost use Rattle.std.specs.Prelude.{◌≡◌, ◌<◌, [], IfOk, IfErr, IfSome, OnOk, Some, None, length, slice_get, true};
 ghost use Rattle.cfg_graph.specs.declared.graph.Body.{Body as GraphBody};
 ghost use Rattle.cfg_graph.specs.WellFormed.Faults.{IsWellFormed};
+ghost use Rattle.init_flow.specs.Fits.{AreSwitches};
 ghost use Rattle.move_paths.specs.Uses.{use_of};
 ghost use Rattle.move_errors.specs.Locals.{has_locals};
 ghost use Rattle.move_errors.specs.Reaches.{MeetsNone, rule_of};
@@ -9,6 +10,7 @@ ghost use Rattle.move_errors.specs.Refusal.{IsRefusal, refused_by};
 ghost use Rattle.move_errors.specs.Rows.{IsWatched, state};
 ghost use Rattle.move_errors.specs.Runs.{problem};
 ghost use Rattle.move_errors.specs.Shown.{AreSolved};
+ghost use Rattle.move_errors.specs.GoneRows.{AreGone};
 ghost use Rattle.move_errors.specs.Stands.{IsFound, MeetsNoBad};
 
 use crate::Watch;
@@ -17,9 +19,9 @@ use crate::search::{Trace, least_bad};
 use crate::trail::trail;
 use bit_rows::BitRow;
 use cfg_graph::{Graph, Place};
-use init_flow::{MaybeGone, Solution, solve};
+use init_flow::{BlockSwitches, MaybeGone, Solution, Switches, solve};
 use mir_base::{List, NoMemory};
-use move_paths::{Use, paths};
+use move_paths::{Forest, Use, paths};
 use std::alloc::Global;
 
 /// A bad use of a body: what is used is gone there on a path.
@@ -62,11 +64,13 @@ impl From<NoMemory> for UseError {
     }
 }
 
-/// The body of a graph as the search watches it, what is gone before it does anything, and the rows of its solution.
+/// The body of a graph as the search watches it, what is gone before it does anything, what its blocks switch, and the
+/// rows of its solution.
 #[derive(Drop)]
 struct Solved<'a> {
     watch: Watch<'a>,
     first: BitRow,
+    blocks: List<BlockSwitches>,
     rows: Solution,
 }
 
@@ -77,6 +81,7 @@ fn solution<'a>(alloc: Global, graph: &'a Graph, body: u32) -> Result<Solved<'a>
     ensures body { IfOk result (λ solved. slice_get graph.now.bodies body ≡ Some solved.watch.body.now) }
     ensures watched { IfOk result (λ solved. IsWatched solved.watch.items.now solved.watch.body.now solved.watch.forest solved.watch.below) }
     ensures first { IfOk result (λ solved. solved.first ≡ state solved.watch.items.now solved.watch.body.now solved.watch.forest.paths []) }
+    ensures switches { IfOk result (λ solved. AreSwitches solved.watch.forest.paths (record { first = solved.first; below = solved.watch.below; blocks = solved.blocks }) solved.watch.body.now) }
     ensures rows { IfOk result (λ solved. AreSolved solved.watch.items.now solved.watch.body.now solved.watch.forest.paths solved.rows) }
 {
     let forest = paths(alloc, graph, body)?;
@@ -96,7 +101,12 @@ fn solution<'a>(alloc: Global, graph: &'a Graph, body: u32) -> Result<Solved<'a>
             return Err(error);
         }
     };
-    let (first, below) = gone.into_parts();
+    let switches = gone.into_switches();
+    let Switches {
+        first,
+        below,
+        blocks,
+    } = switches;
     Ok(Solved {
         watch: Watch {
             items: &graph.items,
@@ -105,6 +115,7 @@ fn solution<'a>(alloc: Global, graph: &'a Graph, body: u32) -> Result<Solved<'a>
             below,
         },
         first,
+        blocks,
         rows,
     })
 }
@@ -181,29 +192,79 @@ fn search_error(
     Ok(Some(error?))
 }
 
-/// Why a body is refused, if it is. Only one whose rows show a bad use is searched.
-fn refuse_body(alloc: Global, solved: Solved<'_>, body: u32) -> Result<Option<UseError>, NoMemory>
-    requires watched { IsWatched solved.watch.items.now solved.watch.body.now solved.watch.forest solved.watch.below }
-    requires first { solved.first ≡ state solved.watch.items.now solved.watch.body.now solved.watch.forest.paths [] }
-    requires rows { AreSolved solved.watch.items.now solved.watch.body.now solved.watch.forest.paths solved.rows }
-    ensures none { IfOk result (λ error. error ≡ None → MeetsNoBad (problem solved.entry.watch.items.now solved.entry.watch.body.now solved.entry.watch.forest.paths)) }
-    ensures refused { IfOk result (λ error. IfSome error (λ why. IsRefusal solved.entry.watch.items.now solved.entry.watch.body.now body why)) }
+/// A row once more.
+fn row_again(alloc: Global, row: &BitRow) -> Result<BitRow, NoMemory>
+    ensures { IfOk result (λ copy. copy ≡ row.now) }
 {
-    match is_plain(alloc, &solved) {
-        Ok(false) => {
-            let Solved { watch, first, rows } = solved;
-            drop(rows);
-            let error = search_error(alloc, &watch, first, body);
-            drop(watch);
-            error
-        }
-        Ok(true) => {
-            drop(solved);
-            Ok(None)
-        }
-        Err(error) => {
+    let mut copy = BitRow::new(alloc, row.len())?;
+    row.copy_into(&mut copy);
+    Ok(copy)
+}
+
+/// Why a body is refused, if it is. Only one whose rows show a bad use is searched.
+fn refuse_body(alloc: Global, solved: &Solved<'_>, body: u32) -> Result<Option<UseError>, NoMemory>
+    requires watched { IsWatched solved.now.watch.items.now solved.now.watch.body.now solved.now.watch.forest solved.now.watch.below }
+    requires first { solved.now.first ≡ state solved.now.watch.items.now solved.now.watch.body.now solved.now.watch.forest.paths [] }
+    requires rows { AreSolved solved.now.watch.items.now solved.now.watch.body.now solved.now.watch.forest.paths solved.now.rows }
+    ensures none { IfOk result (λ error. error ≡ None → MeetsNoBad (problem solved.now.watch.items.now solved.now.watch.body.now solved.now.watch.forest.paths)) }
+    ensures refused { IfOk result (λ error. IfSome error (λ why. IsRefusal solved.now.watch.items.now solved.now.watch.body.now body why)) }
+{
+    if is_plain(alloc, solved)? {
+        return Ok(None);
+    }
+    let first = row_again(alloc, &solved.first)?;
+    search_error(alloc, &solved.watch, first, body)
+}
+
+/// What the check of a body leaves: its move paths, what its blocks switch, and which paths may be gone as each block
+/// begins.
+#[derive(Drop)]
+pub struct GoneMoves {
+    pub forest: Forest,
+    pub switches: Switches,
+    pub rows: Solution,
+}
+
+fn handed_on(solved: Solved<'_>) -> GoneMoves
+    ensures { result ≡ record { forest = solved.entry.watch.forest; switches = record { first = solved.entry.first; below = solved.entry.watch.below; blocks = solved.entry.blocks }; rows = solved.entry.rows } }
+{
+    let Solved {
+        watch,
+        first,
+        blocks,
+        rows,
+    } = solved;
+    let Watch { forest, below, .. } = watch;
+    let switches = Switches {
+        first,
+        below,
+        blocks,
+    };
+    GoneMoves {
+        forest,
+        switches,
+        rows,
+    }
+}
+
+/// The same as [`check_body`]. What may be gone in a body whose uses stand is handed on.
+pub fn checked_body(alloc: Global, graph: &Graph, body: u32) -> Result<GoneMoves, UseError>
+    requires locals { (found : GraphBody) → slice_get graph.now.bodies body ≡ Some found → has_locals found ≡ true }
+    requires body { body < length graph.now.bodies }
+    ensures accepted { IfOk result (λ gone. (found : GraphBody) → slice_get graph.now.bodies body ≡ Some found → MeetsNone graph.now.items found) }
+    ensures gone { IfOk result (λ gone. (found : GraphBody) → slice_get graph.now.bodies body ≡ Some found → AreGone graph.now.items found gone) }
+    ensures refused { IfErr result (λ error. (found : GraphBody) → slice_get graph.now.bodies body ≡ Some found → IsRefusal graph.now.items found body error) }
+{
+    let solved = solution(alloc, graph, body)?;
+    match refuse_body(alloc, &solved, body) {
+        Ok(None) => Ok(handed_on(solved)),
+        Ok(Some(error)) => {
             drop(solved);
             Err(error)
+        }
+        Err(NoMemory) => {
+            drop(solved);
+            Err(UseError::Memory)
         }
     }
 }
@@ -216,11 +277,8 @@ pub fn check_body(alloc: Global, graph: &Graph, body: u32) -> Result<(), UseErro
     ensures accepted { OnOk result ((found : GraphBody) → slice_get graph.now.bodies body ≡ Some found → MeetsNone graph.now.items found) }
     ensures refused { IfErr result (λ error. (found : GraphBody) → slice_get graph.now.bodies body ≡ Some found → IsRefusal graph.now.items found body error) }
 {
-    let solved = solution(alloc, graph, body)?;
-    match refuse_body(alloc, solved, body)? {
-        None => Ok(()),
-        Some(error) => Err(error),
-    }
+    checked_body(alloc, graph, body)?;
+    Ok(())
 }
 
 /// Whether no path of a body meets a bad use. The refusal names the use that the least of the shortest lists of choices
@@ -237,4 +295,15 @@ pub fn check_uses(alloc: Global, graph: &Graph, body: u32) -> Result<(), UseErro
     ensures refused { IfErr result (λ error. (found : GraphBody) → slice_get graph.now.bodies body ≡ Some found → IsRefusal graph.now.items found body error) }
 {
     check_body(alloc, graph, body)
+}
+
+/// The same as [`check_uses`]. What may be gone in a body whose uses stand is handed on.
+pub fn checked_moves(alloc: Global, graph: &Graph, body: u32) -> Result<GoneMoves, UseError>
+    requires well_formed { IsWellFormed graph.now }
+    requires body { body < length graph.now.bodies }
+    ensures accepted { IfOk result (λ gone. (found : GraphBody) → slice_get graph.now.bodies body ≡ Some found → MeetsNone graph.now.items found) }
+    ensures gone { IfOk result (λ gone. (found : GraphBody) → slice_get graph.now.bodies body ≡ Some found → AreGone graph.now.items found gone) }
+    ensures refused { IfErr result (λ error. (found : GraphBody) → slice_get graph.now.bodies body ≡ Some found → IsRefusal graph.now.items found body error) }
+{
+    checked_body(alloc, graph, body)
 }

@@ -12,5 +12,5 @@ mod trail;
 
 pub use act::{Act, Acts};
 pub use bad::{Watch, first_bad};
-pub use errors::{BadUse, UseError, check_body, check_uses};
+pub use errors::{BadUse, GoneMoves, UseError, check_body, check_uses, checked_moves};
 pub use point::{Onward, Point, Stage, goes_on};

@@ -1,6 +1,6 @@
 -- The paths of a body that are watched for moves (the rustc development guide, "Move paths"): its locals, the places
 -- that it moves, drops, frees or stores into, and the containers of these.
-use Rattle.std.specs.Prelude.{◌≡◌, ◌↔◌, ◌⊎◌, ℕ, zero, suc, if◌then◌else◌, map, slice_index_or, ◌<◌, Bool, true, false, ◌&&◌, ◌||◌, List, [], ◌∷◌, flat_map, length, nat_lt, slice_get, Some, Contains, ◌==◌, ◌++◌}
+use Rattle.std.specs.Prelude.{◌≡◌, ◌↔◌, ◌⊎◌, ℕ, zero, suc, if◌then◌else◌, map, slice_index_or, ◌<◌, Bool, true, false, ◌&&◌, ◌||◌, List, [], ◌∷◌, flat_map, length, nat_lt, slice_get, Option, Some, Contains, MatchOption, ◌==◌, ◌++◌}
 use Rattle.std.specs.List.{list_any, range_with_len}
 use Rattle.std.specs.Option.{is_some}
 use Rattle.mir_ty.specs.declared.ty.TyId.{TyId}
@@ -8,13 +8,15 @@ use Rattle.mir_ty.specs.ItemTable.{ItemTable}
 use Rattle.store_model.specs.Places.Place.{Place, Step, whole_local}
 use Rattle.cfg_graph.specs.declared.place.Place.{Place as GraphPlace}
 use Rattle.cfg_graph.specs.declared.graph.Body.{Body}
-use Rattle.cfg_graph.specs.Places.{named}
+use Rattle.cfg_graph.specs.declared.place.Step.{Step as GraphStep}
+use Rattle.cfg_graph.specs.Places.{named, named_step}
 use Rattle.cfg_graph.specs.Uses.{PlaceUse}
 use Rattle.cfg_graph.specs.Moves.Gone.{below, counts, is_at_or_above, leaves_gone}
 use Rattle.move_paths.specs.Uses.{block_uses}
-use Rattle.move_paths.specs.Trie.{AreOnce}
+use Rattle.move_paths.specs.Trie.{AreOnce, place_of}
 use Rattle.move_paths.specs.Watch.{goes_through_reference}
 use Rattle.move_paths.specs.declared.forest.Found.{Found}
+use Rattle.move_paths.specs.declared.parts.PathPart.{PathPart}
 
 -- the types of the locals of a body, and its paths in the order of their numbers
 pub record PathForest : Type 0 where
@@ -37,6 +39,19 @@ pub record IsStepBelow (paths : List Place) (upper lower : ℕ) : Type 0 where
   pub step : Step
   pub above : slice_get paths upper ≡ Some place
   pub here : slice_get paths lower ≡ Some (below place (step ∷ []))
+
+-- the place of a path
+abbrev pub path_at : List Place → ℕ → Place
+path_at paths path = slice_index_or paths path (whole_local 0)
+
+-- the place a step below a path
+abbrev pub place_below : List Place → (path : ℕ) → GraphStep → Place
+place_below paths path step = below (path_at paths path) (named_step step ∷ [])
+
+-- the path there, if it is one; a path has a greater number than the one above it
+abbrev pub IsPathBelow : List Place → (path : ℕ) → GraphStep → Option ℕ → Type 0
+IsPathBelow paths path step found = MatchOption found (¬ Contains paths (place_below paths path step))
+    (λ child. (slice_get paths child ≡ Some (place_below paths path step)) × (path < child))
 
 -- whether a path is one step below another
 abbrev pub is_child : List Place → (upper lower : ℕ) → Bool
@@ -100,6 +115,10 @@ pub record IsForest (items : ItemTable) (body : Body) (forest : PathForest) : Ty
   pub once : AreOnce forest.paths
 
 -- what the code goes on with; no public contract speaks of it
+-- a path is a step below an earlier one
+abbrev pub IsPartOf : List Place → ℕ → PathPart → Type 0
+IsPartOf paths path part = (part.of < path) × (slice_get paths path ≡ Some (place_of paths part))
+
 -- each local of a body is a path, under its number
 abbrev pub HasLocals : Body → List Place → Type 0
 HasLocals body paths = (n : ℕ) → n < length body.locals → slice_get paths n ≡ Some (whole_local n)

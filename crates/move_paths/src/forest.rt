@@ -5,14 +5,14 @@ ghost use Rattle.cfg_graph.specs.declared.graph.Body.{Body as GraphBody};
 ghost use Rattle.cfg_graph.specs.Places.{named};
 ghost use Rattle.cfg_graph.specs.Uses as graph;
 ghost use Rattle.cfg_graph.specs.Moves.Gone.{leaves_gone};
-ghost use Rattle.move_paths.specs.Forest.{IsForest, IsFound, IsRoot, IsStepBelow, all_children, children_of, HasLocals, Names, names_any};
+ghost use Rattle.move_paths.specs.Forest.{IsForest, IsFound, IsPathBelow, IsRoot, IsStepBelow, all_children, children_of, path_at, HasLocals, Names, names_any};
 ghost use Rattle.move_paths.specs.Trie.{AreOnce, Reaches};
 ghost use Rattle.move_paths.specs.Uses.{block_uses, listed, use_of};
 
 use crate::trie::{Near, Trie};
 use crate::types::{is_behind_reference, is_watched};
 use crate::uses::{Use, Used, add_inner_uses, result_place};
-use cfg_graph::{Body, Graph, Place, Term};
+use cfg_graph::{Body, Graph, Place, Step, Term};
 use mir_base::{List, NoMemory};
 use mir_ty::{Items, TyId};
 use std::alloc::Global;
@@ -73,6 +73,22 @@ impl Forest {
         ensures { result.now ≡ children_of self.now.paths path }
     {
         self.children.as_slice()[path as usize].as_slice()
+    }
+
+    /// The path a step below a path, if there is one. It is one look-up.
+    pub fn child(&self, path: u32, step: Step) -> Option<u32>
+        requires { path < length self.now.paths }
+        ensures { IsPathBelow self.now.paths path step result }
+    {
+        self.trie.child(path, step)
+    }
+
+    /// The place of a path.
+    pub fn place(&self, alloc: Global, path: u32) -> Result<Place, NoMemory>
+        requires { path < length self.now.paths }
+        ensures { IfOk result (λ place. named place ≡ path_at self.now.paths path) }
+    {
+        self.trie.place(alloc, path)
     }
 
     /// What the forest has of a place of its body, by the items of the graph that the forest was made from.

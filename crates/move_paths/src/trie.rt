@@ -1,16 +1,18 @@
 //! A forest of places as it grows: the locals, and the parts of paths.
 ghost use Rattle.std.specs.Prelude.{◌≡◌, ℕ, ◌<◌, ◌⊎◌, ◌↔◌, [], ◌∷◌, Contains, length, slice_get, MatchOption, IfOk, OnOk, Some, true};
+ghost use Rattle.std.specs.Option.{option_copied};
 ghost use Rattle.store_model.specs.Places.Place.{Place as Named, whole_local};
 ghost use Rattle.cfg_graph.specs.Places.{named};
 ghost use Rattle.cfg_graph.specs.Moves.Gone.{is_at_or_above};
 ghost use Rattle.move_paths.specs.Trie.{AreOnce, Reaches, Grows, roots, place_of};
-ghost use Rattle.move_paths.specs.Forest.{IsRoot, IsStepBelow};
+ghost use Rattle.move_paths.specs.Forest.{IsRoot, IsStepBelow, IsPartOf, IsPathBelow, path_at};
 
 use crate::parts::{Parts, PathPart};
 use cfg_graph::{Place, Step};
 use mir_base::NoMemory;
 use std::alloc::Global;
 use std::marker::Model;
+use store_model::Path;
 
 /// How far paths lead along a place: the last path, and how many steps of the place lead to it.
 #[derive(Clone, Copy)]
@@ -57,16 +59,52 @@ impl Trie {
         self.locals + self.parts.len() as u32
     }
 
+    /// The part that a path is; `None` exactly for a local.
+    fn part(&self, path: u32) -> Option<&PathPart>
+        requires { path < length self.now }
+        ensures { MatchOption (option_copied result) (IsRoot self.now path) (IsPartOf self.now path) }
+    {
+        if path < self.locals {
+            return None;
+        }
+        self.parts.get((path - self.locals) as usize)
+    }
+
     /// The path above a path.
     pub fn parent(&self, path: u32) -> Option<u32>
         requires { path < length self.now }
         ensures { MatchOption result (IsRoot self.now path) (λ upper. IsStepBelow self.now upper path) }
     {
-        if path < self.locals {
-            return None;
-        }
-        let part = self.parts.get((path - self.locals) as usize)?;
+        let part = self.part(path)?;
         Some(part.of)
+    }
+
+    /// The path a step below a path, if there is one.
+    pub fn child(&self, path: u32, step: Step) -> Option<u32>
+        requires { path < length self.now }
+        ensures { IsPathBelow self.now path step result }
+    {
+        let part = PathPart { of: path, step };
+        let Some(n) = self.parts.find(&part) else {
+            return None;
+        };
+        Some(self.locals + n as u32)
+    }
+
+    /// The place of a path.
+    pub fn place(&self, alloc: Global, path: u32) -> Result<Place, NoMemory>
+        requires { path < length self.now }
+        ensures { IfOk result (λ place. named place ≡ path_at self.entry.now path) }
+    {
+        let Some(part) = self.part(path) else {
+            return Ok(Place {
+                local: path,
+                steps: Path::new(alloc),
+            });
+        };
+        let mut place = self.place(alloc, part.of)?;
+        place.steps.push(part.step)?;
+        Ok(place)
     }
 
     /// How far paths lead along a place.

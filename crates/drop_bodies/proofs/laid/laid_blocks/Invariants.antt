@@ -1,4 +1,4 @@
-use Rattle.std.proofs.Common.{◌≡◌}
+use Rattle.std.proofs.Common.{◌≡◌, length}
 use Rattle.mir_ty.specs.ItemTable.{ItemTable}
 use Rattle.drop_blocks.specs.Ladders.{made_of}
 use Rattle.drop_bodies.proofs.Laying.{LaidTo}
@@ -9,9 +9,9 @@ use Rattle.drop_bodies.proofs.laid.laid_blocks.Given as goal
 
 abbrev pub invariant-loop-block : goal.invariant-loop-block
 invariant-loop-block l =
-    (l.number ≡ l.block-index)
-    × ((items : ItemTable) → AreFlags items l.body l.flags →
-    AreDone items l.body (paths_of l.flags) l.decided l.block-index l.blocks (made_of l.new))
-    × ((items : ItemTable) → AreFlags items l.body l.flags →
-    AreEnded items l.body (paths_of l.flags) l.decided l.block-index l.blocks (made_of l.new))
-    × LaidTo l.body l.block-index l.blocks l.new.made l.sizes
+    (l.number ≡ length l.yielded)
+    × ((items : ItemTable) → AreFlags items l.fn.body l.flags →
+    AreDone items l.fn.body (paths_of l.flags) l.decided (length l.yielded) l.blocks (made_of l.new))
+    × ((items : ItemTable) → AreFlags items l.fn.body l.flags →
+    AreEnded items l.fn.body (paths_of l.flags) l.decided (length l.yielded) l.blocks (made_of l.new))
+    × LaidTo l.fn.body (length l.yielded) l.blocks l.new.made l.sizes

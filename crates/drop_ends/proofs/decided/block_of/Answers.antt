@@ -14,7 +14,7 @@ use Rattle.drop_ends.proofs.decided.block_of.Goals as goal
 pub returns-clause-stands : goal.returns-clause-stands
 returns-clause-stands c items body are =
     let flagged = paths_of c.args.flags.now in
-    let block = c.args.block.now in
+    let block = c.args.block in
     let flat = ap is_turn_kind (c.kind_after-kind.ensures items body body flagged) ∙ kind-flat items body flagged body block.kind in
     let it = c.in_ok-term.ensures.stands items body are flat in
     so-made (made_of c.args.blocks.now) (made_of c.end_of.new.blocks) _ _
@@ -33,5 +33,5 @@ pub returns-clause-built : goal.returns-clause-built
 returns-clause-built c items body are =
     let flagged = paths_of c.args.flags.now in
     c.in_ok-term.ensures.built items body are
-    ∙ ap (λ (k : Kind). end_by items body flagged c.args.decided.now k c.args.block.now.term (made_of c.args.blocks.now))
+    ∙ ap (λ (k : Kind). end_by items body flagged c.args.decided.now k c.args.block.term (made_of c.args.blocks.now))
     (c.kind_after-kind.ensures items body body flagged)

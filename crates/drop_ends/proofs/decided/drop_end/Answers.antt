@@ -16,7 +16,7 @@ use Rattle.drop_ends.proofs.decided.drop_end.Goals as goal
 pub returns-in_ok-add_use-in-Dead-clause-stands : goal.returns-in_ok-add_use-in-Dead-clause-stands
 returns-in_ok-add_use-in-Dead-clause-stands c items body are flat =
     let flagged = paths_of c.args.flags.now in
-    let place = c.args.place.now in
+    let place = c.args.place in
     let ending : List Stmt = flags_of_uses items body flagged ((Drops, place) ∷ []) in (
       ending,
       c.in_ok-add_use-in-Dead.ensures items body are
@@ -26,24 +26,24 @@ returns-in_ok-add_use-in-Dead-clause-stands c items body are flat =
           (sym c.in-Dead.is) (refl, refl)),
     )
 
-pub returns-in_ok-place-in-Plain-clause-stands : goal.returns-in_ok-place-in-Plain-clause-stands
-returns-in_ok-place-in-Plain-clause-stands c items body are flat =
+pub returns-in_ok-add_use-in-Plain-clause-stands : goal.returns-in_ok-add_use-in-Plain-clause-stands
+returns-in_ok-add_use-in-Plain-clause-stands c items body are flat =
     let flagged = paths_of c.args.flags.now in
-    let place = c.args.place.now in
+    let place = c.args.place in
     let ending : List Stmt = flags_of_uses items body flagged ((Drops, place) ∷ []) in
-    let copy : Place = c.in_ok-place-in-Plain.place in (
+    let copy : Place = place in (
       ending,
       c.in_ok-add_use-in-Plain.ensures items body are
           ∙ ap (λ (z : List Stmt). c.args.stmts.now ++ z) (sym (append-nil (flags_of_use items body flagged (Drops, place)))),
       nothing-made (made_of c.args.blocks.now) _
           (λ after. subst (λ (d : Decided). DropEnds items body flagged after d c.args.kind place c.args.next c.args.unwind ending (Term.DropAt copy c.args.next c.args.unwind))
-          (sym c.in-Plain.is) (refl, ap (λ (z : Place). Term.DropAt z c.args.next c.args.unwind) c.in_ok-place-in-Plain.ensures)),
+          (sym c.in-Plain.is) (refl, refl)),
     )
 
 pub returns-in_ok-from-in-Planned-clause-stands : goal.returns-in_ok-from-in-Planned-clause-stands
 returns-in_ok-from-in-Planned-clause-stands c items body are flat =
     let flagged = paths_of c.args.flags.now in
-    let place = c.args.place.now in
+    let place = c.args.place in
     let from = c.in_ok-from-in-Planned.from in (
       [],
       sym (append-nil c.args.stmts.now),
@@ -55,17 +55,16 @@ returns-in_ok-from-in-Planned-clause-stands c items body are flat =
 
 pub returns-in_ok-add_use-in-Dead-clause-built : goal.returns-in_ok-add_use-in-Dead-clause-built
 returns-in_ok-add_use-in-Dead-clause-built c items body are =
-    ap (λ (d : Decided). drop_end items body (paths_of c.args.flags.now) d c.args.kind c.args.place.now c.args.next
+    ap (λ (d : Decided). drop_end items body (paths_of c.args.flags.now) d c.args.kind c.args.place c.args.next
     c.args.unwind (made_of c.args.blocks.now)) (sym c.in-Dead.is)
 
-pub returns-in_ok-place-in-Plain-clause-built : goal.returns-in_ok-place-in-Plain-clause-built
-returns-in_ok-place-in-Plain-clause-built c items body are =
-    ap (λ (p : Place). made_end (Term.DropAt p c.args.next c.args.unwind) (made_of c.args.blocks.now)) c.in_ok-place-in-Plain.ensures
-    ∙ ap (λ (d : Decided). drop_end items body (paths_of c.args.flags.now) d c.args.kind c.args.place.now c.args.next
+pub returns-in_ok-add_use-in-Plain-clause-built : goal.returns-in_ok-add_use-in-Plain-clause-built
+returns-in_ok-add_use-in-Plain-clause-built c items body are =
+    ap (λ (d : Decided). drop_end items body (paths_of c.args.flags.now) d c.args.kind c.args.place c.args.next
     c.args.unwind (made_of c.args.blocks.now)) (sym c.in-Plain.is)
 
 pub returns-in_ok-from-in-Planned-clause-built : goal.returns-in_ok-from-in-Planned-clause-built
 returns-in_ok-from-in-Planned-clause-built c items body are =
     ap (λ (b : Begun). made_end (Term.Goto b.at) b.made) (c.in_ok-from-in-Planned.ensures.built items body are)
-    ∙ ap (λ (d : Decided). drop_end items body (paths_of c.args.flags.now) d c.args.kind c.args.place.now c.args.next
+    ∙ ap (λ (d : Decided). drop_end items body (paths_of c.args.flags.now) d c.args.kind c.args.place c.args.next
     c.args.unwind (made_of c.args.blocks.now)) (sym c.in-Planned.is)

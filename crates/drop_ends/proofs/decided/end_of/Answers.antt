@@ -29,7 +29,7 @@ returns-in-DropAt-clause-stands c =
 pub returns-in_ok-add_term-in_default-clause-stands : goal.returns-in_ok-add_term-in_default-clause-stands
 returns-in_ok-add_term-in_default-clause-stands c =
     let flagged = paths_of c.args.flags.now in
-    let term = c.args.term.now in
+    let term = c.args.term in
     IfOk-weaker c.term_end.result _ _
     (λ end h items body are flat. (
       flags_of_uses items body flagged (term_uses term),
@@ -54,6 +54,6 @@ pub returns-in_ok-add_term-in_default-clause-built : goal.returns-in_ok-add_term
 returns-in_ok-add_term-in_default-clause-built c =
     IfOk-weaker c.term_end.result _ _
     (λ end h items body are. h items body are
-    ∙ end-other items body (paths_of c.args.flags.now) c.args.decided.now c.args.kind c.args.term.now (made_of c.args.blocks.now)
+    ∙ end-other items body (paths_of c.args.flags.now) c.args.decided.now c.args.kind c.args.term (made_of c.args.blocks.now)
     c.in_default.not-DropAt)
     c.term_end.ensures.built

@@ -16,7 +16,8 @@ loop-block-init c =
     let paths = c.args.told.now.forest.paths in
     let flags = flag_of c.args.flags.now in (
       refl,
-      subst (λ (z : List Decided). AreDecided items body paths flags 0 z) (sym c.new-decided.ensures)
+      subst (λ (z : List Decided). AreDecided items body paths flags 0 z)
+          (sym (c.from_vec-decided.ensures ∙ c.in_ok-with_capacity.ensures.items))
           (decided-none items body paths flags),
     )
 

@@ -2,20 +2,22 @@ use Rattle.std.proofs.Common.{◌≡◌, List, Some, slice_get, get_or, false, a
 use Rattle.std.proofs.lemmas.Option.{get_or_from_slice_get}
 use Rattle.cfg_graph.specs.declared.graph.Body.{Body}
 use Rattle.init_flow.specs.Switches.{passed_by}
+use Rattle.init_flow.specs.declared.switches.Switches.{Switches}
 use Rattle.drop_plans.specs.Known.{RowsSay}
-use Rattle.drop_plans.proofs.Solved.{rows-say, ok-three}
+use Rattle.drop_plans.proofs.Solved.{rows-say}
 use Rattle.drop_plans.proofs.analyses.present_rows.Goals as goal
 
-pub returns : goal.returns
-returns c =
+pub returns-clause-rows : goal.returns-clause-rows
+returns-clause-rows c found at =
     let items = c.args.graph.now.items in
     let body : Body = c.index-as_slice-body.result in
     let maybe = c.in_ok-maybe.maybe in
-    ok-three c.solve.result _ _ _ _
-    (λ rows count widths carried found at.
     let same : body ≡ found =
     c.index-as_slice-body.is ∙ ap (λ (z : List Body). get_or z c.args.body body) c.as_slice.ensures ∙ get_or_from_slice_get c.args.graph.now.bodies c.args.body found body at in
-    subst (λ (z : Body). RowsSay items z c.args.forest.now.paths false rows) same
-    (rows-say items body c.args.forest.now.paths false (λ block way row. passed_by maybe.switches block way row) maybe.switches.first rows
-    (c.in_ok-maybe.ensures.says body (subst (λ (z : Body). slice_get c.args.graph.now.bodies c.args.body ≡ Some z) (sym same) at)) carried count widths))
-    c.solve.ensures.blocks c.solve.ensures.widths c.solve.ensures.carried
+    subst (λ (z : Body). RowsSay items z c.args.forest.now.paths false c.in_ok-rows.rows) same
+    (rows-say items body c.args.forest.now.paths false (λ block way row. passed_by maybe.switches false block way row) maybe.first c.in_ok-rows.rows
+    (c.in_ok-maybe.ensures.says body (subst (λ (z : Body). slice_get c.args.graph.now.bodies c.args.body ≡ Some z) (sym same) at))
+    c.in_ok-rows.ensures.carried c.in_ok-rows.ensures.blocks c.in_ok-rows.ensures.widths)
+
+pub returns-clause-masks : goal.returns-clause-masks
+returns-clause-masks c = c.into_masks.ensures ∙ ap (λ (s : Switches). s.below) c.in_ok-maybe.ensures.switches

@@ -1,5 +1,5 @@
 use Rattle.std.proofs.lemmas.Result.{IfOk-weaker}
-use Rattle.cfg_graph.specs.Places.{named}
+use Rattle.move_paths.specs.Forest.{path_at}
 use Rattle.drop_plans.specs.Plans.{facts_of}
 use Rattle.drop_plans.proofs.Closed.{closed, tree-of}
 use Rattle.drop_plans.proofs.drops.plan_at.Goals as goal
@@ -21,5 +21,5 @@ pub returns : goal.returns
 returns c =
     IfOk-weaker c.plan.result _ _
     (λ made h body tree are at ends is.
-    (facts_of c.in_ok-facts.facts, c.in_ok-facts.ensures.known c.args.items.now body are at ends, h tree (tree-of c.args.items.now body c.args.told.now.forest are.forest (named c.args.place.now) tree is)))
+    (facts_of c.in_ok-facts.facts, c.in_ok-facts.ensures.known c.args.items.now body are at ends, h tree (tree-of c.args.items.now body c.args.told.now.forest are.forest (path_at c.args.told.now.forest.paths c.args.path) tree is)))
     c.plan.ensures

@@ -1,7 +1,7 @@
 use Rattle.std.proofs.Common.{◌≡◌, ◌∙◌, ◌<◌, ◌≤◌, ◌+◌, ◌∷◌, [], ◌++◌, ℕ, suc, List, Option, Some, None, Contains, length, map, slice_get, refl, sym, ap, subst, rules, arith}
 use Rattle.std.specs.Prelude.{option_and_then, unwrap_or}
 use Rattle.std.proofs.lemmas.Bool.{false≢true}
-use Rattle.std.proofs.lemmas.Option.{slice_get_within}
+use Rattle.std.proofs.lemmas.Option.{slice_get_within, get_or_from_slice_get}
 use Rattle.std.proofs.lemmas.Result.{IfOk-weaker}
 use Rattle.std.proofs.lemmas.List.{map-append}
 use Rattle.mir_ty.specs.declared.adt.Variant.{Variant}
@@ -9,11 +9,11 @@ use Rattle.mir_ty.specs.declared.ty.Ty.{Ty}
 use Rattle.mir_ty.specs.declared.ty.TyId.{TyId}
 use Rattle.mir_ty.specs.Parts.{field_ty, fields_of, parts_of, variants_of}
 use Rattle.mir_ty.proofs.ListLemmas.{Contains-slice_get}
-use Rattle.store_model.specs.Places.Place.{Place, ToContent, step_ty}
+use Rattle.store_model.specs.Places.Place.{Place, ToContent, step_ty, whole_local}
 use Rattle.cfg_graph.specs.declared.place.Step.{Step}
 use Rattle.cfg_graph.specs.Moves.Gone.{below}
-use Rattle.cfg_graph.specs.Places.{named, named_step}
-use Rattle.move_paths.specs.Forest.{children_of}
+use Rattle.cfg_graph.specs.Places.{named_step}
+use Rattle.move_paths.specs.Forest.{children_of, path_at}
 use Rattle.drop_values.specs.Plan as plain
 use Rattle.drop_values.specs.Plan.{Plans}
 use Rattle.drop_values.specs.Planning.{guarded, whole_plan, part_plans, stepped}
@@ -21,10 +21,10 @@ use Rattle.drop_blocks.proofs.Seen.{nothing_seen, entire_seen, in_parts_seen, of
 use Rattle.drop_blocks.specs.View.{plan_in, parts_in, plans_from, cases_from}
 use Rattle.drop_blocks.specs.declared.plan.Plan.{Plan}
 use Rattle.drop_blocks.specs.declared.plan.VariantPlan.{roll-VariantPlan}
-use Rattle.drop_plans.proofs.Fitted.{named-below, part-steps, field-steps, field-is, past-all, fits, some-at, listed-more, listed-all, variant_made}
+use Rattle.drop_plans.proofs.Fitted.{part-steps, field-steps, field-is, past-all, fits, some-at, listed-more, listed-all, variant_made}
 use Rattle.drop_plans.proofs.Listed.{one_plan, plan_list, plans-listed, one_variant, variant_list, variants-listed}
 use Rattle.drop_plans.proofs.Lowest.{lowest, not-lowest}
-use Rattle.drop_plans.proofs.Made.{mask-long, masks-long, unneeded-tree, absent-tree, entire-tree, by-flag-tree, unguarded-tree, lowest-whole, box-shape, parts-shape, enum-shape, part-path, part-whole}
+use Rattle.drop_plans.proofs.Made.{path-there, mask-long, masks-long, unneeded-tree, absent-tree, entire-tree, by-flag-tree, unguarded-tree, lowest-whole, box-shape, parts-shape, enum-shape, part-path, part-whole}
 use Rattle.drop_plans.specs.Plans.{IsEnum, ids_in, ids_of, below_of, part_at}
 use Rattle.drop_plans.specs.Trees.{IsTreeOf}
 use Rattle.drop_plans.specs.declared.planner.Planner.{Planner}
@@ -32,53 +32,53 @@ use Rattle.drop_plans.proofs.planner.+plans.Goals as goal
 
 pub plan-get-requires : goal.plan-get-requires
 plan-get-requires t c =
-    let w = slice_get_within c.args.at.now.forest.now.paths c.args.path (named c.args.place.now) c.requires.path in
+    let w = c.requires.path in
     let e = c.requires.told.present in
     omega (w, e, arith)
 
 pub plan-meets-requires-clause-path : goal.plan-meets-requires-clause-path
 plan-meets-requires-clause-path t c =
-    let w = slice_get_within c.args.at.now.forest.now.paths c.args.path (named c.args.place.now) c.requires.path in
-    let e = masks-long c.args.at.now c.requires.told c.args.path (named c.args.place.now) c.requires.path in
+    let w = c.requires.path in
+    let e = masks-long c.args.at.now c.requires.told c.args.path (path_at c.args.at.now.forest.now.paths c.args.path) (path-there c.args.at.now.forest.now.paths c.args.path c.requires.path) in
     omega (w, e, arith)
 
 pub plan-meets-requires-clause-paths : goal.plan-meets-requires-clause-paths
 plan-meets-requires-clause-paths t c =
-    c.requires.told.gone ∙ sym (masks-long c.args.at.now c.requires.told c.args.path (named c.args.place.now) c.requires.path)
+    c.requires.told.gone ∙ sym (masks-long c.args.at.now c.requires.told c.args.path (path_at c.args.at.now.forest.now.paths c.args.path) (path-there c.args.at.now.forest.now.paths c.args.path c.requires.path))
 
 pub plan-meets-requires-clause-mask : goal.plan-meets-requires-clause-mask
 plan-meets-requires-clause-mask t c =
-    c.requires.told.gone ∙ sym (mask-long c.args.at.now c.requires.told c.args.path (named c.args.place.now) c.requires.path)
+    c.requires.told.gone ∙ sym (mask-long c.args.at.now c.requires.told c.args.path (path_at c.args.at.now.forest.now.paths c.args.path) (path-there c.args.at.now.forest.now.paths c.args.path c.requires.path))
 
 pub plan-get-requires-2 : goal.plan-get-requires-2
 plan-get-requires-2 t c =
-    let w = slice_get_within c.args.at.now.forest.now.paths c.args.path (named c.args.place.now) c.requires.path in
+    let w = c.requires.path in
     let e = c.requires.told.gone in
     omega (w, e, arith)
 
 pub plan-returns-then-not-needs_drop : goal.plan-returns-then-not-needs_drop
 plan-returns-then-not-needs_drop t c = λ tree is.
     nothing_seen
-    ∙ unneeded-tree c.args.at.now c.requires.told c.args.path (named c.args.place.now) c.requires.path c.args.ty
+    ∙ unneeded-tree c.args.at.now c.requires.told c.args.path (path_at c.args.at.now.forest.now.paths c.args.path) (path-there c.args.at.now.forest.now.paths c.args.path c.requires.path) c.args.ty
     (sym c.needs_drop.ensures.value ∙ c.if-not-needs_drop.true) tree is
 
 pub plan-returns-then-not-get : goal.plan-returns-then-not-get
 plan-returns-then-not-get t c = λ tree is.
     nothing_seen
-    ∙ absent-tree c.args.at.now c.requires.told c.args.path (named c.args.place.now) c.requires.path c.args.ty
+    ∙ absent-tree c.args.at.now c.requires.told c.args.path (path_at c.args.at.now.forest.now.paths c.args.path) (path-there c.args.at.now.forest.now.paths c.args.path c.requires.path) c.args.ty
     (sym c.needs_drop.ensures.value ∙ c.if-not-needs_drop.false) (sym c.get.ensures ∙ c.if-not-get.true) tree is
 
 pub plan-returns-then-not-meets : goal.plan-returns-then-not-meets
 plan-returns-then-not-meets t c = λ tree is.
     entire_seen
-    ∙ entire-tree c.args.at.now c.requires.told c.args.path (named c.args.place.now) c.requires.path c.args.ty
+    ∙ entire-tree c.args.at.now c.requires.told c.args.path (path_at c.args.at.now.forest.now.paths c.args.path) (path-there c.args.at.now.forest.now.paths c.args.path c.requires.path) c.args.ty
     (sym c.needs_drop.ensures.value ∙ c.if-not-needs_drop.false) (sym c.get.ensures ∙ c.if-not-get.false)
     (sym c.meets.ensures ∙ c.if-not-meets.true) tree is
 
 pub plan-returns-then-get : goal.plan-returns-then-get
 plan-returns-then-get t c =
     IfOk-weaker c.inner.result _ _
-    (λ made planned tree is. by-flag-tree c.args.at.now c.requires.told c.args.path (named c.args.place.now) c.requires.path
+    (λ made planned tree is. by-flag-tree c.args.at.now c.requires.told c.args.path (path_at c.args.at.now.forest.now.paths c.args.path) (path-there c.args.at.now.forest.now.paths c.args.path c.requires.path)
     c.args.ty (plan_in made) c.flag_of-guard.result planned c.flag_of-guard.ensures
     (sym c.needs_drop.ensures.value ∙ c.if-not-needs_drop.false) (sym c.get.ensures ∙ c.if-not-get.false)
     (sym c.meets.ensures ∙ c.if-not-meets.false) (sym c.get-2.ensures ∙ c.if-get.true) tree is) c.inner.ensures
@@ -86,8 +86,8 @@ plan-returns-then-get t c =
 pub plan-returns : goal.plan-returns
 plan-returns t c =
     IfOk-weaker c.inner-2.result _ _
-    (λ made planned tree is. unguarded-tree c.args.at.now c.requires.told c.args.path (named c.args.place.now)
-    c.requires.path c.args.ty (plan_in made) planned
+    (λ made planned tree is. unguarded-tree c.args.at.now c.requires.told c.args.path (path_at c.args.at.now.forest.now.paths c.args.path)
+    (path-there c.args.at.now.forest.now.paths c.args.path c.requires.path) c.args.ty (plan_in made) planned
     (sym c.needs_drop.ensures.value ∙ c.if-not-needs_drop.false) (sym c.get.ensures ∙ c.if-not-get.false)
     (sym c.meets.ensures ∙ c.if-not-meets.false) (sym c.get-2.ensures ∙ c.if-get.false) tree is) c.inner-2.ensures
 
@@ -97,13 +97,13 @@ inner-returns-then-is_lowest t c =
     let none : children_of paths c.args.path ≡ [] = c.is_lowest.ensures.0 c.if-is_lowest.true in
     IfOk-weaker c.whole.result _ _
     (λ made h number under is. h ∙ sym (lowest-whole c.args.at.now under c.args.ty c.args.guard
-    (lowest paths c.args.path (named c.args.place.now) c.requires.path number under is none))) c.whole.ensures
+    (lowest paths c.args.path (path_at c.args.at.now.forest.now.paths c.args.path) (path-there c.args.at.now.forest.now.paths c.args.path c.requires.path) number under is none))) c.whole.ensures
 
 pub inner-returns-in_ok-new-in-Box : goal.inner-returns-in_ok-new-in-Box
 inner-returns-in_ok-new-in-Box t c = λ number under is.
     let at : Planner = c.args.at.now in
     let guard = c.args.guard in
-    let branched = not-lowest at.forest.now.paths c.args.path (named c.args.place.now) c.requires.path number under is
+    let branched = not-lowest at.forest.now.paths c.args.path (path_at c.args.at.now.forest.now.paths c.args.path) (path-there c.args.at.now.forest.now.paths c.args.path c.requires.path) number under is
     (λ e. false≢true (sym c.if-is_lowest.false ∙ c.is_lowest.ensures.1 e)) in
     let no_impl = c.in-Box.ensures.0 in
     let typed = c.in-Box.ensures.1 in
@@ -122,7 +122,7 @@ inner-returns-in_ok-variants-in-Enum t c =
     let shape = c.in-Enum.ensures in
     IfOk-weaker c.guarded.result _ _
     (λ made h number under is.
-    let branched = not-lowest at.forest.now.paths c.args.path (named c.args.place.now) c.requires.path number under is
+    let branched = not-lowest at.forest.now.paths c.args.path (path_at c.args.at.now.forest.now.paths c.args.path) (path-there c.args.at.now.forest.now.paths c.args.path c.requires.path) number under is
     (λ e. false≢true (sym c.if-is_lowest.false ∙ c.is_lowest.ensures.1 e)) in
     let enum : IsEnum at c.args.ty shape.1.0 c.in-Enum.count =
     record { typed = shape.1.1; is = shape.1.2; variants = shape.1.3 } in
@@ -135,7 +135,7 @@ inner-returns-in_ok-plans-in-Parts t c = λ number under is.
     let at : Planner = c.args.at.now in
     let guard = c.args.guard in
     let shape = c.in-Parts.ensures in
-    let branched = not-lowest at.forest.now.paths c.args.path (named c.args.place.now) c.requires.path number under is
+    let branched = not-lowest at.forest.now.paths c.args.path (path_at c.args.at.now.forest.now.paths c.args.path) (path-there c.args.at.now.forest.now.paths c.args.path c.requires.path) number under is
     (λ e. false≢true (sym c.if-is_lowest.false ∙ c.is_lowest.ensures.1 e)) in
     in_parts_seen c.in_ok-plans-in-Parts.plans
     ∙ ap plain.InParts (c.in_ok-plans-in-Parts.ensures number under is (shape.1.0, shape.1.1, shape.1.2)
@@ -145,28 +145,28 @@ inner-returns-in_ok-plans-in-Parts t c = λ number under is.
 pub part-returns-in-Some : goal.part-returns-in-Some
 part-returns-in-Some t c =
     let at : Planner = c.args.at.now in
-    let place = named c.args.place.now in
+    let paths : List Place = at.forest.now.paths in
+    let place = path_at paths c.args.path in
     let step = named_step c.args.step in
-    let below_is : named c.in_ok-below.below ≡ below place (step ∷ []) =
-    ap named c.in_ok-below.ensures ∙ named-below c.args.place.now c.args.step in
-    let has = Contains-slice_get at.forest.now.paths c.in-Some.child (below place (step ∷ [])) (c.in-Some.ensures.0 ∙ ap Some below_is) in
+    let child_is : path_at paths c.in-Some.child ≡ below place (step ∷ []) =
+    get_or_from_slice_get paths c.in-Some.child (below place (step ∷ [])) (whole_local 0) c.in-Some.ensures.0 in
+    let has = Contains-slice_get paths c.in-Some.child (below place (step ∷ [])) c.in-Some.ensures.0 in
     IfOk-weaker c.plan.result _ _
-    (λ made planned number under id is fit. part-path at c.requires.told c.args.path place c.requires.path number under id
+    (λ made planned number under id is fit. part-path at c.requires.told c.args.path place
+    (path-there paths c.args.path c.requires.path) number under id
     c.args.ty step c.args.guard is fit (plan_in made) has
-    (λ tree tree_is. planned tree (subst (λ (q : Place). IsTreeOf at.forest.now.paths q tree) (sym below_is) tree_is)))
+    (λ tree tree_is. planned tree (subst (λ (q : Place). IsTreeOf paths q tree) (sym child_is) tree_is)))
     c.plan.ensures
 
-pub part-returns : goal.part-returns
-part-returns t c =
+pub part-returns-in-None : goal.part-returns-in-None
+part-returns-in-None t c =
     let at : Planner = c.args.at.now in
-    let place = named c.args.place.now in
-    let step = named_step c.args.step in
-    let below_is : named c.in_ok-below.below ≡ below place (step ∷ []) =
-    ap named c.in_ok-below.ensures ∙ named-below c.args.place.now c.args.step in
+    let paths : List Place = at.forest.now.paths in
     IfOk-weaker c.whole_if.result _ _
     (λ made h number under id is fit. h ∙ ap (whole_plan c.args.guard) c.needs_drop.ensures.value
-    ∙ part-whole at c.requires.told c.args.path place c.requires.path number under id c.args.ty step c.args.guard is fit
-    (λ has. c.in-None.ensures (subst (Contains at.forest.now.paths) (sym below_is) has))) c.whole_if.ensures
+    ∙ part-whole at c.requires.told c.args.path (path_at paths c.args.path)
+    (path-there paths c.args.path c.requires.path) number under id c.args.ty (named_step c.args.step) c.args.guard is fit
+    c.in-None.ensures) c.whole_if.ensures
 
 pub part_plans-loop-part_ty-preserved : goal.part_plans-loop-part_ty-preserved
 part_plans-loop-part_ty-preserved t c = λ number under is typed.

@@ -1,6 +1,6 @@
 use Rattle.std.proofs.Common.{◌≡◌, ◌+◌, ◌-◌, ◌*◌, ◌++◌, ℕ, drop, length, map, slice_get}
 use Rattle.mir_ty.specs.Parts.{variants_of}
-use Rattle.cfg_graph.specs.Places.{named}
+use Rattle.move_paths.specs.Forest.{path_at}
 use Rattle.drop_values.specs.Facts.{Branches, at_path}
 use Rattle.drop_blocks.specs.View.{plan_in, parts_in}
 use Rattle.drop_plans.specs.Plans.{IsOfVariant, IsEnum, ids_of}
@@ -28,7 +28,7 @@ decreases-part_plans-loop-part_ty l = length (ids_of l.at l.ty l.variant) - l.n
 
 abbrev pub invariant-part_plans-loop-part_ty : goal.invariant-part_plans-loop-part_ty
 invariant-part_plans-loop-part_ty l =
-    (number : ℕ) (under : Branches) → IsTreeOf l.at.forest.now.paths (named l.place) (at_path number under) →
+    (number : ℕ) (under : Branches) → IsTreeOf l.at.forest.now.paths (path_at l.at.forest.now.paths l.path) (at_path number under) →
     IsOfVariant l.at l.ty l.variant →
     map plan_in l.plans ++ plan_list l.at under l.ty l.variant l.guard (drop l.n (ids_of l.at l.ty l.variant)) l.n
     ≡ plan_list l.at under l.ty l.variant l.guard (ids_of l.at l.ty l.variant) 0
@@ -36,7 +36,7 @@ invariant-part_plans-loop-part_ty l =
 abbrev pub invariant-variant_plans-loop : goal.invariant-variant_plans-loop
 invariant-variant_plans-loop l =
     (l.variant ≡ l.counter)
-    × ((number : ℕ) (under : Branches) → IsTreeOf l.at.forest.now.paths (named l.place) (at_path number under) →
+    × ((number : ℕ) (under : Branches) → IsTreeOf l.at.forest.now.paths (path_at l.at.forest.now.paths l.path) (at_path number under) →
     (n : ℕ) → IsEnum l.at l.ty n l.fn.count →
     map parts_in l.variants ++ variant_list l.at under l.ty (drop l.variant (variants_of (slice_get l.at.items.now.adts n))) l.variant
     ≡ variant_list l.at under l.ty (variants_of (slice_get l.at.items.now.adts n)) 0)

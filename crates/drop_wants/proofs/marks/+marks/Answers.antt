@@ -1,4 +1,4 @@
-use Rattle.std.proofs.Common.{◌≡◌, ◌+◌, ℕ, List, map, refl}
+use Rattle.std.proofs.Common.{List, map, refl}
 use Rattle.drop_blocks.specs.View.{plan_in, parts_in, plans_from, cases_from}
 use Rattle.drop_blocks.specs.declared.plan.Plan.{Plan}
 use Rattle.drop_blocks.specs.declared.plan.VariantPlan.{VariantPlan}

@@ -23,6 +23,6 @@ loop-block-preserved c =
     let more : take (i + 1) body.blocks ≡ take i body.blocks ++ item ∷ [] =
     take_more body.blocks i item within
     ∙ ap (λ (block : Block). take i body.blocks ++ block ∷ []) (ap (λ (z : List Block). get_or z i item) (sym blocks) ∙ sym c.block-item.is) in
-    subst (AreWays paths c.args.gone c.push.new.self) (sym more)
-    (subst (λ (z : List BlockSwitches). AreWays paths c.args.gone z (take i body.blocks ++ item ∷ [])) (sym c.in_ok-push.ensures.pushed)
-    (ways-more paths c.args.gone c.loop-block.made (take i body.blocks) c.in_ok-block_switches.field-0 item c.loop-block.invariant c.in_ok-block_switches.ensures))
+    subst (AreWays paths c.push.new.self) (sym more)
+    (subst (λ (z : List BlockSwitches). AreWays paths z (take i body.blocks ++ item ∷ [])) (sym c.in_ok-push.ensures.pushed)
+    (ways-more paths c.loop-block.made (take i body.blocks) c.in_ok-block_switches.field-0 item c.loop-block.invariant c.in_ok-block_switches.ensures))

@@ -1,4 +1,4 @@
-use Rattle.std.proofs.Common.{◌≡◌, ◌+◌, ◌++◌, ◌∷◌, [], List, take, ap, sym, ◌∙◌, subst}
+use Rattle.std.proofs.Common.{◌≡◌, ◌+◌, ◌++◌, ◌∷◌, [], List, take, ap, sym, ◌∙◌, subst, true}
 use Rattle.std.proofs.lemmas.List.{map_more}
 use Rattle.cfg_graph.specs.declared.place.Place.{Place}
 use Rattle.cfg_graph.specs.Uses.{PlaceUse}
@@ -16,5 +16,5 @@ loop-used-preserved c =
     let more : listed (take (i + 1) c.args.uses.now) ≡ before ++ (use_of item.how, item.place.now) ∷ [] =
     map_more (λ (used : Used). (use_of used.how, used.place.now)) c.args.uses.now i item c.loop-used-test.true
     ∙ ap (λ (used : Used). before ++ (use_of used.how, used.place.now) ∷ []) (sym c.used-item.is) in
-    subst (AreSwitched c.args.forest.now.paths c.args.gone c.args.switches.now c.add_use.new.switches) (sym more)
-    (switched-more c.args.forest.now.paths c.args.gone c.args.switches.now c.loop-used.switches c.add_use.new.switches before ((use_of item.how, item.place.now) ∷ []) c.loop-used.invariant c.in_ok-add_use.ensures)
+    subst (AreSwitched c.args.forest.now.paths true c.args.switches.now c.add_use.new.switches) (sym more)
+    (switched-more c.args.forest.now.paths true c.args.switches.now c.loop-used.switches c.add_use.new.switches before ((use_of item.how, item.place.now) ∷ []) c.loop-used.invariant c.in_ok-add_use.ensures)

@@ -1,4 +1,4 @@
-use Rattle.std.proofs.Common.{ℕ, zero, suc, ◌≡◌, ◌<◌, ◌++◌, Bool, List, Some, map, flat_map, ap, subst, ◌∙◌, arith}
+use Rattle.std.proofs.Common.{ℕ, zero, suc, ◌≡◌, ◌<◌, ◌++◌, Bool, List, Some, map, flat_map, ap, subst, ◌∙◌, arith, true}
 use Rattle.std.proofs.lemmas.List.{append_assoc}
 use Rattle.cfg_graph.specs.declared.place.Place.{Place}
 use Rattle.cfg_graph.specs.declared.graph.Block.{Block}
@@ -22,14 +22,14 @@ on-way paths gone block made uses way is inner last =
     (ap (λ (z : List (PlaceUse × Place)). z ++ stores block way) is ∙ append_assoc (flat_map stmt_uses block.stmts) (term_uses block.term) (stores block way))
     (fits-append paths gone made.uses (at_most_one (result_switch made way)) uses (stores block way) inner last)
 
-both : (paths : List Named) (gone : Bool) (block : Block) (made : BlockSwitches) (uses : List (PlaceUse × Place)) → uses ≡ inner_uses block → Fits paths gone made.uses uses
-    → Fits paths gone (at_most_one made.first) (stores block 0) → Fits paths gone (at_most_one made.second) (stores block 1)
-    → FitsBlock paths gone (Some made) block
-both paths gone block made uses is inner one other zero small = on-way paths gone block made uses 0 is inner one
-both paths gone block made uses is inner one other (suc zero) small = on-way paths gone block made uses 1 is inner other
-both paths gone block made uses is inner one other (suc (suc way)) small = absurd (omega (small, arith))
+both : (paths : List Named) (block : Block) (made : BlockSwitches) (uses : List (PlaceUse × Place)) → uses ≡ inner_uses block → Fits paths true made.uses uses
+    → Fits paths true (at_most_one made.first) (stores block 0) → Fits paths true (at_most_one made.second) (stores block 1)
+    → FitsBlock paths (Some made) block
+both paths block made uses is inner one other zero small = on-way paths true block made uses 0 is inner one
+both paths block made uses is inner one other (suc zero) small = on-way paths true block made uses 1 is inner other
+both paths block made uses is inner one other (suc (suc way)) small = absurd (omega (small, arith))
 
 pub returns : goal.returns
 returns c =
-    both c.args.forest.now.paths c.args.gone c.args.block.now (record { uses = c.in_ok-uses.uses; first = c.result_switch.result; second = c.result_switch-2.result }) _
+    both c.args.forest.now.paths c.args.block.now (record { uses = c.in_ok-uses.uses; first = c.result_switch.result; second = c.result_switch-2.result }) _
     c.requires c.in_ok-uses.ensures c.result_switch.ensures c.result_switch-2.ensures

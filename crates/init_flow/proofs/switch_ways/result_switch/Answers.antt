@@ -1,4 +1,4 @@
-use Rattle.std.proofs.Common.{◌≡◌, ◌∷◌, [], List, map, ap, refl, sym, ◌∙◌, subst}
+use Rattle.std.proofs.Common.{◌≡◌, ◌∷◌, [], List, map, ap, refl, sym, ◌∙◌, subst, true}
 use Rattle.std.specs.Option.{option_copied}
 use Rattle.cfg_graph.specs.declared.place.Place.{Place}
 use Rattle.cfg_graph.specs.Uses.{Stores}
@@ -13,11 +13,11 @@ returns-in-Some c =
     let paths = c.args.forest.now.paths in
     let stored : c.in-Some.place.now ∷ [] ≡ way_result c.args.term.now c.args.way =
     sym (ap (λ z. optional (option_copied z)) c.in-Some.is) ∙ c.result_on.ensures in
-    subst (λ (z : List Place). Fits paths c.args.gone (at_most_one c.switch_of.result) (map (λ (place : Place). (Stores, place)) z)) stored
-    (fits-one paths c.args.gone (Stores, c.in-Some.place.now) c.switch_of.result c.switch_of.ensures)
+    subst (λ (z : List Place). Fits paths true (at_most_one c.switch_of.result) (map (λ (place : Place). (Stores, place)) z)) stored
+    (fits-one paths true (Stores, c.in-Some.place.now) c.switch_of.result c.switch_of.ensures)
 
 pub returns-in-None : goal.returns-in-None
 returns-in-None c =
     let none : [] ≡ way_result c.args.term.now c.args.way =
     sym (ap (λ z. optional (option_copied z)) c.in-None.is) ∙ c.result_on.ensures in
-    subst (λ (z : List Place). Fits c.args.forest.now.paths c.args.gone [] (map (λ (place : Place). (Stores, place)) z)) none refl
+    subst (λ (z : List Place). Fits c.args.forest.now.paths true [] (map (λ (place : Place). (Stores, place)) z)) none refl

@@ -5,7 +5,7 @@ use Rattle.look_program.proofs.answers.explain_program.Goals as goal
 pub returns-in-Ok : goal.returns-in-Ok
 returns-in-Ok c =
     both_ok c.accepted_answer.result _ _ _
-    (λ answer status written. explain_accepted c.args.text.now answer.status answer.text.items c.in-Ok.lowered c.in-Ok.ensures.accepted status written)
+    (λ answer status written. explain_accepted c.args.text.now answer.status answer.text.items c.in-Ok.ensures.accepted status written)
     c.accepted_answer.ensures.status c.accepted_answer.ensures.text
 
 pub returns-in-Err : goal.returns-in-Err

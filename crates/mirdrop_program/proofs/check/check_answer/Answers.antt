@@ -4,7 +4,7 @@ use Rattle.mirdrop_program.proofs.check.check_answer.Goals as goal
 pub returns-in-Ok : goal.returns-in-Ok
 returns-in-Ok c =
     both_ok c.accepted_answer.result _ _ _
-    (λ answer status written. check_accepted c.args.text.now c.in-Ok.lowered answer.status answer.text.items c.in-Ok.ensures.accepted status written)
+    (λ answer status written. check_accepted c.args.text.now answer.status answer.text.items c.in-Ok.ensures.accepted status written)
     c.accepted_answer.ensures.status c.accepted_answer.ensures.text
 
 pub returns-in-Err : goal.returns-in-Err

@@ -1,8 +1,8 @@
 use Rattle.mirdrop_program.specs.Owed.{OwedByRun}
 use Rattle.mirdrop_program.specs.declared.request.Command.{Command}
 use Rattle.mirdrop_program.proofs.Answering.{handed_on, owes_by, program_ran, run_refused}
+use Rattle.mirdrop_program.proofs.Built.{built_well}
 use Rattle.mirdrop_program.proofs.Owing.{all_ok}
-use Rattle.mirdrop_program.proofs.Soaked.{built_well}
 use Rattle.mirdrop_program.proofs.run.run_program.Goals as goal
 
 pub run_graph-status-requires-clause-well_formed : goal.run_graph-status-requires-clause-well_formed

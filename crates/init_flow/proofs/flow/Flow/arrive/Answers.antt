@@ -17,4 +17,4 @@ returns c =
       | else-not-changed-via-then-not-changed+else-was_reached w ↦ inr (let is = w.was_reached.ensures in let no = w.if-was_reached in let same = u.reached in search rules)
       | else-not-changed-via-else-not-changed w ↦ inl (λ e. let off = u.change.1 e in let on = w.if-not-changed in search rules)
     ] in
-    on_ok (λ second. inl (changes old mid c.wait.new.self c.wait-2.new.self c.args.block c.args.row.now u.rows (c.set.ensures ∙ ap (λ (z : List Bool). slice_set z c.args.block true) u.reached) u.waiting u.heap c.in_ok-wait.ensures second news)) c.wait-2.result c.wait-2.ensures
+    on_ok (λ waited. inl (changes old mid c.wait.new.self c.args.block c.args.row.now u.rows (c.set.ensures ∙ ap (λ (z : List Bool). slice_set z c.args.block true) u.reached) u.waiting u.heap waited news)) c.wait.result c.wait.ensures

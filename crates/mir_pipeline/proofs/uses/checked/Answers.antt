@@ -1,7 +1,0 @@
-use Rattle.std.proofs.lemmas.Result.{IfOk-weaker}
-use Rattle.mir_pipeline.proofs.Accepted.{is_accepted}
-use Rattle.mir_pipeline.proofs.uses.checked.Goals as goal
-
-pub returns-clause-accepted : goal.returns-clause-accepted
-returns-clause-accepted c =
-    IfOk-weaker c.accept_uses.result _ _ (λ same is. is_accepted c.args.text.now c.in_ok-lowered.lowered same c.in_ok-lowered.ensures.graph is) c.accept_uses.ensures.accepted
