@@ -1,6 +1,6 @@
 //! Sources and sinks that fail, texts that are cut short, and texts and runs at their limits: each check answers the first
 //! of its steps, counted from 0, that ends otherwise than it should.
-use crate::runs::{Edges, is_end, run, run_over};
+use crate::runs::{Edges, Ended, is_end, run, run_over};
 use std::alloc::{AllocError, Global};
 
 const MAIN: &[u8] = b"fn main() {}";
@@ -51,44 +51,85 @@ const LOCALS: &[u8] =
 const DROPPED: &[u8] =
     b"call main\nmake D#1\nmake D#2\ndrop D#2\nreturn D::drop\ndrop D#1\nreturn D::drop\nreturn main\nend: returned\n";
 
-/// Each of the nine reads of 115 bytes in pieces of 16 fails in turn; the tenth is never made.
-pub fn each_read(alloc: Global) -> Result<Option<usize>, AllocError> {
-    for read in 0..10_u32 {
+/// Words, the text that they read, and how many reads of at most 16 bytes tell all of it and its end. `soak` reads nothing.
+static IN_TURN: [(&'static str, &'static [u8], usize); 3] = [
+    ("run", LOCALS, 9),
+    ("build", LOCALS, 9),
+    ("soak 3", b"", 0),
+];
+
+/// The number of a read or write; none of these runs makes as many as `u32` counts.
+fn number_of(call: usize) -> u32 {
+    u32::try_from(call).unwrap_or(u32::MAX)
+}
+
+/// Whether the run ends with status 3 where one of its reads fails, whichever it is, and makes no read but these.
+fn reads_fail(
+    alloc: Global,
+    words: &str,
+    text: &[u8],
+    reads: usize,
+    whole: &Ended,
+) -> Result<bool, AllocError> {
+    for read in 0..=reads {
         let edges = Edges {
             read: 16,
             write: 4096,
-            failing_reads: &[read],
+            failing_reads: &[number_of(read)],
             failing_writes: &[],
         };
-        let ended = run_over(alloc, "run", LOCALS, &edges)?;
-        let stands = if read < 9 {
+        let ended = run_over(alloc, words, text, &edges)?;
+        let stands = if read < reads {
             is_end(&ended, 3, b"fault: read\n")
         } else {
-            is_end(&ended, 0, DROPPED)
+            is_end(&ended, whole.status, whole.written.bytes())
         };
         if !stands {
-            return Ok(Some(read as usize));
+            return Ok(false);
         }
     }
-    Ok(None)
+    Ok(true)
 }
 
-/// Each of the 102 writes of one byte fails in turn: the sink holds the bytes before it.
-pub fn each_write(alloc: Global) -> Result<Option<usize>, AllocError> {
-    for write in 0..103_u32 {
+/// Whether the run ends with status 4 where one of its writes of a byte fails, whichever it is, and the sink holds the bytes
+/// before that; where none fails, reads and writes of one byte give what large ones give.
+fn writes_fail(alloc: Global, words: &str, text: &[u8], whole: &Ended) -> Result<bool, AllocError> {
+    let bytes = whole.written.bytes();
+    for write in 0..=bytes.len() {
         let edges = Edges {
-            read: 4096,
+            read: 1,
             write: 1,
             failing_reads: &[],
-            failing_writes: &[write],
+            failing_writes: &[number_of(write)],
         };
-        let ended = run_over(alloc, "run", LOCALS, &edges)?;
-        let status = if write < 102 { 4 } else { 0 };
-        if !is_end(&ended, status, &DROPPED[..write as usize]) {
-            return Ok(Some(write as usize));
+        let ended = run_over(alloc, words, text, &edges)?;
+        let status = if write < bytes.len() { 4 } else { whole.status };
+        if !is_end(&ended, status, &bytes[..write]) {
+            return Ok(false);
         }
     }
-    Ok(None)
+    Ok(true)
+}
+
+fn fail_in_turn(alloc: Global, words: &str, text: &[u8], reads: usize) -> Result<bool, AllocError> {
+    let whole = run(alloc, words, text)?;
+    Ok(reads_fail(alloc, words, text, reads, &whole)? && writes_fail(alloc, words, text, &whole)?)
+}
+
+/// Each read and each write of `run`, `build`, `soak` and, last, of `exec` of what `build` writes fails in turn; `exec` writes
+/// what `run` writes.
+pub fn each_fault(alloc: Global) -> Result<Option<usize>, AllocError> {
+    for (step, (words, text, reads)) in IN_TURN.iter().enumerate() {
+        if !fail_in_turn(alloc, words, text, *reads)? {
+            return Ok(Some(step));
+        }
+    }
+    let built = run(alloc, "build", LOCALS)?;
+    let listing = built.written.bytes();
+    let reads = listing.len().div_ceil(16) + 1;
+    let stands = is_end(&run(alloc, "exec", listing)?, 0, DROPPED)
+        && fail_in_turn(alloc, "exec", listing, reads)?;
+    Ok(if stands { None } else { Some(3) })
 }
 
 /// No text that is cut short before its last byte stands.

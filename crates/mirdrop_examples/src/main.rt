@@ -32,8 +32,11 @@ fn faults_told(rt: &(impl Print + AllocGlobal)) -> io::Result<()> {
         "reads and writes that fail",
         faults::list_over_faults(alloc),
     )?;
-    tell(rt, "each read fails", faults::each_read(alloc))?;
-    tell(rt, "each write fails", faults::each_write(alloc))?;
+    tell(
+        rt,
+        "each read and each write fails",
+        faults::each_fault(alloc),
+    )?;
     tell(rt, "each prefix is refused", faults::each_prefix(alloc))?;
     tell(rt, "bytes that are no text", faults::no_text(alloc))?;
     tell(rt, "the longest text", faults::long_texts(alloc))?;
