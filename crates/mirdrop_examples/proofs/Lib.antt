@@ -1,1 +1,2 @@
+mod Elaborated
 mod PendingKeys

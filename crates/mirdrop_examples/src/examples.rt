@@ -1,5 +1,6 @@
 //! The examples of the table in `data/README.md`. A row of the table has the example's name, the file with its text,
 //! the words, the status, and what the example shows. What is to be written is in `NAME.trace`.
+use crate::exact::is_elaborated;
 use crate::runs::{Ended, is_end, run};
 use std::alloc::{AllocError, Global};
 use std::rt::Files;
@@ -49,7 +50,8 @@ fn exec_words(alloc: Global, words: &str) -> Result<String, AllocError> {
     Ok(all)
 }
 
-/// Whether the graph that is built of a program, listed and read back, runs as the program did.
+/// Whether the graph that is built of a program is the one that is elaborated of its raw graph, and, listed and read back,
+/// runs as the program did.
 fn runs_as_built(
     alloc: Global,
     text: &[u8],
@@ -57,6 +59,9 @@ fn runs_as_built(
     ended: &Ended,
 ) -> Result<bool, AllocError> {
     let listing = run(alloc, "build", text)?;
+    if !is_elaborated(alloc, text, listing.written.bytes()) {
+        return Ok(false);
+    }
     let words = exec_words(alloc, words)?;
     let again = run(alloc, words.as_str(), listing.written.bytes())?;
     Ok(is_end(&again, ended.status, ended.written.bytes()))

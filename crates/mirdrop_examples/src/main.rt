@@ -6,6 +6,7 @@ mod bits;
 mod calls;
 mod deep;
 mod edges;
+mod exact;
 mod examples;
 mod faults;
 mod looks;
